@@ -1,0 +1,214 @@
+-- What a program's constructs cost in ticks, how many instructions they are, and how many words of
+-- stack a body needs. Each construct is one instruction, and its cost does not depend on what
+-- stands around it.
+use Rattle.std.specs.Prelude.{ℕ, ◌+◌, List, [], ◌∷◌, ◌++◌, length, map, Option, Some, None, max}
+use Rattle.std.specs.List.{sum, sum_by}
+use Rattle.apex_types.specs.declared.place.Place.{Place}
+use Rattle.apex_types.specs.declared.service.Service.{Service}
+use Rattle.apex_meaning.specs.Operators.{cost_of_binary}
+use Rattle.apex_meaning.specs.ServiceTable.{cost_of_service, answer_words}
+use Rattle.apex_meaning.specs.Program.{Program, Procedure, Body, Process, Expr, Links, Exprs, Stmt, Block}
+use Rattle.apex_meaning.specs.Program.{Literal, Read, Element, Unary, Chain, Apply, NoLink, MoreLinks, NoExpr, MoreExprs}
+use Rattle.apex_meaning.specs.Program.{Assign, AssignElement, If, IfElse, While, Work, Return, Request, NoStmt, MoreStmts}
+
+-- ticks of a construct: a literal; the read or write of a scalar, of an array element; a unary
+-- operator; a branch; a jump (leaving a then part that has an else, or going back to the test of a
+-- while); a call of a procedure; a return; the end of the body of INIT, the handler or a process
+abbrev pub literal_cost : ℕ
+literal_cost = 1
+
+abbrev pub scalar_cost : ℕ
+scalar_cost = 1
+
+abbrev pub element_cost : ℕ
+element_cost = 2
+
+abbrev pub unary_cost : ℕ
+unary_cost = 1
+
+abbrev pub branch_cost : ℕ
+branch_cost = 1
+
+abbrev pub jump_cost : ℕ
+jump_cost = 1
+
+abbrev pub call_cost : ℕ
+call_cost = 3
+
+abbrev pub return_cost : ℕ
+return_cost = 2
+
+abbrev pub end_cost : ℕ
+end_cost = 4
+
+-- the costs of the constructs of an expression, in the order in which they take effect
+abbrev mutual
+  pub costs_of_expr : Expr → List ℕ
+  costs_of_expr (Literal value) = literal_cost ∷ []
+  costs_of_expr (Read place) = scalar_cost ∷ []
+  costs_of_expr (Element place size index) = costs_of_expr index ++ (element_cost ∷ [])
+  costs_of_expr (Unary operator operand) = costs_of_expr operand ++ (unary_cost ∷ [])
+  costs_of_expr (Chain first rest) = costs_of_expr first ++ costs_of_links rest
+  costs_of_expr (Apply procedure arguments) = costs_of_exprs arguments ++ (call_cost ∷ [])
+
+  pub costs_of_links : Links → List ℕ
+  costs_of_links NoLink = []
+  costs_of_links (MoreLinks operator operand rest) = costs_of_expr operand ++ (cost_of_binary operator ∷ costs_of_links rest)
+
+  pub costs_of_exprs : Exprs → List ℕ
+  costs_of_exprs NoExpr = []
+  costs_of_exprs (MoreExprs first rest) = costs_of_expr first ++ costs_of_exprs rest
+
+-- The same of a statement: a service costs by its kind, and the write of each target as a scalar's.
+abbrev mutual
+  pub costs_of_stmt : Stmt → List ℕ
+  costs_of_stmt (Assign place value) = costs_of_expr value ++ (scalar_cost ∷ [])
+  costs_of_stmt (AssignElement place size index value) = costs_of_expr index ++ costs_of_expr value ++ (element_cost ∷ [])
+  costs_of_stmt (If test then) = costs_of_expr test ++ (branch_cost ∷ costs_of_block then)
+  costs_of_stmt (IfElse test then other) = costs_of_expr test ++ (branch_cost ∷ costs_of_block then) ++ (jump_cost ∷ costs_of_block other)
+  costs_of_stmt (While test block) = costs_of_expr test ++ (branch_cost ∷ costs_of_block block) ++ (jump_cost ∷ [])
+  costs_of_stmt (Work ticks) = ticks ∷ []
+  costs_of_stmt (Return value) = costs_of_expr value ++ (return_cost ∷ [])
+  costs_of_stmt (Request service arguments targets) = costs_of_exprs arguments ++ (cost_of_service service ∷ map (λ _. scalar_cost) targets)
+
+  pub costs_of_block : Block → List ℕ
+  costs_of_block NoStmt = []
+  costs_of_block (MoreStmts first rest) = costs_of_stmt first ++ costs_of_block rest
+
+-- a procedure closes with a literal 0 and a return
+abbrev pub costs_of_procedure : Procedure → List ℕ
+costs_of_procedure p = costs_of_block p.block ++ (literal_cost ∷ return_cost ∷ [])
+
+abbrev pub costs_of_body : Body → List ℕ
+costs_of_body b = costs_of_block b.block ++ (end_cost ∷ [])
+
+-- how many constructs, and so how many instructions, an expression has
+abbrev mutual
+  pub size_of_expr : Expr → ℕ
+  size_of_expr (Literal value) = 1
+  size_of_expr (Read place) = 1
+  size_of_expr (Element place size index) = size_of_expr index + 1
+  size_of_expr (Unary operator operand) = size_of_expr operand + 1
+  size_of_expr (Chain first rest) = size_of_expr first + size_of_links rest
+  size_of_expr (Apply procedure arguments) = size_of_exprs arguments + 1
+
+  pub size_of_links : Links → ℕ
+  size_of_links NoLink = 0
+  size_of_links (MoreLinks operator operand rest) = size_of_expr operand + 1 + size_of_links rest
+
+  pub size_of_exprs : Exprs → ℕ
+  size_of_exprs NoExpr = 0
+  size_of_exprs (MoreExprs first rest) = size_of_expr first + size_of_exprs rest
+
+abbrev mutual
+  pub size_of_stmt : Stmt → ℕ
+  size_of_stmt (Assign place value) = size_of_expr value + 1
+  size_of_stmt (AssignElement place size index value) = size_of_expr index + size_of_expr value + 1
+  size_of_stmt (If test then) = size_of_expr test + 1 + size_of_block then
+  size_of_stmt (IfElse test then other) = size_of_expr test + 1 + size_of_block then + 1 + size_of_block other
+  size_of_stmt (While test block) = size_of_expr test + 1 + size_of_block block + 1
+  size_of_stmt (Work ticks) = 1
+  size_of_stmt (Return value) = size_of_expr value + 1
+  size_of_stmt (Request service arguments targets) = size_of_exprs arguments + 1 + length targets
+
+  pub size_of_block : Block → ℕ
+  size_of_block NoStmt = 0
+  size_of_block (MoreStmts first rest) = size_of_stmt first + size_of_block rest
+
+abbrev pub size_of_procedure : Procedure → ℕ
+size_of_procedure p = size_of_block p.block + 2
+
+abbrev pub size_of_body : Body → ℕ
+size_of_body b = size_of_block b.block + 1
+
+abbrev pub size_of_handler : Option Body → ℕ
+size_of_handler None = 0
+size_of_handler (Some b) = size_of_body b
+
+abbrev pub size_of_process : Process → ℕ
+size_of_process p = size_of_body p.body
+
+-- the number of instructions of a program
+abbrev pub size_of : Program → ℕ
+size_of p = size_of_body p.init + size_of_handler p.handler + sum_by size_of_process p.processes + sum_by size_of_procedure p.procedures
+
+-- the sum of the costs of an expression's constructs
+abbrev mutual
+  pub cost_of_expr : Expr → ℕ
+  cost_of_expr (Literal value) = literal_cost
+  cost_of_expr (Read place) = scalar_cost
+  cost_of_expr (Element place size index) = cost_of_expr index + element_cost
+  cost_of_expr (Unary operator operand) = cost_of_expr operand + unary_cost
+  cost_of_expr (Chain first rest) = cost_of_expr first + cost_of_links rest
+  cost_of_expr (Apply procedure arguments) = cost_of_exprs arguments + call_cost
+
+  pub cost_of_links : Links → ℕ
+  cost_of_links NoLink = 0
+  cost_of_links (MoreLinks operator operand rest) = cost_of_expr operand + cost_of_binary operator + cost_of_links rest
+
+  pub cost_of_exprs : Exprs → ℕ
+  cost_of_exprs NoExpr = 0
+  cost_of_exprs (MoreExprs first rest) = cost_of_expr first + cost_of_exprs rest
+
+abbrev mutual
+  pub cost_of_stmt : Stmt → ℕ
+  cost_of_stmt (Assign place value) = cost_of_expr value + scalar_cost
+  cost_of_stmt (AssignElement place size index value) = cost_of_expr index + cost_of_expr value + element_cost
+  cost_of_stmt (If test then) = cost_of_expr test + branch_cost + cost_of_block then
+  cost_of_stmt (IfElse test then other) = cost_of_expr test + branch_cost + cost_of_block then + jump_cost + cost_of_block other
+  cost_of_stmt (While test block) = cost_of_expr test + branch_cost + cost_of_block block + jump_cost
+  cost_of_stmt (Work ticks) = ticks
+  cost_of_stmt (Return value) = cost_of_expr value + return_cost
+  cost_of_stmt (Request service arguments targets) = cost_of_exprs arguments + cost_of_service service + length targets
+
+  pub cost_of_block : Block → ℕ
+  cost_of_block NoStmt = 0
+  cost_of_block (MoreStmts first rest) = cost_of_stmt first + cost_of_block rest
+
+abbrev pub cost_of_procedure : Procedure → ℕ
+cost_of_procedure p = cost_of_block p.block + literal_cost + return_cost
+
+abbrev pub cost_of_body : Body → ℕ
+cost_of_body b = cost_of_block b.block + end_cost
+
+-- the most operands of an expression that wait at once: an argument waits while those behind it
+-- are evaluated, and the result of a call is an operand
+abbrev mutual
+  pub operands_of_expr : Expr → ℕ
+  operands_of_expr (Literal value) = 1
+  operands_of_expr (Read place) = 1
+  operands_of_expr (Element place size index) = operands_of_expr index
+  operands_of_expr (Unary operator operand) = operands_of_expr operand
+  operands_of_expr (Chain first rest) = max (operands_of_expr first) (operands_of_links rest)
+  operands_of_expr (Apply procedure arguments) = max 1 (operands_of_exprs arguments)
+
+  pub operands_of_links : Links → ℕ
+  operands_of_links NoLink = 0
+  operands_of_links (MoreLinks operator operand rest) = max (1 + operands_of_expr operand) (operands_of_links rest)
+
+  pub operands_of_exprs : Exprs → ℕ
+  operands_of_exprs NoExpr = 0
+  operands_of_exprs (MoreExprs first rest) = max (operands_of_expr first) (1 + operands_of_exprs rest)
+
+abbrev mutual
+  pub operands_of_stmt : Stmt → ℕ
+  operands_of_stmt (Assign place value) = operands_of_expr value
+  operands_of_stmt (AssignElement place size index value) = max (operands_of_expr index) (1 + operands_of_expr value)
+  operands_of_stmt (If test then) = max (operands_of_expr test) (operands_of_block then)
+  operands_of_stmt (IfElse test then other) = max (operands_of_expr test) (max (operands_of_block then) (operands_of_block other))
+  operands_of_stmt (While test block) = max (operands_of_expr test) (operands_of_block block)
+  operands_of_stmt (Work ticks) = 0
+  operands_of_stmt (Return value) = operands_of_expr value
+  operands_of_stmt (Request service arguments targets) = max (answer_words service) (operands_of_exprs arguments)
+
+  pub operands_of_block : Block → ℕ
+  operands_of_block NoStmt = 0
+  operands_of_block (MoreStmts first rest) = max (operands_of_stmt first) (operands_of_block rest)
+
+-- The words of stack of a body: its parameters, its locals, its operands (the 0 with which a
+-- procedure closes is one), and two for the place and the frame to come back to.
+abbrev pub frame_of_procedure : Procedure → ℕ
+frame_of_procedure p = p.parameters + p.locals + max 1 (operands_of_block p.block) + 2
+
+abbrev pub frame_of_body : Body → ℕ
+frame_of_body b = b.locals + operands_of_block b.block + 2

@@ -1,0 +1,3 @@
+//! Laws over the definitions: each is the contract of a function with an empty body.
+
+pub mod image;

@@ -1,0 +1,23 @@
+//! Images and their spellings.
+
+ghost use Rattle.std.specs.Prelude.{◌≡◌, ℕ, ◌<◌, ◌++◌, List, [], Ok, slice_index};
+ghost use Rattle.apex_meaning.specs.Image.{Image};
+ghost use Rattle.apex_meaning.specs.ImageSpelling.{spelling};
+ghost use Rattle.apex_meaning.specs.ImageReading.{image_at};
+ghost use Rattle.apex_meaning.specs.ImageLimits.{IsLawful};
+
+/// What is read is lawful, and the bytes are its spelling.
+pub fn read_is_spelled()
+    ensures { (bytes : List ℕ) (image : Image) → ((i : ℕ) → slice_index bytes i < 256) → image_at bytes ≡ Ok image → IsLawful image × (bytes ≡ spelling image) }
+{}
+
+/// What is lawful is read again from its spelling.
+pub fn spelled_is_read()
+    ensures { (image : Image) → IsLawful image → image_at (spelling image) ≡ Ok image }
+{}
+
+/// No spelling begins another: where one lawful image's spelling stands, with any bytes behind it, in
+/// another's, the images are one and nothing stands behind it.
+pub fn no_spelling_begins_another()
+    ensures { (one other : Image) (rest : List ℕ) → IsLawful one → IsLawful other → spelling other ≡ spelling one ++ rest → (one ≡ other) × (rest ≡ []) }
+{}

@@ -1,0 +1,3 @@
+pub mod NameText
+pub mod Numbers
+pub mod Writing

@@ -1,0 +1,10 @@
+-- No service has a number above 57.
+use Rattle.std.proofs.Common.{◌≡◌, ℕ, ◌-◌, ◌<◌, None, nat_eq, false, arith}
+use Rattle.std.proofs.lemmas.Bool.Decides.{nat_tests}
+use Rattle.std.proofs.lemmas.Option.{slice_get_past}
+use Rattle.apex_types.specs.ServiceNumbers.{services, service_of}
+
+pub service_of_above : (number : ℕ) → 57 < number → service_of number ≡ None
+service_of_above number above =
+    let some : nat_eq number 0 ≡ false = grind (arith, nat_tests) in
+    rw some (slice_get_past services (number - 1) (omega arith))

@@ -1,0 +1,6 @@
+pub mod CodeWords
+pub mod Line
+pub mod NameText
+pub mod ServiceNumbers
+pub mod ServiceWords
+pub mod Sink

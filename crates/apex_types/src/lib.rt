@@ -1,0 +1,36 @@
+//! The words of the system: codes, modes, states, names, services, instructions, events and their text.
+//!
+//! Names and numbers are those of ARINC 653 Part 1 (APEX, required services).
+#![tactic(auto)]
+
+pub mod codes;
+pub mod event;
+pub mod identity;
+pub mod instruction;
+pub mod meaning;
+pub mod name;
+pub mod place;
+pub mod process;
+pub mod row;
+pub mod service;
+pub mod sink;
+pub mod text;
+
+pub use codes::{
+    Discipline, ErrorKind, ErrorLevel, Mode, ModuleAction, PartitionAction, ProcessState, Response,
+    ReturnCode, StartCondition,
+};
+pub use event::{Event, EventKind, Events, Subject, Words};
+pub use identity::{PartitionId, PortId, Priority, ProcessId, Ticks};
+pub use instruction::{BinaryOperator, Instr, UnaryOperator};
+pub use meaning::{ArgumentKind, Meaning, ObjectKind};
+pub use name::Name;
+pub use place::Place;
+pub use process::{Action, Entry, ProcessStatus, Wait};
+pub use row::{
+    BlackboardRow, BodyRow, BufferRow, ChannelEnd, HealthTable, PortDirection, PortKind, PortRow,
+    ProcessRow, RoutineRow, Section, SemaphoreRow, WindowRow,
+};
+pub use service::{ArrayPlace, Call, Service};
+pub use sink::{Sink, SinkFault, WriterSink, put_all};
+pub use text::{write_event, write_events};

@@ -1,0 +1,38 @@
+//! What the names of a program stand for, and what the arguments of services have to be.
+
+use crate::place::Place;
+
+/// The kind of what a program declares by name and a service names: an object, a port or a process.
+#[derive(Clone, Copy, Debug, PartialEq, Eq)]
+pub enum ObjectKind {
+    Semaphore,
+    Event,
+    Buffer,
+    Blackboard,
+    Port,
+    Process,
+}
+
+/// What a name of a program stands for.
+#[derive(Clone, Copy, Debug, PartialEq, Eq)]
+pub enum Meaning {
+    /// A variable, a parameter or a local.
+    Scalar(Place),
+    /// An array: the place of its first word in the data, and its size in words.
+    Array(u32, i64),
+    /// An object, a port or a process, by its number.
+    Object(ObjectKind, u32),
+    /// A procedure by its number, from 0, and how many parameters it has.
+    Procedure(u32, usize),
+}
+
+/// What an argument of a service has to be.
+#[derive(Clone, Copy, Debug, PartialEq, Eq)]
+pub enum ArgumentKind {
+    /// An expression.
+    Word,
+    /// The name of an array.
+    Array,
+    /// The name of an object, a port or a process of that kind.
+    Object(ObjectKind),
+}

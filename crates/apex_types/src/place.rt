@@ -1,0 +1,8 @@
+//! Where a scalar variable lies.
+
+/// A word of the partition's data, or a slot of the running body (parameters first, then locals).
+#[derive(Clone, Copy, Debug, PartialEq, Eq)]
+pub enum Place {
+    Data(u32),
+    Slot(u16),
+}

@@ -1,0 +1,243 @@
+//! The text of a trace.
+
+ghost use Rattle.std.specs.Prelude.{◌≡◌, ℕ, ◌+◌, ◌-◌, ◌*◌, ◌/◌, ◌%◌, ◌^◌, ◌<◌, ◌≤◌, List, [], ◌∷◌, ◌++◌, length, All, OnErr, OnOk};
+ghost use Rattle.std.specs.Fmt.{signed_decimal};
+ghost use Rattle.std.specs.Io.KnownBytes.{Appends};
+ghost use Rattle.arrayvec.specs.ArrayVec.{array_vec_len};
+ghost use Rattle.apex_types.specs.Line.{culprit_text, kind_text, line_of, partition_text, subject_text, text_of, thirteen_digits, words_text};
+ghost use Rattle.apex_types.specs.Sink.{TakesBeginning};
+
+use crate::codes::{ErrorKind, Response, ReturnCode};
+use crate::event::{Event, EventKind, Subject};
+use crate::name::Name;
+use crate::service::Service;
+use crate::sink::{Sink, SinkFault, put_all};
+use arrayvec::ArrayVec;
+
+#[cfg(test)]
+mod tests;
+
+/// The bytes of one line. The longest has a tick of 13, two names of 30, a word of 6 and 16
+/// words of at most 20 bytes with a space before each.
+type Line = ArrayVec<u8, 512>;
+
+/// Writes the line of an event. An error is answered only where the sink failed; then a
+/// beginning of the line is out.
+pub fn write_event<S: Sink>(event: &Event, sink: &mut S) -> Result<(), SinkFault>
+    requires { S.failures sink.old < 2 ^ 64 - 1 }
+    ensures ok { OnOk result (Appends (S.taken sink.old) (S.taken sink.new) (line_of event.now)) }
+    ensures quiet { OnOk result (S.failures sink.new ≡ S.failures sink.old) }
+    ensures failed { OnErr result (S.failures sink.new ≡ S.failures sink.old + 1) }
+    ensures beginning { OnErr result (TakesBeginning (S.taken sink.old) (S.taken sink.new) (line_of event.now)) }
+{
+    put_all(sink, line_bytes(event).as_slice())
+}
+
+/// Writes the lines of events, in their order. An error is answered only where the sink failed;
+/// then a beginning of their text is out.
+#[tactic(auto, using(crate::proofs::Writing::under_way))]
+pub fn write_events<S: Sink>(events: &[Event], sink: &mut S) -> Result<(), SinkFault>
+    requires { S.failures sink.old < 2 ^ 64 - 1 }
+    ensures ok { OnOk result (Appends (S.taken sink.old) (S.taken sink.new) (text_of events.now)) }
+    ensures quiet { OnOk result (S.failures sink.new ≡ S.failures sink.old) }
+    ensures failed { OnErr result (S.failures sink.new ≡ S.failures sink.old + 1) }
+    ensures beginning { OnErr result (TakesBeginning (S.taken sink.old) (S.taken sink.new) (text_of events.now)) }
+{
+    let mut rest = events;
+    while let Some((event, others)) = rest.split_first() {
+        write_event(event, sink)?;
+        rest = others;
+    }
+    Ok(())
+}
+
+fn line_bytes(event: &Event) -> Line
+    ensures { result.items ≡ line_of event.now }
+{
+    let mut line = Line::new();
+    push_bytes(&mut line, &digits(event.tick.0));
+    push_text(&mut line, " ");
+    push_partition(&mut line, &event.partition);
+    push_text(&mut line, " ");
+    push_kind(&mut line, &event.kind);
+    push_text(&mut line, "\n");
+    line
+}
+
+fn push_bytes(line: &mut Line, bytes: &[u8])
+    requires { array_vec_len line.old + length bytes.now ≤ 512 }
+    ensures items { line.new.items ≡ line.old.items ++ bytes.now }
+    ensures len { array_vec_len line.new ≡ array_vec_len line.old + length bytes.now }
+{
+    line.try_extend_from_slice(bytes).unwrap();
+}
+
+fn push_text(line: &mut Line, text: &str)
+    requires { array_vec_len line.old + length text.now ≤ 512 }
+    ensures items { line.new.items ≡ line.old.items ++ text.now }
+    ensures len { array_vec_len line.new ≡ array_vec_len line.old + length text.now }
+{
+    push_bytes(line, text.as_bytes());
+}
+
+fn digit(number: u64, unit: u64) -> u8
+    requires { 0 < unit }
+    ensures { result ≡ 48 + number / unit % 10 }
+{
+    b'0' + (number / unit % 10) as u8
+}
+
+fn digits(number: u64) -> [u8; 13]
+    ensures { result ≡ thirteen_digits number }
+{
+    [
+        digit(number, 1_000_000_000_000),
+        digit(number, 100_000_000_000),
+        digit(number, 10_000_000_000),
+        digit(number, 1_000_000_000),
+        digit(number, 100_000_000),
+        digit(number, 10_000_000),
+        digit(number, 1_000_000),
+        digit(number, 100_000),
+        digit(number, 10_000),
+        digit(number, 1_000),
+        digit(number, 100),
+        digit(number, 10),
+        digit(number, 1),
+    ]
+}
+
+fn push_partition(line: &mut Line, partition: &Option<Name>)
+    requires { array_vec_len line.old + 30 ≤ 512 }
+    ensures items { line.new.items ≡ line.old.items ++ partition_text partition.now }
+    ensures len { array_vec_len line.new ≤ array_vec_len line.old + 30 }
+{
+    match partition {
+        Some(name) => push_bytes(line, name.as_bytes()),
+        None => push_text(line, "-"),
+    }
+}
+
+fn push_subject(line: &mut Line, who: &Subject)
+    requires { array_vec_len line.old + 30 ≤ 512 }
+    ensures items { line.new.items ≡ line.old.items ++ subject_text who.now }
+    ensures len { array_vec_len line.new ≤ array_vec_len line.old + 30 }
+{
+    match who {
+        Subject::Init => push_text(line, "INIT"),
+        Subject::Handler => push_text(line, "HANDLER"),
+        Subject::Process(name) => push_bytes(line, name.as_bytes()),
+    }
+}
+
+fn push_culprit(line: &mut Line, who: &Option<Subject>)
+    requires { array_vec_len line.old + 30 ≤ 512 }
+    ensures items { line.new.items ≡ line.old.items ++ culprit_text who.now }
+    ensures len { array_vec_len line.new ≤ array_vec_len line.old + 30 }
+{
+    match who {
+        Some(who) => push_subject(line, who),
+        None => push_text(line, "-"),
+    }
+}
+
+fn push_word(line: &mut Line, word: i64)
+    requires { array_vec_len line.old + 21 ≤ 512 }
+    ensures items { line.new.items ≡ line.old.items ++ 32 ∷ signed_decimal word }
+    ensures len { array_vec_len line.new ≤ array_vec_len line.old + 21 }
+{
+    let mut buffer = itoa::Buffer::new();
+    push_text(line, " ");
+    push_text(line, buffer.format(word));
+}
+
+fn push_words(line: &mut Line, words: &[i64])
+    requires { array_vec_len line.old + 21 * length words.now ≤ 512 }
+    ensures items { line.new.items ≡ line.old.items ++ words_text words.now }
+    ensures len { array_vec_len line.new ≤ array_vec_len line.old + 21 * length words.now }
+{
+    for word in words {
+        push_word(line, *word);
+    }
+}
+
+/// The name of a port or channel, and the words of its message.
+fn push_message(line: &mut Line, name: &Name, words: &[i64])
+    requires { array_vec_len line.old + 30 + 21 * length words.now ≤ 512 }
+    ensures items { line.new.items ≡ line.old.items ++ name.now ++ words_text words.now }
+    ensures len { array_vec_len line.new ≤ array_vec_len line.old + 30 + 21 * length words.now }
+{
+    push_bytes(line, name.as_bytes());
+    push_words(line, words);
+}
+
+fn push_return(line: &mut Line, who: &Subject, service: Service, code: ReturnCode)
+    requires { array_vec_len line.old + 100 ≤ 512 }
+    ensures items { line.new.items ≡ line.old.items ++ kind_text (EventKind.Return who.now service code) }
+    ensures len { array_vec_len line.new ≤ array_vec_len line.old + 100 }
+{
+    let mut buffer = itoa::Buffer::new();
+    push_text(line, "RET ");
+    push_subject(line, who);
+    push_text(line, " ");
+    push_text(line, service.word());
+    push_text(line, " ");
+    push_text(line, buffer.format(code.number()));
+}
+
+fn push_error(line: &mut Line, error: ErrorKind, who: &Option<Subject>, response: Response)
+    requires { array_vec_len line.old + 100 ≤ 512 }
+    ensures items { line.new.items ≡ line.old.items ++ kind_text (EventKind.Error error who.now response) }
+    ensures len { array_vec_len line.new ≤ array_vec_len line.old + 100 }
+{
+    push_text(line, "HM ");
+    push_text(line, error.word());
+    push_text(line, " ");
+    push_culprit(line, who);
+    push_text(line, " ");
+    push_text(line, response.level().word());
+    push_text(line, " ");
+    push_text(line, response.action_word());
+}
+
+fn push_kind(line: &mut Line, kind: &EventKind)
+    requires { array_vec_len line.old + 400 ≤ 512 }
+    ensures items { line.new.items ≡ line.old.items ++ kind_text kind.now }
+    ensures len { array_vec_len line.new ≤ array_vec_len line.old + 400 }
+{
+    match kind {
+        EventKind::State(who, state) => {
+            push_text(line, "STATE ");
+            push_subject(line, who);
+            push_text(line, " ");
+            push_text(line, state.word());
+        }
+        EventKind::Return(who, service, code) => push_return(line, who, *service, *code),
+        EventKind::Mode(mode) => {
+            push_text(line, "MODE ");
+            push_text(line, mode.word());
+        }
+        EventKind::Error(error, who, response) => push_error(line, *error, who, *response),
+        EventKind::Report(who, words) => {
+            push_text(line, "REPORT ");
+            push_subject(line, who);
+            push_words(line, words.as_slice());
+        }
+        EventKind::Move(port, words) => {
+            push_text(line, "MOVE ");
+            push_message(line, port, words.as_slice());
+        }
+        EventKind::Arrive(port, words) => {
+            push_text(line, "ARRIVE ");
+            push_message(line, port, words.as_slice());
+        }
+        EventKind::Lost(port, words) => {
+            push_text(line, "LOST ");
+            push_message(line, port, words.as_slice());
+        }
+        EventKind::Out(channel, words) => {
+            push_text(line, "OUT ");
+            push_message(line, channel, words.as_slice());
+        }
+    }
+}

@@ -1,0 +1,140 @@
+ghost use Rattle.std.specs.Prelude.{◌≡◌};
+
+use crate::command;
+use crate::files::{FileFault, Files};
+use std::alloc::Global;
+use std::io::{self, Write};
+use std::process::Abort;
+use std::test::Fail;
+
+const USAGE: &str = "(usage)";
+
+/// Three files that are there, with their names as their bytes, and one that takes no writing.
+/// It counts what is written.
+#[derive(Drop)]
+struct Shelf {
+    writes: u64,
+}
+
+impl Files for Shelf {
+    fn read(&mut self, alloc: Global, name: &str) -> Result<Vec<u8>, FileFault> {
+        match name {
+            "table" | "source" | "image" => match Vec::from_slice(alloc, name.as_bytes()) {
+                Ok(bytes) => Ok(bytes),
+                Err(_) => Err(FileFault::Memory),
+            },
+            "devices" => Ok(Vec::new(alloc)),
+            _ => Err(FileFault::Unavailable),
+        }
+    }
+
+    fn write(&mut self, name: &str, _bytes: &[u8]) -> Result<(), FileFault> {
+        self.writes = self.writes.wrapping_add(1);
+        match name {
+            "closed" => Err(FileFault::Unavailable),
+            _ => Ok(()),
+        }
+    }
+}
+
+/// Takes nothing.
+#[derive(Drop)]
+struct FullWriter;
+
+impl Write for FullWriter {
+    fn write(&mut self, _bytes: &[u8]) -> io::Result<usize> {
+        Ok(0)
+    }
+
+    fn flush(&mut self) -> io::Result<()> {
+        Ok(())
+    }
+}
+
+/// The words after the program's name, the status, and the line on standard error (for a usage
+/// any text).
+static REFUSALS: [(&[&str], u8, &str); 14] = [
+    (&["mb", "build", "table", "new"], 2, USAGE),
+    (&["mb", "build", "table"], 2, USAGE),
+    (&["mb", "run", "image", "devices"], 2, USAGE),
+    (&["mb", "run", "image", "devices", "5", "6"], 2, USAGE),
+    (&["mb", "run", "gone", "devices", "12x"], 2, USAGE),
+    (&["mb", "run", "gone", "devices", "-5"], 2, USAGE),
+    (&["mb", "run", "gone", "devices", "+5"], 2, USAGE),
+    (&["mb", "walk"], 2, USAGE),
+    (
+        &["mb", "build", "gone", "new", "lost"],
+        1,
+        "mb: file gone\n",
+    ),
+    (
+        &["mb", "build", "table", "new", "source", "lost"],
+        1,
+        "mb: file lost\n",
+    ),
+    (&["mb", "run", "gone", "lost", "5"], 1, "mb: file gone\n"),
+    (
+        &["mb", "run", "image", "lost", "1099511627777"],
+        1,
+        "mb: file lost\n",
+    ),
+    (
+        &["mb", "run", "image", "devices", "1099511627777"],
+        1,
+        "mb: ticks\n",
+    ),
+    (
+        &[
+            "mb",
+            "run",
+            "image",
+            "devices",
+            "99999999999999999999999999",
+        ],
+        1,
+        "mb: ticks\n",
+    ),
+];
+
+#[test]
+fn refusals(rt: HostRuntime) -> Result<(), Fail> {
+    for (words, status, line) in &REFUSALS {
+        let mut files = Shelf { writes: 0 };
+        let mut out = Vec::new(rt.alloc());
+        let mut err = Vec::new(rt.alloc());
+        let found = command(rt.alloc(), words, &mut files, &mut out, &mut err);
+        assert_eq!(rt; found, *status);
+        assert!(rt; out.is_empty());
+        assert_eq!(rt; files.writes, 0);
+        if *line == USAGE {
+            assert!(rt; !err.is_empty());
+        } else {
+            assert_eq!(rt; err.as_slice(), line.as_bytes());
+        }
+    }
+    Ok(())
+}
+
+#[test]
+fn help_goes_to_standard_output(rt: HostRuntime) -> Result<(), Fail> {
+    let mut files = Shelf { writes: 0 };
+    let mut out = Vec::new(rt.alloc());
+    let mut err = Vec::new(rt.alloc());
+    let words = ["mb", "help"];
+    let status = command(rt.alloc(), &words, &mut files, &mut out, &mut err);
+    assert_eq!(rt; status, 0);
+    assert!(rt; !out.is_empty());
+    assert!(rt; err.is_empty());
+    Ok(())
+}
+
+#[test]
+fn a_trace_that_is_not_taken(rt: HostRuntime) -> Result<(), Fail> {
+    let mut files = Shelf { writes: 0 };
+    let mut err = Vec::new(rt.alloc());
+    let words = ["mb"];
+    let status = command(rt.alloc(), &words, &mut files, &mut FullWriter, &mut err);
+    assert_eq!(rt; status, 1);
+    assert_eq!(rt; err.as_slice(), b"mb: write\n".as_slice());
+    Ok(())
+}

@@ -1,0 +1,3 @@
+pub mod Views
+pub mod Emitted
+pub mod Waiting

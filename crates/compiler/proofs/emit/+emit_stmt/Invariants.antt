@@ -1,0 +1,16 @@
+use Rattle.std.proofs.Common.{◌≡◌, ℕ, ◌+◌, ◌≤◌, min, max, drop, map, length, ◌++◌}
+use Rattle.apex_meaning.specs.Cost as cost
+use Rattle.apex_meaning.specs.CompiledCode as code_of
+use Rattle.pal_base.specs.ProgramView.{expr_of, exprs_of, links_of, stmt_of, block_of, body_of, procedure_of, process_of, program_of}
+use Rattle.compiler.proofs.emit.+emit_stmt.Given as goal
+
+abbrev pub invariant-emit_block-loop-stmt : goal.invariant-emit_block-loop-stmt
+invariant-emit_block-loop-stmt l =
+    (l.code.items ++ code_of.block_code l.slots (length l.code.items) (block_of (drop l.stmt-index l.block)) ≡ l.fn.code.items ++ code_of.block_code l.slots (length l.fn.code.items) (block_of l.block))
+    × (length l.code.items + cost.size_of_block (block_of (drop l.stmt-index l.block)) ≤ 65536)
+
+abbrev pub decreases-emit_stmt : goal.decreases-emit_stmt
+decreases-emit_stmt l = cost.size_of_stmt (stmt_of l.stmt.now)
+
+abbrev pub decreases-emit_block : goal.decreases-emit_block
+decreases-emit_block l = cost.size_of_block (block_of l.block.now) + 1

@@ -1,0 +1,17 @@
+use Rattle.std.proofs.Common.{◌≡◌, ◌+◌, ◌++◌, ◌∷◌, [], List, length, min, max, sym, ap, ◌∙◌, arith, append_assoc, length-append, rules, drop}
+use Rattle.apex_meaning.specs.Cost as cost
+use Rattle.apex_meaning.specs.CompiledCode as code_of
+use Rattle.apex_meaning.proofs.Sizes.{expr_size, stmt_size, block_size}
+use Rattle.pal_base.specs.ProgramView.{expr_of, exprs_of, links_of, stmt_of, block_of}
+use Rattle.compiler.proofs.Views.{seen_apply, seen_chain, seen_if, seen_if_else, seen_while}
+use Rattle.compiler.proofs.Emitted.{on_ok, block_step}
+use Rattle.compiler.proofs.emit.emit_test.Goals as goal
+
+pub returns-clause-size : goal.returns-clause-size
+returns-clause-size c = ap length c.in_ok-emit_expr.ensures ∙ length-append c.args.code.now.items (code_of.expr_code (expr_of c.args.test.now)) ∙ ap (λ n. length c.args.code.now.items + n) (expr_size (expr_of c.args.test.now))
+
+pub overflow_cast-result : goal.overflow_cast-result
+overflow_cast-result c =
+    let long = ap length c.in_ok-emit_expr.ensures ∙ length-append c.args.code.now.items (code_of.expr_code (expr_of c.args.test.now)) ∙ ap (λ n. length c.args.code.now.items + n) (expr_size (expr_of c.args.test.now)) in
+    let len = c.len.ensures ∙ c.emit_expr.new.code.ok.0 in
+    omega (arith, c.requires)

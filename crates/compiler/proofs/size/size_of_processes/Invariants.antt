@@ -1,0 +1,9 @@
+use Rattle.std.proofs.Common.{◌≡◌, ℕ, ◌+◌, ◌≤◌, min, max, drop, map, length, ◌++◌}
+use Rattle.apex_meaning.specs.Cost as cost
+use Rattle.apex_meaning.specs.CompiledCode as code_of
+use Rattle.pal_base.specs.ProgramView.{expr_of, exprs_of, links_of, stmt_of, block_of, body_of, procedure_of, process_of, program_of}
+use Rattle.std.specs.List.{sum_by}
+use Rattle.compiler.proofs.size.size_of_processes.Given as goal
+
+abbrev pub invariant-loop-process : goal.invariant-loop-process
+invariant-loop-process l = (l.size ≤ 4294967295) × (min (l.size + sum_by cost.size_of_process (map process_of (drop l.process-index l.processes))) 4294967295 ≡ min (sum_by cost.size_of_process (map process_of l.processes)) 4294967295)

@@ -1,0 +1,14 @@
+//! The compiler: a program with its names resolved becomes a section of an image.
+//!
+//! Each construct is one instruction, so that the code costs what the source says.
+#![tactic(auto)]
+
+mod bodies;
+mod emit;
+mod fault;
+mod operands;
+mod section;
+mod size;
+
+pub use fault::CompileFault;
+pub use section::compile_program;

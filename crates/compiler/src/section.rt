@@ -1,0 +1,81 @@
+//! A program as a section of an image.
+
+ghost use Rattle.std.specs.Prelude.{◌≡◌, ◌≤◌, ◌<◌, ◌↔◌, ◌++◌, map, IfOk, Err};
+ghost use Rattle.apex_meaning.specs.Cost as cost;
+ghost use Rattle.apex_meaning.specs.CompiledCode as code_of;
+ghost use Rattle.apex_meaning.specs.Instructions.{bytes_of};
+ghost use Rattle.pal_base.specs.ProgramView.{program_of};
+ghost use Rattle.compiler.specs.SectionView.{section_view};
+
+use crate::bodies::{emit_body, emit_handler, emit_procedures, emit_processes};
+use crate::fault::CompileFault;
+use crate::size::size_of_program;
+use apex_types::{Instr, Section};
+use pal_base::program::Program;
+use processor::encode;
+use std::alloc::{AllocError, Global};
+
+/// The most instructions that a partition's code has.
+pub const MOST_INSTRUCTIONS: u32 = 65_536;
+
+/// The section of a program. Its code has one instruction for each construct.
+///
+/// # Errors
+///
+/// `TooLong` where the code would have more than 65,536 instructions, else `Memory` where there is
+/// no memory for the section.
+pub fn compile_program(alloc: Global, program: &Program) -> Result<Section, CompileFault>
+    ensures section { IfOk result (λ section. section_view section ≡ code_of.section_of (program_of program.now)) }
+    ensures too_long { result ≡ Err CompileFault.TooLong ↔ 65_536 < cost.size_of (program_of program.now) }
+{
+    if size_of_program(program) > MOST_INSTRUCTIONS {
+        return Err(CompileFault::TooLong);
+    }
+    match section_of(alloc, program) {
+        Ok(section) => Ok(section),
+        Err(fault) => Err(CompileFault::Memory(fault)),
+    }
+}
+
+fn section_of(alloc: Global, program: &Program) -> Result<Section, AllocError>
+    requires { cost.size_of (program_of program.now) ≤ 65_536 }
+    ensures { IfOk result (λ section. section_view section ≡ code_of.section_of (program_of program.now)) }
+{
+    let mut code = Vec::new(alloc);
+    let init = emit_body(&mut code, &program.init)?;
+    let handler = emit_handler(&mut code, &program.handler)?;
+    let processes = emit_processes(alloc, &mut code, &program.processes)?;
+    let routines = emit_procedures(alloc, &mut code, &program.procedures)?;
+    Ok(Section {
+        initial: copied(alloc, &program.initial)?,
+        semaphores: copied(alloc, &program.semaphores)?,
+        events: program.events,
+        buffers: copied(alloc, &program.buffers)?,
+        blackboards: copied(alloc, &program.blackboards)?,
+        routines,
+        processes,
+        init,
+        handler,
+        code: encoded(alloc, &code)?,
+    })
+}
+
+/// A copy of a list.
+fn copied<T: Copy + Drop>(alloc: Global, items: &[T]) -> Result<Vec<T>, AllocError>
+    ensures { IfOk result (λ copy. copy.items ≡ items.now) }
+{
+    let mut copy = Vec::new(alloc);
+    copy.extend_from_slice(items)?;
+    Ok(copy)
+}
+
+/// The instructions as bytes.
+fn encoded(alloc: Global, code: &[Instr]) -> Result<Vec<[u8; 16]>, AllocError>
+    ensures { IfOk result (λ bytes. bytes.items ≡ map bytes_of code.now) }
+{
+    let mut bytes = Vec::with_capacity(alloc, code.len())?;
+    for instr in code {
+        bytes.push(encode(instr))?;
+    }
+    Ok(bytes)
+}

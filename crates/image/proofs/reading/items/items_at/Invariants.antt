@@ -1,0 +1,7 @@
+use Rattle.std.proofs.Common.{◌≡◌, ◌-◌, []}
+use Rattle.apex_meaning.specs.ImageReading.{item_at, items_at}
+use Rattle.image.specs.Views.{items_of}
+use Rattle.image.proofs.reading.items.items_at.Given as goal
+
+abbrev pub invariant-loop : goal.invariant-loop
+invariant-loop l = items_at (item_at l.frame) (l.count - l.counter) (items_of l.items.items) l.rest ≡ items_at (item_at l.frame) l.count [] l.bytes

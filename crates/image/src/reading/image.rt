@@ -1,0 +1,58 @@
+//! All fields of an image.
+
+ghost use Rattle.std.specs.Prelude.{◌≡◌};
+ghost use Rattle.apex_meaning.specs.ImageReading.{magic_at, version_at, fields_at};
+ghost use Rattle.image.specs.Views.{Gives, image_of};
+
+use crate::fault::ImageFault;
+use crate::reading::channels::channel_list_at;
+use crate::reading::choices::module_action_at;
+use crate::reading::items::item_list_at;
+use crate::reading::numbers::{bytes_at, u16_at, u32_within};
+use crate::reading::rows::list_at;
+use crate::value::Image;
+use std::alloc::Global;
+
+#[tactic(auto, unfolding(apex_meaning::specs::ImageReading::magic_at))]
+fn magic_at(bytes: &[u8]) -> Result<(&[u8], &[u8]), ImageFault>
+    ensures { Gives (λ x. (x.0.now, x.1.now)) result (magic_at bytes.now) }
+{
+    let (text, rest) = bytes_at(8, bytes)?;
+    if text != b"AP653IMG".as_slice() {
+        return Err(ImageFault::Foreign);
+    }
+    Ok((text, rest))
+}
+
+#[tactic(auto, unfolding(apex_meaning::specs::ImageReading::version_at))]
+fn version_at(bytes: &[u8]) -> Result<(u16, &[u8]), ImageFault>
+    ensures { Gives (λ x. (x.0, x.1.now)) result (version_at bytes.now) }
+{
+    let (_, rest) = magic_at(bytes)?;
+    let (number, rest) = u16_at(rest)?;
+    if number != 1 {
+        return Err(ImageFault::Foreign);
+    }
+    Ok((number, rest))
+}
+
+/// The fields of an image, and the bytes behind them.
+#[tactic(auto, unfolding(apex_meaning::specs::ImageReading::fields_at))]
+pub fn fields_at(alloc: Global, bytes: &[u8]) -> Result<(Image, &[u8]), ImageFault>
+    ensures { Gives (λ x. (image_of x.0, x.1.now)) result (fields_at bytes.now) }
+{
+    let (_, rest) = version_at(bytes)?;
+    let (frame, rest) = u32_within(rest, 1, 1 << 24)?;
+    let (fault, rest) = module_action_at(rest)?;
+    let (partitions, rest) = item_list_at(alloc, frame, rest)?;
+    let (windows, rest) = list_at(alloc, rest, 1, 64)?;
+    let (channels, rest) = channel_list_at(alloc, rest)?;
+    let image = Image {
+        frame,
+        fault,
+        partitions,
+        windows,
+        channels,
+    };
+    Ok((image, rest))
+}

@@ -1,0 +1,58 @@
+//! Writing an image as bytes.
+
+ghost use Rattle.std.specs.Prelude.{◌≡◌, ◌++◌, IfOk, IfErr, OnOk};
+ghost use Rattle.apex_meaning.specs.ImageSpelling.{list, item, channel, head, spelling};
+ghost use Rattle.image.specs.Views.{items_of, channels_of, image_of};
+ghost use Rattle.image.specs.declared.fault.ImageFault.TheVariants.{Memory};
+
+use crate::fault::ImageFault;
+use crate::value::{Image, PartitionItem};
+use crate::writing::numbers::number_of_module_action;
+use crate::writing::rows::put_list;
+use std::alloc::{AllocError, Global};
+use window_table::ChannelRow;
+
+#[tactic(auto, unfolding(apex_meaning::specs::ImageSpelling::head))]
+fn put_head(out: &mut Vec<u8>, image: &Image) -> Result<(), AllocError>
+    ensures { OnOk result (out.new.items ≡ out.old.items ++ head (image_of image.now)) }
+{
+    out.extend_from_slice(b"AP653IMG".as_slice())?;
+    out.extend_from_slice(&1u16.to_le_bytes())?;
+    out.extend_from_slice(&image.frame.to_le_bytes())?;
+    out.push(number_of_module_action(image.fault))?;
+    Ok(())
+}
+
+#[tactic(auto, using(crate::proofs::Lists::items_spelled))]
+fn put_items(out: &mut Vec<u8>, items: &[PartitionItem]) -> Result<(), AllocError>
+    ensures { OnOk result (out.new.items ≡ out.old.items ++ list item (items_of items.now)) }
+{
+    put_list(out, items)
+}
+
+#[tactic(auto, using(crate::proofs::Lists::channels_spelled))]
+fn put_channels(out: &mut Vec<u8>, rows: &[ChannelRow]) -> Result<(), AllocError>
+    ensures { OnOk result (out.new.items ≡ out.old.items ++ list channel (channels_of rows.now)) }
+{
+    put_list(out, rows)
+}
+
+#[tactic(auto, unfolding(apex_meaning::specs::ImageSpelling::spelling))]
+fn put_image(out: &mut Vec<u8>, image: &Image) -> Result<(), AllocError>
+    ensures { OnOk result (out.new.items ≡ out.old.items ++ spelling (image_of image.now)) }
+{
+    put_head(out, image)?;
+    put_items(out, &image.partitions)?;
+    put_list(out, &image.windows)?;
+    put_channels(out, &image.channels)
+}
+
+/// The one spelling of the image. It is refused for want of memory alone.
+pub fn write_image(alloc: Global, image: &Image) -> Result<Vec<u8>, ImageFault>
+    ensures spelled { IfOk result (λ bytes. bytes.items ≡ spelling (image_of image.now)) }
+    ensures refused { IfErr result (λ fault. fault ≡ Memory) }
+{
+    let mut out = Vec::new(alloc);
+    put_image(&mut out, image)?;
+    Ok(out)
+}

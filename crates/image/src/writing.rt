@@ -1,0 +1,7 @@
+//! Writing an image: each writer appends the spelling of its value.
+
+pub mod items;
+pub mod numbers;
+pub mod rows;
+pub mod sections;
+pub mod tables;

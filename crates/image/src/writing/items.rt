@@ -1,0 +1,21 @@
+//! Partitions with what their sources became.
+
+ghost use Rattle.std.specs.Prelude.{◌≡◌, ◌++◌, OnOk};
+ghost use Rattle.apex_meaning.specs.ImageSpelling.{item};
+ghost use Rattle.image.specs.Views.{item_of};
+
+use crate::value::PartitionItem;
+use crate::writing::rows::Spelled;
+use crate::writing::sections::put_section;
+use crate::writing::tables::put_partition;
+use std::alloc::AllocError;
+
+impl Spelled for PartitionItem {
+    ghost spelled = { λ it. item (item_of it) };
+
+    #[tactic(auto, unfolding(apex_meaning::specs::ImageSpelling::item))]
+    fn write(&self, out: &mut Vec<u8>) -> Result<(), AllocError> {
+        put_partition(out, &self.row)?;
+        put_section(out, &self.section)
+    }
+}

@@ -1,0 +1,13 @@
+//! Building modules into images, and running images.
+#![tactic(auto)]
+
+mod building;
+mod fault;
+mod load;
+mod member;
+mod part;
+mod running;
+
+pub use building::build;
+pub use fault::{BuildAndRunFault, BuildFault, RunFault};
+pub use running::{build_and_run, run};

@@ -1,0 +1,21 @@
+//! The check of a program as it is written: its refusals, the program with its names resolved, and
+//! what its bodies cost.
+#![tactic(auto)]
+
+mod arguments;
+mod frames;
+mod kinds;
+mod limits;
+mod lines;
+mod meanings;
+mod names;
+mod numbers;
+mod periods;
+mod report;
+mod resolving;
+mod scope;
+mod table;
+mod verdict;
+
+pub use report::{BodyCost, BodyName, cost_report};
+pub use verdict::{Checked, check};

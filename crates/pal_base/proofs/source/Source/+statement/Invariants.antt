@@ -1,0 +1,23 @@
+use Rattle.std.proofs.Common.{◌<◌, ◌≤◌, length, ◌≡◌, ℕ, ◌+◌, ◌-◌, ◌*◌}
+use Rattle.pal_base.proofs.source.Source.+statement.Given as goal
+
+abbrev pub decreases-block : goal.decreases-block
+decreases-block l = 5 * l.levels
+
+abbrev pub decreases-branch : goal.decreases-branch
+decreases-branch l = 5 * l.levels + 1
+
+abbrev pub decreases-statement_kind : goal.decreases-statement_kind
+decreases-statement_kind l = 5 * l.levels + 2
+
+abbrev pub decreases-statement : goal.decreases-statement
+decreases-statement l = 5 * l.levels + 3
+
+abbrev pub decreases-statements : goal.decreases-statements
+decreases-statements l = 5 * l.levels + 4
+
+abbrev pub invariant-statements-loop-alloc : goal.invariant-statements-loop-alloc
+invariant-statements-loop-alloc l = length l.rest ≤ length l.fn.tokens
+
+abbrev pub decreases-statements-loop-alloc : goal.decreases-statements-loop-alloc
+decreases-statements-loop-alloc l = length l.rest

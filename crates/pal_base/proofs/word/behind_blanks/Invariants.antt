@@ -1,0 +1,9 @@
+use Rattle.std.proofs.Common.{◌≡◌, ℕ, false, length}
+use Rattle.apex_meaning.specs.GrammarWords.{behind_blanks}
+use Rattle.pal_base.proofs.word.behind_blanks.Given as goal
+
+abbrev pub invariant-loop-byte : goal.invariant-loop-byte
+invariant-loop-byte l = behind_blanks false l.fn.text ≡ behind_blanks l.is_comment l.rest
+
+abbrev pub decreases-loop-byte : goal.decreases-loop-byte
+decreases-loop-byte l = length l.rest

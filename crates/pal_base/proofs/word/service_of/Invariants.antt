@@ -1,0 +1,12 @@
+use Rattle.std.proofs.Common.{◌≡◌, ℕ, length}
+use Rattle.std.specs.Prelude.{find}
+use Rattle.apex_types.specs.ServiceWords.{service_word}
+use Rattle.apex_types.specs.ServiceNumbers.{services}
+use Rattle.apex_meaning.specs.GrammarWords.{same}
+use Rattle.pal_base.proofs.word.service_of.Given as goal
+
+abbrev pub invariant-loop-service : goal.invariant-loop-service
+invariant-loop-service l = find (λ s. same (service_word s) l.run) services ≡ find (λ s. same (service_word s) l.run) l.candidates
+
+abbrev pub decreases-loop-service : goal.decreases-loop-service
+decreases-loop-service l = length l.candidates

@@ -1,0 +1,14 @@
+use Rattle.std.proofs.Common.{◌≡◌, ℕ, List, ◌++◌, length, map}
+use Rattle.apex_meaning.specs.GrammarWords.{words_of, words_from}
+use Rattle.pal_base.specs.View.{texts}
+use Rattle.pal_base.specs.WordView.{token_of}
+use Rattle.pal_base.proofs.Names.{AreKnown}
+use Rattle.pal_base.proofs.word.words_of.Given as goal
+
+abbrev pub invariant-loop-rest : goal.invariant-loop-rest
+invariant-loop-rest l =
+    (words_of l.fn.text ≡ map (token_of (texts l.names.keys)) l.tokens.items ++ words_from l.rest)
+    × AreKnown (texts l.names.keys) l.tokens.items
+
+abbrev pub decreases-loop-rest : goal.decreases-loop-rest
+decreases-loop-rest l = length l.rest

@@ -1,0 +1,10 @@
+-- What may stand in a run of bytes.
+use Rattle.std.specs.Prelude.{ℕ, Bool}
+use Rattle.apex_meaning.specs.GrammarWords.{is_digit, in_name, in_service}
+use Rattle.pal_base.specs.declared.word.Run.{Run}
+use Rattle.pal_base.specs.declared.word.Run.TheVariants as run
+
+abbrev pub member : Run → ℕ → Bool
+member run.Name b = in_name b
+member run.Digits b = is_digit b
+member run.Service b = in_service b

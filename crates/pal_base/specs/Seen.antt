@@ -1,0 +1,44 @@
+-- What the definitions see of the words and readers of the code.
+use Rattle.std.specs.Prelude.{◌≡◌, ℕ, List, map, Option, Some, None, Result, Ok, Err}
+use Rattle.pal_base.specs.declared.source.Rank.{Rank}
+use Rattle.pal_base.specs.declared.source.Rank.TheVariants as rank
+use Rattle.pal_base.specs.declared.source.ReadError.{ReadError}
+use Rattle.pal_base.specs.declared.source.ReadError.TheVariants.{Memory, Refused}
+use Rattle.pal_base.specs.declared.source.Source.{Source}
+use Rattle.pal_base.specs.declared.word.Token.{Token}
+use Rattle.pal_base.specs.View.{texts}
+use Rattle.pal_base.specs.WordView.{token_of}
+use Rattle.apex_meaning.specs.GrammarWords as grammar
+use Rattle.apex_meaning.specs.GrammarReading as reading
+
+abbrev pub rank_of : Rank → reading.Rank
+rank_of rank.Disjunction = reading.Disjunction
+rank_of rank.Conjunction = reading.Conjunction
+rank_of rank.Comparison = reading.Comparison
+rank_of rank.Sum = reading.Sum
+rank_of rank.Product = reading.Product
+
+-- how many ranks bind more
+abbrev pub looseness : Rank → ℕ
+looseness rank.Disjunction = 4
+looseness rank.Conjunction = 3
+looseness rank.Comparison = 2
+looseness rank.Sum = 1
+looseness rank.Product = 0
+
+abbrev pub names_of : Source → List (List ℕ)
+names_of s = texts s.names.keys
+
+-- the words that these tokens of the source are
+abbrev pub seen : Source → List Token → List grammar.Word
+seen s ts = map (token_of (names_of s)) ts
+
+-- What the code found is what reading finds, unless memory ran out.
+abbrev pub Gives : {X Y : Type 0} → (X → Y) → Result X ReadError → Option Y → Type 0
+Gives view (Ok x) read = read ≡ Some (view x)
+Gives view (Err Memory) read = Unit {0}
+Gives view (Err (Refused line)) read = read ≡ None
+
+abbrev pub Finds : {X Y : Type 0} → (X → Y) → Option X → Option Y → Type 0
+Finds view (Some x) read = read ≡ Some (view x)
+Finds view None read = read ≡ None

@@ -1,0 +1,218 @@
+//! Reading of declarations.
+
+ghost use Rattle.std.specs.Prelude.{◌≡◌, ◌≢◌, ◌<◌, ◌≤◌, length, map, option_map, IfOk, IfSome};
+
+use crate::mark::Mark;
+use crate::source::{Read, Source};
+use crate::syntax::{Declaration, DeclarationKind, Identifier, Numeral};
+use crate::word::Token;
+use std::alloc::Global;
+
+impl Source {
+    /// The declarations up to the word `init`.
+    pub fn declarations<'a>(&self, alloc: Global, tokens: &'a [Token]) -> Read<'a, Vec<Declaration>>
+        ensures shorter { IfOk result (λ x. length x.1.now ≤ length tokens.now) }
+    {
+        let mut declarations = Vec::new(alloc);
+        let mut rest = tokens;
+        while self.behind(rest, Mark::Init).is_none() {
+            match self.declaration(alloc, rest) {
+                Ok((declaration, after)) => {
+                    declarations.push(declaration)?;
+                    rest = after;
+                }
+                Err(error) => return Err(error),
+            }
+        }
+        Ok((declarations, rest))
+    }
+
+    /// A declaration.
+    fn declaration<'a>(&self, alloc: Global, tokens: &'a [Token]) -> Read<'a, Declaration>
+        ensures shorter { IfOk result (λ x. length x.1.now < length tokens.now) }
+    {
+        let line = self.line_of(tokens);
+        if let Some(rest) = self.behind(tokens, Mark::Var) {
+            return self.variable(line, rest);
+        }
+        if let Some(rest) = self.behind(tokens, Mark::Array) {
+            return self.array(alloc, line, rest);
+        }
+        if let Some(rest) = self.behind(tokens, Mark::Semaphore) {
+            return self.semaphore(line, rest);
+        }
+        if let Some(rest) = self.behind(tokens, Mark::Event) {
+            return self.event(line, rest);
+        }
+        if let Some(rest) = self.behind(tokens, Mark::Buffer) {
+            return self.buffer(line, rest);
+        }
+        if let Some(rest) = self.behind(tokens, Mark::Blackboard) {
+            return self.blackboard(line, rest);
+        }
+        if let Some(rest) = self.behind(tokens, Mark::Port) {
+            return self.port(line, rest);
+        }
+        let rest = self.expect(tokens, Mark::Proc)?;
+        self.procedure(alloc, line, rest)
+    }
+
+    /// What follows the word `var` of that line.
+    fn variable<'a>(&self, line: u32, tokens: &'a [Token]) -> Read<'a, Declaration>
+        ensures shorter { IfOk result (λ x. length x.1.now < length tokens.now) }
+    {
+        let (name, rest) = self.name(tokens)?;
+        let (value, rest) = self.first_value(rest)?;
+        let rest = self.expect(rest, Mark::Semicolon)?;
+        let kind = DeclarationKind::Variable(value);
+        Ok((Declaration { line, name, kind }, rest))
+    }
+
+    /// An equals sign and a number, or nothing.
+    fn first_value<'a>(&self, tokens: &'a [Token]) -> Read<'a, Option<Numeral>>
+        ensures shorter { IfOk result (λ x. length x.1.now ≤ length tokens.now) }
+    {
+        match self.behind(tokens, Mark::Equal) {
+            Some(rest) => {
+                let (value, rest) = self.integer(rest)?;
+                Ok((Some(value), rest))
+            }
+            None => Ok((None, tokens)),
+        }
+    }
+
+    /// What follows the word `array` of that line.
+    fn array<'a>(&self, alloc: Global, line: u32, tokens: &'a [Token]) -> Read<'a, Declaration>
+        ensures shorter { IfOk result (λ x. length x.1.now < length tokens.now) }
+    {
+        let (name, rest) = self.name(tokens)?;
+        let rest = self.expect(rest, Mark::BracketOpens)?;
+        let (size, rest) = self.number(rest)?;
+        let rest = self.expect(rest, Mark::BracketCloses)?;
+        let (values, rest) = self.first_values(alloc, rest)?;
+        let kind = DeclarationKind::Array { size, values };
+        Ok((Declaration { line, name, kind }, rest))
+    }
+
+    /// An equals sign and one or more numbers, or nothing, and a semicolon.
+    fn first_values<'a>(&self, alloc: Global, tokens: &'a [Token]) -> Read<'a, Vec<Numeral>>
+        ensures shorter { IfOk result (λ x. length x.1.now < length tokens.now) }
+    {
+        match self.behind(tokens, Mark::Equal) {
+            Some(rest) => self.integers(alloc, rest),
+            None => {
+                let rest = self.expect(tokens, Mark::Semicolon)?;
+                Ok((Vec::new(alloc), rest))
+            }
+        }
+    }
+
+    /// One or more numbers, and a semicolon.
+    fn integers<'a>(&self, alloc: Global, tokens: &'a [Token]) -> Read<'a, Vec<Numeral>>
+        ensures shorter { IfOk result (λ x. length x.1.now < length tokens.now) }
+    {
+        let mut values = Vec::new(alloc);
+        let (first, mut rest) = self.integer(tokens)?;
+        values.push(first)?;
+        while self.behind(rest, Mark::Semicolon).is_none() {
+            match self.integer(rest) {
+                Ok((value, after)) => {
+                    values.push(value)?;
+                    rest = after;
+                }
+                Err(error) => return Err(error),
+            }
+        }
+        let rest = self.expect(rest, Mark::Semicolon)?;
+        Ok((values, rest))
+    }
+
+    /// What follows the word `semaphore` of that line.
+    fn semaphore<'a>(&self, line: u32, tokens: &'a [Token]) -> Read<'a, Declaration>
+        ensures shorter { IfOk result (λ x. length x.1.now < length tokens.now) }
+    {
+        let (name, rest) = self.name(tokens)?;
+        let (first, rest) = self.number(rest)?;
+        let (maximum, rest) = self.number(rest)?;
+        let (discipline, rest) = self.discipline(rest)?;
+        let rest = self.expect(rest, Mark::Semicolon)?;
+        let kind = DeclarationKind::Semaphore {
+            first,
+            maximum,
+            discipline,
+        };
+        Ok((Declaration { line, name, kind }, rest))
+    }
+
+    /// What follows the word `event` of that line.
+    fn event<'a>(&self, line: u32, tokens: &'a [Token]) -> Read<'a, Declaration>
+        ensures shorter { IfOk result (λ x. length x.1.now < length tokens.now) }
+    {
+        let (name, rest) = self.name(tokens)?;
+        let rest = self.expect(rest, Mark::Semicolon)?;
+        let kind = DeclarationKind::Event;
+        Ok((Declaration { line, name, kind }, rest))
+    }
+
+    /// What follows the word `buffer` of that line.
+    fn buffer<'a>(&self, line: u32, tokens: &'a [Token]) -> Read<'a, Declaration>
+        ensures shorter { IfOk result (λ x. length x.1.now < length tokens.now) }
+    {
+        let (name, rest) = self.name(tokens)?;
+        let (words, rest) = self.number(rest)?;
+        let (messages, rest) = self.number(rest)?;
+        let (discipline, rest) = self.discipline(rest)?;
+        let rest = self.expect(rest, Mark::Semicolon)?;
+        let kind = DeclarationKind::Buffer {
+            words,
+            messages,
+            discipline,
+        };
+        Ok((Declaration { line, name, kind }, rest))
+    }
+
+    /// What follows the word `blackboard` of that line.
+    fn blackboard<'a>(&self, line: u32, tokens: &'a [Token]) -> Read<'a, Declaration>
+        ensures shorter { IfOk result (λ x. length x.1.now < length tokens.now) }
+    {
+        let (name, rest) = self.name(tokens)?;
+        let (words, rest) = self.number(rest)?;
+        let rest = self.expect(rest, Mark::Semicolon)?;
+        let kind = DeclarationKind::Blackboard { words };
+        Ok((Declaration { line, name, kind }, rest))
+    }
+
+    /// What follows the word `port` of that line.
+    fn port<'a>(&self, line: u32, tokens: &'a [Token]) -> Read<'a, Declaration>
+        ensures shorter { IfOk result (λ x. length x.1.now < length tokens.now) }
+    {
+        let (name, rest) = self.name(tokens)?;
+        let rest = self.expect(rest, Mark::Semicolon)?;
+        let kind = DeclarationKind::Port;
+        Ok((Declaration { line, name, kind }, rest))
+    }
+
+    /// What follows the word `proc` of that line.
+    fn procedure<'a>(&self, alloc: Global, line: u32, tokens: &'a [Token]) -> Read<'a, Declaration>
+        ensures shorter { IfOk result (λ x. length x.1.now < length tokens.now) }
+    {
+        let (name, rest) = self.name(tokens)?;
+        let rest = self.expect(rest, Mark::ParenthesisOpens)?;
+        let (parameters, rest) = self.parameters(alloc, rest)?;
+        let (body, rest) = self.body(alloc, rest)?;
+        let kind = DeclarationKind::Procedure { parameters, body };
+        Ok((Declaration { line, name, kind }, rest))
+    }
+
+    /// The parameters up to the closing parenthesis, and that parenthesis.
+    fn parameters<'a>(&self, alloc: Global, tokens: &'a [Token]) -> Read<'a, Vec<Identifier>>
+        ensures shorter { IfOk result (λ x. length x.1.now < length tokens.now) }
+    {
+        if let Some(rest) = self.behind(tokens, Mark::ParenthesisCloses) {
+            return Ok((Vec::new(alloc), rest));
+        }
+        let (names, rest) = self.names(alloc, tokens)?;
+        let rest = self.expect(rest, Mark::ParenthesisCloses)?;
+        Ok((names, rest))
+    }
+}

@@ -1,0 +1,156 @@
+//! The tree of a source text.
+
+ghost use Rattle.std.specs.Prelude.{◌≡◌, ◌≢◌, ◌<◌, ◌≤◌, length, map, option_map, IfOk, IfSome};
+
+use crate::fault::{PalFault, Refusal};
+use crate::mark::Mark;
+use crate::source::{Read, ReadError, Source};
+use crate::syntax::{Declaration, Process, Program, StackBody};
+use crate::word::{Token, Words, words_of};
+use std::alloc::Global;
+
+/// The greatest length of a source text, in bytes.
+const GREATEST_LENGTH: usize = 1_048_576;
+
+/// The tree of a source text.
+///
+/// # Errors
+///
+/// 1 where the text is not ASCII or too long, 2 where it is not in the grammar, or 7.
+pub fn parse(alloc: Global, text: &[u8]) -> Result<Program, PalFault> {
+    if let Some(line) = fault_of_text(text) {
+        let refusal = Refusal::Text;
+        return Err(PalFault { refusal, line });
+    }
+    let Words {
+        names,
+        tokens,
+        last_line,
+    } = words_of(alloc, text)?;
+    let source = Source { names, last_line };
+    let parts = source.program(alloc, tokens.as_slice())?;
+    let Source { names, .. } = source;
+    Ok(Program {
+        names,
+        declarations: parts.declarations,
+        init: parts.init,
+        handler: parts.handler,
+        processes: parts.processes,
+    })
+}
+
+/// The line of the first byte that is no ASCII, else that of the first byte too many.
+fn fault_of_text(text: &[u8]) -> Option<u32> {
+    let mut line = 1u32;
+    let mut line_of_excess = None;
+    for (place, byte) in text.iter().enumerate() {
+        if 128 <= *byte {
+            return Some(line);
+        }
+        if place == GREATEST_LENGTH {
+            line_of_excess = Some(line);
+        }
+        if *byte == b'\n' {
+            line = line.saturating_add(1);
+        }
+    }
+    line_of_excess
+}
+
+/// The parts of a program that stand in its words.
+#[derive(Drop)]
+struct Parts {
+    declarations: Vec<Declaration>,
+    init: StackBody,
+    handler: Option<StackBody>,
+    processes: Vec<Process>,
+}
+
+impl Source {
+    /// The program that all these words are.
+    fn program(&self, alloc: Global, tokens: &[Token]) -> Result<Parts, ReadError> {
+        let (declarations, rest) = self.declarations(alloc, tokens)?;
+        let (init, rest) = self.stack_body(alloc, Mark::Init, rest)?;
+        let (handler, rest) = self.handler(alloc, rest)?;
+        let (processes, rest) = self.processes(alloc, rest)?;
+        if !rest.is_empty() {
+            return Err(self.refused(rest));
+        }
+        Ok(Parts {
+            declarations,
+            init,
+            handler,
+            processes,
+        })
+    }
+
+    /// The body of INIT or of the handler, behind its word.
+    fn stack_body<'a>(&self, alloc: Global, mark: Mark, tokens: &'a [Token]) -> Read<'a, StackBody>
+        ensures shorter { IfOk result (λ x. length x.1.now < length tokens.now) }
+    {
+        let line = self.line_of(tokens);
+        let rest = self.expect(tokens, mark)?;
+        let rest = self.expect(rest, Mark::Stack)?;
+        let (stack, rest) = self.number(rest)?;
+        let (body, rest) = self.body(alloc, rest)?;
+        Ok((StackBody { line, stack, body }, rest))
+    }
+
+    /// The handler, if it is there.
+    fn handler<'a>(&self, alloc: Global, tokens: &'a [Token]) -> Read<'a, Option<StackBody>>
+        ensures shorter { IfOk result (λ x. length x.1.now ≤ length tokens.now) }
+    {
+        if self.behind(tokens, Mark::Handler).is_none() {
+            return Ok((None, tokens));
+        }
+        let (handler, rest) = self.stack_body(alloc, Mark::Handler, tokens)?;
+        Ok((Some(handler), rest))
+    }
+
+    /// The processes.
+    fn processes<'a>(&self, alloc: Global, tokens: &'a [Token]) -> Read<'a, Vec<Process>>
+        ensures shorter { IfOk result (λ x. length x.1.now ≤ length tokens.now) }
+    {
+        let mut processes = Vec::new(alloc);
+        let mut rest = tokens;
+        while let Some(behind) = self.behind(rest, Mark::Process) {
+            match self.process(alloc, self.line_of(rest), behind) {
+                Ok((process, after)) => {
+                    processes.push(process)?;
+                    rest = after;
+                }
+                Err(error) => return Err(error),
+            }
+        }
+        Ok((processes, rest))
+    }
+
+    /// What follows the word `process` of that line.
+    fn process<'a>(&self, alloc: Global, line: u32, tokens: &'a [Token]) -> Read<'a, Process>
+        ensures shorter { IfOk result (λ x. length x.1.now < length tokens.now) }
+    {
+        let (name, rest) = self.name(tokens)?;
+        let rest = self.expect(rest, Mark::Priority)?;
+        let (priority, rest) = self.number(rest)?;
+        let rest = self.expect(rest, Mark::Period)?;
+        let (period, rest) = self.integer(rest)?;
+        let rest = self.expect(rest, Mark::Capacity)?;
+        let (capacity, rest) = self.integer(rest)?;
+        let rest = self.expect(rest, Mark::Stack)?;
+        let (stack, rest) = self.number(rest)?;
+        let (body, rest) = self.body(alloc, rest)?;
+        let process = Process {
+            line,
+            name,
+            priority,
+            period,
+            capacity,
+            stack,
+            body,
+        };
+        Ok((process, rest))
+    }
+}
+
+#[cfg(test)]
+mod tests;

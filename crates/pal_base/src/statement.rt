@@ -1,0 +1,241 @@
+//! Reading of statements and blocks. `levels` is how many levels may still be opened.
+
+ghost use Rattle.std.specs.Prelude.{◌≡◌, ◌≢◌, ◌<◌, ◌≤◌, length, map, option_map, IfOk, IfSome};
+
+use crate::mark::Mark;
+use crate::source::{Read, Source};
+use crate::syntax::{Body, Identifier, Stmt, StmtKind};
+use crate::word::Token;
+use apex_types::Service;
+use std::alloc::Global;
+
+/// How many levels may be opened in a body, which opens the first of 64.
+const LEVELS_IN_BODY: u32 = 63;
+
+impl Source {
+    /// A body: its locals, then its statements, within braces.
+    pub fn body<'a>(&self, alloc: Global, tokens: &'a [Token]) -> Read<'a, Body>
+        ensures shorter { IfOk result (λ x. length x.1.now < length tokens.now) }
+    {
+        let line = self.line_of(tokens);
+        let rest = self.expect(tokens, Mark::BraceOpens)?;
+        let (locals, rest) = self.locals(alloc, rest)?;
+        let (statements, rest) = self.statements(alloc, LEVELS_IN_BODY, rest)?;
+        let body = Body {
+            line,
+            locals,
+            statements,
+        };
+        Ok((body, rest))
+    }
+
+    /// The declarations of locals at the front.
+    fn locals<'a>(&self, alloc: Global, tokens: &'a [Token]) -> Read<'a, Vec<Identifier>>
+        ensures shorter { IfOk result (λ x. length x.1.now ≤ length tokens.now) }
+    {
+        let mut locals = Vec::new(alloc);
+        let mut rest = tokens;
+        while let Some(behind) = self.behind(rest, Mark::Local) {
+            match self.local(behind) {
+                Ok((name, after)) => {
+                    locals.push(name)?;
+                    rest = after;
+                }
+                Err(error) => return Err(error),
+            }
+        }
+        Ok((locals, rest))
+    }
+
+    /// The name of a local and its semicolon.
+    fn local<'a>(&self, tokens: &'a [Token]) -> Read<'a, Identifier>
+        ensures shorter { IfOk result (λ x. length x.1.now < length tokens.now) }
+    {
+        let (name, rest) = self.name(tokens)?;
+        let rest = self.expect(rest, Mark::Semicolon)?;
+        Ok((name, rest))
+    }
+
+    /// Statements within braces.
+    #[cycle(statement)]
+    fn block<'a>(&self, alloc: Global, levels: u32, tokens: &'a [Token]) -> Read<'a, Vec<Stmt>>
+        ensures shorter { IfOk result (λ x. length x.1.now < length tokens.now) }
+    {
+        if levels == 0 {
+            return Err(self.refused(tokens));
+        }
+        let rest = self.expect(tokens, Mark::BraceOpens)?;
+        self.statements(alloc, levels - 1, rest)
+    }
+
+    /// The statements up to the closing brace, and that brace.
+    #[cycle(statement)]
+    fn statements<'a>(&self, alloc: Global, levels: u32, tokens: &'a [Token]) -> Read<'a, Vec<Stmt>>
+        ensures shorter { IfOk result (λ x. length x.1.now < length tokens.now) }
+    {
+        let mut statements = Vec::new(alloc);
+        let mut rest = tokens;
+        while self.behind(rest, Mark::BraceCloses).is_none() {
+            match self.statement(alloc, levels, rest) {
+                Ok((statement, after)) => {
+                    statements.push(statement)?;
+                    rest = after;
+                }
+                Err(error) => return Err(error),
+            }
+        }
+        let rest = self.expect(rest, Mark::BraceCloses)?;
+        Ok((statements, rest))
+    }
+
+    /// A statement.
+    #[cycle(statement)]
+    fn statement<'a>(&self, alloc: Global, levels: u32, tokens: &'a [Token]) -> Read<'a, Stmt>
+        ensures shorter { IfOk result (λ x. length x.1.now < length tokens.now) }
+    {
+        let line = self.line_of(tokens);
+        let (kind, rest) = self.statement_kind(alloc, levels, tokens)?;
+        Ok((Stmt { line, kind }, rest))
+    }
+
+    #[cycle(statement)]
+    fn statement_kind<'a>(
+        &self,
+        alloc: Global,
+        levels: u32,
+        tokens: &'a [Token],
+    ) -> Read<'a, StmtKind>
+        ensures shorter { IfOk result (λ x. length x.1.now < length tokens.now) }
+    {
+        if let Some((name, rest)) = self.name_at(tokens) {
+            return self.assignment(alloc, name, levels, rest);
+        }
+        if let Some((service, rest)) = self.service_at(tokens) {
+            return self.request(alloc, service, levels, tokens, rest);
+        }
+        if let Some(rest) = self.behind(tokens, Mark::Work) {
+            return self.work(rest);
+        }
+        if let Some(rest) = self.behind(tokens, Mark::Return) {
+            return self.returned(alloc, levels, rest);
+        }
+        if levels == 0 {
+            return Err(self.refused(tokens));
+        }
+        if let Some(rest) = self.behind(tokens, Mark::If) {
+            return self.branch(alloc, levels, rest);
+        }
+        let rest = self.expect(tokens, Mark::While)?;
+        let (test, rest) = self.expression(alloc, levels, rest)?;
+        let (block, rest) = self.block(alloc, levels, rest)?;
+        Ok((StmtKind::While(test, block), rest))
+    }
+
+    /// What follows the word `if`.
+    #[cycle(statement)]
+    fn branch<'a>(&self, alloc: Global, levels: u32, tokens: &'a [Token]) -> Read<'a, StmtKind>
+        ensures shorter { IfOk result (λ x. length x.1.now < length tokens.now) }
+    {
+        let (test, rest) = self.expression(alloc, levels, tokens)?;
+        let (then, rest) = self.block(alloc, levels, rest)?;
+        match self.behind(rest, Mark::Else) {
+            Some(behind) => {
+                let (other, rest) = self.block(alloc, levels, behind)?;
+                Ok((StmtKind::IfElse(test, then, other), rest))
+            }
+            None => Ok((StmtKind::If(test, then), rest)),
+        }
+    }
+
+    /// What follows the word `work`.
+    fn work<'a>(&self, tokens: &'a [Token]) -> Read<'a, StmtKind>
+        ensures shorter { IfOk result (λ x. length x.1.now < length tokens.now) }
+    {
+        let (ticks, rest) = self.number(tokens)?;
+        let rest = self.expect(rest, Mark::Semicolon)?;
+        Ok((StmtKind::Work(ticks), rest))
+    }
+
+    /// What follows the word `return`.
+    fn returned<'a>(&self, alloc: Global, levels: u32, tokens: &'a [Token]) -> Read<'a, StmtKind>
+        ensures shorter { IfOk result (λ x. length x.1.now < length tokens.now) }
+    {
+        let (value, rest) = self.expression(alloc, levels, tokens)?;
+        let rest = self.expect(rest, Mark::Semicolon)?;
+        Ok((StmtKind::Return(value), rest))
+    }
+
+    /// What follows the name at the front of an assignment.
+    fn assignment<'a>(
+        &self,
+        alloc: Global,
+        name: Identifier,
+        levels: u32,
+        tokens: &'a [Token],
+    ) -> Read<'a, StmtKind>
+        ensures shorter { IfOk result (λ x. length x.1.now < length tokens.now) }
+    {
+        if let Some(rest) = self.behind(tokens, Mark::BracketOpens) {
+            let (index, rest) = self.nested(alloc, levels, tokens, rest)?;
+            let rest = self.expect(rest, Mark::BracketCloses)?;
+            let rest = self.expect(rest, Mark::Becomes)?;
+            let (value, rest) = self.expression(alloc, levels, rest)?;
+            let rest = self.expect(rest, Mark::Semicolon)?;
+            return Ok((StmtKind::AssignElement(name, index, value), rest));
+        }
+        let rest = self.expect(tokens, Mark::Becomes)?;
+        let (value, rest) = self.expression(alloc, levels, rest)?;
+        let rest = self.expect(rest, Mark::Semicolon)?;
+        Ok((StmtKind::Assign(name, value), rest))
+    }
+
+    /// What follows the name of a service, `opening`.
+    fn request<'a>(
+        &self,
+        alloc: Global,
+        service: Service,
+        levels: u32,
+        opening: &'a [Token],
+        tokens: &'a [Token],
+    ) -> Read<'a, StmtKind>
+        ensures shorter { IfOk result (λ x. length x.1.now < length tokens.now) }
+    {
+        if levels == 0 {
+            return Err(self.refused(opening));
+        }
+        let rest = self.expect(tokens, Mark::ParenthesisOpens)?;
+        let (arguments, rest) = self.arguments(alloc, levels, tokens, rest)?;
+        let (targets, rest) = self.targets(alloc, rest)?;
+        let rest = self.expect(rest, Mark::Semicolon)?;
+        Ok((StmtKind::Request(service, arguments, targets), rest))
+    }
+
+    /// An arrow and the names behind it, or nothing.
+    fn targets<'a>(&self, alloc: Global, tokens: &'a [Token]) -> Read<'a, Vec<Identifier>>
+        ensures shorter { IfOk result (λ x. length x.1.now ≤ length tokens.now) }
+    {
+        match self.behind(tokens, Mark::Arrow) {
+            Some(rest) => self.names(alloc, rest),
+            None => Ok((Vec::new(alloc), tokens)),
+        }
+    }
+
+    /// One or more names, with commas between them.
+    pub fn names<'a>(&self, alloc: Global, tokens: &'a [Token]) -> Read<'a, Vec<Identifier>>
+        ensures shorter { IfOk result (λ x. length x.1.now < length tokens.now) }
+    {
+        let mut names = Vec::new(alloc);
+        let (first, mut rest) = self.name(tokens)?;
+        names.push(first)?;
+        while let Some(behind) = self.behind(rest, Mark::Comma) {
+            match self.name(behind) {
+                Ok((name, after)) => {
+                    names.push(name)?;
+                    rest = after;
+                }
+                Err(error) => return Err(error),
+            }
+        }
+        Ok((names, rest))
+    }
+}

@@ -1,0 +1,28 @@
+-- What the processor of a partition counts on in a loaded section, and how it is seen.
+use Rattle.std.specs.Prelude.{◌≤◌, List, map, length}
+use Rattle.apex_types.specs.declared.row.BodyRow.{BodyRow}
+use Rattle.apex_types.specs.declared.row.Section.{Section}
+use Rattle.apex_meaning.specs.Engine.{Engine}
+use Rattle.apex_meaning.specs.Instructions.{reading}
+use Rattle.apex_meaning.specs.MachineControl.{MachineControl, machine_engine}
+use Rattle.apex_meaning.specs.SourceControl.{body_at}
+use Rattle.apex_meaning.specs.TwoMeanings.{body_of_row}
+use Rattle.processor.specs.Fitting.{IsFittingBody, AreFitting}
+use Rattle.partition_base.specs.Slots.{AreFittingBodies}
+
+-- the bodies of a section's processes, in order
+abbrev pub bodies_of : Section → List BodyRow
+bodies_of s = map body_of_row s.processes.items
+
+-- The processor with a section's code, each instruction read from its sixteen bytes.
+abbrev pub engine_of_section : Section → Engine MachineControl
+engine_of_section s = machine_engine (map reading s.code.items) s.routines.items (body_at s.init s.handler (bodies_of s))
+
+-- At most 65,536 instructions and 31 processes; each routine and each body has room for its slots
+-- and two saved words.
+pub record IsFittingSection (s : Section) : Type 0 where
+  pub code : length s.code.items ≤ 65_536
+  pub processes : length s.processes.items ≤ 31
+  pub routines : AreFitting s.routines.items
+  pub init : IsFittingBody s.init
+  pub bodies : AreFittingBodies (bodies_of s)

@@ -1,0 +1,9 @@
+//! What a partition's kernel runs its processes on.
+#![tactic(auto)]
+
+pub mod executor;
+mod machine;
+mod slot;
+
+pub use executor::Executor;
+pub use machine::Machine;

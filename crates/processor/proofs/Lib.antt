@@ -1,0 +1,4 @@
+pub mod Bytes
+pub mod Effects
+pub mod Spelling
+pub mod Stack

@@ -1,0 +1,8 @@
+use Rattle.std.proofs.Common.{◌≡◌, ◌-◌, length, pos, replicate}
+use Rattle.apex_meaning.specs.MachineControl.{put_words}
+use Rattle.processor.proofs.calls.clear.Given as goal
+
+abbrev pub invariant-loop-place : goal.invariant-loop-place
+invariant-loop-place l =
+    (put_words l.stack.items l.place (replicate (l.to - l.place) (pos 0)) ≡ put_words l.fn.stack.items l.from (replicate (l.to - l.from) (pos 0)))
+    × (length l.stack.items ≡ length l.fn.stack.items)

@@ -1,0 +1,73 @@
+//! What operators give.
+
+ghost use Rattle.std.specs.Prelude.{◌≡◌};
+ghost use Rattle.apex_meaning.specs.Operators.{apply_binary, apply_unary, cost_of_binary, truth};
+
+use apex_types::{BinaryOperator, UnaryOperator};
+
+/// What a test gives as a word: 1 where it holds, else 0.
+fn truth(holds: bool) -> i64
+    ensures { result ≡ truth holds }
+{
+    if holds { 1 } else { 0 }
+}
+
+/// The quotient toward zero, none by 0 and where it is no word.
+fn divide(a: i64, b: i64) -> Option<i64>
+    ensures { result ≡ apply_binary BinaryOperator.Divide a b }
+{
+    if b == 0 { None } else { a.checked_div(b) }
+}
+
+/// The remainder with the sign of the dividend, none by 0.
+fn remainder(a: i64, b: i64) -> Option<i64>
+    ensures { result ≡ apply_binary BinaryOperator.Remainder a b }
+{
+    if b == 0 {
+        None
+    } else {
+        Some(a.wrapping_rem(b))
+    }
+}
+
+/// What an operator gives for its two operands, none for a numeric error.
+pub fn apply_binary(operator: BinaryOperator, a: i64, b: i64) -> Option<i64>
+    ensures { result ≡ apply_binary operator a b }
+{
+    match operator {
+        BinaryOperator::Add => a.checked_add(b),
+        BinaryOperator::Subtract => a.checked_sub(b),
+        BinaryOperator::Multiply => a.checked_mul(b),
+        BinaryOperator::Divide => divide(a, b),
+        BinaryOperator::Remainder => remainder(a, b),
+        BinaryOperator::Equal => Some(truth(a == b)),
+        BinaryOperator::NotEqual => Some(truth(a != b)),
+        BinaryOperator::Less => Some(truth(a < b)),
+        BinaryOperator::LessOrEqual => Some(truth(a <= b)),
+        BinaryOperator::Greater => Some(truth(a > b)),
+        BinaryOperator::GreaterOrEqual => Some(truth(a >= b)),
+        BinaryOperator::And => Some(truth(a != 0 && b != 0)),
+        BinaryOperator::Or => Some(truth(a != 0 || b != 0)),
+    }
+}
+
+/// What an operator gives for its operand, none for a numeric error.
+pub fn apply_unary(operator: UnaryOperator, a: i64) -> Option<i64>
+    ensures { result ≡ apply_unary operator a }
+{
+    match operator {
+        UnaryOperator::Negate => a.checked_neg(),
+        UnaryOperator::Not => Some(truth(a == 0)),
+    }
+}
+
+/// What an operator costs in ticks.
+pub fn cost_of_binary(operator: BinaryOperator) -> u32
+    ensures { result ≡ cost_of_binary operator }
+{
+    match operator {
+        BinaryOperator::Multiply => 2,
+        BinaryOperator::Divide | BinaryOperator::Remainder => 4,
+        _ => 1,
+    }
+}

@@ -1,0 +1,24 @@
+//! The modelled processor: its instructions as bytes, and what one tick of it does.
+//!
+//! A process has a [`Context`]; [`step`] spends one tick on its next instruction. An instruction
+//! takes as many ticks as the table says, and has its effect, or its fault, in the last of them.
+#![tactic(auto)]
+
+mod arithmetic;
+mod calls;
+mod code;
+mod codec;
+mod context;
+mod data;
+mod execute;
+mod memory;
+mod outcome;
+mod service_table;
+
+pub use code::Code;
+pub use codec::{decode, encode, fields, op_name};
+pub use context::Context;
+pub use data::Data;
+pub use execute::step;
+pub use outcome::Outcome;
+pub use service_table::answer_words;

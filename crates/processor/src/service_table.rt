@@ -1,0 +1,413 @@
+//! The shape of each service: its number, its arguments, its answer and its cost.
+
+ghost use Rattle.std.specs.Prelude.{◌≡◌, ◌<◌, ◌-◌, nat_eq, slice_get, if◌then◌else◌, None, Some, ℕ};
+ghost use Rattle.apex_types.specs.declared.service.Service.{Service};
+ghost use Rattle.apex_meaning.specs.ServiceTable.{number_of, service_of, argument_words, answer_words, cost_of_service, argument, array_argument, call_of, array_of};
+
+use apex_types::{ArrayPlace, Call, Service};
+
+/// The services in the order of their numbers, from 1.
+const SERVICES: [Service; 57] = [
+    Service::GetPartitionStatus,
+    Service::SetPartitionMode,
+    Service::GetProcessId,
+    Service::GetProcessStatus,
+    Service::CreateProcess,
+    Service::SetPriority,
+    Service::SuspendSelf,
+    Service::Suspend,
+    Service::Resume,
+    Service::StopSelf,
+    Service::Stop,
+    Service::Start,
+    Service::DelayedStart,
+    Service::LockPreemption,
+    Service::UnlockPreemption,
+    Service::GetMyId,
+    Service::TimedWait,
+    Service::PeriodicWait,
+    Service::GetTime,
+    Service::Replenish,
+    Service::CreateBuffer,
+    Service::SendBuffer,
+    Service::ReceiveBuffer,
+    Service::GetBufferId,
+    Service::GetBufferStatus,
+    Service::CreateBlackboard,
+    Service::DisplayBlackboard,
+    Service::ReadBlackboard,
+    Service::ClearBlackboard,
+    Service::GetBlackboardId,
+    Service::GetBlackboardStatus,
+    Service::CreateSemaphore,
+    Service::WaitSemaphore,
+    Service::SignalSemaphore,
+    Service::GetSemaphoreId,
+    Service::GetSemaphoreStatus,
+    Service::CreateEvent,
+    Service::SetEvent,
+    Service::ResetEvent,
+    Service::WaitEvent,
+    Service::GetEventId,
+    Service::GetEventStatus,
+    Service::CreateSamplingPort,
+    Service::WriteSamplingMessage,
+    Service::ReadSamplingMessage,
+    Service::GetSamplingPortId,
+    Service::GetSamplingPortStatus,
+    Service::CreateQueuingPort,
+    Service::SendQueuingMessage,
+    Service::ReceiveQueuingMessage,
+    Service::GetQueuingPortId,
+    Service::GetQueuingPortStatus,
+    Service::ClearQueuingPort,
+    Service::ReportApplicationMessage,
+    Service::CreateErrorHandler,
+    Service::GetErrorStatus,
+    Service::RaiseApplicationError,
+];
+
+/// The entry of a table that is numbered from 1.
+fn entry(services: &[Service], number: u32) -> Option<Service>
+    ensures { result ≡ (if nat_eq number 0 then None else slice_get services.now (number - 1)) }
+{
+    if number == 0 {
+        return None;
+    }
+    services.get((number - 1) as usize).copied()
+}
+
+/// The service of a number, none where there is none.
+pub fn service_of(number: u32) -> Option<Service>
+    ensures { result ≡ service_of number }
+{
+    entry(&SERVICES, number)
+}
+
+/// The words of a service's arguments: an array argument is two.
+pub fn argument_words(service: Service) -> u32
+    ensures { result ≡ argument_words service }
+{
+    match service {
+        Service::GetPartitionStatus
+        | Service::StopSelf
+        | Service::LockPreemption
+        | Service::UnlockPreemption
+        | Service::GetMyId
+        | Service::PeriodicWait
+        | Service::GetTime
+        | Service::CreateErrorHandler => 0,
+        Service::SetPriority
+        | Service::DelayedStart
+        | Service::WaitSemaphore
+        | Service::WaitEvent
+        | Service::GetErrorStatus => 2,
+        Service::ReadSamplingMessage | Service::ReportApplicationMessage => 3,
+        Service::ReceiveBuffer
+        | Service::DisplayBlackboard
+        | Service::ReadBlackboard
+        | Service::WriteSamplingMessage
+        | Service::ReceiveQueuingMessage
+        | Service::RaiseApplicationError => 4,
+        Service::SendBuffer | Service::SendQueuingMessage => 5,
+        _ => 1,
+    }
+}
+
+/// The words of a service's answer: the code and the outputs.
+pub fn answer_words(service: Service) -> u8
+    ensures { result ≡ answer_words service }
+{
+    match service {
+        Service::StopSelf => 0,
+        Service::GetProcessId
+        | Service::CreateProcess
+        | Service::LockPreemption
+        | Service::UnlockPreemption
+        | Service::GetMyId
+        | Service::GetTime
+        | Service::CreateBuffer
+        | Service::ReceiveBuffer
+        | Service::GetBufferId
+        | Service::CreateBlackboard
+        | Service::ReadBlackboard
+        | Service::GetBlackboardId
+        | Service::CreateSemaphore
+        | Service::GetSemaphoreId
+        | Service::CreateEvent
+        | Service::GetEventId
+        | Service::CreateSamplingPort
+        | Service::GetSamplingPortId
+        | Service::CreateQueuingPort
+        | Service::ReceiveQueuingMessage
+        | Service::GetQueuingPortId => 2,
+        Service::GetEventStatus | Service::ReadSamplingMessage => 3,
+        Service::GetProcessStatus
+        | Service::GetBlackboardStatus
+        | Service::GetSemaphoreStatus
+        | Service::GetErrorStatus => 4,
+        Service::GetBufferStatus | Service::GetSamplingPortStatus => 5,
+        Service::GetQueuingPortStatus => 6,
+        Service::GetPartitionStatus => 7,
+        _ => 1,
+    }
+}
+
+/// What a service costs in ticks.
+pub fn cost_of_service(service: Service) -> u32
+    ensures { result ≡ cost_of_service service }
+{
+    match service {
+        Service::SendBuffer
+        | Service::ReceiveBuffer
+        | Service::DisplayBlackboard
+        | Service::ReadBlackboard
+        | Service::WriteSamplingMessage
+        | Service::ReadSamplingMessage
+        | Service::SendQueuingMessage
+        | Service::ReceiveQueuingMessage
+        | Service::ReportApplicationMessage
+        | Service::GetErrorStatus
+        | Service::RaiseApplicationError => 6,
+        Service::CreateProcess
+        | Service::CreateBuffer
+        | Service::CreateBlackboard
+        | Service::CreateSemaphore
+        | Service::CreateEvent
+        | Service::CreateSamplingPort
+        | Service::CreateQueuingPort
+        | Service::CreateErrorHandler => 8,
+        _ => 4,
+    }
+}
+
+/// The argument at an index.
+fn argument(words: &[i64], index: usize) -> i64
+    ensures { result ≡ argument words.now index }
+{
+    words.get(index).copied().unwrap_or(0)
+}
+
+/// The array argument at an index: its place and its size.
+fn array_argument(words: &[i64], index: usize) -> ArrayPlace
+    requires { index < 8 }
+    ensures { result ≡ array_argument words.now index }
+{
+    ArrayPlace {
+        base: argument(words, index),
+        size: argument(words, index + 1),
+    }
+}
+
+/// The call of a service with these words as its arguments, the first pushed first.
+pub fn call_of(service: Service, words: &[i64]) -> Call
+    ensures { result ≡ call_of service words.now }
+{
+    match service {
+        Service::GetPartitionStatus => Call::GetPartitionStatus,
+        Service::SetPartitionMode => Call::SetPartitionMode {
+            mode: argument(words, 0),
+        },
+        Service::GetProcessId => Call::GetProcessId {
+            name: argument(words, 0),
+        },
+        Service::GetProcessStatus => Call::GetProcessStatus {
+            process: argument(words, 0),
+        },
+        Service::CreateProcess => Call::CreateProcess {
+            name: argument(words, 0),
+        },
+        Service::SetPriority => Call::SetPriority {
+            process: argument(words, 0),
+            priority: argument(words, 1),
+        },
+        Service::SuspendSelf => Call::SuspendSelf {
+            timeout: argument(words, 0),
+        },
+        Service::Suspend => Call::Suspend {
+            process: argument(words, 0),
+        },
+        Service::Resume => Call::Resume {
+            process: argument(words, 0),
+        },
+        Service::StopSelf => Call::StopSelf,
+        Service::Stop => Call::Stop {
+            process: argument(words, 0),
+        },
+        Service::Start => Call::Start {
+            process: argument(words, 0),
+        },
+        Service::DelayedStart => Call::DelayedStart {
+            process: argument(words, 0),
+            delay: argument(words, 1),
+        },
+        Service::LockPreemption => Call::LockPreemption,
+        Service::UnlockPreemption => Call::UnlockPreemption,
+        Service::GetMyId => Call::GetMyId,
+        Service::TimedWait => Call::TimedWait {
+            delay: argument(words, 0),
+        },
+        Service::PeriodicWait => Call::PeriodicWait,
+        Service::GetTime => Call::GetTime,
+        Service::Replenish => Call::Replenish {
+            budget: argument(words, 0),
+        },
+        Service::CreateBuffer => Call::CreateBuffer {
+            name: argument(words, 0),
+        },
+        Service::SendBuffer => Call::SendBuffer {
+            buffer: argument(words, 0),
+            array: array_argument(words, 1),
+            length: argument(words, 3),
+            timeout: argument(words, 4),
+        },
+        Service::ReceiveBuffer => Call::ReceiveBuffer {
+            buffer: argument(words, 0),
+            array: array_argument(words, 1),
+            timeout: argument(words, 3),
+        },
+        Service::GetBufferId => Call::GetBufferId {
+            name: argument(words, 0),
+        },
+        Service::GetBufferStatus => Call::GetBufferStatus {
+            buffer: argument(words, 0),
+        },
+        Service::CreateBlackboard => Call::CreateBlackboard {
+            name: argument(words, 0),
+        },
+        Service::DisplayBlackboard => Call::DisplayBlackboard {
+            blackboard: argument(words, 0),
+            array: array_argument(words, 1),
+            length: argument(words, 3),
+        },
+        Service::ReadBlackboard => Call::ReadBlackboard {
+            blackboard: argument(words, 0),
+            array: array_argument(words, 1),
+            timeout: argument(words, 3),
+        },
+        Service::ClearBlackboard => Call::ClearBlackboard {
+            blackboard: argument(words, 0),
+        },
+        Service::GetBlackboardId => Call::GetBlackboardId {
+            name: argument(words, 0),
+        },
+        Service::GetBlackboardStatus => Call::GetBlackboardStatus {
+            blackboard: argument(words, 0),
+        },
+        Service::CreateSemaphore => Call::CreateSemaphore {
+            name: argument(words, 0),
+        },
+        Service::WaitSemaphore => Call::WaitSemaphore {
+            semaphore: argument(words, 0),
+            timeout: argument(words, 1),
+        },
+        Service::SignalSemaphore => Call::SignalSemaphore {
+            semaphore: argument(words, 0),
+        },
+        Service::GetSemaphoreId => Call::GetSemaphoreId {
+            name: argument(words, 0),
+        },
+        Service::GetSemaphoreStatus => Call::GetSemaphoreStatus {
+            semaphore: argument(words, 0),
+        },
+        Service::CreateEvent => Call::CreateEvent {
+            name: argument(words, 0),
+        },
+        Service::SetEvent => Call::SetEvent {
+            event: argument(words, 0),
+        },
+        Service::ResetEvent => Call::ResetEvent {
+            event: argument(words, 0),
+        },
+        Service::WaitEvent => Call::WaitEvent {
+            event: argument(words, 0),
+            timeout: argument(words, 1),
+        },
+        Service::GetEventId => Call::GetEventId {
+            name: argument(words, 0),
+        },
+        Service::GetEventStatus => Call::GetEventStatus {
+            event: argument(words, 0),
+        },
+        Service::CreateSamplingPort => Call::CreateSamplingPort {
+            name: argument(words, 0),
+        },
+        Service::WriteSamplingMessage => Call::WriteSamplingMessage {
+            port: argument(words, 0),
+            array: array_argument(words, 1),
+            length: argument(words, 3),
+        },
+        Service::ReadSamplingMessage => Call::ReadSamplingMessage {
+            port: argument(words, 0),
+            array: array_argument(words, 1),
+        },
+        Service::GetSamplingPortId => Call::GetSamplingPortId {
+            name: argument(words, 0),
+        },
+        Service::GetSamplingPortStatus => Call::GetSamplingPortStatus {
+            port: argument(words, 0),
+        },
+        Service::CreateQueuingPort => Call::CreateQueuingPort {
+            name: argument(words, 0),
+        },
+        Service::SendQueuingMessage => Call::SendQueuingMessage {
+            port: argument(words, 0),
+            array: array_argument(words, 1),
+            length: argument(words, 3),
+            timeout: argument(words, 4),
+        },
+        Service::ReceiveQueuingMessage => Call::ReceiveQueuingMessage {
+            port: argument(words, 0),
+            array: array_argument(words, 1),
+            timeout: argument(words, 3),
+        },
+        Service::GetQueuingPortId => Call::GetQueuingPortId {
+            name: argument(words, 0),
+        },
+        Service::GetQueuingPortStatus => Call::GetQueuingPortStatus {
+            port: argument(words, 0),
+        },
+        Service::ClearQueuingPort => Call::ClearQueuingPort {
+            port: argument(words, 0),
+        },
+        Service::ReportApplicationMessage => Call::ReportApplicationMessage {
+            array: array_argument(words, 0),
+            length: argument(words, 2),
+        },
+        Service::CreateErrorHandler => Call::CreateErrorHandler,
+        Service::GetErrorStatus => Call::GetErrorStatus {
+            array: array_argument(words, 0),
+        },
+        Service::RaiseApplicationError => Call::RaiseApplicationError {
+            error: argument(words, 0),
+            array: array_argument(words, 1),
+            length: argument(words, 3),
+        },
+    }
+}
+
+/// The array argument of a call, where it has one.
+pub fn array_of(call: Call) -> Option<ArrayPlace>
+    ensures { result ≡ array_of call }
+{
+    match call {
+        Call::SendBuffer { array, .. }
+        | Call::ReceiveBuffer { array, .. }
+        | Call::DisplayBlackboard { array, .. }
+        | Call::ReadBlackboard { array, .. }
+        | Call::WriteSamplingMessage { array, .. }
+        | Call::ReadSamplingMessage { array, .. }
+        | Call::SendQueuingMessage { array, .. }
+        | Call::ReceiveQueuingMessage { array, .. }
+        | Call::ReportApplicationMessage { array, .. }
+        | Call::GetErrorStatus { array }
+        | Call::RaiseApplicationError { array, .. } => Some(array),
+        _ => None,
+    }
+}
+
+/// Each service has its own number, from 1 to 57, and there is none of another number.
+pub fn services_are_numbered()
+    ensures each { (service : Service) → service_of (number_of service) ≡ Some service }
+    ensures others { (number : ℕ) → 57 < number → service_of number ≡ None }
+{}

@@ -1,0 +1,15 @@
+mod endings;
+mod files;
+mod first_run;
+mod greatest;
+mod images;
+mod memory;
+mod processes;
+mod shelf;
+mod sinks;
+mod smallest;
+mod sources;
+mod tables;
+mod texts;
+mod values;
+mod windows;

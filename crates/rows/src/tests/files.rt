@@ -1,0 +1,81 @@
+//! The order in which faults are met: the words, the files, the call, the file written.
+
+use super::shelf::{Shelf, expect_command, written};
+use super::texts::{SMALLEST, SMALLEST_IMAGE, TABLE};
+use command_line::command;
+
+/// Words over a good table, source and image, with the line on the standard error.
+static LINES: [(&[&str], &str); 11] = [
+    (
+        &["mb", "build", "gone", "closed", "lost"],
+        "mb: file gone\n",
+    ),
+    (
+        &["mb", "build", "table", "closed", "lost"],
+        "mb: file lost\n",
+    ),
+    (
+        &["mb", "build", "table", "closed", "source", "lost"],
+        "mb: file lost\n",
+    ),
+    (
+        &["mb", "build", "table", "closed", "source"],
+        "mb: file closed\n",
+    ),
+    (
+        &["mb", "build", "source", "closed", "table"],
+        "mb: not yet\n",
+    ),
+    (&["mb", "run", "gone", "lost", "5"], "mb: file gone\n"),
+    (&["mb", "run", "image", "lost", "5"], "mb: file lost\n"),
+    (
+        &["mb", "run", "gone", "lost", "1099511627777"],
+        "mb: file gone\n",
+    ),
+    (
+        &["mb", "run", "image", "lost", "1099511627777"],
+        "mb: file lost\n",
+    ),
+    (
+        &["mb", "run", "image", "devices", "1099511627777"],
+        "mb: ticks\n",
+    ),
+    (
+        &["mb", "run", "table", "source", "1099511627777"],
+        "mb: ticks\n",
+    ),
+];
+
+#[test]
+fn the_first_fault_is_told(rt: HostRuntime) {
+    for (words, line) in &LINES {
+        let mut shelf = Shelf::new(TABLE.as_bytes(), SMALLEST.as_bytes());
+        shelf.image = written(&SMALLEST_IMAGE);
+        expect_command(&rt, rt.alloc(), &mut shelf, words, (1, "", *line));
+    }
+}
+
+/// Words that are no command. No file is read for them.
+static NO_COMMANDS: [&[&str]; 7] = [
+    &["mb", "run", "gone", "lost", "x12"],
+    &["mb", "run", "gone", "lost", "12 "],
+    &["mb", "run", "gone", "lost", ""],
+    &["mb", "run", "gone", "lost"],
+    &["mb", "build", "gone", "new"],
+    &["mb", "build", "gone"],
+    &["mb", "make"],
+];
+
+#[test]
+fn words_that_are_no_command(rt: HostRuntime) {
+    for words in &NO_COMMANDS {
+        let mut shelf = Shelf::new(TABLE.as_bytes(), SMALLEST.as_bytes());
+        let mut out: Vec<u8> = Vec::new(rt.alloc());
+        let mut err: Vec<u8> = Vec::new(rt.alloc());
+        let status = command(rt.alloc(), words, &mut shelf, &mut out, &mut err);
+        assert_eq!(rt; status, 2);
+        assert!(rt; out.is_empty());
+        assert!(rt; !err.is_empty());
+        assert!(rt; !err.starts_with(b"mb: "));
+    }
+}

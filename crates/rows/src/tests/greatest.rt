@@ -1,0 +1,63 @@
+//! The longest code and the most data.
+
+use super::sinks::narrow_sink;
+use super::texts::{SMALLEST_TRACE, TABLE};
+use module::{BuildFault, build, run};
+use std::alloc::{AllocError, Global};
+use std::test::Fail;
+
+/// The source that works for one tick so many times before it sets the mode.
+fn working(alloc: Global, times: usize) -> Result<Vec<u8>, AllocError> {
+    let mut source = Vec::new(alloc);
+    source.extend_from_slice(b"init stack 16 { local r;\n")?;
+    for _ in 0..times {
+        source.extend_from_slice(b"work 1;\n")?;
+    }
+    source.extend_from_slice(b"SET_PARTITION_MODE(3) -> r; }\n")?;
+    Ok(source)
+}
+
+/// The trace of 65,532 such ticks: the smallest source's, with its last three lines at 65,536.
+static LONGEST_TRACE: &str = "\
+0000000000000 a MODE COLD_START
+0000000000000 a STATE INIT READY
+0000000000000 a STATE INIT RUNNING
+0000000065536 a RET INIT SET_PARTITION_MODE 0
+0000000065536 a STATE INIT DORMANT
+0000000065536 a MODE NORMAL
+";
+
+#[test]
+fn the_longest_code(rt: HostRuntime) -> Result<(), Fail> {
+    let source = working(rt.alloc(), 65_532)?;
+    let sources = [source.as_slice()];
+    let image = build(rt.alloc(), TABLE.as_bytes(), &sources)?;
+    assert_eq!(rt; image.len(), 1_048_676);
+    let mut sink = narrow_sink(512, false);
+    run(rt.alloc(), image.as_slice(), &[], 65_537, &mut sink)?;
+    assert_eq!(rt; sink.taken.as_slice(), LONGEST_TRACE.as_bytes());
+    Ok(())
+}
+
+#[test]
+fn code_that_is_longer_by_one(rt: HostRuntime) -> Result<(), Fail> {
+    let source = working(rt.alloc(), 65_533)?;
+    let sources = [source.as_slice()];
+    let refused = build(rt.alloc(), TABLE.as_bytes(), &sources);
+    assert!(rt; matches!(refused, Err(BuildFault::NotYet)));
+    Ok(())
+}
+
+/// The smallest source with the longest array.
+static MUCH_DATA: &str = "array d[65536]; init stack 16 { local r; SET_PARTITION_MODE(3) -> r; }";
+
+#[test]
+fn the_most_data(rt: HostRuntime) -> Result<(), Fail> {
+    let sources = [MUCH_DATA.as_bytes()];
+    let image = build(rt.alloc(), TABLE.as_bytes(), &sources)?;
+    assert_eq!(rt; image.len(), 524_452);
+    let mut sink = narrow_sink(512, false);
+    run(rt.alloc(), image.as_slice(), &[], 128, &mut sink)?;
+    assert_eq!(rt; sink.taken.as_slice(), SMALLEST_TRACE.as_bytes());
+    Ok(())
+}

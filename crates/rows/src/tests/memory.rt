@@ -1,0 +1,76 @@
+//! What is answered when there is no memory left, and once there is memory again.
+
+use super::shelf::{Shelf, expect_command};
+use super::sinks::narrow_sink;
+use super::texts::{FIRST_TRACE, SMALLEST, SMALLEST_IMAGE, SMALLEST_TRACE, TABLE};
+use command_line::command;
+use module::{BuildFault, RunFault, build, run};
+use std::alloc::Global;
+use std::test::Fail;
+
+/// Takes all memory that the process can get, in ever smaller blocks, into the room of `held`.
+fn exhaust(alloc: Global, held: &mut Vec<Vec<u8>>) {
+    let mut size: usize = 1 << 46;
+    for _ in 0..64 {
+        if size < 16 {
+            return;
+        }
+        for _ in 0..100_000 {
+            if held.len() == held.capacity() {
+                return;
+            }
+            match Vec::<u8>::with_capacity(alloc, size) {
+                Ok(block) => {
+                    let _ = held.push(block);
+                }
+                Err(_) => break,
+            }
+        }
+        size /= 2;
+    }
+}
+
+#[test]
+fn building(rt: HostRuntime) -> Result<(), Fail> {
+    let sources = [SMALLEST.as_bytes()];
+    let mut held: Vec<Vec<u8>> = Vec::with_capacity(rt.alloc(), 100_000)?;
+    exhaust(rt.alloc(), &mut held);
+    let refused = build(rt.alloc(), TABLE.as_bytes(), &sources);
+    held.clear();
+    assert!(rt; matches!(refused, Err(BuildFault::Memory)));
+    let image = build(rt.alloc(), TABLE.as_bytes(), &sources)?;
+    assert_eq!(rt; image.as_slice(), SMALLEST_IMAGE.as_slice());
+    Ok(())
+}
+
+#[test]
+fn running(rt: HostRuntime) -> Result<(), Fail> {
+    let mut sink = narrow_sink(512, false);
+    let mut held: Vec<Vec<u8>> = Vec::with_capacity(rt.alloc(), 100_000)?;
+    exhaust(rt.alloc(), &mut held);
+    let refused = run(rt.alloc(), &SMALLEST_IMAGE, &[], 128, &mut sink);
+    held.clear();
+    assert!(rt; refused == Err(RunFault::Memory));
+    assert!(rt; sink.taken.is_empty());
+    let mut sink = narrow_sink(512, false);
+    run(rt.alloc(), &SMALLEST_IMAGE, &[], 128, &mut sink)?;
+    assert_eq!(rt; sink.taken.as_slice(), SMALLEST_TRACE.as_bytes());
+    Ok(())
+}
+
+#[test]
+fn commanding(rt: HostRuntime) -> Result<(), Fail> {
+    let words = ["mb"];
+    let mut shelf = Shelf::new(&[], &[]);
+    let mut out: Vec<u8> = Vec::with_capacity(rt.alloc(), 1024)?;
+    let mut err: Vec<u8> = Vec::with_capacity(rt.alloc(), 1024)?;
+    let mut held: Vec<Vec<u8>> = Vec::with_capacity(rt.alloc(), 100_000)?;
+    exhaust(rt.alloc(), &mut held);
+    let status = command(rt.alloc(), &words, &mut shelf, &mut out, &mut err);
+    held.clear();
+    assert_eq!(rt; status, 1);
+    assert!(rt; out.is_empty());
+    assert_eq!(rt; err.as_slice(), b"mb: memory\n".as_slice());
+    expect_command(&rt, rt.alloc(), &mut shelf, &words, (0, FIRST_TRACE, ""));
+    Ok(())
+}

@@ -1,0 +1,6 @@
+pub mod MemberWalks
+pub mod Orders
+pub mod Periods
+pub mod PortNames
+pub mod Reading
+pub mod Rules

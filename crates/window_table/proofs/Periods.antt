@@ -1,0 +1,55 @@
+-- How long it is until a release, and what one period of many says of them all.
+use Rattle.std.proofs.Common.{◌≡◌, ℕ, zero, suc, ◌+◌, ◌-◌, ◌*◌, ◌/◌, ◌%◌, ◌<◌, ◌≤◌, min, Bool, true, false, ◌||◌, cond, nat_lt, List, [], ◌∷◌, refl, sym, ap, ◌∙◌, arith, inl, inr}
+use Rattle.std.proofs.Common.{mul-le-mul_right, ◌⊎◌}
+use Rattle.std.proofs.lemmas.Bool.{false≢true}
+use Rattle.apex_types.specs.declared.row.WindowRow.{WindowRow}
+use Rattle.apex_meaning.specs.Windows.{releases, until_start, until_release}
+use Rattle.apex_meaning.specs.TableRules.{offered, falls_short}
+
+cond-at-most : (b : Bool) (x y frame : ℕ) → y ≤ frame → cond b (min x y) y ≤ frame
+cond-at-most true x y frame h = omega arith
+cond-at-most false x y frame h = h
+
+pub until_at_most : (frame : ℕ) (ws : List WindowRow) (p o t : ℕ) → until_release frame ws p o t ≤ frame
+until_at_most frame [] p o t = omega arith
+until_at_most frame (w ∷ ws) p o t = cond-at-most (releases p w) (until_start frame o t w) (until_release frame ws p o t) frame (until_at_most frame ws p o t)
+
+pub until_first : (frame : ℕ) (ws : List WindowRow) (p o t : ℕ) → until_release frame ws p o t ≡ min frame (until_release frame ws p o t)
+until_first frame ws p o t = let h = until_at_most frame ws p o t in omega arith
+
+or-right : (a b : Bool) → b ≡ true → (a || b) ≡ true
+or-right true b h = refl
+or-right false b h = h
+
+or-left : (a b : Bool) → a ≡ true → (a || b) ≡ true
+or-left true b h = refl
+or-left false b h = absurd (false≢true h)
+
+split : (k n : ℕ) → k < suc n → (k ≡ n) ⊎ (k < n)
+split zero zero h = inl refl
+split zero (suc n) h = inr (omega arith)
+split (suc k) zero h = absurd (omega arith)
+split (suc k) (suc n) h = elim (split k n (omega arith)) [ inl e ↦ inl (ap suc e) | inr l ↦ inr (omega arith) ]
+
+-- one period that falls short is enough
+pub one_short : (n k p period duration : ℕ) (ws : List WindowRow) → k < n → nat_lt (offered p (k * period) ((k + 1) * period) ws) duration ≡ true → falls_short n p period duration ws ≡ true
+unfolding falls_short
+one_short zero k p period duration ws h short = absurd (omega arith)
+one_short (suc n) k p period duration ws h short = elim (split k n h) [
+  | inl e ↦ or-left (nat_lt (offered p (n * period) ((n + 1) * period) ws) duration) _ (rw (← e) short)
+  | inr l ↦ or-right _ _ (one_short n k p period duration ws l short)
+]
+
+-- the end of a period of the frame
+pub period_within : (frame period k : ℕ) → k < frame / period → 0 < period → (k + 1) * period ≤ frame
+period_within frame period k h there =
+    let some : k + 1 ≤ frame / period = omega arith in
+    let m = mul-le-mul_right period some in
+    let d : period * (frame / period) ≤ frame = omega arith in
+    omega arith
+
+-- what the loop over periods finds
+pub short_here : (n k p period duration low : ℕ) (ws rest rested : List WindowRow) (b : Bool) (same_period same_duration : ℕ) → period ≡ same_period → duration ≡ same_duration → low ≡ k * period → k < n → offered p low (low + period) rested ≡ offered p low (low + period) rest → offered p low (low + period) rest ≡ offered p low (low + period) ws → b ≡ nat_lt (offered p low (low + period) rested) duration → b ≡ true → true ≡ falls_short n p same_period same_duration ws
+short_here n k p period duration low ws rest rested b same_period same_duration pe de start below one two is short =
+    let end : (k + 1) * period ≡ low + period = omega arith in
+    rw (← pe, ← de) (sym (one_short n k p period duration ws below (rw (end, ← start, ← two, ← one) (sym is ∙ short))))

@@ -1,0 +1,7 @@
+use Rattle.std.proofs.Common.{◌/◌, arith}
+use Rattle.window_table.proofs.Periods.{short_here}
+use Rattle.window_table.proofs.durations.falls_short.Goals as goal
+
+pub returns-then-offers_less : goal.returns-then-offers_less
+returns-then-offers_less c =
+    short_here (c.args.frame / c.args.partition.now.period) c.loop.counter _ _ _ _ _ _ _ _ _ _ c.from-period.ensures c.from-duration.ensures c.loop.invariant.start (omega arith) (c.not_ended-rest.ensures.same _ _ _ (omega arith)) (c.loop.invariant.ended _ _ _ (omega arith)) c.offers_less.ensures c.if-offers_less.true

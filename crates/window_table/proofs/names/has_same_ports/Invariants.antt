@@ -1,0 +1,8 @@
+use Rattle.std.proofs.Common.{◌≡◌, map, drop}
+use Rattle.apex_meaning.specs.TableText.{same}
+use Rattle.apex_meaning.specs.TableRules.{has_twice}
+use Rattle.window_table.specs.Views.{port_text}
+use Rattle.window_table.proofs.names.has_same_ports.Given as goal
+
+abbrev pub invariant-loop-place : goal.invariant-loop-place
+invariant-loop-place l = has_twice (λ a b. same a.name b.name) (map port_text l.ports) ≡ has_twice (λ a b. same a.name b.name) (map port_text (drop l.place l.ports))

@@ -1,0 +1,17 @@
+use Rattle.std.proofs.Common.{sym}
+use Rattle.apex_meaning.specs.TableText.{port_of}
+use Rattle.window_table.specs.Views.{port_text}
+use Rattle.window_table.proofs.Reading.{no-table, no-row, one-row, no-rows-left}
+use Rattle.window_table.proofs.written.read_ports.Goals as goal
+
+pub returns-in_default-as_table : goal.returns-in_default-as_table
+returns-in_default-as_table c = no-table port_text port_of _ _ _ _ _ c.loop-value.invariant c.in-Some.ensures.cases.0 c.in_default-as_table.ensures
+
+pub returns-in_default-read_port : goal.returns-in_default-read_port
+returns-in_default-read_port c = no-row port_text port_of _ _ _ _ _ _ c.loop-value.invariant c.in-Some.ensures.cases.0 c.in-Some-as_table.ensures c.in_default-read_port.ensures
+
+pub loop-value-preserved : goal.loop-value-preserved
+loop-value-preserved c = one-row port_text port_of _ _ _ _ _ _ _ _ _ c.loop-value.invariant c.in-Some.ensures.cases.0 c.in-Some-as_table.ensures (sym c.in-Some-read_port.ensures) c.if-is_err.ensures.value c.push.ensures.items
+
+pub returns : goal.returns
+returns c = no-rows-left port_text port_of _ _ _ c.loop-value.invariant c.in_default.ensures.cases
