@@ -8,7 +8,8 @@ use module::{BuildFault, RunFault, build, run};
 use std::alloc::Global;
 use std::test::Fail;
 
-/// Takes all memory that the process can get, in ever smaller blocks, into the room of `held`.
+/// Takes all memory that the process can get, in ever smaller blocks, into the room of `held`. The
+/// stack cannot grow afterwards, so each test makes its call once before.
 fn exhaust(alloc: Global, held: &mut Vec<Vec<u8>>) {
     let mut size: usize = 1 << 46;
     for _ in 0..64 {
@@ -33,6 +34,8 @@ fn exhaust(alloc: Global, held: &mut Vec<Vec<u8>>) {
 #[test]
 fn building(rt: HostRuntime) -> Result<(), Fail> {
     let sources = [SMALLEST.as_bytes()];
+    let image = build(rt.alloc(), TABLE.as_bytes(), &sources)?;
+    assert_eq!(rt; image.as_slice(), SMALLEST_IMAGE.as_slice());
     let mut held: Vec<Vec<u8>> = Vec::with_capacity(rt.alloc(), 100_000)?;
     exhaust(rt.alloc(), &mut held);
     let refused = build(rt.alloc(), TABLE.as_bytes(), &sources);
@@ -45,6 +48,9 @@ fn building(rt: HostRuntime) -> Result<(), Fail> {
 
 #[test]
 fn running(rt: HostRuntime) -> Result<(), Fail> {
+    let mut sink = narrow_sink(512, false);
+    run(rt.alloc(), &SMALLEST_IMAGE, &[], 128, &mut sink)?;
+    assert_eq!(rt; sink.taken.as_slice(), SMALLEST_TRACE.as_bytes());
     let mut sink = narrow_sink(512, false);
     let mut held: Vec<Vec<u8>> = Vec::with_capacity(rt.alloc(), 100_000)?;
     exhaust(rt.alloc(), &mut held);
@@ -64,6 +70,7 @@ fn commanding(rt: HostRuntime) -> Result<(), Fail> {
     let mut shelf = Shelf::new(&[], &[]);
     let mut out: Vec<u8> = Vec::with_capacity(rt.alloc(), 1024)?;
     let mut err: Vec<u8> = Vec::with_capacity(rt.alloc(), 1024)?;
+    expect_command(&rt, rt.alloc(), &mut shelf, &words, (0, FIRST_TRACE, ""));
     let mut held: Vec<Vec<u8>> = Vec::with_capacity(rt.alloc(), 100_000)?;
     exhaust(rt.alloc(), &mut held);
     let status = command(rt.alloc(), &words, &mut shelf, &mut out, &mut err);
