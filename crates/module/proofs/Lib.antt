@@ -1,1 +1,6 @@
-pub mod Fitting
+pub mod Built
+pub mod Lawful
+pub mod Reading
+pub mod SameTraces
+pub mod Starting
+pub mod Texts

@@ -1,2 +1,7 @@
-pub mod Members
+pub mod Accepted
+pub mod Built
+pub mod Building
 pub mod Loading
+pub mod Members
+pub mod Promises
+pub mod Views

@@ -1,8 +1,7 @@
--- What is tested of the processes of an image before they are run.
+-- What the partitions of an image keep to, so that their processors have room for them.
 use Rattle.std.specs.Prelude.{◌≡◌, ℕ, List, Some, slice_get}
-use Rattle.apex_types.specs.declared.row.ProcessRow.{ProcessRow}
-use Rattle.processor.specs.Fitting.{IsFittingBody}
+use Rattle.image.specs.declared.value.PartitionItem.{PartitionItem}
+use Rattle.partition_base.specs.Sections.{IsFittingSection}
 
--- each process's stack has room for its slots and two saved words
-abbrev pub AreFittingProcesses : List ProcessRow → Type 0
-AreFittingProcesses rows = (place : ℕ) (row : ProcessRow) → slice_get rows place ≡ Some row → IsFittingBody row.body
+abbrev pub AreFittingItems : List PartitionItem → Type 0
+AreFittingItems items = (place : ℕ) (item : PartitionItem) → slice_get items place ≡ Some item → IsFittingSection item.section

@@ -1,10 +1,10 @@
 //! The partitions of a module, each with its data, over any executor.
 
-ghost use Rattle.std.specs.Prelude.{◌≡◌, ◌≤◌, ◌^◌, [], length, map, slice_get, option_map};
+ghost use Rattle.std.specs.Prelude.{◌≡◌, ◌≤◌, ◌<◌, ◌^◌, [], length};
 ghost use Rattle.apex_meaning.specs.Module as meaning;
 ghost use Rattle.module.specs.Members.{member_of};
 
-use apex_types::{Mode, PartitionId, StartCondition};
+use apex_types::{Mode, StartCondition, WindowRow};
 use partition::{Out, Partition};
 use partition_base::Executor;
 
@@ -14,6 +14,15 @@ pub struct Member<E: Executor> {
     pub partition: Partition<E>,
     pub mem: E::Mem,
     ghost words: { length (E.words mem) ≡ length (E.initial partition.executor) },
+}
+
+/// The partitions of an image in their order, and the windows of its major frame.
+#[derive(Drop)]
+pub struct Module<E: Executor> {
+    pub frame: u32,
+    pub windows: Vec<WindowRow>,
+    pub members: Vec<Member<E>>,
+    ghost frame_there: { 0 < frame },
 }
 
 /// The first start of a partition.

@@ -1,13 +1,21 @@
 //! Running an image: its partitions in their windows, tick by tick, and the text of their trace.
 
-ghost use Rattle.std.specs.Prelude.{◌≡◌, ◌≤◌, ◌<◌, ◌+◌, ◌-◌, ◌^◌, [], OnOk, OnErr, IsErrOf};
+ghost use Rattle.std.specs.Prelude.{◌≡◌, ◌≤◌, ◌<◌, ◌+◌, ◌-◌, ◌^◌, [], Ok, IfOk, IfErr, OnOk, OnErr, IsErrOf};
+ghost use Rattle.std.specs.Io.KnownBytes.{Appends};
+ghost use Rattle.apex_types.specs.Line.{text_of};
+ghost use Rattle.apex_types.specs.Sink.{TakesBeginning};
+ghost use Rattle.apex_meaning.specs.Module as meaning;
+ghost use Rattle.apex_meaning.specs.ImageLimits.{IsLawful};
+ghost use Rattle.apex_meaning.specs.ImageReading.{image_at};
+ghost use Rattle.image.specs.Views.{image_of};
+ghost use Rattle.module.specs.Promises.{IsRefused, Runs};
+ghost use Rattle.module.specs.Views.{members_of, module_of};
 
 use crate::building::build;
 use crate::fault::{BuildAndRunFault, RunFault};
-use crate::load::Module;
-use crate::member::{start_member, tick_member};
-use apex_types::{Events, Sink, SinkFault, Ticks, write_events};
-use image::{ImageFault, load_image};
+use crate::member::Module;
+use apex_types::{Events, Sink, SinkFault, write_events};
+use image::{Image, ImageFault, load_image};
 use partition::{Actions, Out};
 use partition_base::{Executor, Machine};
 use std::alloc::Global;
@@ -26,27 +34,35 @@ pub fn run<S: Sink>(
     sink: &mut S,
 ) -> Result<(), RunFault>
     requires { S.failures sink.old < 2 ^ 64 - 1 }
+    ensures trace { Runs (image_at image.now) devices.now ticks (S.taken sink.old) (S.taken sink.new) result }
     ensures ok { OnOk result (S.failures sink.new ≡ S.failures sink.old) }
     ensures write { IsErrOf result RunFault.Write → S.failures sink.new ≡ S.failures sink.old + 1 }
 {
     if ticks > MOST_TICKS {
         return Err(RunFault::Ticks);
     }
-    let mut module = load(alloc, image)?;
+    let image = load(alloc, image)?;
     if !devices.is_empty() {
         return Err(RunFault::NotYet);
     }
+    let Ok(mut module) = Module::load(alloc, &image) else {
+        return Err(RunFault::Memory);
+    };
     match run_module(&mut module, ticks, sink) {
         Ok(()) => Ok(()),
         Err(SinkFault) => Err(RunFault::Write),
     }
 }
 
-fn load(alloc: Global, image: &[u8]) -> Result<Module<Machine>, RunFault>
-    ensures { IsErrOf result RunFault.Write → ⊥ }
+/// The image that the bytes are.
+#[tactic(auto, using(crate::proofs::Reading::lawful))]
+fn load(alloc: Global, bytes: &[u8]) -> Result<Image, RunFault>
+    ensures read { IfOk result (λ image. image_at bytes.now ≡ Ok (image_of image)) }
+    ensures lawful { IfOk result (λ image. IsLawful (image_of image)) }
+    ensures refused { IfErr result (λ fault. IsRefused (image_at bytes.now) fault) }
 {
-    match load_image(alloc, image) {
-        Ok(image) => Module::load(alloc, &image),
+    match load_image(alloc, bytes) {
+        Ok(image) => Ok(image),
         Err(ImageFault::Memory) => Err(RunFault::Memory),
         Err(_) => Err(RunFault::NotYet),
     }
@@ -60,8 +76,10 @@ fn run_module<E: Executor, S: Sink>(
 ) -> Result<(), SinkFault>
     requires ticks { ticks ≤ 2 ^ 40 }
     requires failures { S.failures sink.old < 2 ^ 64 - 1 }
+    ensures ok { OnOk result (Appends (S.taken sink.old) (S.taken sink.new) (text_of (meaning.trace (module_of E.Executor module.old) ticks))) }
     ensures quiet { OnOk result (S.failures sink.new ≡ S.failures sink.old) }
     ensures failed { OnErr result (S.failures sink.new ≡ S.failures sink.old + 1) }
+    ensures beginning { OnErr result (TakesBeginning (S.taken sink.old) (S.taken sink.new) (text_of (meaning.trace (module_of E.Executor module.old) ticks))) }
 {
     if ticks == 0 {
         return Ok(());
@@ -71,14 +89,7 @@ fn run_module<E: Executor, S: Sink>(
         actions: Actions::new(),
     };
     start(module, &mut out, sink)?;
-    let mut left = ticks;
-    let mut now = 0;
-    while left > 0 {
-        tick(module, now, &mut out, sink)?;
-        left -= 1;
-        now += 1;
-    }
-    Ok(())
+    run_ticks(module, ticks, &mut out, sink)
 }
 
 /// The first start of each partition, in order.
@@ -90,44 +101,51 @@ fn start<E: Executor, S: Sink>(
     requires lines { out.old.lines.items ≡ [] }
     requires actions { out.old.actions.items ≡ [] }
     requires failures { S.failures sink.old < 2 ^ 64 - 1 }
+    ensures frame { module.new.frame ≡ module.old.frame }
+    ensures windows { module.new.windows.items ≡ module.old.windows.items }
+    ensures members { OnOk result (members_of E.Executor module.new.members.items ≡ (meaning.starts (members_of E.Executor module.old.members.items)).members) }
+    ensures ok { OnOk result (Appends (S.taken sink.old) (S.taken sink.new) (text_of (meaning.starts (members_of E.Executor module.old.members.items)).lines)) }
     ensures quiet { OnOk result (S.failures sink.new ≡ S.failures sink.old) }
     ensures failed { OnErr result (S.failures sink.new ≡ S.failures sink.old + 1) }
+    ensures beginning { OnErr result (TakesBeginning (S.taken sink.old) (S.taken sink.new) (text_of (meaning.starts (members_of E.Executor module.old.members.items)).lines)) }
     ensures lines { OnOk result (out.new.lines.items ≡ []) }
     ensures actions { OnOk result (out.new.actions.items ≡ []) }
 {
-    for member in module.members.iter_mut() {
-        start_member(member, out);
+    let mut place = 0;
+    while place < module.members.len() {
+        module.start_at(place, out);
         write_events(out.lines.as_slice(), sink)?;
         out.lines.clear();
+        place += 1;
     }
     Ok(())
 }
 
-/// One tick: that of the window's partition, if there is one.
-fn tick<E: Executor, S: Sink>(
+/// So many ticks from tick 0 on.
+fn run_ticks<E: Executor, S: Sink>(
     module: &mut Module<E>,
-    now: u64,
+    ticks: u64,
     out: &mut Out,
     sink: &mut S,
 ) -> Result<(), SinkFault>
-    requires now { now ≤ 2 ^ 40 }
+    requires ticks { ticks ≤ 2 ^ 40 }
     requires lines { out.old.lines.items ≡ [] }
     requires actions { out.old.actions.items ≡ [] }
     requires failures { S.failures sink.old < 2 ^ 64 - 1 }
+    ensures ok { OnOk result (Appends (S.taken sink.old) (S.taken sink.new) (text_of (meaning.trace_from module.old.frame module.old.windows.items ticks 0 (members_of E.Executor module.old.members.items)))) }
     ensures quiet { OnOk result (S.failures sink.new ≡ S.failures sink.old) }
     ensures failed { OnErr result (S.failures sink.new ≡ S.failures sink.old + 1) }
-    ensures lines { OnOk result (out.new.lines.items ≡ []) }
-    ensures actions { OnOk result (out.new.actions.items ≡ []) }
+    ensures beginning { OnErr result (TakesBeginning (S.taken sink.old) (S.taken sink.new) (text_of (meaning.trace_from module.old.frame module.old.windows.items ticks 0 (members_of E.Executor module.old.members.items)))) }
 {
-    let Some(place) = module.place_of_owner(Ticks(now)) else {
-        return Ok(());
-    };
-    let Some(member) = module.members.get_mut(place) else {
-        return Ok(());
-    };
-    tick_member(member, now, out);
-    write_events(out.lines.as_slice(), sink)?;
-    out.lines.clear();
+    let mut left = ticks;
+    let mut now = 0;
+    while left > 0 {
+        module.tick(now, out);
+        write_events(out.lines.as_slice(), sink)?;
+        out.lines.clear();
+        left -= 1;
+        now += 1;
+    }
     Ok(())
 }
 

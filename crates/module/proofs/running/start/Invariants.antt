@@ -1,9 +1,22 @@
-use Rattle.std.proofs.Common.{◌≡◌, []}
+use Rattle.std.proofs.Common.{◌≡◌, ◌-◌, ◌≤◌, [], length, drop}
+use Rattle.std.specs.List.{flat_map}
+use Rattle.apex_types.proofs.Writing.{IsUnderWay}
+use Rattle.apex_types.specs.Line.{text_of}
+use Rattle.apex_meaning.specs.Module.{start_lines}
+use Rattle.module.specs.Views.{members_of}
+use Rattle.module.proofs.Starting.{started_to}
 use Rattle.module.proofs.running.start.Given as goal
 
-abbrev pub invariant-loop-member : goal.invariant-loop-member
-invariant-loop-member g l = record {
+abbrev pub invariant-loop-place : goal.invariant-loop-place
+invariant-loop-place g l = record {
   lines : l.out.lines.items ≡ [];
   actions : l.out.actions.items ≡ [];
+  frame : l.module.frame ≡ l.fn.module.frame;
+  windows : l.module.windows.items ≡ l.fn.module.windows.items;
+  members : members_of g.E.Executor l.module.members.items ≡ started_to l.place (members_of g.E.Executor l.fn.module.members.items);
+  under_way : IsUnderWay (g.S.Sink.taken l.fn.sink) (g.S.Sink.taken l.sink) (text_of (flat_map start_lines (members_of g.E.Executor l.fn.module.members.items))) (text_of (flat_map start_lines (drop l.place (members_of g.E.Executor l.fn.module.members.items))));
   quiet : g.S.Sink.failures l.sink ≡ g.S.Sink.failures l.fn.sink;
 }
+
+abbrev pub decreases-loop-place : goal.decreases-loop-place
+decreases-loop-place g l = length l.module.members.items - l.place

@@ -1,0 +1,75 @@
+-- The first start of the partitions, one after the other.
+use Rattle.std.proofs.Common.{◌≡◌, ℕ, zero, suc, ◌+◌, ◌<◌, List, [], ◌∷◌, ◌++◌, length, map, take, drop, Option, Some, None, refl, sym, ap, subst, ◌∙◌, arith}
+use Rattle.std.specs.Prelude.{slice_get, slice_set}
+use Rattle.std.specs.List.{flat_map}
+use Rattle.std.proofs.Math.Seq.{map-set_same}
+use Rattle.std.proofs.lemmas.List.{map-set, set_past, length-map}
+use Rattle.std.proofs.lemmas.Option.{slice_get-map, slice_get_past, slice_get-get_or}
+use Rattle.apex_types.specs.declared.event.Event.{Event}
+use Rattle.apex_types.specs.Line.{text_of}
+use Rattle.apex_meaning.specs.Module.{Member, started_member, start_lines}
+use Rattle.module.proofs.Texts.{text_append}
+use Rattle.module.specs.Members.{starts_member}
+
+-- so many have started, and the rest not
+abbrev pub started_to : {C : Type 0} → ℕ → List (Member C) → List (Member C)
+started_to n xs = map started_member (take n xs) ++ drop n xs
+
+pub all_started : {C : Type 0} (xs : List (Member C)) → started_to (length xs) xs ≡ map started_member xs
+all_started [] = refl
+all_started (x ∷ xs) = ap (λ l. started_member x ∷ l) (all_started xs)
+
+pub none_left : {C : Type 0} (xs : List (Member C)) → flat_map start_lines (drop (length xs) xs) ≡ []
+none_left [] = refl
+none_left (x ∷ xs) = none_left xs
+
+behind_members : {C : Type 0} (y : Member C) (ms : List (Member C)) (n : ℕ) (o : Option (Member C)) → (starts_member (y ∷ ms) (suc n) o).members ≡ y ∷ (starts_member ms n o).members
+behind_members y ms n None = refl
+behind_members y ms n (Some x) = refl
+
+behind_lines : {C : Type 0} (y : Member C) (ms : List (Member C)) (n : ℕ) (o : Option (Member C)) → (starts_member (y ∷ ms) (suc n) o).lines ≡ (starts_member ms n o).lines
+behind_lines y ms n None = refl
+behind_lines y ms n (Some x) = refl
+
+pub next_members : {C : Type 0} (xs : List (Member C)) (n : ℕ) → n < length xs → (starts_member (started_to n xs) n (slice_get (started_to n xs) n)).members ≡ started_to (n + 1) xs
+next_members [] n h = absurd (omega arith)
+next_members (x ∷ xs) zero h = refl
+next_members (x ∷ xs) (suc n) h =
+    let at : suc (n + 1) ≡ suc n + 1 = omega arith in
+    behind_members (started_member x) (started_to n xs) n (slice_get (started_to n xs) n)
+    ∙ ap (λ l. started_member x ∷ l) (next_members xs n (omega arith))
+    ∙ ap (λ k. started_to k (x ∷ xs)) at
+
+pub next_lines : {C : Type 0} (xs : List (Member C)) (n : ℕ) → n < length xs → flat_map start_lines (drop n xs) ≡ (starts_member (started_to n xs) n (slice_get (started_to n xs) n)).lines ++ flat_map start_lines (drop (n + 1) xs)
+next_lines [] n h = absurd (omega arith)
+next_lines (x ∷ xs) zero h = refl
+next_lines (x ∷ xs) (suc n) h =
+    let at : suc (n + 1) ≡ suc n + 1 = omega arith in
+    next_lines xs n (omega arith)
+    ∙ ap (λ (es : List Event). es ++ flat_map start_lines (drop (n + 1) xs)) (sym (behind_lines (started_member x) (started_to n xs) n (slice_get (started_to n xs) n)))
+    ∙ ap (λ k. (starts_member (started_to (suc n) (x ∷ xs)) (suc n) (slice_get (started_to n xs) n)).lines ++ flat_map start_lines (drop k (x ∷ xs))) at
+
+as_many : {C : Type 0} (n : ℕ) (xs : List (Member C)) → length (started_to n xs) ≡ length xs
+as_many zero [] = refl
+as_many (suc n) [] = refl
+as_many zero (x ∷ xs) = refl
+as_many (suc n) (x ∷ xs) = ap suc (as_many n xs)
+
+pub within_members : {X C : Type 0} (view : X → Member C) (now : List X) (n : ℕ) (xs : List (Member C)) → map view now ≡ started_to n xs → n < length now → n < length xs
+within_members view now n xs so_far h =
+    let same : length now ≡ length xs = sym (length-map now view) ∙ ap length so_far ∙ as_many n xs in
+    subst (λ k. n < k) same h
+
+-- one more has started
+pub step_members : {C : Type 0} (now next xs : List (Member C)) (n : ℕ) → now ≡ started_to n xs → n < length xs → next ≡ (starts_member now n (slice_get now n)).members → next ≡ started_to (n + 1) xs
+step_members now next xs n so_far h e = e ∙ ap (λ ms. (starts_member ms n (slice_get ms n)).members) so_far ∙ next_members xs n h
+
+-- its lines, and those of the rest
+pub step_text : {C : Type 0} (now xs : List (Member C)) (n : ℕ) (lines : List Event) → now ≡ started_to n xs → n < length xs → lines ≡ (starts_member now n (slice_get now n)).lines
+    → text_of (flat_map start_lines (drop n xs)) ≡ text_of lines ++ text_of (flat_map start_lines (drop (n + 1) xs))
+step_text now xs n lines so_far h e =
+    let own : (starts_member (started_to n xs) n (slice_get (started_to n xs) n)).lines ≡ lines = sym (e ∙ ap (λ ms. (starts_member ms n (slice_get ms n)).lines) so_far) in
+    ap text_of (next_lines xs n h ∙ ap (λ (es : List Event). es ++ flat_map start_lines (drop (n + 1) xs)) own) ∙ text_append lines (flat_map start_lines (drop (n + 1) xs))
+
+-- what is seen of a list with one of its elements changed
+pub ruleset places = (map-set, map-set_same, set_past, slice_get-map, slice_get_past, slice_get-get_or)

@@ -1,0 +1,31 @@
+-- What building promises, and the parts of it.
+use Rattle.std.specs.Prelude.{◌≡◌, ℕ, List, [], ◌∷◌, Ok}
+use Rattle.apex_meaning.specs.CompiledCode.{section_of}
+use Rattle.apex_meaning.specs.Image.{Partition, Section, Item, Table, Image}
+use Rattle.apex_meaning.specs.ImageReading.{image_at}
+use Rattle.apex_meaning.specs.Program.{Program}
+use Rattle.apex_meaning.specs.TwoMeanings.{source_trace, machine_trace}
+use Rattle.module.specs.Accepted.{IsAccepted, IsModule}
+use Rattle.module.specs.Built.{IsCompiled}
+
+-- a section is what an accepted source is compiled to
+pub record IsBuilt (row : Partition) (source : List ℕ) (section : Section) : Type 0 where
+  pub program : Program
+  pub accepted : IsAccepted row source program
+  pub compiled : IsCompiled program
+  pub is : section ≡ section_of program
+
+abbrev pub AreBuilt : List Partition → List (List ℕ) → List Item → Type 0
+AreBuilt [] [] [] = Unit {0}
+AreBuilt (row ∷ rows) (source ∷ sources) (item ∷ items) = (item.partition ≡ row) × IsBuilt row source item.section × AreBuilt rows sources items
+AreBuilt _ _ _ = ⊥
+
+-- The bytes are an image's, which for every number of ticks means what the accepted table and sources
+-- mean.
+pub record IsImageOf (table : List ℕ) (sources : List (List ℕ)) (bytes : List ℕ) : Type 0 where
+  pub table : Table
+  pub programs : List Program
+  pub accepted : IsModule table sources table programs
+  pub image : Image
+  pub loaded : image_at bytes ≡ Ok image
+  pub meaning : (n : ℕ) → machine_trace image n ≡ source_trace table programs n

@@ -1,0 +1,36 @@
+-- What running an image promises.
+use Rattle.std.specs.Prelude.{◌≡◌, ◌≢◌, ℕ, ◌^◌, ◌<◌, ◌≤◌, List, [], Option, Result, Ok, Err}
+use Rattle.std.specs.Io.KnownBytes.{Appends}
+use Rattle.apex_types.specs.Line.{text_of}
+use Rattle.apex_types.specs.Sink.{TakesBeginning}
+use Rattle.apex_meaning.specs.Image.{Image}
+use Rattle.apex_meaning.specs.ImageReading.{Fault}
+use Rattle.apex_meaning.specs.TwoMeanings.{machine_trace}
+use Rattle.module.specs.declared.fault.RunFault.{RunFault}
+use Rattle.module.specs.declared.fault.RunFault.TheVariants.{Ticks, NotYet, Memory, Write}
+
+-- what is refused for now: bytes that are no image, and device texts that are not empty
+abbrev pub IsOutside : Result Image Fault → List ℕ → Type 0
+IsOutside (Err fault) devices = Unit {0}
+IsOutside (Ok image) devices = devices ≢ []
+
+-- the image that was read, within the ticks that are run, with no device
+pub record IsRun (read : Result Image Fault) (devices : List ℕ) (n : ℕ) (image : Image) : Type 0 where
+  pub loaded : read ≡ Ok image
+  pub alone : devices ≡ []
+  pub few : n ≤ 2 ^ 40
+
+-- What a run of an image has written between two states of its sink: the text of the image's trace
+-- of n ticks; a beginning of that text where the sink failed; nothing where the run is refused.
+abbrev pub Runs : Result Image Fault → List ℕ → ℕ → Option (List ℕ) → Option (List ℕ) → Result (Unit {0}) RunFault → Type 0
+Runs read devices n old new (Ok _) = (image : Image) × IsRun read devices n image × Appends old new (text_of (machine_trace image n))
+Runs read devices n old new (Err Write) = (image : Image) × IsRun read devices n image × TakesBeginning old new (text_of (machine_trace image n))
+Runs read devices n old new (Err Ticks) = (2 ^ 40 < n) × (new ≡ old)
+Runs read devices n old new (Err NotYet) = IsOutside read devices × (new ≡ old)
+Runs read devices n old new (Err Memory) = new ≡ old
+
+-- why bytes are not loaded
+abbrev pub IsRefused : Result Image Fault → RunFault → Type 0
+IsRefused (Err fault) NotYet = Unit {0}
+IsRefused read Memory = Unit {0}
+IsRefused _ _ = ⊥
