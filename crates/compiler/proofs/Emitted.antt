@@ -1,19 +1,19 @@
 -- Pieces of code that were written one after the other are the code of the whole.
-use Rattle.std.proofs.Common.{◌≡◌, ℕ, suc, ◌+◌, ◌≤◌, ◌<◌, get_or, drop-cons, List, [], ◌∷◌, ◌++◌, length, map, drop, refl, sym, ap, ◌∙◌, arith, append_assoc, length-append, max}
+use Rattle.std.proofs.Common.{◌≡◌, ℕ, suc, ◌+◌, ◌≤◌, ◌<◌, get_or, drop-cons, List, [], ◌∷◌, ◌++◌, length, map, drop, sym, ap, ◌∙◌, arith, append_assoc, length-append}
 use Rattle.apex_types.specs.declared.instruction.Instr.{Instr}
 use Rattle.apex_types.specs.declared.instruction.Instr.TheVariants.{Jump, JumpIfZero}
 use Rattle.apex_meaning.specs.Program.{Expr, Stmt, Block, If, IfElse, While, MoreStmts, NoStmt}
 use Rattle.apex_meaning.specs.Cost.{size_of_expr, size_of_stmt, size_of_block, size_of_procedure, size_of_process}
 use Rattle.apex_meaning.specs.CompiledCode.{expr_code, stmt_code, block_code, body_code, procedure_code, processes_code, procedures_code, routine_row, routine_rows, process_row, process_rows}
-use Rattle.apex_meaning.proofs.Sizes.{expr_size, stmt_size, block_size, body_size, procedure_size}
+use Rattle.apex_meaning.proofs.Sizes.{stmt_size, block_size, body_size, procedure_size}
 use Rattle.std.proofs.lemmas.List.Sums.{sum_by-cons}
 use Rattle.std.specs.List.{sum_by}
-use Rattle.apex_meaning.specs.Instructions.{bytes_of}
+use Rattle.apex_meaning.specs.Instructions.{bytes_of, reading}
 use Rattle.apex_types.specs.declared.row.RoutineRow.{RoutineRow}
 use Rattle.apex_types.specs.declared.row.ProcessRow.{ProcessRow}
 use Rattle.apex_meaning.specs.Program.{Procedure, Process}
-use Rattle.std.specs.Prelude.{Result, Ok, Err, OnOk}
-use Rattle.std.proofs.lemmas.List.{drop_all}
+use Rattle.std.specs.Prelude.{Option, Some, Result, Ok, Err, OnOk}
+use Rattle.std.proofs.lemmas.List.{drop_all, map-append}
 
 flat_if : (o e : List Instr) (j : Instr) (b : List Instr) → ((o ++ e) ++ j ∷ []) ++ b ≡ o ++ (e ++ j ∷ b)
 flat_if o e j b = simp append_assoc
@@ -107,3 +107,11 @@ encode_step b1 b2 e x rest all y is list same added =
 
 pub encode_at : (xs : List Instr) (i : ℕ) (d : Instr) (b1 b2 : List (List ℕ)) (e : List ℕ) (y : List (List ℕ)) → e ≡ bytes_of (get_or xs i d) → i < length xs → b1 ++ map bytes_of (drop i xs) ≡ y → b2 ≡ b1 ++ e ∷ [] → b2 ++ map bytes_of (drop (i + 1) xs) ≡ y
 encode_at xs i d b1 b2 e y is lt same added = encode_step b1 b2 e (get_or xs i d) (drop (i + 1) xs) (drop i xs) y is (drop-cons xs i d lt ∙ ap (λ j. get_or xs i d ∷ drop j xs) (next_index i)) same added
+
+-- one instruction more as bytes that are read as it
+pub read_step : (b1 b2 : List (List ℕ)) (e : List ℕ) (x : Instr) (rest all : List Instr) (y : List (Option Instr)) → reading e ≡ Some x → all ≡ x ∷ rest → map reading b1 ++ map Some all ≡ y → b2 ≡ b1 ++ e ∷ [] → map reading b2 ++ map Some rest ≡ y
+read_step b1 b2 e x rest all y is list same added =
+    ap (λ b. map reading b ++ map Some rest) added ∙ ap (λ l. l ++ map Some rest) (map-append reading b1 (e ∷ [])) ∙ ap (λ o. (map reading b1 ++ o ∷ []) ++ map Some rest) is ∙ append_assoc (map reading b1) (Some x ∷ []) (map Some rest) ∙ ap (λ l. map reading b1 ++ map Some l) (sym list) ∙ same
+
+pub read_at : (xs : List Instr) (i : ℕ) (d : Instr) (b1 b2 : List (List ℕ)) (e : List ℕ) (y : List (Option Instr)) → reading e ≡ Some (get_or xs i d) → i < length xs → map reading b1 ++ map Some (drop i xs) ≡ y → b2 ≡ b1 ++ e ∷ [] → map reading b2 ++ map Some (drop (i + 1) xs) ≡ y
+read_at xs i d b1 b2 e y is lt same added = read_step b1 b2 e (get_or xs i d) (drop (i + 1) xs) (drop i xs) y is (drop-cons xs i d lt ∙ ap (λ j. get_or xs i d ∷ drop j xs) (next_index i)) same added

@@ -1,1 +1,2 @@
 pub mod SectionView
+pub mod Faithful

@@ -1,10 +1,12 @@
 //! A program as a section of an image.
 
-ghost use Rattle.std.specs.Prelude.{◌≡◌, ◌≤◌, ◌<◌, ◌↔◌, ◌++◌, map, IfOk, Err};
+ghost use Rattle.std.specs.Prelude.{◌≡◌, ◌≤◌, ◌<◌, ◌↔◌, ◌++◌, length, map, IfOk, Err, Some};
 ghost use Rattle.apex_meaning.specs.Cost as cost;
 ghost use Rattle.apex_meaning.specs.CompiledCode as code_of;
-ghost use Rattle.apex_meaning.specs.Instructions.{bytes_of};
+ghost use Rattle.apex_meaning.specs.Instructions.{bytes_of, reading};
 ghost use Rattle.pal_base.specs.ProgramView.{program_of};
+ghost use Rattle.apex_meaning.specs.Fits.{Fits};
+ghost use Rattle.compiler.specs.Faithful.{IsFaithful};
 ghost use Rattle.compiler.specs.SectionView.{section_view};
 
 use crate::bodies::{emit_body, emit_handler, emit_procedures, emit_processes};
@@ -16,7 +18,7 @@ use processor::encode;
 use std::alloc::{AllocError, Global};
 
 /// The most instructions that a partition's code has.
-pub const MOST_INSTRUCTIONS: u32 = 65_536;
+const MOST_INSTRUCTIONS: u32 = 65_536;
 
 /// The section of a program. Its code has one instruction for each construct.
 ///
@@ -26,6 +28,9 @@ pub const MOST_INSTRUCTIONS: u32 = 65_536;
 /// no memory for the section.
 pub fn compile_program(alloc: Global, program: &Program) -> Result<Section, CompileFault>
     ensures section { IfOk result (λ section. section_view section ≡ code_of.section_of (program_of program.now)) }
+    ensures reads_back { IfOk result (λ section. map reading section.code.items ≡ map Some (code_of.code_of (program_of program.now))) }
+    ensures size { IfOk result (λ section. length section.code.items ≡ cost.size_of (program_of program.now)) }
+    ensures means { IfOk result (λ section. Fits (program_of program.now) → IsFaithful (section_view section) (program_of program.now)) }
     ensures too_long { result ≡ Err CompileFault.TooLong ↔ 65_536 < cost.size_of (program_of program.now) }
 {
     if size_of_program(program) > MOST_INSTRUCTIONS {
@@ -39,7 +44,10 @@ pub fn compile_program(alloc: Global, program: &Program) -> Result<Section, Comp
 
 fn section_of(alloc: Global, program: &Program) -> Result<Section, AllocError>
     requires { cost.size_of (program_of program.now) ≤ 65_536 }
-    ensures { IfOk result (λ section. section_view section ≡ code_of.section_of (program_of program.now)) }
+    ensures section { IfOk result (λ section. section_view section ≡ code_of.section_of (program_of program.now)) }
+    ensures reads_back { IfOk result (λ section. map reading section.code.items ≡ map Some (code_of.code_of (program_of program.now))) }
+    ensures size { IfOk result (λ section. length section.code.items ≡ cost.size_of (program_of program.now)) }
+    ensures means { IfOk result (λ section. Fits (program_of program.now) → IsFaithful (section_view section) (program_of program.now)) }
 {
     let mut code = Vec::new(alloc);
     let init = emit_body(&mut code, &program.init)?;
@@ -69,9 +77,10 @@ fn copied<T: Copy + Drop>(alloc: Global, items: &[T]) -> Result<Vec<T>, AllocErr
     Ok(copy)
 }
 
-/// The instructions as bytes.
+/// The instructions as bytes, which are read as the instructions again.
 fn encoded(alloc: Global, code: &[Instr]) -> Result<Vec<[u8; 16]>, AllocError>
-    ensures { IfOk result (λ bytes. bytes.items ≡ map bytes_of code.now) }
+    ensures bytes { IfOk result (λ bytes. bytes.items ≡ map bytes_of code.now) }
+    ensures reads_back { IfOk result (λ bytes. map reading bytes.items ≡ map Some code.now) }
 {
     let mut bytes = Vec::with_capacity(alloc, code.len())?;
     for instr in code {

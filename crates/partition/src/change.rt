@@ -13,7 +13,7 @@ use apex_types::{
 
 impl Kernel {
     /// Who the lines of a process name.
-    pub fn subject(&self, process: ProcessId) -> Subject
+    pub(crate) fn subject(&self, process: ProcessId) -> Subject
         ensures { result ≡ meaning.subject self.now process.0 }
     {
         match self.row(process) {
@@ -23,7 +23,7 @@ impl Kernel {
     }
 
     /// A line of this partition.
-    pub fn line(&self, now: u64, kind: EventKind) -> Event
+    pub(crate) fn line(&self, now: u64, kind: EventKind) -> Event
         ensures { result ≡ meaning.line self.now now kind }
     {
         Event {
@@ -34,14 +34,14 @@ impl Kernel {
     }
 
     /// The line of a change of state.
-    pub fn state_line(&self, now: u64, process: ProcessId, state: ProcessState) -> Event
+    pub(crate) fn state_line(&self, now: u64, process: ProcessId, state: ProcessState) -> Event
         ensures { result ≡ meaning.state_line self.now now process.0 state }
     {
         self.line(now, EventKind::State(self.subject(process), state))
     }
 
     /// A process becomes ready and goes last.
-    pub fn wake(&mut self, now: u64, process: ProcessId, row: ProcessStatus, out: &mut Out)
+    pub(crate) fn wake(&mut self, now: u64, process: ProcessId, row: ProcessStatus, out: &mut Out)
         requires process { process.0 < 32 }
         requires room { length out.old.lines.items < 256 }
         ensures kernel { self.new ≡ (meaning.wakes self.old now process.0 row).kernel }
@@ -60,7 +60,7 @@ impl Kernel {
     }
 
     /// A process begins to wait, until its due time if it has one.
-    pub fn wait(
+    pub(crate) fn wait(
         &mut self,
         now: u64,
         process: ProcessId,
@@ -86,7 +86,7 @@ impl Kernel {
     }
 
     /// A process becomes dormant: it is in no list, has no due time, and nothing left to do.
-    pub fn rest(&mut self, now: u64, process: ProcessId, row: ProcessStatus, out: &mut Out)
+    pub(crate) fn rest(&mut self, now: u64, process: ProcessId, row: ProcessStatus, out: &mut Out)
         requires lines { length out.old.lines.items < 256 }
         requires actions { length out.old.actions.items < 64 }
         ensures kernel { self.new ≡ (meaning.rests self.old now process.0 row).kernel }
@@ -106,7 +106,7 @@ impl Kernel {
     }
 
     /// A service of a process ends with a code and its outputs: its line, then the answer.
-    pub fn answer(
+    pub(crate) fn answer(
         &self,
         now: u64,
         process: ProcessId,
@@ -128,7 +128,7 @@ impl Kernel {
     }
 
     /// A refused service changes nothing; `zeros` are its outputs.
-    pub fn refuse(
+    pub(crate) fn refuse(
         &self,
         now: u64,
         process: ProcessId,

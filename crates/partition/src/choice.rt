@@ -37,7 +37,7 @@ impl Kernel {
     }
 
     /// Each process whose due time is at most now, in number order.
-    pub fn due(&mut self, now: u64, out: &mut Out)
+    pub(crate) fn due(&mut self, now: u64, out: &mut Out)
         requires lines { length out.old.lines.items ≡ 0 }
         requires actions { length out.old.actions.items ≡ 0 }
         ensures kernel { self.new ≡ (time.due self.old now).kernel }
@@ -59,7 +59,7 @@ impl Kernel {
     }
 
     /// The process that is to run: before the normal start INIT, then the first that is ready.
-    pub fn pick(&self) -> Option<ProcessId>
+    fn pick(&self) -> Option<ProcessId>
         ensures { result ≡ tick.pick self.now.mode self.now.ready }
     {
         match self.mode() {
@@ -120,7 +120,7 @@ impl Kernel {
     }
 
     /// A change of the chosen process writes that the old one is ready and that the new one runs.
-    pub fn choose(&mut self, now: u64, out: &mut Out)
+    pub(crate) fn choose(&mut self, now: u64, out: &mut Out)
         requires lines { length out.old.lines.items < 255 }
         ensures kernel { self.new ≡ (tick.chooses self.old now).kernel }
         ensures lines { out.new.lines.items ≡ out.old.lines.items ++ (tick.chooses self.old now).lines }

@@ -93,7 +93,7 @@ impl Kernel {
     }
 
     /// The record of INIT or of a process.
-    pub fn row(&self, process: ProcessId) -> Option<ProcessStatus>
+    pub(crate) fn row(&self, process: ProcessId) -> Option<ProcessStatus>
         ensures row { result ≡ slice_get self.now.rows process.0 }
         ensures few { length self.now.rows ≤ 32 }
     {
@@ -101,51 +101,51 @@ impl Kernel {
     }
 
     /// INIT and the processes: how many they are.
-    pub fn count(&self) -> u8
+    pub(crate) fn count(&self) -> u8
         ensures count { result ≡ length self.now.rows }
         ensures few { result ≤ 32 }
     {
         self.rows.len() as u8
     }
 
-    pub fn name(&self) -> Name
+    pub(crate) fn name(&self) -> Name
         ensures { result ≡ self.now.name }
     {
         self.name
     }
 
-    pub fn health(&self) -> HealthTable
+    pub(crate) fn health(&self) -> HealthTable
         ensures { result ≡ self.now.health }
     {
         self.health
     }
 
-    pub fn mode(&self) -> Mode
+    pub(crate) fn mode(&self) -> Mode
         ensures { result ≡ self.now.mode }
     {
         self.mode
     }
 
-    pub fn running(&self) -> Option<ProcessId>
+    pub(crate) fn running(&self) -> Option<ProcessId>
         ensures { result ≡ self.now.running }
     {
         self.running
     }
 
-    pub fn set_mode(&mut self, mode: Mode)
+    pub(crate) fn set_mode(&mut self, mode: Mode)
         ensures { self.new ≡ record self.old { mode = mode } }
     {
         self.mode = mode;
     }
 
-    pub fn set_running(&mut self, running: Option<ProcessId>)
+    pub(crate) fn set_running(&mut self, running: Option<ProcessId>)
         ensures { self.new ≡ record self.old { running = running } }
     {
         self.running = running;
     }
 
     /// All processes go; unless the mode is idle, INIT is ready.
-    pub fn forget(&mut self, mode: Mode, condition: StartCondition)
+    pub(crate) fn forget(&mut self, mode: Mode, condition: StartCondition)
         ensures { self.new ≡ partition.cleared self.old mode condition }
     {
         forget_all(&mut self.rows);
@@ -159,7 +159,7 @@ impl Kernel {
     }
 
     /// The first of those that are ready.
-    pub fn first_ready(&self) -> Option<ProcessId>
+    pub(crate) fn first_ready(&self) -> Option<ProcessId>
         ensures { result ≡ first_ready self.now.ready }
     {
         match self.ready.first() {
@@ -168,13 +168,13 @@ impl Kernel {
         }
     }
 
-    pub fn put_row(&mut self, process: ProcessId, row: ProcessStatus)
+    pub(crate) fn put_row(&mut self, process: ProcessId, row: ProcessStatus)
         ensures { self.new ≡ meaning.put_row self.old process.0 row }
     {
         put_at(&mut self.rows, process, row);
     }
 
-    pub fn put_ready(&mut self, process: ProcessId, row: ProcessStatus)
+    pub(crate) fn put_ready(&mut self, process: ProcessId, row: ProcessStatus)
         requires { process.0 < 32 }
         ensures { self.new ≡ meaning.put_ready self.old process.0 row }
     {
@@ -183,7 +183,7 @@ impl Kernel {
         order::go_last(&mut self.ready, process, priority);
     }
 
-    pub fn put_unready(&mut self, process: ProcessId, row: ProcessStatus)
+    pub(crate) fn put_unready(&mut self, process: ProcessId, row: ProcessStatus)
         ensures { self.new ≡ meaning.put_unready self.old process.0 row }
     {
         put_at(&mut self.rows, process, row);

@@ -1,14 +1,14 @@
 //! One partition: its kernel, over any executor.
 #![tactic(auto)]
 
-pub mod change;
-pub mod choice;
-pub mod kernel;
-pub mod modes;
-pub mod order;
-pub mod out;
-pub mod partition;
-pub mod services;
+mod change;
+mod choice;
+mod kernel;
+mod modes;
+mod order;
+mod out;
+mod partition;
+mod services;
 
 pub use kernel::Kernel;
 pub use out::{Actions, Out};

@@ -16,7 +16,7 @@ use apex_types::{
 impl Kernel {
     /// Clear: all processes go, a cold start restores the data, and unless the mode is idle INIT
     /// starts.
-    pub fn clear(&mut self, now: u64, mode: Mode, condition: StartCondition, out: &mut Out)
+    pub(crate) fn clear(&mut self, now: u64, mode: Mode, condition: StartCondition, out: &mut Out)
         requires lines { length out.old.lines.items < 255 }
         requires actions { length out.old.actions.items < 62 }
         ensures kernel { self.new ≡ (partition.clears self.old now mode condition).kernel }
@@ -74,7 +74,7 @@ impl Kernel {
     }
 
     /// INIT becomes dormant, the mode normal, then those that wait for it start in number order.
-    pub fn start_normally(&mut self, now: u64, out: &mut Out)
+    fn start_normally(&mut self, now: u64, out: &mut Out)
         requires lines { length out.old.lines.items < 126 }
         requires actions { length out.old.actions.items < 64 }
         ensures kernel { self.new ≡ (partition.starts_normally self.old now).kernel }
@@ -91,7 +91,13 @@ impl Kernel {
     }
 
     /// SET_PARTITION_MODE.
-    pub fn set_partition_mode(&mut self, now: u64, caller: ProcessId, mode: i64, out: &mut Out)
+    pub(crate) fn set_partition_mode(
+        &mut self,
+        now: u64,
+        caller: ProcessId,
+        mode: i64,
+        out: &mut Out,
+    )
         requires lines { length out.old.lines.items < 125 }
         requires actions { length out.old.actions.items < 61 }
         ensures kernel { self.new ≡ (partition.set_partition_mode self.old now caller.0 mode).kernel }
@@ -116,7 +122,7 @@ impl Kernel {
     }
 
     /// The end of a body: a process becomes dormant, INIT leaves the partition idle.
-    pub fn end_body(&mut self, now: u64, process: ProcessId, out: &mut Out)
+    pub(crate) fn end_body(&mut self, now: u64, process: ProcessId, out: &mut Out)
         requires lines { length out.old.lines.items < 255 }
         requires actions { length out.old.actions.items < 62 }
         ensures kernel { self.new ≡ (tick.ends_body self.old now process.0 (slice_get self.old.rows process.0)).kernel }
@@ -186,7 +192,7 @@ impl Kernel {
     }
 
     /// A process with a fault becomes dormant first; then its error is handled.
-    pub fn fault(&mut self, now: u64, process: ProcessId, error: ErrorKind, out: &mut Out)
+    pub(crate) fn fault(&mut self, now: u64, process: ProcessId, error: ErrorKind, out: &mut Out)
         requires lines { length out.old.lines.items < 253 }
         requires actions { length out.old.actions.items < 61 }
         ensures kernel { self.new ≡ (health.faults self.old now process.0 error).kernel }

@@ -9,17 +9,17 @@ use apex_types::{Entry, Priority, ProcessId};
 use arrayvec::ArrayVec;
 
 /// Those that are ready: the highest priority first, among equals the one ready longest.
-pub type Order = ArrayVec<Entry, 32>;
+pub(crate) type Order = ArrayVec<Entry, 32>;
 
 /// Takes a process out of the list.
-pub fn leave(order: &mut Order, process: ProcessId)
+pub(crate) fn leave(order: &mut Order, process: ProcessId)
     ensures { order.new.items ≡ without process.0 order.old.items }
 {
     order.retain(|entry| process.0 != entry.process.0);
 }
 
 /// Puts an entry behind all that have its priority or a higher one.
-pub fn enter(order: &mut Order, entry: Entry)
+fn enter(order: &mut Order, entry: Entry)
     requires { length order.old.items < 32 }
     ensures { order.new.items ≡ behind_equals entry order.old.items }
 {
@@ -31,7 +31,7 @@ pub fn enter(order: &mut Order, entry: Entry)
 }
 
 /// A process goes behind its equals.
-pub fn go_last(order: &mut Order, process: ProcessId, priority: Priority)
+pub(crate) fn go_last(order: &mut Order, process: ProcessId, priority: Priority)
     requires below { process.0 < 32 }
     requires listed { IsListed 32 order.old.items }
     ensures { order.new.items ≡ behind_equals (entry process.0 priority) (without process.0 order.old.items) }

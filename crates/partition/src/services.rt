@@ -17,7 +17,7 @@ use apex_types::{
 impl Kernel {
     /// The process with the number that a program gives, with its record.
     #[tactic(auto, using(apex_meaning::proofs::Numbers::numbers))]
-    pub fn process_at(&self, id: i64) -> Option<(ProcessId, ProcessStatus)>
+    fn process_at(&self, id: i64) -> Option<(ProcessId, ProcessStatus)>
         ensures found { result ≡ meaning.process_at self.now id }
         ensures below { IfSome result (λ f. f.0.0 < 32) }
     {
@@ -32,7 +32,7 @@ impl Kernel {
     }
 
     /// CREATE_PROCESS: in normal mode there is none to be created; a process is created once.
-    pub fn create_process(&mut self, now: u64, caller: ProcessId, name: i64, out: &mut Out)
+    fn create_process(&mut self, now: u64, caller: ProcessId, name: i64, out: &mut Out)
         requires lines { length out.old.lines.items < 256 }
         requires actions { length out.old.actions.items < 64 }
         ensures kernel { self.new ≡ (processes.create_process self.old now caller.0 name).kernel }
@@ -82,7 +82,7 @@ impl Kernel {
     }
 
     /// START.
-    pub fn start(&mut self, now: u64, caller: ProcessId, id: i64, out: &mut Out)
+    fn start(&mut self, now: u64, caller: ProcessId, id: i64, out: &mut Out)
         requires lines { length out.old.lines.items < 255 }
         requires actions { length out.old.actions.items < 63 }
         ensures kernel { self.new ≡ (processes.start self.old now caller.0 id).kernel }
@@ -104,7 +104,7 @@ impl Kernel {
     }
 
     /// GET_TIME.
-    pub fn get_time(&self, now: u64, caller: ProcessId, out: &mut Out)
+    fn get_time(&self, now: u64, caller: ProcessId, out: &mut Out)
         requires now { now ≤ 2 ^ 40 }
         requires lines { length out.old.lines.items < 256 }
         requires actions { length out.old.actions.items < 64 }
@@ -122,7 +122,7 @@ impl Kernel {
     }
 
     /// TIMED_WAIT: without a delay the caller goes last, else it waits for its due time.
-    pub fn timed_wait(&mut self, now: u64, caller: ProcessId, delay: i64, out: &mut Out)
+    fn timed_wait(&mut self, now: u64, caller: ProcessId, delay: i64, out: &mut Out)
         requires now { now ≤ 2 ^ 40 }
         requires lines { length out.old.lines.items < 256 }
         requires actions { length out.old.actions.items < 64 }
@@ -170,7 +170,7 @@ impl Kernel {
     }
 
     /// REPORT_APPLICATION_MESSAGE of these words.
-    pub fn report(
+    fn report(
         &self,
         now: u64,
         caller: ProcessId,
@@ -195,7 +195,14 @@ impl Kernel {
 
     /// Serves a call; `message` are the words that it hands in. A service that is not served
     /// leaves its caller without an answer.
-    pub fn serve(&mut self, now: u64, caller: ProcessId, call: Call, message: Words, out: &mut Out)
+    pub(crate) fn serve(
+        &mut self,
+        now: u64,
+        caller: ProcessId,
+        call: Call,
+        message: Words,
+        out: &mut Out,
+    )
         requires now { now ≤ 2 ^ 40 }
         requires lines { length out.old.lines.items < 125 }
         requires actions { length out.old.actions.items < 61 }
@@ -219,7 +226,7 @@ impl Kernel {
 }
 
 /// Whether a message of so many words may be handed in from an array of a size.
-pub fn is_message_length(size: i64, count: i64) -> bool
+pub(crate) fn is_message_length(size: i64, count: i64) -> bool
     ensures { result ≡ health.is_message_length size count }
 {
     1 <= count && count <= 16 && count <= size

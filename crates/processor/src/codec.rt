@@ -1,6 +1,6 @@
 //! Instructions as bytes.
 
-ghost use Rattle.std.specs.Prelude.{◌≡◌, ℤ, pos, List, ℕ, ◌<◌, length, option_map, map, nat_eq, slice_get, if◌then◌else◌, None, ◌-◌, Some};
+ghost use Rattle.std.specs.Prelude.{◌≡◌, ℤ, pos, List, ℕ, ◌<◌, ◌++◌, length, option_map, map, nat_eq, slice_get, if◌then◌else◌, None, ◌-◌, Some};
 ghost use Rattle.std.specs.Int.{w32, w64, to_le_bytes, from_le_bytes, cast_unsigned, cast_signed};
 ghost use Rattle.apex_types.specs.declared.instruction.Instr.{Instr};
 ghost use Rattle.apex_meaning.specs.Instructions.{opcode_of_binary, opcode_of_unary, opcode_of, x_of, v_of, bytes_of, reading, opcode_in, x_in, v_in, fields, instruction_of, operator_of, operator_reading, uses_x, uses_v, uses_none, name_of_opcode, HasBytes, AreBytes};
@@ -96,17 +96,29 @@ fn field_v(instruction: Instr) -> i64
     }
 }
 
-/// The sixteen bytes of an instruction: opcode (4), x (4), v (8), little endian.
-pub fn encode(instruction: &Instr) -> [u8; 16]
-    ensures { result ≡ bytes_of instruction.now }
+/// Sixteen bytes: opcode (4), x (4), v (8), little endian.
+fn spell(opcode: u32, x: u32, v: i64) -> [u8; 16]
+    ensures { result ≡ to_le_bytes w32 opcode ++ to_le_bytes w32 x ++ to_le_bytes w64 (cast_unsigned w64 v) }
 {
-    let op = opcode(*instruction).to_le_bytes();
-    let x = field_x(*instruction).to_le_bytes();
-    let v = field_v(*instruction).to_le_bytes();
+    let op = opcode.to_le_bytes();
+    let x = x.to_le_bytes();
+    let v = v.to_le_bytes();
     [
         op[0], op[1], op[2], op[3], x[0], x[1], x[2], x[3], v[0], v[1], v[2], v[3], v[4], v[5],
         v[6], v[7],
     ]
+}
+
+/// The sixteen bytes of an instruction, which are read as the instruction again.
+pub fn encode(instruction: &Instr) -> [u8; 16]
+    ensures bytes { result ≡ bytes_of instruction.now }
+    ensures reads_back { reading result ≡ Some instruction.now }
+{
+    spell(
+        opcode(*instruction),
+        field_x(*instruction),
+        field_v(*instruction),
+    )
 }
 
 /// The opcode as it stands in sixteen bytes.

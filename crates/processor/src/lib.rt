@@ -16,9 +16,9 @@ mod outcome;
 mod service_table;
 
 pub use code::Code;
-pub use codec::{decode, encode, fields, op_name};
+pub use codec::{decode, encode, encode_and_decode_agree, fields, op_name};
 pub use context::Context;
 pub use data::Data;
 pub use execute::step;
 pub use outcome::Outcome;
-pub use service_table::answer_words;
+pub use service_table::{answer_words, services_are_numbered};

@@ -11,7 +11,7 @@ mod names;
 mod numbered;
 mod read;
 mod schedule;
-pub mod table;
+mod table;
 #[cfg(test)]
 mod tests;
 mod words;

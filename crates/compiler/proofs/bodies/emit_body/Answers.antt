@@ -1,10 +1,6 @@
-use Rattle.std.proofs.Common.{◌≡◌, suc, ◌+◌, ◌++◌, ◌∷◌, [], List, length, min, max, map, refl, sym, ap, ◌∙◌, arith, append_assoc, length-append, rules, drop, drop-cons}
-use Rattle.std.specs.List.{sum_by}
+use Rattle.std.proofs.Common.{◌≡◌, ◌+◌, ap, ◌∙◌, arith}
 use Rattle.apex_meaning.specs.Cost as cost
-use Rattle.apex_meaning.specs.CompiledCode as code_of
-use Rattle.apex_meaning.proofs.Sizes.{expr_size, stmt_size, block_size, body_size, handler_size, processes_size, procedures_size, procedure_size}
-use Rattle.pal_base.specs.ProgramView.{expr_of, exprs_of, links_of, stmt_of, block_of, body_of, procedure_of, process_of}
-use Rattle.compiler.proofs.Emitted.{on_ok, next_index, procedure_step, process_step}
+use Rattle.pal_base.specs.ProgramView.{block_of}
 use Rattle.compiler.proofs.Waiting.{block_operands}
 use Rattle.compiler.proofs.bodies.emit_body.Goals as goal
 

@@ -1,9 +1,8 @@
-use Rattle.std.proofs.Common.{◌≡◌, suc, ◌+◌, ◌++◌, ◌∷◌, [], List, length, min, max, refl, sym, ap, ◌∙◌, arith, append_assoc, length-append, rules, drop, drop-cons}
+use Rattle.std.proofs.Common.{◌≡◌, suc, ◌+◌, ◌++◌, ◌∷◌, length, min, refl, sym, ap, ◌∙◌, arith, drop, drop-cons}
 use Rattle.apex_meaning.specs.Cost as cost
 use Rattle.apex_meaning.specs.CompiledCode as code_of
-use Rattle.apex_meaning.proofs.Sizes.{expr_size, stmt_size, block_size}
-use Rattle.pal_base.specs.ProgramView.{expr_of, exprs_of, links_of, stmt_of, block_of}
-use Rattle.compiler.proofs.Views.{seen_apply, seen_chain, seen_if, seen_if_else, seen_while}
+use Rattle.pal_base.specs.ProgramView.{expr_of, stmt_of, block_of}
+use Rattle.compiler.proofs.Views.{seen_if, seen_if_else, seen_while}
 use Rattle.compiler.proofs.Emitted.{on_ok, block_step, block_done, none_left, if_emitted, if_else_emitted, while_emitted, next_index}
 use Rattle.compiler.proofs.Waiting.{expr_some}
 use Rattle.compiler.proofs.Views.{item_size}

@@ -1,10 +1,7 @@
-use Rattle.std.proofs.Common.{◌≡◌, ◌+◌, ◌++◌, ◌∷◌, [], List, length, min, max, sym, ap, ◌∙◌, arith, append_assoc, length-append, rules, drop}
-use Rattle.apex_meaning.specs.Cost as cost
+use Rattle.std.proofs.Common.{◌+◌, length, ap, ◌∙◌, arith, length-append}
 use Rattle.apex_meaning.specs.CompiledCode as code_of
-use Rattle.apex_meaning.proofs.Sizes.{expr_size, stmt_size, block_size}
-use Rattle.pal_base.specs.ProgramView.{expr_of, exprs_of, links_of, stmt_of, block_of}
-use Rattle.compiler.proofs.Views.{seen_apply, seen_chain, seen_if, seen_if_else, seen_while}
-use Rattle.compiler.proofs.Emitted.{on_ok, block_step}
+use Rattle.apex_meaning.proofs.Sizes.{expr_size}
+use Rattle.pal_base.specs.ProgramView.{expr_of}
 use Rattle.compiler.proofs.emit.emit_test.Goals as goal
 
 pub returns-clause-size : goal.returns-clause-size

@@ -1,11 +1,11 @@
-use Rattle.std.proofs.Common.{◌≡◌, suc, ◌+◌, ◌++◌, ◌∷◌, [], List, length, min, max, map, refl, sym, ap, ◌∙◌, arith, append_assoc, length-append, rules, drop, drop-cons}
+use Rattle.std.proofs.Common.{◌≡◌, Some, ◌++◌, length, map, ap, ◌∙◌, arith, length-append}
 use Rattle.std.specs.List.{sum_by}
+use Rattle.std.proofs.lemmas.List.{length-map}
 use Rattle.apex_meaning.specs.Cost as cost
 use Rattle.apex_meaning.specs.CompiledCode as code_of
-use Rattle.apex_meaning.proofs.Sizes.{expr_size, stmt_size, block_size, body_size, handler_size, processes_size, procedures_size, procedure_size}
-use Rattle.pal_base.specs.ProgramView.{expr_of, exprs_of, links_of, stmt_of, block_of, body_of, procedure_of, process_of}
-use Rattle.compiler.proofs.Emitted.{on_ok, next_index, encode_step, procedure_step, process_step}
-use Rattle.compiler.proofs.Waiting.{block_operands}
+use Rattle.apex_meaning.proofs.Sizes.{body_size, handler_size, processes_size, code_size}
+use Rattle.pal_base.specs.ProgramView.{body_of, procedure_of, process_of}
+use Rattle.compiler.proofs.Meaning.{faithful}
 use Rattle.std.specs.Option.{option_map}
 use Rattle.apex_meaning.specs.Instructions.{bytes_of}
 use Rattle.pal_base.specs.ProgramView.{program_of}
@@ -45,5 +45,12 @@ returns c =
     let semaphores = c.in_ok-copied-2.ensures ∙ c.deref-4.ensures.value in
     let buffers = c.in_ok-copied-3.ensures ∙ c.deref-5.ensures.value in
     let blackboards = c.in_ok-copied-4.ensures ∙ c.deref-6.ensures.value in
-    let code = c.in_ok-encoded.ensures ∙ ap (λ l. map bytes_of l) (c.deref-7.ensures.value ∙ fourth) in
-    λ i. record { initial = initial i; semaphores = semaphores i; events = c.args.program.now.events; buffers = buffers i; blackboards = blackboards i; routines = routines i; processes = processes i; init = init i; handler = handler i; code = code i }
+    let written = c.deref-7.ensures.value ∙ fourth in
+    let code = c.in_ok-encoded.ensures.bytes ∙ ap (λ l. map bytes_of l) written in
+    let reads = c.in_ok-encoded.ensures.reads_back ∙ ap (λ l. map Some l) written in
+    record {
+      section = λ i. record { initial = initial i; semaphores = semaphores i; events = c.args.program.now.events; buffers = buffers i; blackboards = blackboards i; routines = routines i; processes = processes i; init = init i; handler = handler i; code = code i };
+      reads_back = reads;
+      size = ap length code ∙ length-map (code_of.code_of p) bytes_of ∙ code_size p;
+      means = faithful p _ (λ i. record { initial = initial i; semaphores = semaphores i; events = c.args.program.now.events; buffers = buffers i; blackboards = blackboards i; routines = routines i; processes = processes i; init = init i; handler = handler i; code = code i }) reads;
+    }
