@@ -23,3 +23,5 @@ pub mod ImageTables
 pub mod ImageLaws
 pub mod StackLength
 pub mod WellFormedFits
+pub mod WellFormedObjects
+pub mod WellFormedSection

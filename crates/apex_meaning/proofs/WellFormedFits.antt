@@ -114,15 +114,15 @@ abbrev pub NamesProcedure : List program.Procedure → Option Meaning → Type 0
 NamesProcedure procedures (Some (meaning.Procedure f n)) = HasParameters procedures f n
 NamesProcedure procedures _ = Unit {0}
 
-counts_next : (o : Option Counts) (ds : List written.Declaration) → elim o [ None ↦ false | Some next ↦ keeps_counts next ds ] ≡ true → (n : Counts) × (o ≡ Some n) × (keeps_counts n ds ≡ true)
+pub counts_next : (o : Option Counts) (ds : List written.Declaration) → elim o [ None ↦ false | Some next ↦ keeps_counts next ds ] ≡ true → (n : Counts) × (o ≡ Some n) × (keeps_counts n ds ≡ true)
 counts_next None ds h = absurd cc
 counts_next (Some n) ds h = (n, refl, h)
 
-mapped_some : {A B : Type 0} (f : A → B) (o : Option A) (y : B) → option_map f o ≡ Some y → (x : A) × (o ≡ Some x) × (f x ≡ y)
+pub mapped_some : {A B : Type 0} (f : A → B) (o : Option A) (y : B) → option_map f o ≡ Some y → (x : A) × (o ≡ Some x) × (f x ≡ y)
 mapped_some f None y h = absurd cc
 mapped_some f (Some x) y h = (x, refl, cc)
 
-counted_is : (limit count more n : ℕ) → counted limit count more ≡ Some n → n ≡ more + count
+pub counted_is : (limit count more n : ℕ) → counted limit count more ≡ Some n → n ≡ more + count
 counted_is limit count more n h = test_some (nat_le (more + count) limit) (more + count) n h
   where
     test_some : (b : Bool) (x y : ℕ) → cond b (Some x) None ≡ Some y → y ≡ x
@@ -146,7 +146,7 @@ procedures_after declared c n (written.Procedure parameters body) h =
     let g : m.0 ≡ 1 + c.procedures = counted_is 256 c.procedures 1 m.0 m.1 in
     omega (arith, e, g)
 
-count_is : (limit n : ℕ) → n ≤ limit → count_within limit n ≡ n
+pub count_is : (limit n : ℕ) → n ≤ limit → count_within limit n ≡ n
 count_is limit n h = cond-true (nat_le n limit) n 0 (le-leb n limit h)
 
 pub at_seam : {A : Type 0} (before : List A) (x : A) (rest : List A) (n : ℕ) → length before ≡ n → slice_get (before ++ x ∷ rest) n ≡ Some x
@@ -355,7 +355,7 @@ module _ (scope : Scope) (procedures : List program.Procedure) (n : ℕ) (slots 
 
 -- ---- bodies
 
-keeps_within : (low limit : ℕ) (o : Option ℕ) → is_between low limit o ≡ true → (x : ℕ) × (o ≡ Some x) × (low ≤ x) × (x ≤ limit) × (within limit o ≡ x)
+pub keeps_within : (low limit : ℕ) (o : Option ℕ) → is_between low limit o ≡ true → (x : ℕ) × (o ≡ Some x) × (low ≤ x) × (x ≤ limit) × (within limit o ≡ x)
 keeps_within low limit None h = absurd cc
 keeps_within low limit (Some x) h =
     let parts = and_parts (nat_le low x) (nat_le x limit) h in
