@@ -25,3 +25,4 @@ pub mod StackLength
 pub mod WellFormedFits
 pub mod WellFormedObjects
 pub mod WellFormedSection
+pub mod AcceptedTable
