@@ -1,6 +1,6 @@
 -- An accepted module table is within the limits of an image.
 use Rattle.std.proofs.Common.{◌≡◌, ℕ, suc, ◌+◌, ◌-◌, ◌≤◌, ◌<◌, ◌^◌, ℤ, pos, negsuc, nat_abs, Bool, true, false, not, cond, List, [], ◌∷◌, ◌++◌, length, map, Option, Some, None, Result, Ok, Err, refl, sym, ap, ◌∙◌, subst, arith, length-append}
-use Rattle.std.specs.Prelude.{◌||◌, ◌==◌, ◌+ℤ◌, slice_get, nat_lt, int_lt, bytes_eq, codes, unwrap_or}
+use Rattle.std.specs.Prelude.{◌||◌, ◌==◌, ◌+ℤ◌, slice_get, nat_lt, int_lt, bytes_eq, is_none, codes, unwrap_or}
 use Rattle.std.specs.List.{list_any, AllByRecursion, All}
 use Rattle.std.proofs.lemmas.Bool.{not-false, ltb-false, or_parts, or_from, and_left, ne_eqb}
 use Rattle.std.proofs.lemmas.List.{length-map}
@@ -13,7 +13,7 @@ use Rattle.apex_types.specs.declared.row.ChannelEnd.TheVariants as ends
 use Rattle.toml.specs.Data.{Members}
 use Rattle.apex_meaning.specs.Image.{Table, Partition, Channel, Item, Image}
 use Rattle.apex_meaning.specs.TableText.{same, KindText, Sampling, Queuing, PortText, PartitionText, WindowText, ChannelText, TableText, table_text_of}
-use Rattle.apex_meaning.specs.TableRules.{Refusal, Shape, is_outside, is_count_outside, exceeds_kind, exceeds_port, exceeds_times, has_many_ports, exceeds_partition, exceeds_window, exceeds_channel, exceeds_counts, exceeds_rows, exceeds_limits, has_twice, has_same_names, number_from, partition_number, port_number, port_from, end_of, has_unknown_name, window_row, channel_row, kind_row, port_row, partition_row, numbered, overlaps_after, overlaps, has_odd_period, has_short_period, lacks_release, has_wrong_ends, has_unknown_action, judge_table, judge_text, verdict}
+use Rattle.apex_meaning.specs.TableRules.{Refusal, Shape, is_outside, is_count_outside, exceeds_kind, exceeds_port, exceeds_times, has_many_ports, exceeds_partition, exceeds_window, exceeds_channel, exceeds_counts, exceeds_rows, exceeds_limits, has_twice, is_unknown_window, has_unknown_end, has_same_names, number_from, partition_number, port_number, port_from, end_of, has_unknown_name, window_row, channel_row, kind_row, port_row, partition_row, numbered, overlaps_after, overlaps, has_odd_period, has_short_period, lacks_release, has_wrong_ends, has_unknown_action, judge_table, judge_text, verdict}
 use Rattle.apex_meaning.specs.ImageReading.{last_end, end_of as image_end}
 use Rattle.apex_meaning.specs.ImageLimits.{IsFrom, EachBeside, IsPortKind, IsPort, IsSection, IsItem, IsWindow, IsEnd, IsChannel, IsWithinLimits}
 use Rattle.apex_meaning.proofs.WellFormedFits.{at_seam}
@@ -373,3 +373,25 @@ pub accepted_limits : (ms : Members) (t : Table) (items : List Item) → verdict
 accepted_limits ms t items h rows sections =
     let a = accepted_table ms t h in
     (table_limits a.0 t items a.1 rows (each_at _ items sections)).0
+
+-- ---- the partitions of windows
+
+number_known : (ps : List PartitionText) (o : Option ℕ) → ((k : ℕ) → o ≡ Some k → (1 ≤ k) × (k < 1 + length ps)) → is_none o ≡ false → (1 ≤ unwrap_or o 0) × (unwrap_or o 0 ≤ length ps)
+number_known ps None h known = absurd cc
+number_known ps (Some k) h known = let s = h k refl in (s.0, omega (arith, s.1))
+
+-- a window is of one of the partitions
+windows_known : (ps : List PartitionText) (ws : List WindowText) → list_any (is_unknown_window ps) ws ≡ false → AllByRecursion (λ (w : WindowRow). (1 ≤ w.partition.0) × (w.partition.0 ≤ length ps)) (map (window_row ps) ws)
+windows_known ps [] h = tt
+windows_known ps (w ∷ ws) h =
+    let parts = or_parts (is_unknown_window ps w) (list_any (is_unknown_window ps) ws) h in
+    (number_known ps (partition_number ps w.partition) (λ k e. number_small 1 _ ps k e) parts.0, windows_known ps ws parts.1)
+
+text_windows : (text : TableText) → has_unknown_name text ≡ false → AllByRecursion (λ (w : WindowRow). (1 ≤ w.partition.0) × (w.partition.0 ≤ length (numbered text).partitions)) (numbered text).windows
+unfolding has_unknown_name numbered
+text_windows text h =
+    let known = windows_known text.partitions text.windows (or_parts (list_any (is_unknown_window text.partitions) text.windows) (list_any (has_unknown_end text.partitions) text.channels) h).0 in
+    subst (λ (n : ℕ). AllByRecursion (λ (w : WindowRow). (1 ≤ w.partition.0) × (w.partition.0 ≤ n)) (map (window_row text.partitions) text.windows)) (sym (length-map text.partitions partition_row)) known
+
+pub window_numbers : (text : TableText) (t : Table) → AcceptedTable text t → AllByRecursion (λ (w : WindowRow). (1 ≤ w.partition.0) × (w.partition.0 ≤ length t.partitions)) t.windows
+window_numbers text t a = subst (λ (x : Table). AllByRecursion (λ (w : WindowRow). (1 ≤ w.partition.0) × (w.partition.0 ≤ length x.partitions)) x.windows) a.is (text_windows text a.known)

@@ -26,3 +26,4 @@ pub mod WellFormedFits
 pub mod WellFormedObjects
 pub mod WellFormedSection
 pub mod AcceptedTable
+pub mod AcceptedImage
