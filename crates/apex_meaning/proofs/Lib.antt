@@ -22,3 +22,8 @@ pub mod ImageBodies
 pub mod ImageTables
 pub mod ImageLaws
 pub mod StackLength
+pub mod WellFormedFits
+pub mod WellFormedObjects
+pub mod WellFormedSection
+pub mod AcceptedTable
+pub mod AcceptedImage

@@ -1,3 +1,5 @@
 //! Laws over the definitions: each is the contract of a function with an empty body.
 
+pub mod checking;
 pub mod image;
+pub mod tables;

@@ -1,0 +1,23 @@
+//! What the checker accepts is fit for the compiler and for an image.
+
+ghost use Rattle.std.specs.Prelude.{◌≡◌, ℕ, ◌≤◌, List, Ok, All, FitsSigned};
+ghost use Rattle.std.specs.Int.{w64};
+ghost use Rattle.apex_types.specs.declared.row.PortRow.{PortRow};
+ghost use Rattle.apex_meaning.specs.Syntax as written;
+ghost use Rattle.apex_meaning.specs.Program as program;
+ghost use Rattle.apex_meaning.specs.WellFormed.{verdict};
+ghost use Rattle.apex_meaning.specs.Fits.{Fits};
+ghost use Rattle.apex_meaning.specs.Cost.{size_of};
+ghost use Rattle.apex_meaning.specs.CompiledCode.{section_of};
+ghost use Rattle.apex_meaning.specs.ImageLimits.{IsSection};
+
+/// What is accepted keeps to all on which its compiled code depends, if that code is not too long.
+pub fn accepted_program_fits()
+    ensures { (ports : List PortRow) (period : ℕ) (p : written.Program) (r : program.Program) → verdict ports period p ≡ Ok r → size_of r ≤ 65_536 → Fits r }
+{}
+
+/// What is accepted and has words as its data becomes a section that an image may have, in a partition
+/// of that period.
+pub fn accepted_section_is_lawful()
+    ensures { (ports : List PortRow) (period : ℕ) (p : written.Program) (r : program.Program) → verdict ports period p ≡ Ok r → size_of r ≤ 65_536 → All (FitsSigned w64) r.initial → IsSection period (section_of r) }
+{}
