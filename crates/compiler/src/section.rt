@@ -1,6 +1,7 @@
 //! A program as a section of an image.
 
-ghost use Rattle.std.specs.Prelude.{◌≡◌, ◌≤◌, ◌<◌, ◌↔◌, ◌++◌, length, map, IfOk, Err, Some};
+ghost use Rattle.std.specs.Prelude.{◌≡◌, ◌≤◌, ◌<◌, ◌↔◌, ◌++◌, length, map, All, FitsSigned, IfOk, Err, Some};
+ghost use Rattle.std.specs.Int.{w64};
 ghost use Rattle.apex_meaning.specs.Cost as cost;
 ghost use Rattle.apex_meaning.specs.CompiledCode as code_of;
 ghost use Rattle.apex_meaning.specs.Instructions.{bytes_of, reading};
@@ -29,6 +30,7 @@ const MOST_INSTRUCTIONS: u32 = 65_536;
 pub fn compile_program(alloc: Global, program: &Program) -> Result<Section, CompileFault>
     ensures section { IfOk result (λ section. section_view section ≡ code_of.section_of (program_of program.now)) }
     ensures reads_back { IfOk result (λ section. map reading section.code.items ≡ map Some (code_of.code_of (program_of program.now))) }
+    ensures words { IfOk result (λ section. All (FitsSigned w64) section.initial.items) }
     ensures size { IfOk result (λ section. length section.code.items ≡ cost.size_of (program_of program.now)) }
     ensures means { IfOk result (λ section. Fits (program_of program.now) → IsFaithful (section_view section) (program_of program.now)) }
     ensures too_long { result ≡ Err CompileFault.TooLong ↔ 65_536 < cost.size_of (program_of program.now) }
@@ -46,6 +48,7 @@ fn section_of(alloc: Global, program: &Program) -> Result<Section, AllocError>
     requires { cost.size_of (program_of program.now) ≤ 65_536 }
     ensures section { IfOk result (λ section. section_view section ≡ code_of.section_of (program_of program.now)) }
     ensures reads_back { IfOk result (λ section. map reading section.code.items ≡ map Some (code_of.code_of (program_of program.now))) }
+    ensures words { IfOk result (λ section. All (FitsSigned w64) section.initial.items) }
     ensures size { IfOk result (λ section. length section.code.items ≡ cost.size_of (program_of program.now)) }
     ensures means { IfOk result (λ section. Fits (program_of program.now) → IsFaithful (section_view section) (program_of program.now)) }
 {
@@ -55,7 +58,7 @@ fn section_of(alloc: Global, program: &Program) -> Result<Section, AllocError>
     let processes = emit_processes(alloc, &mut code, &program.processes)?;
     let routines = emit_procedures(alloc, &mut code, &program.procedures)?;
     Ok(Section {
-        initial: copied(alloc, &program.initial)?,
+        initial: copied_words(alloc, &program.initial)?,
         semaphores: copied(alloc, &program.semaphores)?,
         events: program.events,
         buffers: copied(alloc, &program.buffers)?,
@@ -66,6 +69,18 @@ fn section_of(alloc: Global, program: &Program) -> Result<Section, AllocError>
         handler,
         code: encoded(alloc, &code)?,
     })
+}
+
+/// A copy of the words of the data.
+fn copied_words(alloc: Global, words: &[i64]) -> Result<Vec<i64>, AllocError>
+    ensures items { IfOk result (λ copy. copy.items ≡ words.now) }
+    ensures words { IfOk result (λ copy. All (FitsSigned w64) copy.items) }
+{
+    let mut copy = Vec::with_capacity(alloc, words.len())?;
+    for word in words {
+        copy.push(*word)?;
+    }
+    Ok(copy)
 }
 
 /// A copy of a list.

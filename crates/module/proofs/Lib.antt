@@ -1,4 +1,5 @@
 pub mod Built
+pub mod Headline
 pub mod Lawful
 pub mod Reading
 pub mod SameTraces

@@ -1,5 +1,5 @@
 -- What building promises, and the parts of it.
-use Rattle.std.specs.Prelude.{◌≡◌, ℕ, List, [], ◌∷◌, Ok}
+use Rattle.std.specs.Prelude.{◌≡◌, ℕ, List, [], ◌∷◌, length, Ok}
 use Rattle.apex_meaning.specs.CompiledCode.{section_of}
 use Rattle.apex_meaning.specs.Image.{Partition, Section, Item, Table, Image}
 use Rattle.apex_meaning.specs.ImageReading.{image_at}
@@ -29,3 +29,9 @@ pub record IsImageOf (table : List ℕ) (sources : List (List ℕ)) (bytes : Lis
   pub image : Image
   pub loaded : image_at bytes ≡ Ok image
   pub meaning : (n : ℕ) → machine_trace image n ≡ source_trace table programs n
+
+-- the part that is built so far: one partition with one window, and no channel
+pub record IsOfPart (t : Table) : Type 0 where
+  pub partitions : length t.partitions ≡ 1
+  pub windows : length t.windows ≡ 1
+  pub channels : t.channels ≡ []

@@ -1,5 +1,7 @@
 -- The image that a module table and the programs of its partitions become.
-use Rattle.std.specs.Prelude.{◌≡◌, List, [], ◌∷◌, map, Some}
+use Rattle.std.specs.Prelude.{◌≡◌, ◌≤◌, List, [], ◌∷◌, map, Some, All, FitsSigned}
+use Rattle.std.specs.Int.{w64}
+use Rattle.apex_meaning.specs.Cost.{size_of}
 use Rattle.apex_meaning.specs.Program.{Program}
 use Rattle.apex_meaning.specs.CompiledCode.{code_of, section_of}
 use Rattle.apex_meaning.specs.Fits.{Fits}
@@ -15,10 +17,13 @@ built_items (row ∷ rows) (p ∷ ps) = record { partition = row; section = sect
 abbrev pub built_image : Table → List Program → Image
 built_image t programs = record { frame = t.frame; fault = t.fault; items = built_items t.partitions programs; windows = t.windows; channels = t.channels }
 
--- a program that fits, whose instructions are read again from their bytes
+-- A program that fits, of at most 65,536 instructions, which are read again from their bytes, and of
+-- words of 64 bits.
 pub record IsCompiled (p : Program) : Type 0 where
   pub fits : Fits p
+  pub size : size_of p ≤ 65_536
   pub code : map reading (section_of p).code ≡ map Some (code_of p)
+  pub words : All (FitsSigned w64) p.initial
 
 abbrev pub AreCompiled : List Program → Type 0
 AreCompiled [] = Unit {0}

@@ -1,11 +1,15 @@
--- What running an image promises.
+-- What running an image, and building and running a module, promise.
 use Rattle.std.specs.Prelude.{◌≡◌, ◌≢◌, ℕ, ◌^◌, ◌<◌, ◌≤◌, List, [], Option, Result, Ok, Err}
 use Rattle.std.specs.Io.KnownBytes.{Appends}
 use Rattle.apex_types.specs.Line.{text_of}
 use Rattle.apex_types.specs.Sink.{TakesBeginning}
-use Rattle.apex_meaning.specs.Image.{Image}
 use Rattle.apex_meaning.specs.ImageReading.{Fault}
-use Rattle.apex_meaning.specs.TwoMeanings.{machine_trace}
+use Rattle.apex_meaning.specs.Image.{Image, Table}
+use Rattle.apex_meaning.specs.Program.{Program}
+use Rattle.apex_meaning.specs.TwoMeanings.{source_trace, machine_trace}
+use Rattle.module.specs.Accepted.{IsModule}
+use Rattle.module.specs.declared.fault.BuildAndRunFault.{BuildAndRunFault}
+use Rattle.module.specs.declared.fault.BuildAndRunFault.TheVariants.{Build, Run}
 use Rattle.module.specs.declared.fault.RunFault.{RunFault}
 use Rattle.module.specs.declared.fault.RunFault.TheVariants.{Ticks, NotYet, Memory, Write}
 
@@ -34,3 +38,22 @@ abbrev pub IsRefused : Result Image Fault → RunFault → Type 0
 IsRefused (Err fault) NotYet = Unit {0}
 IsRefused read Memory = Unit {0}
 IsRefused _ _ = ⊥
+
+-- Table and sources are accepted as this table and these programs, to be run alone for so many ticks.
+pub record IsAcceptedRun (table : List ℕ) (sources : List (List ℕ)) (devices : List ℕ) (n : ℕ) (t : Table) (programs : List Program) : Type 0 where
+  pub accepted : IsModule table sources t programs
+  pub alone : devices ≡ []
+  pub few : n ≤ 2 ^ 40
+
+-- What building and running has written between two states of its sink: the text of the trace of n
+-- ticks that the accepted table and sources mean; a beginning of that text where the sink failed;
+-- nothing where it is refused.
+abbrev pub Means : List ℕ → List (List ℕ) → List ℕ → ℕ → Option (List ℕ) → Option (List ℕ) → Result (Unit {0}) BuildAndRunFault → Type 0
+Means table sources devices n old new (Ok _) = (t : Table) × (programs : List Program) × IsAcceptedRun table sources devices n t programs × Appends old new (text_of (source_trace t programs n))
+Means table sources devices n old new (Err (Run Write)) = (t : Table) × (programs : List Program) × IsAcceptedRun table sources devices n t programs × TakesBeginning old new (text_of (source_trace t programs n))
+Means table sources devices n old new (Err _) = new ≡ old
+
+-- the answer of a run as that of building and running
+abbrev pub ran : Result (Unit {0}) RunFault → Result (Unit {0}) BuildAndRunFault
+ran (Ok x) = Ok x
+ran (Err fault) = Err (Run fault)

@@ -41,16 +41,17 @@ returns c =
     let second = c.in_ok-handler.ensures.code ∙ ap (λ n. c.emit_body.new.code.items ++ code_of.handler_code n (option_map body_of c.args.program.now.handler)) n1 ∙ ap (λ l. l ++ code_of.handler_code (code_of.handler_place p) p.handler) first in
     let third = c.in_ok-processes.ensures.code ∙ ap (λ n. c.emit_handler.new.code.items ++ code_of.processes_code n (map process_of c.deref.result.now)) n2 ∙ ap (λ l. c.emit_handler.new.code.items ++ code_of.processes_code (code_of.processes_place p) l) ps ∙ ap (λ l. l ++ code_of.processes_code (code_of.processes_place p) p.processes) second in
     let fourth = c.in_ok-routines.ensures.code ∙ ap (λ n. c.emit_processes.new.code.items ++ code_of.procedures_code n (map procedure_of c.deref-2.result.now)) n3 ∙ ap (λ l. c.emit_processes.new.code.items ++ code_of.procedures_code (code_of.procedures_place p) l) rs ∙ ap (λ l. l ++ code_of.procedures_code (code_of.procedures_place p) p.procedures) third in
-    let initial = c.in_ok-copied.ensures ∙ c.deref-3.ensures.value in
-    let semaphores = c.in_ok-copied-2.ensures ∙ c.deref-4.ensures.value in
-    let buffers = c.in_ok-copied-3.ensures ∙ c.deref-5.ensures.value in
-    let blackboards = c.in_ok-copied-4.ensures ∙ c.deref-6.ensures.value in
+    let initial = c.in_ok-copied_words.ensures.items ∙ c.deref-3.ensures.value in
+    let semaphores = c.in_ok-copied.ensures ∙ c.deref-4.ensures.value in
+    let buffers = c.in_ok-copied-2.ensures ∙ c.deref-5.ensures.value in
+    let blackboards = c.in_ok-copied-3.ensures ∙ c.deref-6.ensures.value in
     let written = c.deref-7.ensures.value ∙ fourth in
     let code = c.in_ok-encoded.ensures.bytes ∙ ap (λ l. map bytes_of l) written in
     let reads = c.in_ok-encoded.ensures.reads_back ∙ ap (λ l. map Some l) written in
     record {
       section = λ i. record { initial = initial i; semaphores = semaphores i; events = c.args.program.now.events; buffers = buffers i; blackboards = blackboards i; routines = routines i; processes = processes i; init = init i; handler = handler i; code = code i };
       reads_back = reads;
+      words = c.in_ok-copied_words.ensures.words;
       size = ap length code ∙ length-map (code_of.code_of p) bytes_of ∙ code_size p;
       means = faithful p _ (λ i. record { initial = initial i; semaphores = semaphores i; events = c.args.program.now.events; buffers = buffers i; blackboards = blackboards i; routines = routines i; processes = processes i; init = init i; handler = handler i; code = code i }) reads;
     }
