@@ -7,4 +7,5 @@ pub mod WordView
 pub mod Rows
 pub mod Reads
 pub mod Answers
+pub mod Numbers
 pub mod Parts
