@@ -1,2 +1,6 @@
 pub mod Decimals
 pub mod Names
+pub mod Turns
+pub mod Views
+pub mod Cuts
+pub mod Refusals

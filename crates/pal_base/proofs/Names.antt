@@ -1,12 +1,12 @@
 -- Names stay what they are while others are put behind them.
-use Rattle.std.proofs.Common.{◌≡◌, ℕ, zero, suc, ◌+◌, ◌-◌, ◌<◌, ◌≤◌, Bool, true, false, ◌||◌, ◌&&◌, List, [], ◌∷◌, ◌++◌, length, map, take, Option, Some, None, option_map, refl, sym, ◌∙◌, ap, arith, cond, rules, append_assoc, get_or, append-nil, subst, lit<, length-append, inl, inr, ◌⊎◌}
-use Rattle.std.specs.Prelude.{slice_get, slice_index, nat_eq}
+use Rattle.std.proofs.Common.{◌≡◌, ℕ, zero, suc, ◌+◌, ◌<◌, ◌≤◌, Bool, true, false, ◌||◌, ◌&&◌, List, [], ◌∷◌, ◌++◌, length, map, take, Some, option_map, refl, sym, ◌∙◌, ap, arith, cond, append_assoc, append-nil, subst, lit<, length-append, inl, inr, ◌⊎◌}
+use Rattle.std.specs.Prelude.{slice_get, nat_eq}
 use Rattle.std.specs.List.{prefix_len, list_any}
 use Rattle.std.specs.Str.{IsAscii}
 use Rattle.std.specs.String.{string_bytes, string_eq}
 use Rattle.std.specs.declared.string.String.{String}
 use Rattle.std.specs.declared.alloc.Global.{Global}
-use Rattle.std.specs.Cmp.Lexicographic.{same_text, pointwise}
+use Rattle.std.specs.Cmp.Lexicographic.{same_text}
 use Rattle.std.proofs.lemmas.Bool.{leb-true, eqb-true}
 use Rattle.std.proofs.lemmas.Option.{slice_get-map}
 use Rattle.std.proofs.lemmas.List.{map-append}
@@ -16,7 +16,7 @@ use Rattle.apex_meaning.specs.GrammarWords.{front, in_name, is_lower, is_digit}
 use Rattle.pal_base.specs.declared.word.Token.{Token}
 use Rattle.pal_base.specs.declared.word.Word.{Word}
 use Rattle.pal_base.specs.declared.word.Word.TheVariants as word
-use Rattle.pal_base.specs.View.{texts, text_or_none, id_text}
+use Rattle.pal_base.specs.View.{texts, text_or_none}
 use Rattle.pal_base.specs.WordView.{word_of, token_of, Extends, IsKnown}
 
 get_front : (xs ys : List (List ℕ)) (i : ℕ) → i < length xs → slice_get (xs ++ ys) i ≡ slice_get xs i

@@ -5,3 +5,7 @@ pub mod Seen
 pub mod Runs
 pub mod WordView
 pub mod Rows
+pub mod Reads
+pub mod Answers
+pub mod Numbers
+pub mod Parts

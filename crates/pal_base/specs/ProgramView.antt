@@ -1,5 +1,5 @@
 -- What the definitions see of a program with its names resolved, as the code holds it.
-use Rattle.std.specs.Prelude.{ℕ, ℤ, List, [], ◌∷◌, Option, map}
+use Rattle.std.specs.Prelude.{List, [], ◌∷◌, map}
 use Rattle.std.specs.Option.{option_map}
 use Rattle.pal_base.specs.declared.program.Expr as code_expr
 use Rattle.pal_base.specs.declared.program.Link as code_link

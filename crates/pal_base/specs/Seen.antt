@@ -1,5 +1,7 @@
 -- What the definitions see of the words and readers of the code.
 use Rattle.std.specs.Prelude.{◌≡◌, ℕ, List, map, Option, Some, None, Result, Ok, Err}
+use Rattle.pal_base.specs.declared.fault.Refusal.{Refusal}
+use Rattle.pal_base.specs.declared.fault.Refusal.TheVariants as refusal
 use Rattle.pal_base.specs.declared.source.Rank.{Rank}
 use Rattle.pal_base.specs.declared.source.Rank.TheVariants as rank
 use Rattle.pal_base.specs.declared.source.ReadError.{ReadError}
@@ -33,11 +35,20 @@ names_of s = texts s.names.keys
 abbrev pub seen : Source → List Token → List grammar.Word
 seen s ts = map (token_of (names_of s)) ts
 
+-- A refusal is given where there is no reading; want of memory may always be answered.
+abbrev pub Refuses : {Y : Type 0} → ReadError → Option Y → Type 0
+Refuses Memory read = Unit {0}
+Refuses (Refused line) read = read ≡ None
+
+-- the refusal of a whole text
+abbrev pub refusal_of : ReadError → Refusal
+refusal_of Memory = refusal.Memory
+refusal_of (Refused line) = refusal.Grammar
+
 -- What the code found is what reading finds, unless memory ran out.
 abbrev pub Gives : {X Y : Type 0} → (X → Y) → Result X ReadError → Option Y → Type 0
 Gives view (Ok x) read = read ≡ Some (view x)
-Gives view (Err Memory) read = Unit {0}
-Gives view (Err (Refused line)) read = read ≡ None
+Gives view (Err error) read = Refuses error read
 
 abbrev pub Finds : {X Y : Type 0} → (X → Y) → Option X → Option Y → Type 0
 Finds view (Some x) read = read ≡ Some (view x)

@@ -1,6 +1,10 @@
 //! Reading of declarations.
 
-ghost use Rattle.std.specs.Prelude.{◌≡◌, ◌≢◌, ◌<◌, ◌≤◌, length, map, option_map, IfOk, IfSome};
+ghost use Rattle.std.specs.Prelude.{◌≡◌, ◌<◌, ◌≤◌, length, map, option_map, codes, IfOk};
+ghost use Rattle.apex_meaning.specs.GrammarReading as reading;
+ghost use Rattle.pal_base.specs.Reads.{and_more, up_to, integers_read};
+ghost use Rattle.pal_base.specs.Seen.{seen, names_of, Gives};
+ghost use Rattle.pal_base.specs.View.{name_of, integer_of, declaration_of};
 
 use crate::mark::Mark;
 use crate::source::{Read, Source};
@@ -12,10 +16,11 @@ impl Source {
     /// The declarations up to the word `init`.
     pub fn declarations<'a>(&self, alloc: Global, tokens: &'a [Token]) -> Read<'a, Vec<Declaration>>
         ensures shorter { IfOk result (λ x. length x.1.now ≤ length tokens.now) }
+        ensures exact { Gives (λ x. (map (declaration_of (names_of self.now)) x.0.items, seen self.now x.1.now)) result (reading.declarations_at (seen self.now tokens.now)) }
     {
         let mut declarations = Vec::new(alloc);
         let mut rest = tokens;
-        while self.behind(rest, Mark::Init).is_none() {
+        while !self.stands(rest, Mark::Init) {
             match self.declaration(alloc, rest) {
                 Ok((declaration, after)) => {
                     declarations.push(declaration)?;
@@ -27,9 +32,11 @@ impl Source {
         Ok((declarations, rest))
     }
 
+    #[tactic(auto, unfolding(apex_meaning::specs::GrammarReading::declaration_at))]
     /// A declaration.
     fn declaration<'a>(&self, alloc: Global, tokens: &'a [Token]) -> Read<'a, Declaration>
         ensures shorter { IfOk result (λ x. length x.1.now < length tokens.now) }
+        ensures exact { Gives (λ x. (declaration_of (names_of self.now) x.0, seen self.now x.1.now)) result (reading.declaration_at (seen self.now tokens.now)) }
     {
         let line = self.line_of(tokens);
         if let Some(rest) = self.behind(tokens, Mark::Var) {
@@ -57,9 +64,11 @@ impl Source {
         self.procedure(alloc, line, rest)
     }
 
+    #[tactic(auto, unfolding(apex_meaning::specs::GrammarReading::variable_at))]
     /// What follows the word `var` of that line.
     fn variable<'a>(&self, line: u32, tokens: &'a [Token]) -> Read<'a, Declaration>
         ensures shorter { IfOk result (λ x. length x.1.now < length tokens.now) }
+        ensures exact { Gives (λ x. (declaration_of (names_of self.now) x.0, seen self.now x.1.now)) result (reading.variable_at (seen self.now tokens.now)) }
     {
         let (name, rest) = self.name(tokens)?;
         let (value, rest) = self.first_value(rest)?;
@@ -68,9 +77,11 @@ impl Source {
         Ok((Declaration { line, name, kind }, rest))
     }
 
+    #[tactic(auto, unfolding(apex_meaning::specs::GrammarReading::first_value_at))]
     /// An equals sign and a number, or nothing.
     fn first_value<'a>(&self, tokens: &'a [Token]) -> Read<'a, Option<Numeral>>
         ensures shorter { IfOk result (λ x. length x.1.now ≤ length tokens.now) }
+        ensures exact { Gives (λ x. (option_map integer_of x.0, seen self.now x.1.now)) result (reading.first_value_at (seen self.now tokens.now)) }
     {
         match self.behind(tokens, Mark::Equal) {
             Some(rest) => {
@@ -81,9 +92,11 @@ impl Source {
         }
     }
 
+    #[tactic(auto, unfolding(apex_meaning::specs::GrammarReading::array_at))]
     /// What follows the word `array` of that line.
     fn array<'a>(&self, alloc: Global, line: u32, tokens: &'a [Token]) -> Read<'a, Declaration>
         ensures shorter { IfOk result (λ x. length x.1.now < length tokens.now) }
+        ensures exact { Gives (λ x. (declaration_of (names_of self.now) x.0, seen self.now x.1.now)) result (reading.array_at (seen self.now tokens.now)) }
     {
         let (name, rest) = self.name(tokens)?;
         let rest = self.expect(rest, Mark::BracketOpens)?;
@@ -94,9 +107,11 @@ impl Source {
         Ok((Declaration { line, name, kind }, rest))
     }
 
+    #[tactic(auto, unfolding(apex_meaning::specs::GrammarReading::first_values_at))]
     /// An equals sign and one or more numbers, or nothing, and a semicolon.
     fn first_values<'a>(&self, alloc: Global, tokens: &'a [Token]) -> Read<'a, Vec<Numeral>>
         ensures shorter { IfOk result (λ x. length x.1.now < length tokens.now) }
+        ensures exact { Gives (λ x. (map integer_of x.0.items, seen self.now x.1.now)) result (reading.first_values_at (seen self.now tokens.now)) }
     {
         match self.behind(tokens, Mark::Equal) {
             Some(rest) => self.integers(alloc, rest),
@@ -107,14 +122,32 @@ impl Source {
         }
     }
 
+    #[tactic(auto, unfolding(crate::specs::Reads::integers_read))]
     /// One or more numbers, and a semicolon.
     fn integers<'a>(&self, alloc: Global, tokens: &'a [Token]) -> Read<'a, Vec<Numeral>>
         ensures shorter { IfOk result (λ x. length x.1.now < length tokens.now) }
+        ensures exact { Gives (λ x. (map integer_of x.0.items, seen self.now x.1.now)) result (integers_read (seen self.now tokens.now)) }
+    {
+        let (first, rest) = self.integer(tokens)?;
+        let (values, rest) = self.more_integers(alloc, first, rest)?;
+        let rest = self.expect(rest, Mark::Semicolon)?;
+        Ok((values, rest))
+    }
+
+    /// This number and all that follow up to a semicolon.
+    fn more_integers<'a>(
+        &self,
+        alloc: Global,
+        first: Numeral,
+        tokens: &'a [Token],
+    ) -> Read<'a, Vec<Numeral>>
+        ensures shorter { IfOk result (λ x. length x.1.now ≤ length tokens.now) }
+        ensures exact { Gives (λ x. (map integer_of x.0.items, seen self.now x.1.now)) result (and_more (integer_of first) (up_to (codes ";") reading.integer_at (seen self.now tokens.now))) }
     {
         let mut values = Vec::new(alloc);
-        let (first, mut rest) = self.integer(tokens)?;
         values.push(first)?;
-        while self.behind(rest, Mark::Semicolon).is_none() {
+        let mut rest = tokens;
+        while !self.stands(rest, Mark::Semicolon) {
             match self.integer(rest) {
                 Ok((value, after)) => {
                     values.push(value)?;
@@ -123,13 +156,14 @@ impl Source {
                 Err(error) => return Err(error),
             }
         }
-        let rest = self.expect(rest, Mark::Semicolon)?;
         Ok((values, rest))
     }
 
+    #[tactic(auto, unfolding(apex_meaning::specs::GrammarReading::semaphore_at))]
     /// What follows the word `semaphore` of that line.
     fn semaphore<'a>(&self, line: u32, tokens: &'a [Token]) -> Read<'a, Declaration>
         ensures shorter { IfOk result (λ x. length x.1.now < length tokens.now) }
+        ensures exact { Gives (λ x. (declaration_of (names_of self.now) x.0, seen self.now x.1.now)) result (reading.semaphore_at (seen self.now tokens.now)) }
     {
         let (name, rest) = self.name(tokens)?;
         let (first, rest) = self.number(rest)?;
@@ -144,9 +178,11 @@ impl Source {
         Ok((Declaration { line, name, kind }, rest))
     }
 
+    #[tactic(auto, unfolding(apex_meaning::specs::GrammarReading::event_at))]
     /// What follows the word `event` of that line.
     fn event<'a>(&self, line: u32, tokens: &'a [Token]) -> Read<'a, Declaration>
         ensures shorter { IfOk result (λ x. length x.1.now < length tokens.now) }
+        ensures exact { Gives (λ x. (declaration_of (names_of self.now) x.0, seen self.now x.1.now)) result (reading.event_at (seen self.now tokens.now)) }
     {
         let (name, rest) = self.name(tokens)?;
         let rest = self.expect(rest, Mark::Semicolon)?;
@@ -154,9 +190,11 @@ impl Source {
         Ok((Declaration { line, name, kind }, rest))
     }
 
+    #[tactic(auto, unfolding(apex_meaning::specs::GrammarReading::buffer_at))]
     /// What follows the word `buffer` of that line.
     fn buffer<'a>(&self, line: u32, tokens: &'a [Token]) -> Read<'a, Declaration>
         ensures shorter { IfOk result (λ x. length x.1.now < length tokens.now) }
+        ensures exact { Gives (λ x. (declaration_of (names_of self.now) x.0, seen self.now x.1.now)) result (reading.buffer_at (seen self.now tokens.now)) }
     {
         let (name, rest) = self.name(tokens)?;
         let (words, rest) = self.number(rest)?;
@@ -171,9 +209,11 @@ impl Source {
         Ok((Declaration { line, name, kind }, rest))
     }
 
+    #[tactic(auto, unfolding(apex_meaning::specs::GrammarReading::blackboard_at))]
     /// What follows the word `blackboard` of that line.
     fn blackboard<'a>(&self, line: u32, tokens: &'a [Token]) -> Read<'a, Declaration>
         ensures shorter { IfOk result (λ x. length x.1.now < length tokens.now) }
+        ensures exact { Gives (λ x. (declaration_of (names_of self.now) x.0, seen self.now x.1.now)) result (reading.blackboard_at (seen self.now tokens.now)) }
     {
         let (name, rest) = self.name(tokens)?;
         let (words, rest) = self.number(rest)?;
@@ -182,9 +222,11 @@ impl Source {
         Ok((Declaration { line, name, kind }, rest))
     }
 
+    #[tactic(auto, unfolding(apex_meaning::specs::GrammarReading::port_at))]
     /// What follows the word `port` of that line.
     fn port<'a>(&self, line: u32, tokens: &'a [Token]) -> Read<'a, Declaration>
         ensures shorter { IfOk result (λ x. length x.1.now < length tokens.now) }
+        ensures exact { Gives (λ x. (declaration_of (names_of self.now) x.0, seen self.now x.1.now)) result (reading.port_at (seen self.now tokens.now)) }
     {
         let (name, rest) = self.name(tokens)?;
         let rest = self.expect(rest, Mark::Semicolon)?;
@@ -192,9 +234,11 @@ impl Source {
         Ok((Declaration { line, name, kind }, rest))
     }
 
+    #[tactic(auto, unfolding(apex_meaning::specs::GrammarReading::procedure_at))]
     /// What follows the word `proc` of that line.
     fn procedure<'a>(&self, alloc: Global, line: u32, tokens: &'a [Token]) -> Read<'a, Declaration>
         ensures shorter { IfOk result (λ x. length x.1.now < length tokens.now) }
+        ensures exact { Gives (λ x. (declaration_of (names_of self.now) x.0, seen self.now x.1.now)) result (reading.procedure_at (seen self.now tokens.now)) }
     {
         let (name, rest) = self.name(tokens)?;
         let rest = self.expect(rest, Mark::ParenthesisOpens)?;
@@ -204,9 +248,11 @@ impl Source {
         Ok((Declaration { line, name, kind }, rest))
     }
 
+    #[tactic(auto, unfolding(apex_meaning::specs::GrammarReading::parameters_at))]
     /// The parameters up to the closing parenthesis, and that parenthesis.
     fn parameters<'a>(&self, alloc: Global, tokens: &'a [Token]) -> Read<'a, Vec<Identifier>>
         ensures shorter { IfOk result (λ x. length x.1.now < length tokens.now) }
+        ensures exact { Gives (λ x. (map (name_of (names_of self.now)) x.0.items, seen self.now x.1.now)) result (reading.parameters_at (seen self.now tokens.now)) }
     {
         if let Some(rest) = self.behind(tokens, Mark::ParenthesisCloses) {
             return Ok((Vec::new(alloc), rest));

@@ -1,6 +1,11 @@
 //! Reading of expressions. `levels` is how many levels may still be opened.
 
-ghost use Rattle.std.specs.Prelude.{◌≡◌, ◌≢◌, ◌<◌, ◌≤◌, length, map, option_map, IfOk, IfSome};
+ghost use Rattle.std.specs.Prelude.{◌<◌, ◌≤◌, length, map, codes, IfOk};
+ghost use Rattle.apex_meaning.specs.GrammarReading as reading;
+ghost use Rattle.pal_base.specs.Reads.{and_more, listed, arguments_read};
+ghost use Rattle.pal_base.specs.Rows.{pair_of};
+ghost use Rattle.pal_base.specs.Seen.{seen, names_of, rank_of, Gives};
+ghost use Rattle.pal_base.specs.View.{name_of, expr_of, exprs_of, links_of};
 
 use crate::mark::Mark;
 use crate::source::{Rank, Read, Source};
@@ -10,14 +15,17 @@ use apex_types::UnaryOperator;
 use std::alloc::Global;
 
 impl Source {
+    #[tactic(auto, unfolding(apex_meaning::specs::GrammarReading::expr_at))]
     /// The expression at the front.
     pub fn expression<'a>(&self, alloc: Global, levels: u32, tokens: &'a [Token]) -> Read<'a, Expr>
         ensures shorter { IfOk result (λ x. length x.1.now < length tokens.now) }
+        ensures exact { Gives (λ x. (expr_of (names_of self.now) x.0, seen self.now x.1.now)) result (reading.expr_at levels (seen self.now tokens.now)) }
     {
         self.chain(alloc, Rank::Disjunction, levels, tokens)
     }
 
     /// The operands of this rank at the front, with the operators between them.
+    #[tactic(auto, unfolding(apex_meaning::specs::GrammarReading::ranked, apex_meaning::specs::GrammarReading::chain_with))]
     #[cycle(expression)]
     fn chain<'a>(
         &self,
@@ -27,12 +35,10 @@ impl Source {
         tokens: &'a [Token],
     ) -> Read<'a, Expr>
         ensures shorter { IfOk result (λ x. length x.1.now < length tokens.now) }
+        ensures exact { Gives (λ x. (expr_of (names_of self.now) x.0, seen self.now x.1.now)) result (reading.ranked (reading.unary_at levels) (rank_of rank) (seen self.now tokens.now)) }
     {
         let (first, rest) = self.operand(alloc, rank, levels, tokens)?;
-        let (links, rest) = match rank {
-            Rank::Comparison => self.one_link(alloc, rank, levels, rest)?,
-            _ => self.links(alloc, rank, levels, rest)?,
-        };
+        let (links, rest) = self.links(alloc, rank, levels, rest)?;
         if links.is_empty() {
             return Ok((first, rest));
         }
@@ -40,6 +46,7 @@ impl Source {
     }
 
     /// An operand of the operators of this rank.
+    #[tactic(auto, unfolding(apex_meaning::specs::GrammarReading::ranked, apex_meaning::specs::GrammarReading::operand_with, apex_meaning::specs::GrammarReading::conjunctions_with, apex_meaning::specs::GrammarReading::comparisons_with, apex_meaning::specs::GrammarReading::sums_with, apex_meaning::specs::GrammarReading::products_with))]
     #[cycle(expression)]
     fn operand<'a>(
         &self,
@@ -49,6 +56,7 @@ impl Source {
         tokens: &'a [Token],
     ) -> Read<'a, Expr>
         ensures shorter { IfOk result (λ x. length x.1.now < length tokens.now) }
+        ensures exact { Gives (λ x. (expr_of (names_of self.now) x.0, seen self.now x.1.now)) result (reading.operand_with (reading.unary_at levels) (rank_of rank) (seen self.now tokens.now)) }
     {
         match rank {
             Rank::Disjunction => self.chain(alloc, Rank::Conjunction, levels, tokens),
@@ -59,29 +67,7 @@ impl Source {
         }
     }
 
-    /// One operator of this rank with its right operand, or none.
-    #[cycle(expression)]
-    fn one_link<'a>(
-        &self,
-        alloc: Global,
-        rank: Rank,
-        levels: u32,
-        tokens: &'a [Token],
-    ) -> Read<'a, Vec<Link>>
-        ensures shorter { IfOk result (λ x. length x.1.now ≤ length tokens.now) }
-    {
-        let mut links = Vec::new(alloc);
-        match self.operator_at(tokens, rank) {
-            None => Ok((links, tokens)),
-            Some((operator, rest)) => {
-                let (operand, rest) = self.operand(alloc, rank, levels, rest)?;
-                links.push(Link { operator, operand })?;
-                Ok((links, rest))
-            }
-        }
-    }
-
-    /// All operators of this rank with their right operands.
+    /// The operators of this rank with their right operands; of comparisons one at most.
     #[cycle(expression)]
     fn links<'a>(
         &self,
@@ -91,6 +77,43 @@ impl Source {
         tokens: &'a [Token],
     ) -> Read<'a, Vec<Link>>
         ensures shorter { IfOk result (λ x. length x.1.now ≤ length tokens.now) }
+        ensures exact { Gives (λ x. (links_of (names_of self.now) x.0.items, seen self.now x.1.now)) result (reading.links_at (reading.operand_with (reading.unary_at levels) (rank_of rank)) (rank_of rank) (seen self.now tokens.now)) }
+    {
+        match rank {
+            Rank::Comparison => self.one_link(alloc, levels, tokens),
+            _ => self.all_links(alloc, rank, levels, tokens),
+        }
+    }
+
+    /// One comparison with its right operand, or none.
+    #[tactic(auto, unfolding(apex_meaning::specs::GrammarReading::links_at, apex_meaning::specs::GrammarReading::link_at))]
+    #[cycle(expression)]
+    fn one_link<'a>(&self, alloc: Global, levels: u32, tokens: &'a [Token]) -> Read<'a, Vec<Link>>
+        ensures shorter { IfOk result (λ x. length x.1.now ≤ length tokens.now) }
+        ensures exact { Gives (λ x. (links_of (names_of self.now) x.0.items, seen self.now x.1.now)) result (reading.links_at (reading.operand_with (reading.unary_at levels) reading.Comparison) reading.Comparison (seen self.now tokens.now)) }
+    {
+        let mut links = Vec::new(alloc);
+        match self.operator_at(tokens, Rank::Comparison) {
+            None => Ok((links, tokens)),
+            Some((operator, rest)) => {
+                let (operand, rest) = self.operand(alloc, Rank::Comparison, levels, rest)?;
+                links.push(Link { operator, operand })?;
+                Ok((links, rest))
+            }
+        }
+    }
+
+    /// All operators of this rank with their right operands.
+    #[cycle(expression)]
+    fn all_links<'a>(
+        &self,
+        alloc: Global,
+        rank: Rank,
+        levels: u32,
+        tokens: &'a [Token],
+    ) -> Read<'a, Vec<Link>>
+        ensures shorter { IfOk result (λ x. length x.1.now ≤ length tokens.now) }
+        ensures exact { Gives (λ x. (map (pair_of (names_of self.now)) x.0.items, seen self.now x.1.now)) result (reading.repeat (reading.link_at (reading.operand_with (reading.unary_at levels) (rank_of rank)) (rank_of rank)) (seen self.now tokens.now)) }
     {
         let mut links = Vec::new(alloc);
         let mut rest = tokens;
@@ -107,9 +130,11 @@ impl Source {
     }
 
     /// An operand that is no chain.
+    #[tactic(auto, unfolding(apex_meaning::specs::GrammarReading::unary_read, apex_meaning::specs::GrammarReading::unary_with, apex_meaning::specs::GrammarReading::operated_at))]
     #[cycle(expression)]
     fn unary<'a>(&self, alloc: Global, levels: u32, tokens: &'a [Token]) -> Read<'a, Expr>
         ensures shorter { IfOk result (λ x. length x.1.now < length tokens.now) }
+        ensures exact { Gives (λ x. (expr_of (names_of self.now) x.0, seen self.now x.1.now)) result (reading.unary_read levels (seen self.now tokens.now)) }
     {
         if let Some(rest) = self.behind(tokens, Mark::Minus) {
             return self.operated(alloc, UnaryOperator::Negate, levels, tokens, rest);
@@ -130,6 +155,7 @@ impl Source {
     }
 
     /// The operand of a unary operator, one level further in.
+    #[tactic(auto, unfolding(apex_meaning::specs::GrammarReading::operated_at, apex_meaning::specs::GrammarReading::deeper_at))]
     #[cycle(expression)]
     fn operated<'a>(
         &self,
@@ -140,6 +166,7 @@ impl Source {
         tokens: &'a [Token],
     ) -> Read<'a, Expr>
         ensures shorter { IfOk result (λ x. length x.1.now < length tokens.now) }
+        ensures exact { Gives (λ x. (expr_of (names_of self.now) x.0, seen self.now x.1.now)) result (reading.operated_at operator levels (seen self.now tokens.now)) }
     {
         if levels == 0 {
             return Err(self.refused(opening));
@@ -149,6 +176,7 @@ impl Source {
     }
 
     /// An expression one level further in, behind the word that opens the level.
+    #[tactic(auto, unfolding(apex_meaning::specs::GrammarReading::nested_at, apex_meaning::specs::GrammarReading::expr_at))]
     #[cycle(expression)]
     pub fn nested<'a>(
         &self,
@@ -158,6 +186,7 @@ impl Source {
         tokens: &'a [Token],
     ) -> Read<'a, Expr>
         ensures shorter { IfOk result (λ x. length x.1.now < length tokens.now) }
+        ensures exact { Gives (λ x. (expr_of (names_of self.now) x.0, seen self.now x.1.now)) result (reading.nested_at levels (seen self.now tokens.now)) }
     {
         if levels == 0 {
             return Err(self.refused(opening));
@@ -166,6 +195,7 @@ impl Source {
     }
 
     /// What begins with this name: an element, a call or the name alone.
+    #[tactic(auto, unfolding(apex_meaning::specs::GrammarReading::named_with))]
     #[cycle(expression)]
     fn named<'a>(
         &self,
@@ -175,6 +205,7 @@ impl Source {
         tokens: &'a [Token],
     ) -> Read<'a, Expr>
         ensures shorter { IfOk result (λ x. length x.1.now ≤ length tokens.now) }
+        ensures exact { Gives (λ x. (expr_of (names_of self.now) x.0, seen self.now x.1.now)) result (reading.named_with (reading.nested_at levels) (reading.arguments_at levels) (name_of (names_of self.now) name) (seen self.now tokens.now)) }
     {
         if let Some(rest) = self.behind(tokens, Mark::BracketOpens) {
             let (index, rest) = self.nested(alloc, levels, tokens, rest)?;
@@ -189,6 +220,7 @@ impl Source {
     }
 
     /// The arguments behind the parenthesis that opens their list, up to the one that closes it.
+    #[tactic(auto, unfolding(crate::specs::Reads::arguments_read, crate::specs::Reads::arguments_within, apex_meaning::specs::GrammarReading::expr_at))]
     #[cycle(expression)]
     pub fn arguments<'a>(
         &self,
@@ -198,18 +230,38 @@ impl Source {
         tokens: &'a [Token],
     ) -> Read<'a, Vec<Expr>>
         ensures shorter { IfOk result (λ x. length x.1.now < length tokens.now) }
+        ensures exact { Gives (λ x. (exprs_of (names_of self.now) x.0.items, seen self.now x.1.now)) result (arguments_read levels (seen self.now tokens.now)) }
     {
-        let mut arguments = Vec::new(alloc);
         if levels == 0 {
             return Err(self.refused(opening));
         }
         if let Some(rest) = self.behind(tokens, Mark::ParenthesisCloses) {
-            return Ok((arguments, rest));
+            return Ok((Vec::new(alloc), rest));
         }
-        let (first, mut rest) = self.chain(alloc, Rank::Disjunction, levels - 1, tokens)?;
+        let (first, rest) = self.chain(alloc, Rank::Disjunction, levels - 1, tokens)?;
+        let (arguments, rest) = self.more_arguments(alloc, levels - 1, first, rest)?;
+        let rest = self.expect(rest, Mark::ParenthesisCloses)?;
+        Ok((arguments, rest))
+    }
+
+    /// This argument and all that follow with commas before them.
+    #[tactic(auto, unfolding(apex_meaning::specs::GrammarReading::expr_at))]
+    #[cycle(expression)]
+    fn more_arguments<'a>(
+        &self,
+        alloc: Global,
+        levels: u32,
+        first: Expr,
+        tokens: &'a [Token],
+    ) -> Read<'a, Vec<Expr>>
+        ensures shorter { IfOk result (λ x. length x.1.now ≤ length tokens.now) }
+        ensures exact { Gives (λ x. (map (expr_of (names_of self.now)) x.0.items, seen self.now x.1.now)) result (and_more (expr_of (names_of self.now) first) (listed (codes ",") (reading.expr_at levels) (seen self.now tokens.now))) }
+    {
+        let mut arguments = Vec::new(alloc);
         arguments.push(first)?;
+        let mut rest = tokens;
         while let Some(behind) = self.behind(rest, Mark::Comma) {
-            match self.chain(alloc, Rank::Disjunction, levels - 1, behind) {
+            match self.chain(alloc, Rank::Disjunction, levels, behind) {
                 Ok((argument, after)) => {
                     arguments.push(argument)?;
                     rest = after;
@@ -217,7 +269,6 @@ impl Source {
                 Err(error) => return Err(error),
             }
         }
-        let rest = self.expect(rest, Mark::ParenthesisCloses)?;
         Ok((arguments, rest))
     }
 }

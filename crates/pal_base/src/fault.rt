@@ -2,6 +2,7 @@
 
 ghost use Rattle.std.specs.Prelude.{◌≡◌, ◌≤◌};
 ghost use Rattle.pal_base.specs.declared.fault.Refusal.TheVariants.{Memory};
+ghost use Rattle.pal_base.specs.Numbers.{refusal_number};
 
 use std::alloc::{AllocError, AllocFailed};
 use thiserror::Error;
@@ -30,6 +31,7 @@ impl Refusal {
     pub fn number(self) -> u8
         ensures low { 1 ≤ result }
         ensures high { result ≤ 7 }
+        ensures number { result ≡ refusal_number self }
     {
         self as u8
     }
@@ -52,7 +54,9 @@ impl PalFault {
     };
 
     /// The number of the refusal, from 1 to 7.
-    pub fn number(&self) -> u8 {
+    pub fn number(&self) -> u8
+        ensures { result ≡ refusal_number self.now.refusal }
+    {
         self.refusal.number()
     }
 }

@@ -1,6 +1,13 @@
 //! The tree of a source text.
 
-ghost use Rattle.std.specs.Prelude.{◌≡◌, ◌≢◌, ◌<◌, ◌≤◌, length, map, option_map, IfOk, IfSome};
+ghost use Rattle.std.specs.Prelude.{◌≡◌, ◌<◌, ◌≤◌, length, map, option_map, Some, IfOk, IfErr, MatchOption};
+ghost use Rattle.std.specs.Str.{IsAscii};
+ghost use Rattle.apex_meaning.specs.GrammarReading as reading;
+ghost use Rattle.pal_base.specs.Answers.{IsText, IsRefused, read_program};
+ghost use Rattle.pal_base.specs.Marks.{mark_text};
+ghost use Rattle.pal_base.specs.Parts.{parts_of};
+ghost use Rattle.pal_base.specs.Seen.{seen, names_of, Gives};
+ghost use Rattle.pal_base.specs.View.{stack_body_of, process_of, program_of};
 
 use crate::fault::{PalFault, Refusal};
 use crate::mark::Mark;
@@ -17,7 +24,10 @@ const GREATEST_LENGTH: usize = 1_048_576;
 /// # Errors
 ///
 /// 1 where the text is not ASCII or too long, 2 where it is not in the grammar, or 7.
-pub fn parse(alloc: Global, text: &[u8]) -> Result<Program, PalFault> {
+pub fn parse(alloc: Global, text: &[u8]) -> Result<Program, PalFault>
+    ensures tree { IfOk result (λ program. IsText text.now × (read_program text.now ≡ Some (program_of program))) }
+    ensures refusal { IfErr result (λ fault. IsRefused fault.refusal text.now) }
+{
     if let Some(line) = fault_of_text(text) {
         let refusal = Refusal::Text;
         return Err(PalFault { refusal, line });
@@ -40,21 +50,44 @@ pub fn parse(alloc: Global, text: &[u8]) -> Result<Program, PalFault> {
 }
 
 /// The line of the first byte that is no ASCII, else that of the first byte too many.
-fn fault_of_text(text: &[u8]) -> Option<u32> {
+fn fault_of_text(text: &[u8]) -> Option<u32>
+    ensures { MatchOption result (IsText text.now) (λ line. IsText text.now → ⊥) }
+{
+    if let Some(line) = line_beyond_ascii(text) {
+        return Some(line);
+    }
+    if text.len() <= GREATEST_LENGTH {
+        return None;
+    }
+    let (front, _) = text.split_at(GREATEST_LENGTH);
+    Some(line_behind(front))
+}
+
+/// The line of the first byte that is no ASCII.
+fn line_beyond_ascii(text: &[u8]) -> Option<u32>
+    ensures { MatchOption result (IsAscii text.now) (λ line. IsAscii text.now → ⊥) }
+{
     let mut line = 1u32;
-    let mut line_of_excess = None;
-    for (place, byte) in text.iter().enumerate() {
+    for byte in text {
         if 128 <= *byte {
             return Some(line);
-        }
-        if place == GREATEST_LENGTH {
-            line_of_excess = Some(line);
         }
         if *byte == b'\n' {
             line = line.saturating_add(1);
         }
     }
-    line_of_excess
+    None
+}
+
+/// The line in which what follows this text stands.
+fn line_behind(text: &[u8]) -> u32 {
+    let mut line = 1u32;
+    for byte in text {
+        if *byte == b'\n' {
+            line = line.saturating_add(1);
+        }
+    }
+    line
 }
 
 /// The parts of a program that stand in its words.
@@ -67,8 +100,11 @@ struct Parts {
 }
 
 impl Source {
+    #[tactic(auto, unfolding(apex_meaning::specs::GrammarReading::program_at))]
     /// The program that all these words are.
-    fn program(&self, alloc: Global, tokens: &[Token]) -> Result<Parts, ReadError> {
+    fn program(&self, alloc: Global, tokens: &[Token]) -> Result<Parts, ReadError>
+        ensures exact { Gives (parts_of (names_of self.now)) result (reading.program_at (seen self.now tokens.now)) }
+    {
         let (declarations, rest) = self.declarations(alloc, tokens)?;
         let (init, rest) = self.stack_body(alloc, Mark::Init, rest)?;
         let (handler, rest) = self.handler(alloc, rest)?;
@@ -84,9 +120,11 @@ impl Source {
         })
     }
 
+    #[tactic(auto, unfolding(apex_meaning::specs::GrammarReading::stack_body_at))]
     /// The body of INIT or of the handler, behind its word.
     fn stack_body<'a>(&self, alloc: Global, mark: Mark, tokens: &'a [Token]) -> Read<'a, StackBody>
         ensures shorter { IfOk result (λ x. length x.1.now < length tokens.now) }
+        ensures exact { Gives (λ x. (stack_body_of (names_of self.now) x.0, seen self.now x.1.now)) result (reading.stack_body_at (mark_text mark) (seen self.now tokens.now)) }
     {
         let line = self.line_of(tokens);
         let rest = self.expect(tokens, mark)?;
@@ -96,9 +134,11 @@ impl Source {
         Ok((StackBody { line, stack, body }, rest))
     }
 
+    #[tactic(auto, unfolding(apex_meaning::specs::GrammarReading::handler_at))]
     /// The handler, if it is there.
     fn handler<'a>(&self, alloc: Global, tokens: &'a [Token]) -> Read<'a, Option<StackBody>>
         ensures shorter { IfOk result (λ x. length x.1.now ≤ length tokens.now) }
+        ensures exact { Gives (λ x. (option_map (stack_body_of (names_of self.now)) x.0, seen self.now x.1.now)) result (reading.handler_at (seen self.now tokens.now)) }
     {
         if self.behind(tokens, Mark::Handler).is_none() {
             return Ok((None, tokens));
@@ -110,6 +150,7 @@ impl Source {
     /// The processes.
     fn processes<'a>(&self, alloc: Global, tokens: &'a [Token]) -> Read<'a, Vec<Process>>
         ensures shorter { IfOk result (λ x. length x.1.now ≤ length tokens.now) }
+        ensures exact { Gives (λ x. (map (process_of (names_of self.now)) x.0.items, seen self.now x.1.now)) result (reading.processes_at (seen self.now tokens.now)) }
     {
         let mut processes = Vec::new(alloc);
         let mut rest = tokens;
@@ -125,9 +166,11 @@ impl Source {
         Ok((processes, rest))
     }
 
+    #[tactic(auto, unfolding(apex_meaning::specs::GrammarReading::process_at))]
     /// What follows the word `process` of that line.
     fn process<'a>(&self, alloc: Global, line: u32, tokens: &'a [Token]) -> Read<'a, Process>
         ensures shorter { IfOk result (λ x. length x.1.now < length tokens.now) }
+        ensures exact { Gives (λ x. (process_of (names_of self.now) x.0, seen self.now x.1.now)) result (reading.process_at (seen self.now tokens.now)) }
     {
         let (name, rest) = self.name(tokens)?;
         let rest = self.expect(rest, Mark::Priority)?;

@@ -1,6 +1,6 @@
 //! Reading of single words.
 
-ghost use Rattle.std.specs.Prelude.{◌≡◌, ◌<◌, length, IfOk, IfSome, false};
+ghost use Rattle.std.specs.Prelude.{◌≡◌, ◌<◌, length, IfOk, IfSome, false, is_some};
 ghost use Rattle.apex_meaning.specs.GrammarReading as reading;
 ghost use Rattle.pal_base.specs.Marks.{mark_text};
 ghost use Rattle.pal_base.specs.Seen.{seen, names_of, rank_of, Gives, Finds};
@@ -45,6 +45,11 @@ impl<T: Drop> From<AllocFailed<T>> for ReadError {
 }
 
 impl From<ReadError> for PalFault {
+    ghost use Rattle.std.specs.Prelude.{◌≡◌};
+    ghost use Rattle.pal_base.specs.Seen.{refusal_of};
+
+    ghost from_gives = { λ error fault. fault.refusal ≡ refusal_of error };
+
     fn from(error: ReadError) -> Self {
         match error {
             ReadError::Memory => PalFault::MEMORY,
@@ -161,6 +166,16 @@ impl Source {
                 }
             }
             _ => None,
+        }
+    }
+
+    /// Whether this mark stands at the front.
+    pub fn stands(&self, tokens: &[Token], mark: Mark) -> bool
+        ensures { result ≡ is_some (reading.expect (mark_text mark) (seen self.now tokens.now)) }
+    {
+        match self.behind(tokens, mark) {
+            Some(_) => true,
+            None => false,
         }
     }
 

@@ -1,6 +1,10 @@
 //! Reading of statements and blocks. `levels` is how many levels may still be opened.
 
-ghost use Rattle.std.specs.Prelude.{◌≡◌, ◌≢◌, ◌<◌, ◌≤◌, length, map, option_map, IfOk, IfSome};
+ghost use Rattle.std.specs.Prelude.{◌<◌, ◌≤◌, length, map, codes, IfOk};
+ghost use Rattle.apex_meaning.specs.GrammarReading as reading;
+ghost use Rattle.pal_base.specs.Reads.{and_more, listed, request_read, stmt_read};
+ghost use Rattle.pal_base.specs.Seen.{seen, names_of, Gives};
+ghost use Rattle.pal_base.specs.View.{name_of, kind_of, stmt_of, block_of, body_of};
 
 use crate::mark::Mark;
 use crate::source::{Read, Source};
@@ -13,9 +17,11 @@ use std::alloc::Global;
 const LEVELS_IN_BODY: u32 = 63;
 
 impl Source {
+    #[tactic(auto, unfolding(apex_meaning::specs::GrammarReading::body_at))]
     /// A body: its locals, then its statements, within braces.
     pub fn body<'a>(&self, alloc: Global, tokens: &'a [Token]) -> Read<'a, Body>
         ensures shorter { IfOk result (λ x. length x.1.now < length tokens.now) }
+        ensures exact { Gives (λ x. (body_of (names_of self.now) x.0, seen self.now x.1.now)) result (reading.body_at (seen self.now tokens.now)) }
     {
         let line = self.line_of(tokens);
         let rest = self.expect(tokens, Mark::BraceOpens)?;
@@ -32,6 +38,7 @@ impl Source {
     /// The declarations of locals at the front.
     fn locals<'a>(&self, alloc: Global, tokens: &'a [Token]) -> Read<'a, Vec<Identifier>>
         ensures shorter { IfOk result (λ x. length x.1.now ≤ length tokens.now) }
+        ensures exact { Gives (λ x. (map (name_of (names_of self.now)) x.0.items, seen self.now x.1.now)) result (reading.locals_at (seen self.now tokens.now)) }
     {
         let mut locals = Vec::new(alloc);
         let mut rest = tokens;
@@ -47,19 +54,23 @@ impl Source {
         Ok((locals, rest))
     }
 
+    #[tactic(auto, unfolding(apex_meaning::specs::GrammarReading::local_at))]
     /// The name of a local and its semicolon.
     fn local<'a>(&self, tokens: &'a [Token]) -> Read<'a, Identifier>
         ensures shorter { IfOk result (λ x. length x.1.now < length tokens.now) }
+        ensures exact { Gives (λ x. (name_of (names_of self.now) x.0, seen self.now x.1.now)) result (reading.local_at (seen self.now tokens.now)) }
     {
         let (name, rest) = self.name(tokens)?;
         let rest = self.expect(rest, Mark::Semicolon)?;
         Ok((name, rest))
     }
 
+    #[tactic(auto, unfolding(apex_meaning::specs::GrammarReading::block_read))]
     /// Statements within braces.
     #[cycle(statement)]
     fn block<'a>(&self, alloc: Global, levels: u32, tokens: &'a [Token]) -> Read<'a, Vec<Stmt>>
         ensures shorter { IfOk result (λ x. length x.1.now < length tokens.now) }
+        ensures exact { Gives (λ x. (block_of (names_of self.now) x.0.items, seen self.now x.1.now)) result (reading.block_read levels (seen self.now tokens.now)) }
     {
         if levels == 0 {
             return Err(self.refused(tokens));
@@ -72,10 +83,11 @@ impl Source {
     #[cycle(statement)]
     fn statements<'a>(&self, alloc: Global, levels: u32, tokens: &'a [Token]) -> Read<'a, Vec<Stmt>>
         ensures shorter { IfOk result (λ x. length x.1.now < length tokens.now) }
+        ensures exact { Gives (λ x. (block_of (names_of self.now) x.0.items, seen self.now x.1.now)) result (reading.statements_at levels (seen self.now tokens.now)) }
     {
         let mut statements = Vec::new(alloc);
         let mut rest = tokens;
-        while self.behind(rest, Mark::BraceCloses).is_none() {
+        while !self.stands(rest, Mark::BraceCloses) {
             match self.statement(alloc, levels, rest) {
                 Ok((statement, after)) => {
                     statements.push(statement)?;
@@ -92,12 +104,14 @@ impl Source {
     #[cycle(statement)]
     fn statement<'a>(&self, alloc: Global, levels: u32, tokens: &'a [Token]) -> Read<'a, Stmt>
         ensures shorter { IfOk result (λ x. length x.1.now < length tokens.now) }
+        ensures exact { Gives (λ x. (stmt_of (names_of self.now) x.0, seen self.now x.1.now)) result (stmt_read levels (seen self.now tokens.now)) }
     {
         let line = self.line_of(tokens);
         let (kind, rest) = self.statement_kind(alloc, levels, tokens)?;
         Ok((Stmt { line, kind }, rest))
     }
 
+    #[tactic(auto, unfolding(crate::specs::Reads::stmt_read))]
     #[cycle(statement)]
     fn statement_kind<'a>(
         &self,
@@ -106,6 +120,7 @@ impl Source {
         tokens: &'a [Token],
     ) -> Read<'a, StmtKind>
         ensures shorter { IfOk result (λ x. length x.1.now < length tokens.now) }
+        ensures exact { Gives (λ x. (kind_of (names_of self.now) x.0, seen self.now x.1.now)) result (stmt_read levels (seen self.now tokens.now)) }
     {
         if let Some((name, rest)) = self.name_at(tokens) {
             return self.assignment(alloc, name, levels, rest);
@@ -126,15 +141,27 @@ impl Source {
             return self.branch(alloc, levels, rest);
         }
         let rest = self.expect(tokens, Mark::While)?;
-        let (test, rest) = self.expression(alloc, levels, rest)?;
+        self.repetition(alloc, levels, rest)
+    }
+
+    /// What follows the word `while`.
+    #[tactic(auto, unfolding(apex_meaning::specs::GrammarReading::while_with))]
+    #[cycle(statement)]
+    fn repetition<'a>(&self, alloc: Global, levels: u32, tokens: &'a [Token]) -> Read<'a, StmtKind>
+        ensures shorter { IfOk result (λ x. length x.1.now < length tokens.now) }
+        ensures exact { Gives (λ x. (kind_of (names_of self.now) x.0, seen self.now x.1.now)) result (reading.while_with (reading.block_read levels) levels (seen self.now tokens.now)) }
+    {
+        let (test, rest) = self.expression(alloc, levels, tokens)?;
         let (block, rest) = self.block(alloc, levels, rest)?;
         Ok((StmtKind::While(test, block), rest))
     }
 
+    #[tactic(auto, unfolding(apex_meaning::specs::GrammarReading::branch_with))]
     /// What follows the word `if`.
     #[cycle(statement)]
     fn branch<'a>(&self, alloc: Global, levels: u32, tokens: &'a [Token]) -> Read<'a, StmtKind>
         ensures shorter { IfOk result (λ x. length x.1.now < length tokens.now) }
+        ensures exact { Gives (λ x. (kind_of (names_of self.now) x.0, seen self.now x.1.now)) result (reading.branch_with (reading.block_read levels) levels (seen self.now tokens.now)) }
     {
         let (test, rest) = self.expression(alloc, levels, tokens)?;
         let (then, rest) = self.block(alloc, levels, rest)?;
@@ -147,24 +174,29 @@ impl Source {
         }
     }
 
+    #[tactic(auto, unfolding(apex_meaning::specs::GrammarReading::work_at))]
     /// What follows the word `work`.
     fn work<'a>(&self, tokens: &'a [Token]) -> Read<'a, StmtKind>
         ensures shorter { IfOk result (λ x. length x.1.now < length tokens.now) }
+        ensures exact { Gives (λ x. (kind_of (names_of self.now) x.0, seen self.now x.1.now)) result (reading.work_at (seen self.now tokens.now)) }
     {
         let (ticks, rest) = self.number(tokens)?;
         let rest = self.expect(rest, Mark::Semicolon)?;
         Ok((StmtKind::Work(ticks), rest))
     }
 
+    #[tactic(auto, unfolding(apex_meaning::specs::GrammarReading::return_at))]
     /// What follows the word `return`.
     fn returned<'a>(&self, alloc: Global, levels: u32, tokens: &'a [Token]) -> Read<'a, StmtKind>
         ensures shorter { IfOk result (λ x. length x.1.now < length tokens.now) }
+        ensures exact { Gives (λ x. (kind_of (names_of self.now) x.0, seen self.now x.1.now)) result (reading.return_at levels (seen self.now tokens.now)) }
     {
         let (value, rest) = self.expression(alloc, levels, tokens)?;
         let rest = self.expect(rest, Mark::Semicolon)?;
         Ok((StmtKind::Return(value), rest))
     }
 
+    #[tactic(auto, unfolding(apex_meaning::specs::GrammarReading::assignment_at))]
     /// What follows the name at the front of an assignment.
     fn assignment<'a>(
         &self,
@@ -174,6 +206,7 @@ impl Source {
         tokens: &'a [Token],
     ) -> Read<'a, StmtKind>
         ensures shorter { IfOk result (λ x. length x.1.now < length tokens.now) }
+        ensures exact { Gives (λ x. (kind_of (names_of self.now) x.0, seen self.now x.1.now)) result (reading.assignment_at levels (name_of (names_of self.now) name) (seen self.now tokens.now)) }
     {
         if let Some(rest) = self.behind(tokens, Mark::BracketOpens) {
             let (index, rest) = self.nested(alloc, levels, tokens, rest)?;
@@ -189,6 +222,7 @@ impl Source {
         Ok((StmtKind::Assign(name, value), rest))
     }
 
+    #[tactic(auto, unfolding(crate::specs::Reads::request_read))]
     /// What follows the name of a service, `opening`.
     fn request<'a>(
         &self,
@@ -199,6 +233,7 @@ impl Source {
         tokens: &'a [Token],
     ) -> Read<'a, StmtKind>
         ensures shorter { IfOk result (λ x. length x.1.now < length tokens.now) }
+        ensures exact { Gives (λ x. (kind_of (names_of self.now) x.0, seen self.now x.1.now)) result (request_read levels service (seen self.now tokens.now)) }
     {
         if levels == 0 {
             return Err(self.refused(opening));
@@ -210,9 +245,11 @@ impl Source {
         Ok((StmtKind::Request(service, arguments, targets), rest))
     }
 
+    #[tactic(auto, unfolding(apex_meaning::specs::GrammarReading::targets_at))]
     /// An arrow and the names behind it, or nothing.
     fn targets<'a>(&self, alloc: Global, tokens: &'a [Token]) -> Read<'a, Vec<Identifier>>
         ensures shorter { IfOk result (λ x. length x.1.now ≤ length tokens.now) }
+        ensures exact { Gives (λ x. (map (name_of (names_of self.now)) x.0.items, seen self.now x.1.now)) result (reading.targets_at (seen self.now tokens.now)) }
     {
         match self.behind(tokens, Mark::Arrow) {
             Some(rest) => self.names(alloc, rest),
@@ -220,13 +257,29 @@ impl Source {
         }
     }
 
+    #[tactic(auto, unfolding(apex_meaning::specs::GrammarReading::names_at))]
     /// One or more names, with commas between them.
     pub fn names<'a>(&self, alloc: Global, tokens: &'a [Token]) -> Read<'a, Vec<Identifier>>
         ensures shorter { IfOk result (λ x. length x.1.now < length tokens.now) }
+        ensures exact { Gives (λ x. (map (name_of (names_of self.now)) x.0.items, seen self.now x.1.now)) result (reading.names_at (seen self.now tokens.now)) }
+    {
+        let (first, rest) = self.name(tokens)?;
+        self.more_names(alloc, first, rest)
+    }
+
+    /// This name and all that follow with commas before them.
+    fn more_names<'a>(
+        &self,
+        alloc: Global,
+        first: Identifier,
+        tokens: &'a [Token],
+    ) -> Read<'a, Vec<Identifier>>
+        ensures shorter { IfOk result (λ x. length x.1.now ≤ length tokens.now) }
+        ensures exact { Gives (λ x. (map (name_of (names_of self.now)) x.0.items, seen self.now x.1.now)) result (and_more (name_of (names_of self.now) first) (listed (codes ",") reading.name_at (seen self.now tokens.now))) }
     {
         let mut names = Vec::new(alloc);
-        let (first, mut rest) = self.name(tokens)?;
         names.push(first)?;
+        let mut rest = tokens;
         while let Some(behind) = self.behind(rest, Mark::Comma) {
             match self.name(behind) {
                 Ok((name, after)) => {

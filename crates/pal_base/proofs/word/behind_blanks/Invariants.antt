@@ -1,4 +1,4 @@
-use Rattle.std.proofs.Common.{◌≡◌, ℕ, false, length}
+use Rattle.std.proofs.Common.{◌≡◌, false, length}
 use Rattle.apex_meaning.specs.GrammarWords.{behind_blanks}
 use Rattle.pal_base.proofs.word.behind_blanks.Given as goal
 

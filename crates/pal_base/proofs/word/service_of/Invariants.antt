@@ -1,4 +1,4 @@
-use Rattle.std.proofs.Common.{◌≡◌, ℕ, length}
+use Rattle.std.proofs.Common.{◌≡◌, length}
 use Rattle.std.specs.Prelude.{find}
 use Rattle.apex_types.specs.ServiceWords.{service_word}
 use Rattle.apex_types.specs.ServiceNumbers.{services}

@@ -1,4 +1,4 @@
-use Rattle.std.proofs.Common.{ℕ, ◌≡◌, ◌+◌, length}
+use Rattle.std.proofs.Common.{◌≡◌, ◌+◌, length}
 use Rattle.std.specs.List.{prefix_len}
 use Rattle.pal_base.specs.Runs.{member}
 use Rattle.pal_base.proofs.word.split_run.Given as goal

@@ -1,4 +1,4 @@
-use Rattle.std.proofs.Common.{◌≡◌, List, ℕ, subst, sym}
+use Rattle.std.proofs.Common.{List, ℕ, subst, sym}
 use Rattle.std.specs.Str.{IsAscii}
 use Rattle.pal_base.proofs.Names.{name_is_ascii}
 use Rattle.pal_base.proofs.word.word_at.Goals as goal

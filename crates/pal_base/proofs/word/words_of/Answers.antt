@@ -1,4 +1,4 @@
-use Rattle.std.proofs.Common.{◌≡◌, ℕ, ◌<◌, List, [], ◌∷◌, ◌++◌, length, map, ap, sym, ◌∙◌, arith, rules, subst, append-nil, false, true}
+use Rattle.std.proofs.Common.{◌≡◌, ℕ, ◌<◌, List, [], ◌∷◌, ◌++◌, length, map, ap, sym, ◌∙◌, arith, rules, subst, append-nil, false}
 use Rattle.apex_meaning.specs.GrammarWords as grammar
 use Rattle.apex_meaning.specs.GrammarWords.{behind_blanks, word_at, words_from}
 use Rattle.apex_meaning.proofs.WordsOf.{next_short, words_from_next, words_from_empty}

@@ -1,4 +1,4 @@
-use Rattle.std.proofs.Common.{ℕ, ◌≡◌, length}
+use Rattle.std.proofs.Common.{◌≡◌, length}
 use Rattle.apex_meaning.specs.GrammarReading.{one_of, operator_at}
 use Rattle.pal_base.specs.Seen.{seen, rank_of}
 use Rattle.pal_base.proofs.source.Source.operator_at.Given as goal
