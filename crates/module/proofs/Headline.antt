@@ -1,5 +1,5 @@
 -- From accepted sources to the text of their trace.
-use Rattle.std.proofs.Common.{◌≡◌, ℕ, ◌≤◌, List, [], ◌∷◌, length, Option, Result, Ok, Err, refl, sym, ap, subst, ◌∙◌, arith}
+use Rattle.std.proofs.Common.{◌≡◌, ℕ, ◌≤◌, List, [], ◌∷◌, length, Option, Result, Ok, Err, IfOk, refl, sym, ap, subst, ◌∙◌, arith}
 use Rattle.std.specs.Io.KnownBytes.{Appends}
 use Rattle.toml.specs.Data.{Members}
 use Rattle.apex_types.specs.declared.event.Event.{Event}
@@ -9,25 +9,20 @@ use Rattle.apex_meaning.specs.CompiledCode.{section_of}
 use Rattle.apex_meaning.specs.Image.{Partition, Section, Table, Item, Image}
 use Rattle.apex_meaning.specs.ImageLimits.{IsSection, IsLawful}
 use Rattle.apex_meaning.specs.ImageReading.{Fault, image_at}
-use Rattle.apex_meaning.specs.ImageSpelling.{spelling}
 use Rattle.apex_meaning.specs.Program.{Program}
 use Rattle.apex_meaning.specs.TableRules.{verdict}
 use Rattle.apex_meaning.specs.TwoMeanings.{source_trace, machine_trace}
 use Rattle.apex_meaning.proofs.AcceptedImage.{accepted_single}
 use Rattle.apex_meaning.proofs.ImageLaws.{spelled_is_read}
 use Rattle.apex_meaning.proofs.WellFormedSection.{accepted_section}
-use Rattle.window_table.specs.Answers.{IsDocument}
-use Rattle.module.specs.Accepted.{IsModule}
+use Rattle.module.specs.Accepted.{IsTable}
 use Rattle.module.specs.Built.{built_items, built_image}
-use Rattle.module.specs.Building.{IsBuilt, AreBuilt, IsImageOf, IsOfPart}
+use Rattle.module.specs.Building.{IsBuilt, AreBuilt, IsImageOf, IsOfPart, IsSpelledFrom, image_with}
 use Rattle.module.specs.Promises.{IsRun, Runs, IsAcceptedRun, Means, ran}
 use Rattle.module.specs.declared.fault.RunFault.{RunFault}
 use Rattle.module.specs.declared.fault.RunFault.TheVariants.{Ticks, NotYet, Memory, Write}
 use Rattle.module.proofs.Built.{have_programs}
 use Rattle.module.proofs.SameTraces.{traces_same}
-
-abbrev image_with : Table → List Item → Image
-image_with t items = record { frame = t.frame; fault = t.fault; items = items; windows = t.windows; channels = t.channels }
 
 -- what is built is a section that an image may have
 lawful_section : (row : Partition) (source : List ℕ) (section : Section) → IsBuilt row source section → IsSection row.period section
@@ -41,46 +36,52 @@ lawful_image ms t (row ∷ other ∷ rows) sources items judged part same one h 
 lawful_image ms t (row ∷ []) [] items judged part same one h = absurd h
 lawful_image ms t (row ∷ []) (source ∷ sources) [] judged part same one h = absurd h
 lawful_image ms t (row ∷ []) (source ∷ []) (item ∷ []) judged part same one h =
-    accepted_single ms t item judged (same ∙ ap (λ (r : Partition). r ∷ []) (sym h.0)) (subst (λ (r : Partition). IsSection r.period item.section) (sym h.0) (lawful_section row source item.section h.1.0)) part.windows part.channels
-lawful_image ms t (row ∷ []) (source ∷ []) (item ∷ other ∷ items) judged part same one h = absurd h.1.1
-lawful_image ms t (row ∷ []) (source ∷ other ∷ sources) (item ∷ items) judged part same one h = absurd h.1.1
+    accepted_single ms t item judged (same ∙ ap (λ (r : Partition). r ∷ []) (sym h.0)) (subst (λ (r : Partition). IsSection r.period item.section) (sym h.0) (lawful_section row source item.section h.1)) part.windows part.channels
+lawful_image ms t (row ∷ []) (source ∷ []) (item ∷ other ∷ items) judged part same one h = absurd h.2
+lawful_image ms t (row ∷ []) (source ∷ other ∷ sources) (item ∷ items) judged part same one h = absurd h.2
 
 -- the image of an accepted module, and its bytes
-pub module_image : (table : List ℕ) (sources : List (List ℕ)) (ms : Members) (t : Table) (items : List Item) (bytes : List ℕ)
-    → IsDocument table ms → verdict ms ≡ Ok t → IsOfPart t → AreBuilt t.partitions sources items → bytes ≡ spelling (image_with t items) → IsImageOf table sources bytes
-module_image table sources ms t items bytes document judged part built spelled =
-    let have = have_programs t.partitions sources items built in
-    let same : image_with t items ≡ built_image t have.programs = ap (image_with t) have.is in
+pub module_image : (table : List ℕ) (sources : List (List ℕ)) (t : Table) (bytes : List ℕ) → IsTable table t → IsOfPart t → IsSpelledFrom t sources bytes → IsImageOf table sources bytes
+module_image table sources t bytes is_table part h =
+    let have = have_programs t.partitions sources h.items h.built in
+    let same : image_with t h.items ≡ built_image t have.programs = ap (image_with t) have.is in
     record {
-      table = t;
+      rows = t;
       programs = have.programs;
-      accepted = record { document = ms; read = document; judged = judged; sources = have.accepted };
-      image = image_with t items;
-      loaded = ap image_at spelled ∙ spelled_is_read (image_with t items) (lawful_image ms t t.partitions sources items judged part refl part.partitions built);
+      accepted = record { rows = is_table; accepted = have.accepted };
+      image = image_with t h.items;
+      loaded = ap image_at h.spelled ∙ spelled_is_read (image_with t h.items) (lawful_image is_table.0 t t.partitions sources h.items is_table.2 part refl part.partitions h.built);
       meaning = λ n. ap (λ (i : Image). machine_trace i n) same ∙ sym (traces_same t have.programs n have.compiled);
     }
 
+pub built_bytes : {A E : Type 0} (view : A → List ℕ) (table : List ℕ) (sources : List (List ℕ)) (t : Table) (answer : Result A E)
+    → IsTable table t → IsOfPart t → IfOk answer (λ b. IsSpelledFrom t sources (view b)) → IfOk answer (λ b. IsImageOf table sources (view b))
+built_bytes view table sources t (Ok b) is_table part h = module_image table sources t (view b) is_table part h
+built_bytes view table sources t (Err e) is_table part h = tt
 
-image_is : (i j : Image) → Result.Ok {E = Fault} i ≡ Ok j → i ≡ j
+abbrev ok_image : Image → Result Image Fault
+ok_image i = Ok i
+
+image_is : (i j : Image) → ok_image i ≡ ok_image j → i ≡ j
 image_is i j e = cc
 
 -- the text of the image that was run is that of the sources
 same_text : (table : List ℕ) (sources : List (List ℕ)) (bytes devices : List ℕ) (n : ℕ) (image : Image) (h : IsImageOf table sources bytes) → IsRun (image_at bytes) devices n image
-    → text_of (machine_trace image n) ≡ text_of (source_trace h.table h.programs n)
+    → text_of (machine_trace image n) ≡ text_of (source_trace h.rows h.programs n)
 same_text table sources bytes devices n image h r =
     let same : image ≡ h.image = image_is image h.image (sym r.loaded ∙ h.loaded) in
     ap (λ (i : Image). text_of (machine_trace i n)) same ∙ ap text_of (h.meaning n)
 
 accepted_run : (table : List ℕ) (sources : List (List ℕ)) (bytes devices : List ℕ) (n : ℕ) (image : Image) (h : IsImageOf table sources bytes) → IsRun (image_at bytes) devices n image
-    → IsAcceptedRun table sources devices n h.table h.programs
+    → IsAcceptedRun table sources devices n h.rows h.programs
 accepted_run table sources bytes devices n image h r = record { accepted = h.accepted; alone = r.alone; few = r.few }
 
 pub run_means : (table : List ℕ) (sources : List (List ℕ)) (bytes devices : List ℕ) (n : ℕ) (old new : Option (List ℕ)) (answer : Result (Unit {0}) RunFault)
     → IsImageOf table sources bytes → Runs (image_at bytes) devices n old new answer → Means table sources devices n old new (ran answer)
 run_means table sources bytes devices n old new (Ok x) h (image, r, out) =
-    (h.table, h.programs, accepted_run table sources bytes devices n image h r, subst (Appends old new) (same_text table sources bytes devices n image h r) out)
+    (h.rows, h.programs, accepted_run table sources bytes devices n image h r, subst (Appends old new) (same_text table sources bytes devices n image h r) out)
 run_means table sources bytes devices n old new (Err Write) h (image, r, out) =
-    (h.table, h.programs, accepted_run table sources bytes devices n image h r, subst (TakesBeginning old new) (same_text table sources bytes devices n image h r) out)
+    (h.rows, h.programs, accepted_run table sources bytes devices n image h r, subst (TakesBeginning old new) (same_text table sources bytes devices n image h r) out)
 run_means table sources bytes devices n old new (Err Ticks) h r = r.1
 run_means table sources bytes devices n old new (Err NotYet) h r = r.1
 run_means table sources bytes devices n old new (Err Memory) h r = r

@@ -23,10 +23,11 @@ AreAccepted [] [] [] = Unit {0}
 AreAccepted (row ∷ rows) (source ∷ sources) (p ∷ ps) = IsAccepted row source p × AreAccepted rows sources ps
 AreAccepted _ _ _ = ⊥
 
--- The text of a table is a document that keeps the rules, and the sources are accepted for its
--- partitions.
+-- the text of a table is a document that keeps the rules, with these rows
+abbrev pub IsTable : List ℕ → Table → Type 0
+IsTable text t = (document : Members) × IsDocument text document × (table_rules.verdict document ≡ Ok t)
+
+-- a table and the sources of its partitions are accepted, as these rows and programs
 pub record IsModule (table : List ℕ) (sources : List (List ℕ)) (t : Table) (programs : List Program) : Type 0 where
-  pub document : Members
-  pub read : IsDocument table document
-  pub judged : table_rules.verdict document ≡ Ok t
-  pub sources : AreAccepted t.partitions sources programs
+  pub rows : IsTable table t
+  pub accepted : AreAccepted t.partitions sources programs

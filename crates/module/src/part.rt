@@ -1,12 +1,18 @@
 //! The part of Pal and of the module table that is built so far.
 
+ghost use Rattle.std.specs.Prelude.{IsTrue};
+ghost use Rattle.window_table.specs.Views.{table_of};
+ghost use Rattle.module.specs.Building.{IsOfPart};
+
 use apex_types::{HealthTable, PartitionAction, Service};
 use pal_base::program::{Expr, Process, Program, Stmt};
 use window_table::ModuleTable;
 
 /// Whether a table is of the part: one partition with one window, no port and no channel, and
 /// every error ignored.
-pub fn is_table_of_part(table: &ModuleTable) -> bool {
+pub fn is_table_of_part(table: &ModuleTable) -> bool
+    ensures { IsTrue result → IsOfPart (table_of table.now) }
+{
     table.channels.is_empty()
         && table.windows.len() == 1
         && table.partitions.len() == 1

@@ -1,6 +1,6 @@
 //! Running an image: its partitions in their windows, tick by tick, and the text of their trace.
 
-ghost use Rattle.std.specs.Prelude.{◌≡◌, ◌≤◌, ◌<◌, ◌+◌, ◌-◌, ◌^◌, [], Ok, IfOk, IfErr, OnOk, OnErr, IsErrOf};
+ghost use Rattle.std.specs.Prelude.{◌≡◌, ◌≤◌, ◌<◌, ◌+◌, ◌-◌, ◌^◌, [], Ok, map, IfOk, IfErr, OnOk, OnErr, IsErrOf};
 ghost use Rattle.std.specs.Io.KnownBytes.{Appends};
 ghost use Rattle.apex_types.specs.Line.{text_of};
 ghost use Rattle.apex_types.specs.Sink.{TakesBeginning};
@@ -8,7 +8,7 @@ ghost use Rattle.apex_meaning.specs.Module as meaning;
 ghost use Rattle.apex_meaning.specs.ImageLimits.{IsLawful};
 ghost use Rattle.apex_meaning.specs.ImageReading.{image_at};
 ghost use Rattle.image.specs.Views.{image_of};
-ghost use Rattle.module.specs.Promises.{IsRefused, Runs};
+ghost use Rattle.module.specs.Promises.{IsRefused, Means, Runs};
 ghost use Rattle.module.specs.Views.{members_of, module_of};
 
 use crate::building::build;
@@ -149,7 +149,9 @@ fn run_ticks<E: Executor, S: Sink>(
     Ok(())
 }
 
-/// Builds a module table and its sources, and runs the image for so many ticks.
+/// Builds a module table and its sources, and runs the image for so many ticks. What goes into the
+/// sink is the text of the trace that the sources mean, a beginning of it where the sink fails, and
+/// nothing where they are refused.
 pub fn build_and_run<S: Sink>(
     alloc: Global,
     table: &[u8],
@@ -159,12 +161,15 @@ pub fn build_and_run<S: Sink>(
     sink: &mut S,
 ) -> Result<(), BuildAndRunFault>
     requires { S.failures sink.old < 2 ^ 64 - 1 }
+    ensures trace { Means table.now (map (λ s. s.now) sources.now) devices.now ticks (S.taken sink.old) (S.taken sink.new) result }
+    ensures ok { OnOk result (S.failures sink.new ≡ S.failures sink.old) }
+    ensures write { IsErrOf result (BuildAndRunFault.Run RunFault.Write) → S.failures sink.new ≡ S.failures sink.old + 1 }
 {
     let image = match build(alloc, table, sources) {
         Ok(image) => image,
         Err(fault) => return Err(BuildAndRunFault::Build(fault)),
     };
-    match run(alloc, &image, devices, ticks, sink) {
+    match run(alloc, image.as_slice(), devices, ticks, sink) {
         Ok(()) => Ok(()),
         Err(fault) => Err(BuildAndRunFault::Run(fault)),
     }
