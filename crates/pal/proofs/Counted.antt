@@ -1,5 +1,5 @@
 -- The number of arguments that the definitions see.
-use Rattle.std.proofs.Common.{◌≡◌, ℕ, ◌+◌, List, [], ◌∷◌, length, arith, ◌∙◌, ap}
+use Rattle.std.proofs.Common.{◌≡◌, ℕ, List, [], ◌∷◌, length, arith}
 use Rattle.pal_base.specs.declared.syntax.Expr.{Expr}
 use Rattle.pal_base.specs.View.{exprs_of}
 use Rattle.apex_meaning.specs.WellFormed.{expr_count}

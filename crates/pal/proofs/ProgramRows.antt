@@ -1,5 +1,5 @@
 -- What the definitions see of a variant that holds a list of its own kind.
-use Rattle.std.proofs.Common.{◌≡◌, ℕ, zero, suc, ◌+◌, ◌<◌, ◌≤◌, arith, get_or, length, List, [], ◌∷◌, refl, sym, ap, ◌∙◌}
+use Rattle.std.proofs.Common.{◌≡◌, ℕ, List, refl, sym, ap, ◌∙◌}
 use Rattle.std.specs.Prelude.{Vec, Box}
 use Rattle.std.specs.declared.alloc.Global.{Global}
 use mathlib.Core.Former.{Count}

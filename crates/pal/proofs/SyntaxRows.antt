@@ -1,5 +1,5 @@
 -- What the definitions see of a written variant that holds a list of its own kind.
-use Rattle.std.proofs.Common.{◌≡◌, ℕ, List, [], ◌∷◌, refl, sym, ap, ◌∙◌}
+use Rattle.std.proofs.Common.{◌≡◌, ℕ, List, refl, sym, ap, ◌∙◌}
 use Rattle.std.specs.Prelude.{Vec, Box}
 use Rattle.std.specs.declared.alloc.Global.{Global}
 use mathlib.Core.Former.{Count}
@@ -8,7 +8,7 @@ use Rattle.pal_base.specs.declared.syntax.Link.{Link}
 use Rattle.pal_base.specs.declared.syntax.Identifier.{Identifier}
 use Rattle.pal_base.specs.declared.syntax.Stmt.{Stmt}
 use Rattle.pal_base.specs.declared.syntax.StmtKind.{StmtKind, If, If', IfElse, IfElse', While, While', Row_of-Stmt, end_of-Stmt, more_of-Stmt, items-the_row-Stmt, items_hidden-the_row-Stmt-0}
-use Rattle.pal_base.specs.View.{expr_of, expr_row, link_row, exprs_of, links_of, kind_of, stmt_of, stmt_row, block_of, name_of}
+use Rattle.pal_base.specs.View.{expr_of, expr_row, link_row, exprs_of, links_of, kind_of, stmt_row, block_of, name_of}
 use Rattle.apex_meaning.specs.Syntax as tree
 
 module _ (names : List (List ℕ)) where

@@ -1,6 +1,5 @@
-use Rattle.std.proofs.Common.{◌≡◌, ◌∙◌, ◌&&◌, ap, sym, is_none}
+use Rattle.std.proofs.Common.{ap}
 use Rattle.pal_base.specs.View.{texts}
-use Rattle.pal.proofs.Tests.{and_of}
 use Rattle.pal.proofs.SyntaxRows.{seen_apply, seen_chain}
 use Rattle.apex_meaning.specs.WellFormed.{keeps_expr}
 use Rattle.pal.proofs.limits.+limits_expression.Goals as goal

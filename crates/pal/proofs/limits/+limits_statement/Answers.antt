@@ -1,4 +1,4 @@
-use Rattle.std.proofs.Common.{◌≡◌, ◌∙◌, ◌&&◌, ap, sym, is_none}
+use Rattle.std.proofs.Common.{◌∙◌, ap, sym, is_none}
 use Rattle.pal_base.specs.View.{texts}
 use Rattle.pal.proofs.Tests.{and_of}
 use Rattle.pal.proofs.SyntaxRows.{seen_if, seen_if_else, seen_while}

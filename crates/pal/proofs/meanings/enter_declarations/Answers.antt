@@ -1,4 +1,4 @@
-use Rattle.std.proofs.Common.{◌≡◌, ◌∙◌, ◌+◌, ◌&&◌, [], List, map, drop, ap, is_none}
+use Rattle.std.proofs.Common.{◌≡◌, ◌∙◌, ◌+◌, ◌&&◌, [], map, drop, ap, is_none}
 use Rattle.apex_meaning.specs.Resolve.{Entry, no_counts, declaration_entries, after}
 use Rattle.pal_base.specs.View.{texts, declaration_of, declared_of}
 use Rattle.pal.specs.Tables.{entries_of, counts_of}

@@ -1,4 +1,4 @@
-use Rattle.std.proofs.Common.{◌≡◌, ◌∙◌, ◌+◌, ◌&&◌, [], List, map, drop, ap, is_none}
+use Rattle.std.proofs.Common.{◌≡◌, ◌∙◌, ◌+◌, ◌&&◌, [], map, drop, ap, is_none}
 use Rattle.std.specs.Option.{unwrap_or}
 use Rattle.apex_types.specs.declared.meaning.Meaning.TheVariants.{Object}
 use Rattle.apex_types.specs.declared.meaning.ObjectKind.TheVariants as object

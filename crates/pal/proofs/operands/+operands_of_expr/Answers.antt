@@ -1,8 +1,6 @@
-use Rattle.std.proofs.Common.{◌≡◌, ◌+◌, ◌++◌, List, min, max, sym, ap, ◌∙◌, arith, append_assoc}
+use Rattle.std.proofs.Common.{ap, arith}
 use Rattle.apex_meaning.specs.Cost as cost
-use Rattle.apex_meaning.specs.CompiledCode as code_of
-use Rattle.pal_base.specs.ProgramView.{expr_of, exprs_of, links_of, stmt_of, block_of}
-use Rattle.pal.proofs.ProgramRows.{seen_apply, seen_chain, seen_if, seen_if_else, seen_while}
+use Rattle.pal.proofs.ProgramRows.{seen_apply, seen_chain}
 use Rattle.pal.proofs.operands.+operands_of_expr.Goals as goal
 
 pub operands_of_expr-returns-in-Chain : goal.operands_of_expr-returns-in-Chain

@@ -1,9 +1,6 @@
-use Rattle.std.proofs.Common.{◌≡◌, ◌+◌, ◌++◌, ◌∷◌, [], List, length, min, max, sym, ap, ◌∙◌, arith, append_assoc, length-append, rules, drop}
+use Rattle.std.proofs.Common.{ap, arith}
 use Rattle.apex_meaning.specs.Cost as cost
-use Rattle.apex_meaning.specs.CompiledCode as code_of
-use Rattle.apex_meaning.proofs.Sizes.{expr_size, stmt_size, block_size}
-use Rattle.pal_base.specs.ProgramView.{expr_of, exprs_of, links_of, stmt_of, block_of}
-use Rattle.pal.proofs.ProgramRows.{seen_apply, seen_chain, seen_if, seen_if_else, seen_while}
+use Rattle.pal.proofs.ProgramRows.{seen_if, seen_if_else, seen_while}
 use Rattle.pal.proofs.operands.+operands_of_stmt.Goals as goal
 
 pub operands_of_stmt-returns-in-If : goal.operands_of_stmt-returns-in-If

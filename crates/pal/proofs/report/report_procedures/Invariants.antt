@@ -1,5 +1,5 @@
 use Rattle.std.proofs.Common.{◌≡◌, ◌++◌, map, drop}
-use Rattle.pal.specs.Costs.{cost_of_process, cost_of_procedure}
+use Rattle.pal.specs.Costs.{cost_of_procedure}
 use Rattle.pal.proofs.report.report_procedures.Given as goal
 
 abbrev pub invariant-loop-procedure : goal.invariant-loop-procedure

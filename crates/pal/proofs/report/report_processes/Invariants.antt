@@ -1,5 +1,5 @@
 use Rattle.std.proofs.Common.{◌≡◌, ◌++◌, map, drop}
-use Rattle.pal.specs.Costs.{cost_of_process, cost_of_procedure}
+use Rattle.pal.specs.Costs.{cost_of_process}
 use Rattle.pal.proofs.report.report_processes.Given as goal
 
 abbrev pub invariant-loop-process : goal.invariant-loop-process

@@ -1,4 +1,3 @@
-use Rattle.std.proofs.Common.{◌≡◌}
 use Rattle.apex_meaning.specs.Resolve.{resolve_arguments}
 use Rattle.pal_base.specs.View as view
 use Rattle.pal.specs.Scopes.{names_of, sees}

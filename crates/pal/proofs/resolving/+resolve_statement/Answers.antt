@@ -1,8 +1,8 @@
-use Rattle.std.proofs.Common.{◌≡◌, ◌∙◌, ap, sym}
+use Rattle.std.proofs.Common.{◌∙◌, ap, sym}
 use Rattle.apex_meaning.specs.Program as tree
 use Rattle.apex_meaning.specs.Resolve.{resolve_expr, resolve_stmt, resolve_block}
 use Rattle.pal_base.specs.View as view
-use Rattle.pal_base.specs.ProgramView.{expr_of, block_of}
+use Rattle.pal_base.specs.ProgramView.{block_of}
 use Rattle.pal.specs.Scopes.{names_of, sees}
 use Rattle.pal.proofs.SyntaxRows.{seen_if, seen_while, seen_if_else}
 use Rattle.pal.proofs.ProgramRows.{view_if, view_while, view_if_else}

@@ -1,4 +1,4 @@
-use Rattle.std.proofs.Common.{◌≡◌, ◌∙◌, ◌+◌, ap, vec_len}
+use Rattle.std.proofs.Common.{◌∙◌, ◌+◌, ap, vec_len}
 use Rattle.pal.proofs.Resolved.{zeros_behind}
 use Rattle.pal.proofs.resolving.push_zeros.Goals as goal
 

@@ -1,4 +1,4 @@
-use Rattle.std.proofs.Common.{◌≡◌, ◌∙◌, [], List, length, map, is_none, ap, sym}
+use Rattle.std.proofs.Common.{◌∙◌, [], length, map, is_none, ap, sym}
 use Rattle.apex_meaning.specs.Resolve.{own_entries, scope_of}
 use Rattle.apex_meaning.specs.WellFormed.{are_new}
 use Rattle.pal_base.specs.View.{texts, name_of}

@@ -1,4 +1,4 @@
-use Rattle.std.proofs.Common.{◌≡◌, ◌∙◌, ◌+◌, ◌&&◌, not, [], List, map, drop, ap, is_none, is_some}
+use Rattle.std.proofs.Common.{◌≡◌, ◌∙◌, ◌+◌, ◌&&◌, not, map, drop, ap, is_none, is_some}
 use Rattle.apex_types.specs.declared.place.Place.TheVariants.{Slot}
 use Rattle.apex_types.specs.declared.meaning.Meaning.TheVariants.{Scalar}
 use Rattle.apex_meaning.specs.Resolve.{Entry, own_entries, find}

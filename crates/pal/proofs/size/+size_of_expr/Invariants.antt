@@ -1,7 +1,6 @@
-use Rattle.std.proofs.Common.{◌≡◌, ℕ, ◌+◌, ◌≤◌, min, max, drop, map, length, ◌++◌}
+use Rattle.std.proofs.Common.{◌≡◌, ◌+◌, ◌≤◌, min, drop}
 use Rattle.apex_meaning.specs.Cost as cost
-use Rattle.apex_meaning.specs.CompiledCode as code_of
-use Rattle.pal_base.specs.ProgramView.{expr_of, exprs_of, links_of, stmt_of, block_of, body_of, procedure_of, process_of, program_of}
+use Rattle.pal_base.specs.ProgramView.{exprs_of, links_of}
 use Rattle.pal.proofs.size.+size_of_expr.Given as goal
 
 abbrev pub invariant-size_of_exprs-loop-expr : goal.invariant-size_of_exprs-loop-expr

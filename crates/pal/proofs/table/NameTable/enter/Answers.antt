@@ -1,4 +1,4 @@
-use Rattle.std.proofs.Common.{◌≡◌, ℕ, List, ◌∙◌, sym, ap, is_some, Bor}
+use Rattle.std.proofs.Common.{ℕ, List, ◌∙◌, sym, ap, is_some, Bor}
 use Rattle.pal.proofs.Tables.{entered, shadowed, not_new, is_new, behind}
 use Rattle.pal.specs.Tables.{entries_of}
 use Rattle.pal.proofs.table.NameTable.enter.Goals as goal

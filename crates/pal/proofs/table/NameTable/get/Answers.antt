@@ -1,4 +1,4 @@
-use Rattle.std.proofs.Common.{◌≡◌, ℕ, List, ◌∙◌, Bor}
+use Rattle.std.proofs.Common.{ℕ, List, ◌∙◌, Bor}
 use Rattle.pal.proofs.Tables.{found}
 use Rattle.pal.proofs.table.NameTable.get.Goals as goal
 
