@@ -1,0 +1,5 @@
+pub mod Tables
+pub mod Scopes
+pub mod Parts
+pub mod Verdicts
+pub mod Costs

@@ -1,5 +1,9 @@
 //! The arguments and the targets of the services.
 
+ghost use Rattle.std.specs.Prelude.{◌≡◌};
+ghost use Rattle.apex_meaning.specs.Resolve as resolve;
+ghost use Rattle.apex_meaning.specs.ServiceTable as table;
+
 use apex_types::{ArgumentKind, ObjectKind, Service};
 
 const WORD: ArgumentKind = ArgumentKind::Word;
@@ -7,7 +11,9 @@ const WORD: ArgumentKind = ArgumentKind::Word;
 const ARRAY: ArgumentKind = ArgumentKind::Array;
 
 /// What the arguments of a service have to be, in their order.
-pub fn arguments_of(service: Service) -> &'static [ArgumentKind] {
+pub fn arguments_of(service: Service) -> &'static [ArgumentKind]
+    ensures { result.now ≡ resolve.arguments_of service }
+{
     match service {
         Service::GetProcessId | Service::CreateProcess => {
             &[ArgumentKind::Object(ObjectKind::Process)]
@@ -53,7 +59,9 @@ pub fn arguments_of(service: Service) -> &'static [ArgumentKind] {
 }
 
 /// How many words a service answers: its code, then its outputs; STOP_SELF has none.
-pub fn answer_words(service: Service) -> usize {
+pub fn answer_words(service: Service) -> usize
+    ensures { result ≡ table.answer_words service }
+{
     match service {
         Service::StopSelf => 0,
         Service::GetPartitionStatus => 7,

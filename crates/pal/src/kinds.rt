@@ -1,54 +1,140 @@
 //! Kinds: each name stands where its kind may, and calls and services have as many arguments and
 //! targets as they take.
 
+ghost use Rattle.std.specs.Prelude.{◌≡◌, ◌&&◌, [], List, ℕ, length, nat_eq, map, is_none, false, option_map, IfOk};
+ghost use Rattle.std.specs.List.{list_all};
+ghost use Rattle.apex_meaning.specs.ServiceTable.{answer_words as words_answered};
+ghost use Rattle.apex_meaning.specs.WellFormed.{is_scalar, fits_argument, fits_arguments, fits_expr, fits_links, fits_exprs, fits_stmt, fits_block, kinds_hold_in_body, holds_of_bodies, holds_of_handler, holds_of_procedure};
+ghost use Rattle.pal_base.specs.View as view;
+ghost use Rattle.pal_base.specs.View.{texts, name_of, expr_of, exprs_of, links_of, stmt_of, block_of, body_of, program_of};
+ghost use Rattle.pal.specs.Tables.{entries_of};
+ghost use Rattle.pal.specs.Scopes.{names_of, sees};
+
 use crate::arguments::{answer_words, arguments_of};
 use crate::lines::{earlier, unless};
-use crate::scope::Scope;
+use crate::scope::{Scope, enter_body};
+use crate::table::NameTable;
 use apex_types::{ArgumentKind, Service};
-use pal_base::syntax::{Body, DeclarationKind, Expr, Identifier, Link, Program, Stmt, StmtKind};
+use indexmap::IndexSet;
+use pal_base::syntax::{
+    Body, Declaration, DeclarationKind, Expr, Identifier, Link, Process, Program, StackBody, Stmt,
+    StmtKind,
+};
+use std::alloc::{AllocError, Global};
 
 /// The first line at which a kind or a count is wrong, among the bodies of a program.
-pub fn kind_fault(scope: &mut Scope, program: &Program) -> Option<u32> {
-    let mut fault = body_fault(scope, false, &[], &program.init.body);
-    if let Some(handler) = &program.handler {
-        fault = earlier(fault, body_fault(scope, false, &[], &handler.body));
+pub fn kind_fault(
+    alloc: Global,
+    declared: &NameTable,
+    program: &Program,
+) -> Result<Option<u32>, AllocError>
+    ensures { IfOk result (λ fault. is_none fault ≡ holds_of_bodies (kinds_hold_in_body (entries_of declared.now)) (program_of program.now)) }
+{
+    let names = &program.names;
+    let init = body_fault(alloc, names, declared, false, &[], &program.init.body)?;
+    let handler = handler_fault(alloc, names, declared, &program.handler)?;
+    let processes = processes_fault(alloc, names, declared, &program.processes)?;
+    let procedures = procedures_fault(alloc, names, declared, &program.declarations)?;
+    Ok(earlier(earlier(earlier(init, handler), processes), procedures))
+}
+
+fn handler_fault(
+    alloc: Global,
+    names: &IndexSet<String>,
+    declared: &NameTable,
+    handler: &Option<StackBody>,
+) -> Result<Option<u32>, AllocError>
+    ensures { IfOk result (λ fault. is_none fault ≡ holds_of_handler (kinds_hold_in_body (entries_of declared.now)) (option_map (view.stack_body_of (texts names.now.keys)) handler.now)) }
+{
+    match handler {
+        Some(handler) => body_fault(alloc, names, declared, false, &[], &handler.body),
+        None => Ok(None),
     }
-    for process in &program.processes {
-        fault = earlier(fault, body_fault(scope, false, &[], &process.body));
+}
+
+fn processes_fault(
+    alloc: Global,
+    names: &IndexSet<String>,
+    declared: &NameTable,
+    processes: &[Process],
+) -> Result<Option<u32>, AllocError>
+    ensures { IfOk result (λ fault. is_none fault ≡ list_all (λ q. kinds_hold_in_body (entries_of declared.now) false [] q.body) (map (view.process_of (texts names.now.keys)) processes.now)) }
+{
+    let mut fault = None;
+    for process in processes {
+        fault = earlier(
+            fault,
+            body_fault(alloc, names, declared, false, &[], &process.body)?,
+        );
     }
-    for declaration in &program.declarations {
-        if let DeclarationKind::Procedure { parameters, body } = &declaration.kind {
-            fault = earlier(fault, body_fault(scope, true, parameters, body));
+    Ok(fault)
+}
+
+fn procedures_fault(
+    alloc: Global,
+    names: &IndexSet<String>,
+    declared: &NameTable,
+    declarations: &[Declaration],
+) -> Result<Option<u32>, AllocError>
+    ensures { IfOk result (λ fault. is_none fault ≡ list_all (λ d. holds_of_procedure (kinds_hold_in_body (entries_of declared.now)) d.kind) (map (view.declaration_of (texts names.now.keys)) declarations.now)) }
+{
+    let mut fault = None;
+    for declaration in declarations {
+        fault = earlier(
+            fault,
+            procedure_fault(alloc, names, declared, &declaration.kind)?,
+        );
+    }
+    Ok(fault)
+}
+
+fn procedure_fault(
+    alloc: Global,
+    names: &IndexSet<String>,
+    declared: &NameTable,
+    kind: &DeclarationKind,
+) -> Result<Option<u32>, AllocError>
+    ensures { IfOk result (λ fault. is_none fault ≡ holds_of_procedure (kinds_hold_in_body (entries_of declared.now)) (view.declared_of (texts names.now.keys) kind.now)) }
+{
+    match kind {
+        DeclarationKind::Procedure { parameters, body } => {
+            body_fault(alloc, names, declared, true, parameters, body)
         }
+        _ => Ok(None),
     }
-    fault
 }
 
 fn body_fault(
-    scope: &mut Scope,
+    alloc: Global,
+    names: &IndexSet<String>,
+    declared: &NameTable,
     returns: bool,
     parameters: &[Identifier],
     body: &Body,
-) -> Option<u32> {
-    let _ = scope.enter_body(parameters, &body.locals);
-    let fault = block_fault(scope, returns, &body.statements);
-    scope.leave_body(parameters, &body.locals);
-    fault
+) -> Result<Option<u32>, AllocError>
+    ensures { IfOk result (λ fault. is_none fault ≡ kinds_hold_in_body (entries_of declared.now) returns (map (name_of (texts names.now.keys)) parameters.now) (body_of (texts names.now.keys) body.now)) }
+{
+    let entered = enter_body(alloc, names, declared, parameters, &body.locals)?;
+    Ok(block_fault(&entered.scope, returns, &body.statements))
 }
 
 #[cycle(kinds_statement)]
-fn block_fault(scope: &Scope, returns: bool, block: &[Stmt]) -> Option<u32> {
+fn block_fault(scope: &Scope, returns: bool, block: &[Stmt]) -> Option<u32>
+    ensures { is_none result ≡ fits_block (sees scope.now) returns (block_of (names_of scope.now) block.now) }
+{
     let mut fault = None;
     for statement in block {
-        fault = earlier(fault, statement_fault(scope, returns, statement));
+        let inside = statement_fault(scope, returns, statement.line, &statement.kind);
+        fault = earlier(fault, inside);
     }
     fault
 }
 
 #[cycle(kinds_statement)]
-fn statement_fault(scope: &Scope, returns: bool, statement: &Stmt) -> Option<u32> {
-    let line = statement.line;
-    match &statement.kind {
+fn statement_fault(scope: &Scope, returns: bool, line: u32, statement: &StmtKind) -> Option<u32>
+    ensures { is_none result ≡ fits_stmt (sees scope.now) returns (view.kind_of (names_of scope.now) statement.now) }
+{
+    match statement {
         StmtKind::Assign(target, value) => {
             earlier(scope.no_scalar(*target), expression_fault(scope, value))
         }
@@ -59,9 +145,13 @@ fn statement_fault(scope: &Scope, returns: bool, statement: &Stmt) -> Option<u32
                 expression_fault(scope, value),
             ),
         ),
-        StmtKind::If(test, then) | StmtKind::While(test, then) => earlier(
+        StmtKind::If(test, then) => earlier(
             expression_fault(scope, test),
             block_fault(scope, returns, then),
+        ),
+        StmtKind::While(test, block) => earlier(
+            expression_fault(scope, test),
+            block_fault(scope, returns, block),
         ),
         StmtKind::IfElse(test, then, other) => earlier(
             expression_fault(scope, test),
@@ -76,7 +166,10 @@ fn statement_fault(scope: &Scope, returns: bool, statement: &Stmt) -> Option<u32
         }
         StmtKind::Request(service, arguments, targets) => earlier(
             arguments_fault(scope, line, arguments_of(*service), arguments),
-            targets_fault(scope, line, *service, targets),
+            earlier(
+                unless(targets.len() == answer_words(*service), line),
+                targets_fault(scope, targets),
+            ),
         ),
     }
 }
@@ -87,22 +180,22 @@ fn arguments_fault(
     line: u32,
     kinds: &[ArgumentKind],
     arguments: &[Expr],
-) -> Option<u32> {
-    let mut fault = None;
-    let mut left = kinds;
-    for argument in arguments {
-        match left.split_first() {
-            Some((kind, rest)) => {
-                fault = earlier(fault, argument_fault(scope, line, *kind, argument));
-                left = rest;
-            }
-            None => fault = earlier(fault, Some(line)),
-        }
+) -> Option<u32>
+    ensures { is_none result ≡ fits_arguments (sees scope.now) kinds.now (exprs_of (names_of scope.now) arguments.now) }
+{
+    match (kinds.split_first(), arguments.split_first()) {
+        (None, None) => None,
+        (Some((kind, kinds)), Some((argument, arguments))) => earlier(
+            argument_fault(scope, line, *kind, argument),
+            arguments_fault(scope, line, kinds, arguments),
+        ),
+        _ => Some(line),
     }
-    earlier(fault, unless(left.is_empty(), line))
 }
 
-fn argument_fault(scope: &Scope, line: u32, kind: ArgumentKind, argument: &Expr) -> Option<u32> {
+fn argument_fault(scope: &Scope, line: u32, kind: ArgumentKind, argument: &Expr) -> Option<u32>
+    ensures { is_none result ≡ fits_argument (sees scope.now) kind (expr_of (names_of scope.now) argument.now) }
+{
     match (kind, argument) {
         (ArgumentKind::Word, _) => expression_fault(scope, argument),
         (ArgumentKind::Array, Expr::Name(name)) => scope.no_array(*name),
@@ -111,14 +204,10 @@ fn argument_fault(scope: &Scope, line: u32, kind: ArgumentKind, argument: &Expr)
     }
 }
 
-/// The targets of a service: as many as the words that it answers, each a scalar.
-fn targets_fault(
-    scope: &Scope,
-    line: u32,
-    service: Service,
-    targets: &[Identifier],
-) -> Option<u32> {
-    let mut fault = unless(targets.len() == answer_words(service), line);
+fn targets_fault(scope: &Scope, targets: &[Identifier]) -> Option<u32>
+    ensures { is_none result ≡ list_all (λ x. is_scalar (sees scope.now x)) (map (name_of (names_of scope.now)) targets.now) }
+{
+    let mut fault = None;
     for target in targets {
         fault = earlier(fault, scope.no_scalar(*target));
     }
@@ -126,7 +215,9 @@ fn targets_fault(
 }
 
 #[cycle(kinds_expression)]
-fn expression_fault(scope: &Scope, expression: &Expr) -> Option<u32> {
+fn expression_fault(scope: &Scope, expression: &Expr) -> Option<u32>
+    ensures { is_none result ≡ fits_expr (sees scope.now) (expr_of (names_of scope.now) expression.now) }
+{
     match expression {
         Expr::Number(_) => None,
         Expr::Name(name) => scope.no_scalar(*name),
@@ -146,7 +237,9 @@ fn expression_fault(scope: &Scope, expression: &Expr) -> Option<u32> {
 }
 
 #[cycle(kinds_expression)]
-fn expressions_fault(scope: &Scope, expressions: &[Expr]) -> Option<u32> {
+fn expressions_fault(scope: &Scope, expressions: &[Expr]) -> Option<u32>
+    ensures { is_none result ≡ fits_exprs (sees scope.now) (exprs_of (names_of scope.now) expressions.now) }
+{
     let mut fault = None;
     for expression in expressions {
         fault = earlier(fault, expression_fault(scope, expression));
@@ -155,7 +248,9 @@ fn expressions_fault(scope: &Scope, expressions: &[Expr]) -> Option<u32> {
 }
 
 #[cycle(kinds_expression)]
-fn links_fault(scope: &Scope, links: &[Link]) -> Option<u32> {
+fn links_fault(scope: &Scope, links: &[Link]) -> Option<u32>
+    ensures { is_none result ≡ fits_links (sees scope.now) (links_of (names_of scope.now) links.now) }
+{
     let mut fault = None;
     for link in links {
         fault = earlier(fault, expression_fault(scope, &link.operand));

@@ -10,11 +10,14 @@ mod lines;
 mod meanings;
 mod names;
 mod numbers;
+mod operands;
 mod periods;
 mod report;
 mod resolving;
 mod scope;
+mod size;
 mod table;
+mod ticks;
 mod verdict;
 
 pub use report::{BodyCost, BodyName, cost_report};

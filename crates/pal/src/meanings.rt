@@ -1,30 +1,38 @@
 //! What the declared names of a program stand for.
 
-ghost use Rattle.std.specs.Prelude.{◌≡◌, ◌+◌};
-ghost use Rattle.apex_meaning.specs.Resolve.{slot as slot_of};
+ghost use Rattle.std.specs.Prelude.{◌≡◌, ◌+◌, ◌++◌, ◌&&◌, [], List, ℕ, ◌<◌, map, take, position, is_none, true, option_map, IfOk, IfSome};
+ghost use Rattle.apex_meaning.specs.Resolve as meant;
+ghost use Rattle.apex_meaning.specs.Resolve.{Entry, declared_entries, declaration_entries, process_entries, no_counts, declared_meaning};
+ghost use Rattle.apex_meaning.specs.WellFormed.{are_new};
+ghost use Rattle.std.specs.Str.{bytes_eq};
+ghost use Rattle.pal_base.specs.View as view;
+ghost use Rattle.pal_base.specs.View.{texts, declaration_of, declared_of, process_of, program_of};
+ghost use Rattle.pal.specs.Tables.{entries_of, counts_of};
 
 use crate::lines::{earlier, unless};
 use crate::numbers::{limited, value_of};
 use crate::table::{NameTable, text_of};
 use apex_types::{Meaning, ObjectKind, Place, PortRow};
-use pal_base::syntax::{DeclarationKind, Process, Program};
+use indexmap::IndexSet;
+use pal_base::syntax::{Declaration, DeclarationKind, Process, Program};
 use std::alloc::{AllocError, Global};
-use window_table::PartitionRow;
 
 /// How many words of data and how many of each kind are declared.
 #[derive(Clone, Copy)]
 pub struct Counts {
-    words: u32,
-    semaphores: u32,
-    events: u32,
-    buffers: u32,
-    blackboards: u32,
-    ports: u32,
-    procedures: u32,
+    pub words: u32,
+    pub semaphores: u32,
+    pub events: u32,
+    pub buffers: u32,
+    pub blackboards: u32,
+    pub ports: u32,
+    pub procedures: u32,
 }
 
 /// A count after so many more, where that is within its limit.
-fn counted(limit: u32, count: u32, more: u64) -> Option<u32> {
+fn counted(limit: u32, count: u32, more: u64) -> Option<u32>
+    ensures { result ≡ meant.counted limit count more }
+{
     match more.checked_add(count as u64) {
         Some(sum) if sum <= limit as u64 => Some(sum as u32),
         _ => None,
@@ -32,13 +40,15 @@ fn counted(limit: u32, count: u32, more: u64) -> Option<u32> {
 }
 
 /// The number of the next of a kind, from 1, where it is within its limit; else 0.
-fn next(limit: u32, count: u32) -> u32 {
+fn next(limit: u32, count: u32) -> u32
+    ensures { result ≡ meant.next limit count }
+{
     counted(limit, count, 1).unwrap_or(0)
 }
 
 /// The slot of the parameter or local with so many before it.
 pub fn slot(before: usize, index: usize) -> u16
-    ensures { result ≡ slot_of (before + index) }
+    ensures { result ≡ meant.slot (before + index) }
 {
     match before.checked_add(index) {
         Some(place) if place < 72 => place as u16,
@@ -46,14 +56,23 @@ pub fn slot(before: usize, index: usize) -> u16
     }
 }
 
+/// The place of the port with that name among the first 16 of a partition's ports.
+fn port_place(ports: &[PortRow], name: &str) -> Option<usize>
+    ensures exact { result ≡ position (λ p. bytes_eq p.name name.now) (take 16 ports.now) }
+    ensures small { IfSome result (λ place. place < 16) }
+{
+    let (first, _) = ports.split_at(ports.len().min(16));
+    first.iter().position(|port| port.name.as_str() == name)
+}
+
 /// The number of the port with that name among a partition's ports, from 1; 0 if there is none.
-fn port_number(ports: &[PortRow], name: &[u8]) -> u32 {
-    for (place, port) in ports.iter().enumerate() {
-        if port.name.as_bytes() == name && place < 16 {
-            return place as u32 + 1;
-        }
+fn port_number(ports: &[PortRow], name: &str) -> u32
+    ensures { result ≡ meant.port_number ports.now name.now }
+{
+    match port_place(ports, name) {
+        Some(place) => place as u32 + 1,
+        None => 0,
     }
-    0
 }
 
 impl Counts {
@@ -69,7 +88,9 @@ impl Counts {
     };
 
     /// What a name so declared stands for, where so much is declared before it.
-    fn meaning(&self, kind: &DeclarationKind, ports: &[PortRow], name: &[u8]) -> Meaning {
+    fn meaning(&self, kind: &DeclarationKind, ports: &[PortRow], name: &str) -> Meaning
+        ensures { (names : List (List ℕ)) → result ≡ declared_meaning ports.now (counts_of self.now) name.now (declared_of names kind.now) }
+    {
         match kind {
             DeclarationKind::Variable(_) => Meaning::Scalar(Place::Data(self.words)),
             DeclarationKind::Array { size, .. } => {
@@ -93,7 +114,9 @@ impl Counts {
     }
 
     /// The counts after one more declaration, where each is within its limit.
-    pub fn after(self, kind: &DeclarationKind) -> Option<Counts> {
+    pub fn after(self, kind: &DeclarationKind) -> Option<Counts>
+        ensures { (names : List (List ℕ)) → option_map counts_of result ≡ meant.after (counts_of self) (declared_of names kind.now) }
+    {
         let mut counts = self;
         match kind {
             DeclarationKind::Variable(_) => counts.words = counted(65_536, self.words, 1)?,
@@ -130,42 +153,58 @@ pub struct Declared<'a> {
 pub fn declared_names<'a>(
     alloc: Global,
     program: &'a Program,
-    row: &PartitionRow,
-) -> Result<Declared<'a>, AllocError> {
-    let mut table = NameTable::new(alloc, &program.names)?;
-    let one = enter_declarations(&mut table, program, &row.ports);
-    let other = enter_processes(&mut table, &program.processes);
+    ports: &[PortRow],
+) -> Result<Declared<'a>, AllocError>
+    ensures fresh { IfOk result (λ d. is_none d.fault ≡ are_new [] [] (declared_entries ports.now (program_of program.now))) }
+    ensures behind { IfOk result (λ d. is_none d.fault ≡ true → entries_of d.table ≡ declared_entries ports.now (program_of program.now)) }
+{
+    let names = &program.names;
+    let mut table = NameTable::new(alloc);
+    let one = enter_declarations(names, &mut table, &program.declarations, ports)?;
+    let other = enter_processes(names, &mut table, &program.processes)?;
     Ok(Declared {
         table,
         fault: earlier(one, other),
     })
 }
 
-fn enter_declarations(table: &mut NameTable, program: &Program, ports: &[PortRow]) -> Option<u32> {
+fn enter_declarations<'a>(
+    names: &'a IndexSet<String>,
+    table: &mut NameTable<'a>,
+    declarations: &[Declaration],
+    ports: &[PortRow],
+) -> Result<Option<u32>, AllocError>
+    ensures fresh { IfOk result (λ fault. (rest : List Entry) → (is_none fault && are_new [] (entries_of table.new) rest) ≡ are_new [] (entries_of table.old) (declaration_entries ports.now no_counts (map (declaration_of (texts names.now.keys)) declarations.now) ++ rest)) }
+    ensures behind { IfOk result (λ fault. is_none fault ≡ true → entries_of table.new ≡ entries_of table.old ++ declaration_entries ports.now no_counts (map (declaration_of (texts names.now.keys)) declarations.now)) }
+{
     let mut counts = Counts::NONE;
     let mut fault = None;
-    for declaration in &program.declarations {
-        let name = declaration.name.name;
-        let text = text_of(&program.names, name);
+    for declaration in declarations {
+        let text = text_of(names, declaration.name.name);
         let meaning = counts.meaning(&declaration.kind, ports, text);
-        let is_new = table.enter(name, meaning);
+        let is_new = table.enter(text, meaning)?;
         fault = earlier(fault, unless(is_new, declaration.line));
         counts = counts.after(&declaration.kind).unwrap_or(counts);
     }
-    fault
+    Ok(fault)
 }
 
-fn enter_processes(table: &mut NameTable, processes: &[Process]) -> Option<u32> {
+fn enter_processes<'a>(
+    names: &'a IndexSet<String>,
+    table: &mut NameTable<'a>,
+    processes: &[Process],
+) -> Result<Option<u32>, AllocError>
+    ensures fresh { IfOk result (λ fault. (rest : List Entry) → (is_none fault && are_new [] (entries_of table.new) rest) ≡ are_new [] (entries_of table.old) (process_entries 0 (map (process_of (texts names.now.keys)) processes.now) ++ rest)) }
+    ensures behind { IfOk result (λ fault. is_none fault ≡ true → entries_of table.new ≡ entries_of table.old ++ process_entries 0 (map (process_of (texts names.now.keys)) processes.now)) }
+{
     let mut count = 0;
     let mut fault = None;
     for process in processes {
+        let text = text_of(names, process.name.name);
         let number = next(31, count);
-        let is_new = table.enter(
-            process.name.name,
-            Meaning::Object(ObjectKind::Process, number),
-        );
+        let is_new = table.enter(text, Meaning::Object(ObjectKind::Process, number))?;
         fault = earlier(fault, unless(is_new, process.line));
         count = counted(31, count, 1).unwrap_or(count);
     }
-    fault
+    Ok(fault)
 }

@@ -1,78 +1,114 @@
 //! The program with its names resolved. What is refused elsewhere stands as 0 here: a number beyond
 //! its limit, and a name that is not of the kind that is wanted.
 
+ghost use Rattle.std.specs.Prelude.{◌≡◌, ◌++◌, ◌-◌, ◌^◌, List, ℕ, pos, map, length, replicate, flat_map, filter_map, option_map, IfOk, OnOk};
+ghost use Rattle.apex_meaning.specs.Program as tree;
+ghost use Rattle.apex_meaning.specs.Resolve as meant;
+ghost use Rattle.apex_meaning.specs.Resolve.{no_counts, counts_of, words_of, array_words, semaphore_of, buffer_of, blackboard_of, resolve_expr, resolve_exprs, resolve_links, resolve_stmt, resolve_block};
+ghost use Rattle.pal_base.specs.View as view;
+ghost use Rattle.pal_base.specs.View.{texts, name_of, number_of, integer_of};
+ghost use Rattle.pal_base.specs.ProgramView as shown;
+ghost use Rattle.pal.specs.Tables.{entries_of};
+ghost use Rattle.pal.specs.Scopes.{names_of, sees};
+ghost use Rattle.pal.specs.Parts.{resolve_among, exprs_onto};
+
 use crate::arguments::arguments_of;
 use crate::meanings::Counts;
 use crate::numbers::{limited, signed_word_of, word_of};
-use crate::scope::Scope;
-use crate::table::text_of;
+use crate::scope::{Scope, enter_body};
+use crate::table::{NameTable, text_of};
 use apex_types::{
     ArgumentKind, BlackboardRow, BufferRow, Discipline, Name, Place, Priority, SemaphoreRow,
 };
-use pal_base::fault::PalFault;
+use indexmap::IndexSet;
 use pal_base::program;
 use pal_base::syntax::{
     Body, Declaration, DeclarationKind, Expr, Identifier, Link, Numeral, Process, Program,
     StackBody, Stmt, StmtKind,
 };
-use std::alloc::Global;
+use std::alloc::{AllocError, Global};
 
 /// The program with its names resolved.
 pub fn resolve(
     alloc: Global,
-    scope: &mut Scope,
+    declared: &NameTable,
     program: &Program,
-) -> Result<program::Program, PalFault> {
-    let init = resolve_stack_body(alloc, scope, &program.init)?;
-    let handler = match &program.handler {
-        Some(handler) => Some(resolve_stack_body(alloc, scope, handler)?),
-        None => None,
-    };
-    let mut processes = Vec::new(alloc);
-    for process in &program.processes {
-        processes.push(resolve_process(alloc, scope, program, process)?)?;
-    }
+) -> Result<program::Program, AllocError>
+    ensures { IfOk result (λ resolved. shown.program_of resolved ≡ resolve_among (entries_of declared.now) (view.program_of program.now)) }
+{
+    let names = &program.names;
+    let declarations = &program.declarations;
     Ok(program::Program {
-        initial: initial_of(alloc, &program.declarations)?,
-        semaphores: semaphores_of(alloc, &program.declarations)?,
-        events: events_of(&program.declarations),
-        buffers: buffers_of(alloc, &program.declarations)?,
-        blackboards: blackboards_of(alloc, &program.declarations)?,
-        procedures: resolve_procedures(alloc, scope, program)?,
-        init,
-        handler,
-        processes,
+        initial: initial_of(alloc, declarations)?,
+        semaphores: semaphores_of(alloc, declarations)?,
+        events: events_of(declarations)?,
+        buffers: buffers_of(alloc, declarations)?,
+        blackboards: blackboards_of(alloc, declarations)?,
+        procedures: resolve_procedures(alloc, names, declared, declarations)?,
+        init: resolve_body(
+            alloc,
+            names,
+            declared,
+            &program.init.stack,
+            &program.init.body,
+        )?,
+        handler: resolve_handler(alloc, names, declared, &program.handler)?,
+        processes: resolve_processes(alloc, names, declared, &program.processes)?,
     })
 }
 
 /// The words of the variables and arrays in the order of declaration.
-fn initial_of(alloc: Global, declarations: &[Declaration]) -> Result<Vec<i64>, PalFault> {
+fn initial_of(alloc: Global, declarations: &[Declaration]) -> Result<Vec<i64>, AllocError>
+    ensures { IfOk result (λ words. (names : List (List ℕ)) → words.items ≡ flat_map (λ d. words_of d.kind) (map (view.declaration_of names) declarations.now)) }
+{
     let mut words = Vec::new(alloc);
     for declaration in declarations {
-        match &declaration.kind {
-            DeclarationKind::Variable(Some(value)) => words.push(signed_word_of(value))?,
-            DeclarationKind::Variable(None) => words.push(0)?,
-            DeclarationKind::Array { size, values } => {
-                push_array(&mut words, limited(65_536, size) as usize, values)?;
-            }
-            _ => {}
-        }
+        push_words(&mut words, &declaration.kind)?;
     }
     Ok(words)
 }
 
-/// The words of an array: its first values, and zeros behind them.
-fn push_array(words: &mut Vec<i64>, size: usize, values: &[Numeral]) -> Result<(), PalFault> {
-    for value in values {
-        words.push(signed_word_of(value))?;
-    }
-    for _ in values.len()..size {
-        words.push(0)?;
+/// The words that a declaration makes.
+fn push_words(words: &mut Vec<i64>, kind: &DeclarationKind) -> Result<(), AllocError>
+    ensures { OnOk result ((names : List (List ℕ)) → words.new.items ≡ words.old.items ++ words_of (view.declared_of names kind.now)) }
+{
+    match kind {
+        DeclarationKind::Variable(Some(value)) => words.push(signed_word_of(value))?,
+        DeclarationKind::Variable(None) => words.push(0)?,
+        DeclarationKind::Array { size, values } => {
+            let size = limited(65_536, size) as usize;
+            push_values(words, values)?;
+            push_zeros(words, size.saturating_sub(values.len()))?;
+        }
+        _ => {}
     }
     Ok(())
 }
 
-fn semaphore_row(first: &Numeral, maximum: &Numeral, discipline: Discipline) -> SemaphoreRow {
+fn push_values(words: &mut Vec<i64>, values: &[Numeral]) -> Result<(), AllocError>
+    ensures { OnOk result (words.new.items ≡ words.old.items ++ map meant.signed_word (map integer_of values.now)) }
+{
+    for value in values {
+        words.push(signed_word_of(value))?;
+    }
+    Ok(())
+}
+
+fn push_zeros(words: &mut Vec<i64>, count: usize) -> Result<(), AllocError>
+    ensures { OnOk result (words.new.items ≡ words.old.items ++ replicate count (pos 0)) }
+{
+    let Some(end) = words.len().checked_add(count) else {
+        return Err(AllocError);
+    };
+    words.resize(end, 0)?;
+    Ok(())
+}
+
+fn semaphore_row(first: &Numeral, maximum: &Numeral, discipline: Discipline) -> SemaphoreRow
+    ensures value { result.value ≡ meant.within 1000000 (number_of first.now) }
+    ensures maximum { result.maximum ≡ meant.within 1000000 (number_of maximum.now) }
+    ensures discipline { result.discipline ≡ discipline }
+{
     SemaphoreRow {
         value: limited(1_000_000, first) as u32,
         maximum: limited(1_000_000, maximum) as u32,
@@ -83,7 +119,9 @@ fn semaphore_row(first: &Numeral, maximum: &Numeral, discipline: Discipline) -> 
 fn semaphores_of(
     alloc: Global,
     declarations: &[Declaration],
-) -> Result<Vec<SemaphoreRow>, PalFault> {
+) -> Result<Vec<SemaphoreRow>, AllocError>
+    ensures { IfOk result (λ rows. (names : List (List ℕ)) → rows.items ≡ filter_map (λ d. semaphore_of d.kind) (map (view.declaration_of names) declarations.now)) }
+{
     let mut rows = Vec::new(alloc);
     for declaration in declarations {
         if let DeclarationKind::Semaphore {
@@ -99,27 +137,22 @@ fn semaphores_of(
 }
 
 /// How many events are declared, up to 16.
-fn events_of(declarations: &[Declaration]) -> u8 {
-    let mut events: u8 = 0;
+fn events_of(declarations: &[Declaration]) -> Result<u8, AllocError>
+    ensures { IfOk result (λ events. (names : List (List ℕ)) → events ≡ (counts_of no_counts (map (view.declaration_of names) declarations.now)).events) }
+{
+    let mut counts = Counts::NONE;
     for declaration in declarations {
-        if let DeclarationKind::Event = &declaration.kind {
-            if events < 16 {
-                events += 1;
-            }
-        }
+        counts = counts.after(&declaration.kind).unwrap_or(counts);
     }
-    events
-}
-
-fn buffer_row(words: &Numeral, messages: &Numeral, discipline: Discipline) -> BufferRow {
-    BufferRow {
-        words: limited(16, words) as u8,
-        depth: limited(32, messages) as u8,
-        discipline,
+    match u8::try_from(counts.events) {
+        Ok(events) => Ok(events),
+        Err(_) => Err(AllocError),
     }
 }
 
-fn buffers_of(alloc: Global, declarations: &[Declaration]) -> Result<Vec<BufferRow>, PalFault> {
+fn buffers_of(alloc: Global, declarations: &[Declaration]) -> Result<Vec<BufferRow>, AllocError>
+    ensures { IfOk result (λ rows. (names : List (List ℕ)) → rows.items ≡ filter_map (λ d. buffer_of d.kind) (map (view.declaration_of names) declarations.now)) }
+{
     let mut rows = Vec::new(alloc);
     for declaration in declarations {
         if let DeclarationKind::Buffer {
@@ -128,38 +161,44 @@ fn buffers_of(alloc: Global, declarations: &[Declaration]) -> Result<Vec<BufferR
             discipline,
         } = &declaration.kind
         {
-            rows.push(buffer_row(words, messages, *discipline))?;
+            rows.push(BufferRow {
+                words: limited(16, words) as u8,
+                depth: limited(32, messages) as u8,
+                discipline: *discipline,
+            })?;
         }
     }
     Ok(rows)
 }
 
-fn blackboard_row(words: &Numeral) -> BlackboardRow {
-    BlackboardRow {
-        words: limited(16, words) as u8,
-    }
-}
-
 fn blackboards_of(
     alloc: Global,
     declarations: &[Declaration],
-) -> Result<Vec<BlackboardRow>, PalFault> {
+) -> Result<Vec<BlackboardRow>, AllocError>
+    ensures { IfOk result (λ rows. (names : List (List ℕ)) → rows.items ≡ filter_map (λ d. blackboard_of d.kind) (map (view.declaration_of names) declarations.now)) }
+{
     let mut rows = Vec::new(alloc);
     for declaration in declarations {
         if let DeclarationKind::Blackboard { words } = &declaration.kind {
-            rows.push(blackboard_row(words))?;
+            rows.push(BlackboardRow {
+                words: limited(16, words) as u8,
+            })?;
         }
     }
     Ok(rows)
 }
 
 /// The name of a process or a procedure. It has the form of a name where no limit is passed.
-fn name_of(program: &Program, name: Identifier) -> Result<Name, PalFault> {
-    Name::new(text_of(&program.names, name.name)).ok_or(PalFault::MEMORY)
+fn name_at(names: &IndexSet<String>, name: Identifier) -> Result<Name, AllocError>
+    ensures { IfOk result (λ found. found ≡ name_of (texts names.now.keys) name) }
+{
+    Name::new(text_of(names, name.name).as_bytes()).ok_or(AllocError)
 }
 
 /// A count up to a limit; beyond that it is 0.
-fn limited_count(limit: u8, count: usize) -> u8 {
+pub fn limited_count(limit: u8, count: usize) -> u8
+    ensures { result ≡ meant.count_within limit count }
+{
     if count <= limit as usize {
         count as u8
     } else {
@@ -169,73 +208,116 @@ fn limited_count(limit: u8, count: usize) -> u8 {
 
 fn resolve_procedures(
     alloc: Global,
-    scope: &mut Scope,
-    program: &Program,
-) -> Result<Vec<program::Procedure>, PalFault> {
+    names: &IndexSet<String>,
+    declared: &NameTable,
+    declarations: &[Declaration],
+) -> Result<Vec<program::Procedure>, AllocError>
+    ensures { IfOk result (λ procedures. map shown.procedure_of procedures.items ≡ filter_map (λ d. meant.procedure_of (entries_of declared.now) d.kind) (map (view.declaration_of (texts names.now.keys)) declarations.now)) }
+{
     let mut procedures = Vec::new(alloc);
-    for declaration in &program.declarations {
+    for declaration in declarations {
         if let DeclarationKind::Procedure { parameters, body } = &declaration.kind {
+            let name = name_at(names, declaration.name)?;
             procedures.push(program::Procedure {
-                name: name_of(program, declaration.name)?,
+                name,
                 parameters: limited_count(8, parameters.len()),
                 locals: limited_count(64, body.locals.len()),
-                block: resolve_body(alloc, scope, parameters, body)?,
+                block: resolve_statements(alloc, names, declared, parameters, body)?,
             })?;
         }
     }
     Ok(procedures)
 }
 
-fn resolve_stack_body(
+/// The body of INIT, of the handler or of a process, and its stack.
+pub fn resolve_body(
     alloc: Global,
-    scope: &mut Scope,
-    body: &StackBody,
-) -> Result<program::Body, PalFault> {
+    names: &IndexSet<String>,
+    declared: &NameTable,
+    stack: &Numeral,
+    body: &Body,
+) -> Result<program::Body, AllocError>
+    ensures { IfOk result (λ resolved. shown.body_of resolved ≡ meant.resolve_body (entries_of declared.now) (number_of stack.now) (view.body_of (texts names.now.keys) body.now)) }
+{
     Ok(program::Body {
-        stack: limited(4_096, &body.stack) as u16,
-        locals: limited_count(64, body.body.locals.len()),
-        block: resolve_body(alloc, scope, &[], &body.body)?,
+        stack: limited(4_096, stack) as u16,
+        locals: limited_count(64, body.locals.len()),
+        block: resolve_statements(alloc, names, declared, &[], body)?,
     })
+}
+
+fn resolve_handler(
+    alloc: Global,
+    names: &IndexSet<String>,
+    declared: &NameTable,
+    handler: &Option<StackBody>,
+) -> Result<Option<program::Body>, AllocError>
+    ensures { IfOk result (λ resolved. option_map shown.body_of resolved ≡ option_map (meant.resolve_stack_body (entries_of declared.now)) (option_map (view.stack_body_of (texts names.now.keys)) handler.now)) }
+{
+    match handler {
+        Some(handler) => {
+            let body = resolve_body(alloc, names, declared, &handler.stack, &handler.body)?;
+            Ok(Some(body))
+        }
+        None => Ok(None),
+    }
+}
+
+fn resolve_processes(
+    alloc: Global,
+    names: &IndexSet<String>,
+    declared: &NameTable,
+    processes: &[Process],
+) -> Result<Vec<program::Process>, AllocError>
+    ensures { IfOk result (λ resolved. map shown.process_of resolved.items ≡ map (meant.resolve_process (entries_of declared.now)) (map (view.process_of (texts names.now.keys)) processes.now)) }
+{
+    let mut resolved = Vec::new(alloc);
+    for process in processes {
+        resolved.push(resolve_process(alloc, names, declared, process)?)?;
+    }
+    Ok(resolved)
 }
 
 fn resolve_process(
     alloc: Global,
-    scope: &mut Scope,
-    program: &Program,
+    names: &IndexSet<String>,
+    declared: &NameTable,
     process: &Process,
-) -> Result<program::Process, PalFault> {
+) -> Result<program::Process, AllocError>
+    ensures { IfOk result (λ resolved. shown.process_of resolved ≡ meant.resolve_process (entries_of declared.now) (view.process_of (texts names.now.keys) process.now)) }
+{
     Ok(program::Process {
-        name: name_of(program, process.name)?,
+        name: name_at(names, process.name)?,
         priority: Priority(limited(239, &process.priority) as u8),
         period: time_of(&process.period),
         capacity: time_of(&process.capacity),
-        body: program::Body {
-            stack: limited(4_096, &process.stack) as u16,
-            locals: limited_count(64, process.body.locals.len()),
-            block: resolve_body(alloc, scope, &[], &process.body)?,
-        },
+        body: resolve_body(alloc, names, declared, &process.stack, &process.body)?,
     })
 }
 
 /// A time in ticks; one with a minus sign is infinite.
-fn time_of(number: &Numeral) -> Option<u64> {
+fn time_of(number: &Numeral) -> Option<u64>
+    ensures { result ≡ meant.time_of (integer_of number.now) }
+{
     if number.negative {
         None
     } else {
-        Some(limited(1 << 40, number))
+        Some(limited(1_099_511_627_776, number))
     }
 }
 
-fn resolve_body(
+/// The statements of a body with these parameters.
+pub fn resolve_statements(
     alloc: Global,
-    scope: &mut Scope,
+    names: &IndexSet<String>,
+    declared: &NameTable,
     parameters: &[Identifier],
     body: &Body,
-) -> Result<Vec<program::Stmt>, PalFault> {
-    let _ = scope.enter_body(parameters, &body.locals);
-    let block = resolve_block(alloc, scope, &body.statements);
-    scope.leave_body(parameters, &body.locals);
-    block
+) -> Result<Vec<program::Stmt>, AllocError>
+    ensures { IfOk result (λ block. shown.block_of block.items ≡ meant.resolve_body_block (entries_of declared.now) (map (name_of (texts names.now.keys)) parameters.now) (view.body_of (texts names.now.keys) body.now)) }
+{
+    let entered = enter_body(alloc, names, declared, parameters, &body.locals)?;
+    resolve_block(alloc, &entered.scope, &body.statements)
 }
 
 #[cycle(resolve_statement)]
@@ -243,10 +325,12 @@ fn resolve_block(
     alloc: Global,
     scope: &Scope,
     block: &[Stmt],
-) -> Result<Vec<program::Stmt>, PalFault> {
+) -> Result<Vec<program::Stmt>, AllocError>
+    ensures { IfOk result (λ resolved. shown.block_of resolved.items ≡ resolve_block (sees scope.now) (view.block_of (names_of scope.now) block.now)) }
+{
     let mut statements = Vec::new(alloc);
     for statement in block {
-        statements.push(resolve_statement(alloc, scope, statement)?)?;
+        statements.push(resolve_statement(alloc, scope, &statement.kind)?)?;
     }
     Ok(statements)
 }
@@ -255,49 +339,58 @@ fn resolve_block(
 fn resolve_statement(
     alloc: Global,
     scope: &Scope,
-    statement: &Stmt,
-) -> Result<program::Stmt, PalFault> {
-    Ok(match &statement.kind {
-        StmtKind::Assign(target, value) => program::Stmt::Assign(
-            scope.place(*target),
-            resolve_expression(alloc, scope, value)?,
-        ),
+    statement: &StmtKind,
+) -> Result<program::Stmt, AllocError>
+    ensures { IfOk result (λ resolved. shown.stmt_of resolved ≡ resolve_stmt (sees scope.now) (view.kind_of (names_of scope.now) statement.now)) }
+{
+    match statement {
+        StmtKind::Assign(target, value) => {
+            let value = resolve_expression(alloc, scope, value)?;
+            Ok(program::Stmt::Assign(scope.place(*target), value))
+        }
         StmtKind::AssignElement(array, index, value) => {
             let (place, size) = scope.array(*array);
             let index = resolve_expression(alloc, scope, index)?;
             let value = resolve_expression(alloc, scope, value)?;
-            program::Stmt::AssignElement(place, size, index, value)
+            Ok(program::Stmt::AssignElement(place, size, index, value))
         }
-        StmtKind::If(test, then) => program::Stmt::If(
-            resolve_expression(alloc, scope, test)?,
-            resolve_block(alloc, scope, then)?,
-        ),
-        StmtKind::IfElse(test, then, other) => program::Stmt::IfElse(
-            resolve_expression(alloc, scope, test)?,
-            resolve_block(alloc, scope, then)?,
-            resolve_block(alloc, scope, other)?,
-        ),
-        StmtKind::While(test, block) => program::Stmt::While(
-            resolve_expression(alloc, scope, test)?,
-            resolve_block(alloc, scope, block)?,
-        ),
-        StmtKind::Work(ticks) => program::Stmt::Work(limited(1_000_000, ticks) as u32),
+        StmtKind::If(test, then) => {
+            let test = resolve_expression(alloc, scope, test)?;
+            let then = resolve_block(alloc, scope, then)?;
+            Ok(program::Stmt::If(test, then))
+        }
+        StmtKind::IfElse(test, then, other) => {
+            let test = resolve_expression(alloc, scope, test)?;
+            let then = resolve_block(alloc, scope, then)?;
+            let other = resolve_block(alloc, scope, other)?;
+            Ok(program::Stmt::IfElse(test, then, other))
+        }
+        StmtKind::While(test, block) => {
+            let test = resolve_expression(alloc, scope, test)?;
+            let block = resolve_block(alloc, scope, block)?;
+            Ok(program::Stmt::While(test, block))
+        }
+        StmtKind::Work(ticks) => Ok(program::Stmt::Work(limited(1_000_000, ticks) as u32)),
         StmtKind::Return(value) => {
-            program::Stmt::Return(resolve_expression(alloc, scope, value)?)
+            let value = resolve_expression(alloc, scope, value)?;
+            Ok(program::Stmt::Return(value))
         }
-        StmtKind::Request(service, arguments, targets) => program::Stmt::Request(
-            *service,
-            resolve_arguments(alloc, scope, arguments_of(*service), arguments)?,
-            resolve_targets(alloc, scope, targets)?,
-        ),
-    })
+        StmtKind::Request(service, arguments, targets) => {
+            let kinds = arguments_of(*service);
+            let arguments = resolve_arguments(alloc, scope, kinds, arguments)?;
+            let targets = resolve_targets(alloc, scope, targets)?;
+            Ok(program::Stmt::Request(*service, arguments, targets))
+        }
+    }
 }
 
 fn resolve_targets(
     alloc: Global,
     scope: &Scope,
     targets: &[Identifier],
-) -> Result<Vec<Place>, PalFault> {
+) -> Result<Vec<Place>, AllocError>
+    ensures { IfOk result (λ places. places.items ≡ map (λ x. meant.place_of (sees scope.now x)) (map (name_of (names_of scope.now)) targets.now)) }
+{
     let mut places = Vec::new(alloc);
     for target in targets {
         places.push(scope.place(*target))?;
@@ -311,17 +404,30 @@ fn resolve_arguments(
     scope: &Scope,
     kinds: &[ArgumentKind],
     arguments: &[Expr],
-) -> Result<Vec<program::Expr>, PalFault> {
+) -> Result<Vec<program::Expr>, AllocError>
+    ensures { IfOk result (λ words. shown.exprs_of words.items ≡ meant.resolve_arguments (sees scope.now) kinds.now (view.exprs_of (names_of scope.now) arguments.now)) }
+{
     let mut words = Vec::new(alloc);
-    let mut left = kinds;
-    for argument in arguments {
-        let Some((kind, rest)) = left.split_first() else {
-            break;
-        };
-        push_argument(alloc, &mut words, scope, *kind, argument)?;
-        left = rest;
-    }
+    push_arguments(alloc, &mut words, scope, kinds, arguments)?;
     Ok(words)
+}
+
+fn push_arguments(
+    alloc: Global,
+    words: &mut Vec<program::Expr>,
+    scope: &Scope,
+    kinds: &[ArgumentKind],
+    arguments: &[Expr],
+) -> Result<(), AllocError>
+    ensures { OnOk result (shown.exprs_of words.new.items ≡ exprs_onto words.old.items (meant.resolve_arguments (sees scope.now) kinds.now (view.exprs_of (names_of scope.now) arguments.now))) }
+{
+    match (kinds.split_first(), arguments.split_first()) {
+        (Some((kind, kinds)), Some((argument, arguments))) => {
+            push_argument(alloc, words, scope, *kind, argument)?;
+            push_arguments(alloc, words, scope, kinds, arguments)
+        }
+        _ => Ok(()),
+    }
 }
 
 fn push_argument(
@@ -330,30 +436,62 @@ fn push_argument(
     scope: &Scope,
     kind: ArgumentKind,
     argument: &Expr,
-) -> Result<(), PalFault> {
+) -> Result<(), AllocError>
+    ensures { OnOk result ((rest : tree.Exprs) → exprs_onto words.new.items rest ≡ exprs_onto words.old.items (meant.resolve_argument (sees scope.now) kind (view.expr_of (names_of scope.now) argument.now) rest)) }
+{
     match kind {
         ArgumentKind::Word => words.push(resolve_expression(alloc, scope, argument)?)?,
         ArgumentKind::Array => {
-            let (place, size) = named_array(scope, argument);
-            words.push(program::Expr::Literal(place as i64))?;
-            words.push(program::Expr::Literal(size))?;
+            words.push(array_place(scope, argument))?;
+            words.push(array_size(scope, argument))?;
         }
-        ArgumentKind::Object(_) => {
-            let number = named_number(scope, argument);
-            words.push(program::Expr::Literal(number as i64))?;
-        }
+        ArgumentKind::Object(_) => words.push(object_number(scope, argument))?,
     }
     Ok(())
 }
 
-fn named_array(scope: &Scope, argument: &Expr) -> (u32, i64) {
+/// The place of the array that an argument names, as a word.
+fn array_place(scope: &Scope, argument: &Expr) -> program::Expr
+    ensures { shown.expr_of result ≡ tree.Literal (pos (meant.array_place_of (meant.named (sees scope.now) (view.expr_of (names_of scope.now) argument.now)))) }
+{
+    program::Expr::Literal(named_array_place(scope, argument) as i64)
+}
+
+/// The size of the array that an argument names.
+fn array_size(scope: &Scope, argument: &Expr) -> program::Expr
+    ensures { shown.expr_of result ≡ tree.Literal (meant.array_size_of (meant.named (sees scope.now) (view.expr_of (names_of scope.now) argument.now))) }
+{
+    program::Expr::Literal(named_array_size(scope, argument))
+}
+
+/// The number of the object that an argument names, as a word.
+fn object_number(scope: &Scope, argument: &Expr) -> program::Expr
+    ensures { shown.expr_of result ≡ tree.Literal (pos (meant.object_number_of (meant.named (sees scope.now) (view.expr_of (names_of scope.now) argument.now)))) }
+{
+    program::Expr::Literal(named_number(scope, argument) as i64)
+}
+
+fn named_array_place(scope: &Scope, argument: &Expr) -> u32
+    ensures { result ≡ meant.array_place_of (meant.named (sees scope.now) (view.expr_of (names_of scope.now) argument.now)) }
+{
     match argument {
-        Expr::Name(name) => scope.array(*name),
-        _ => (0, 0),
+        Expr::Name(name) => scope.array(*name).0,
+        _ => 0,
     }
 }
 
-fn named_number(scope: &Scope, argument: &Expr) -> u32 {
+fn named_array_size(scope: &Scope, argument: &Expr) -> i64
+    ensures { result ≡ meant.array_size_of (meant.named (sees scope.now) (view.expr_of (names_of scope.now) argument.now)) }
+{
+    match argument {
+        Expr::Name(name) => scope.array(*name).1,
+        _ => 0,
+    }
+}
+
+fn named_number(scope: &Scope, argument: &Expr) -> u32
+    ensures { result ≡ meant.object_number_of (meant.named (sees scope.now) (view.expr_of (names_of scope.now) argument.now)) }
+{
     match argument {
         Expr::Name(name) => scope.number(*name),
         _ => 0,
@@ -365,30 +503,32 @@ fn resolve_expression(
     alloc: Global,
     scope: &Scope,
     expression: &Expr,
-) -> Result<program::Expr, PalFault> {
-    Ok(match expression {
-        Expr::Number(number) => program::Expr::Literal(word_of(number)),
-        Expr::Name(name) => program::Expr::Read(scope.place(*name)),
+) -> Result<program::Expr, AllocError>
+    ensures { IfOk result (λ resolved. shown.expr_of resolved ≡ resolve_expr (sees scope.now) (view.expr_of (names_of scope.now) expression.now)) }
+{
+    match expression {
+        Expr::Number(number) => Ok(program::Expr::Literal(word_of(number))),
+        Expr::Name(name) => Ok(program::Expr::Read(scope.place(*name))),
         Expr::Element(array, index) => {
             let (place, size) = scope.array(*array);
-            let index = resolve_expression(alloc, scope, index)?;
-            program::Expr::Element(place, size, Box::new(alloc, index)?)
+            let index = Box::new(alloc, resolve_expression(alloc, scope, index)?)?;
+            Ok(program::Expr::Element(place, size, index))
         }
-        Expr::Apply(procedure, arguments) => program::Expr::Apply(
-            scope.procedure(*procedure),
-            resolve_expressions(alloc, scope, arguments)?,
-        ),
-        Expr::Parenthesis(inside) => resolve_expression(alloc, scope, inside)?,
+        Expr::Apply(procedure, arguments) => {
+            let arguments = resolve_expressions(alloc, scope, arguments)?;
+            Ok(program::Expr::Apply(scope.procedure(*procedure), arguments))
+        }
+        Expr::Parenthesis(inside) => resolve_expression(alloc, scope, inside),
         Expr::Unary(operator, operand) => {
-            let operand = resolve_expression(alloc, scope, operand)?;
-            program::Expr::Unary(*operator, Box::new(alloc, operand)?)
+            let operand = Box::new(alloc, resolve_expression(alloc, scope, operand)?)?;
+            Ok(program::Expr::Unary(*operator, operand))
         }
         Expr::Chain(first, rest) => {
-            let first = resolve_expression(alloc, scope, first)?;
+            let first = Box::new(alloc, resolve_expression(alloc, scope, first)?)?;
             let rest = resolve_links(alloc, scope, rest)?;
-            program::Expr::Chain(Box::new(alloc, first)?, rest)
+            Ok(program::Expr::Chain(first, rest))
         }
-    })
+    }
 }
 
 #[cycle(resolve_expression)]
@@ -396,7 +536,9 @@ fn resolve_expressions(
     alloc: Global,
     scope: &Scope,
     expressions: &[Expr],
-) -> Result<Vec<program::Expr>, PalFault> {
+) -> Result<Vec<program::Expr>, AllocError>
+    ensures { IfOk result (λ resolved. shown.exprs_of resolved.items ≡ resolve_exprs (sees scope.now) (view.exprs_of (names_of scope.now) expressions.now)) }
+{
     let mut resolved = Vec::new(alloc);
     for expression in expressions {
         resolved.push(resolve_expression(alloc, scope, expression)?)?;
@@ -409,7 +551,9 @@ fn resolve_links(
     alloc: Global,
     scope: &Scope,
     links: &[Link],
-) -> Result<Vec<program::Link>, PalFault> {
+) -> Result<Vec<program::Link>, AllocError>
+    ensures { IfOk result (λ resolved. shown.links_of resolved.items ≡ resolve_links (sees scope.now) (view.links_of (names_of scope.now) links.now)) }
+{
     let mut resolved = Vec::new(alloc);
     for link in links {
         let operand = resolve_expression(alloc, scope, &link.operand)?;

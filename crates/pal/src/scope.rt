@@ -1,8 +1,17 @@
 //! The names that a body sees.
 
+ghost use Rattle.std.specs.Prelude.{◌≡◌, ◌++◌, ◌&&◌, ◌+◌, [], List, ℕ, map, is_none, is_some, IfOk, OnOk};
+ghost use Rattle.apex_meaning.specs.Resolve as resolve;
+ghost use Rattle.apex_meaning.specs.Resolve.{Entry, own_entries, scope_of, find, place_of, array_place_of, array_size_of, object_number_of, procedure_number_of};
+ghost use Rattle.apex_meaning.specs.WellFormed as well_formed;
+ghost use Rattle.apex_meaning.specs.WellFormed.{are_new};
+ghost use Rattle.pal_base.specs.View.{texts, name_of};
+ghost use Rattle.pal.specs.Tables.{entries_of};
+ghost use Rattle.pal.specs.Scopes.{names_of, sees};
+
 use crate::lines::{earlier, unless};
 use crate::meanings::slot;
-use crate::table::NameTable;
+use crate::table::{NameTable, text_of};
 use apex_types::{Meaning, ObjectKind, Place};
 use indexmap::IndexSet;
 use pal_base::syntax::Identifier;
@@ -11,105 +20,130 @@ use std::alloc::{AllocError, Global};
 /// What the names stand for in a body: its parameters and locals, and what the program declares.
 #[derive(Drop)]
 pub struct Scope<'a> {
+    pub names: &'a IndexSet<String>,
+    pub declared: &'a NameTable<'a>,
     pub own: NameTable<'a>,
-    pub declared: NameTable<'a>,
+}
+
+/// The scope of a body, and the first line with a parameter or local that is not new.
+#[derive(Drop)]
+pub struct Entered<'a> {
+    pub scope: Scope<'a>,
+    pub fault: Option<u32>,
+}
+
+/// Enters the parameters and the locals of a body.
+pub fn enter_body<'a>(
+    alloc: Global,
+    names: &'a IndexSet<String>,
+    declared: &'a NameTable<'a>,
+    parameters: &[Identifier],
+    locals: &[Identifier],
+) -> Result<Entered<'a>, AllocError>
+    ensures names { IfOk result (λ e. names_of e.scope ≡ texts names.now.keys) }
+    ensures sees { IfOk result (λ e. sees e.scope ≡ scope_of (own_entries 0 (map (name_of (texts names.now.keys)) parameters.now ++ map (name_of (texts names.now.keys)) locals.now)) (entries_of declared.now)) }
+    ensures fresh { IfOk result (λ e. is_none e.fault ≡ are_new (entries_of declared.now) [] (own_entries 0 (map (name_of (texts names.now.keys)) parameters.now ++ map (name_of (texts names.now.keys)) locals.now))) }
+{
+    let mut own = NameTable::new(alloc);
+    let one = enter_names(names, declared, &mut own, 0, parameters)?;
+    let other = enter_names(names, declared, &mut own, parameters.len(), locals)?;
+    let scope = Scope {
+        names,
+        declared,
+        own,
+    };
+    Ok(Entered {
+        scope,
+        fault: earlier(one, other),
+    })
+}
+
+/// Enters parameters or locals, with so many before them.
+fn enter_names<'a>(
+    names: &'a IndexSet<String>,
+    declared: &NameTable<'a>,
+    own: &mut NameTable<'a>,
+    before: usize,
+    identifiers: &[Identifier],
+) -> Result<Option<u32>, AllocError>
+    ensures sees { OnOk result ((name : List ℕ) (rest : List Entry) → find name (entries_of own.new ++ rest) ≡ find name (entries_of own.old ++ (own_entries before (map (name_of (texts names.now.keys)) identifiers.now) ++ rest))) }
+    ensures fresh { IfOk result (λ fault. (rest : List Entry) → (is_none fault && are_new (entries_of declared.now) (entries_of own.new) rest) ≡ are_new (entries_of declared.now) (entries_of own.old) (own_entries before (map (name_of (texts names.now.keys)) identifiers.now) ++ rest)) }
+{
+    let mut fault = None;
+    for (index, identifier) in identifiers.iter().enumerate() {
+        let text = text_of(names, identifier.name);
+        let is_free = declared.get(text).is_none();
+        let meaning = Meaning::Scalar(Place::Slot(slot(before, index)));
+        let is_new = own.enter(text, meaning)?;
+        let line = identifier.line;
+        fault = earlier(fault, earlier(unless(is_new, line), unless(is_free, line)));
+    }
+    Ok(fault)
 }
 
 impl<'a> Scope<'a> {
-    /// The scope of a body without parameters and locals.
-    pub fn new(
-        alloc: Global,
-        names: &'a IndexSet<String>,
-        declared: NameTable<'a>,
-    ) -> Result<Self, AllocError> {
-        let own = NameTable::new(alloc, names)?;
-        Ok(Scope { own, declared })
-    }
-
     /// What the name stands for.
-    pub fn get(&self, name: Identifier) -> Option<Meaning> {
-        match self.own.get(name.name) {
+    pub fn get(&self, name: Identifier) -> Option<Meaning>
+        ensures { result ≡ sees self.now (name_of (names_of self.now) name) }
+    {
+        let text = text_of(self.names, name.name);
+        match self.own.get(text) {
             Some(meaning) => Some(meaning),
-            None => self.declared.get(name.name),
-        }
-    }
-
-    /// Enters the parameters and the locals of a body; answers the first line with a name that is
-    /// not new.
-    pub fn enter_body(&mut self, parameters: &[Identifier], locals: &[Identifier]) -> Option<u32> {
-        let one = self.enter_names(0, parameters);
-        let other = self.enter_names(parameters.len(), locals);
-        earlier(one, other)
-    }
-
-    /// Enters names, with so many before them.
-    fn enter_names(&mut self, before: usize, names: &[Identifier]) -> Option<u32> {
-        let mut fault = None;
-        for (index, name) in names.iter().enumerate() {
-            fault = earlier(fault, self.enter_own(*name, slot(before, index)));
-        }
-        fault
-    }
-
-    fn enter_own(&mut self, name: Identifier, slot: u16) -> Option<u32> {
-        let is_declared = self.declared.get(name.name).is_some();
-        let is_new = self
-            .own
-            .enter(name.name, Meaning::Scalar(Place::Slot(slot)));
-        unless(is_new && !is_declared, name.line)
-    }
-
-    /// Takes the parameters and the locals of a body out again.
-    pub fn leave_body(&mut self, parameters: &[Identifier], locals: &[Identifier]) {
-        for name in parameters {
-            self.own.clear(name.name);
-        }
-        for name in locals {
-            self.own.clear(name.name);
+            None => self.declared.get(text),
         }
     }
 
     /// The line of the name, unless it stands for something.
-    pub fn unknown(&self, name: Identifier) -> Option<u32> {
+    pub fn unknown(&self, name: Identifier) -> Option<u32>
+        ensures { is_none result ≡ is_some (sees self.now (name_of (names_of self.now) name)) }
+    {
         unless(self.get(name).is_some(), name.line)
     }
 
     /// The line of the name, unless it is a scalar's.
-    pub fn no_scalar(&self, name: Identifier) -> Option<u32> {
-        unless(
-            matches!(self.get(name), Some(Meaning::Scalar(_))),
-            name.line,
-        )
+    pub fn no_scalar(&self, name: Identifier) -> Option<u32>
+        ensures { is_none result ≡ well_formed.is_scalar (sees self.now (name_of (names_of self.now) name)) }
+    {
+        match self.get(name) {
+            Some(Meaning::Scalar(_)) => None,
+            _ => Some(name.line),
+        }
     }
 
     /// The line of the name, unless it is an array's.
-    pub fn no_array(&self, name: Identifier) -> Option<u32> {
-        unless(
-            matches!(self.get(name), Some(Meaning::Array(_, _))),
-            name.line,
-        )
+    pub fn no_array(&self, name: Identifier) -> Option<u32>
+        ensures { is_none result ≡ well_formed.is_array (sees self.now (name_of (names_of self.now) name)) }
+    {
+        match self.get(name) {
+            Some(Meaning::Array(_, _)) => None,
+            _ => Some(name.line),
+        }
     }
 
     /// The line of the name, unless it is that of a procedure with so many parameters.
-    pub fn no_procedure(&self, name: Identifier, arguments: usize) -> Option<u32> {
-        let holds = match self.get(name) {
-            Some(Meaning::Procedure(_, parameters)) => parameters == arguments,
-            _ => false,
-        };
-        unless(holds, name.line)
+    pub fn no_procedure(&self, name: Identifier, arguments: usize) -> Option<u32>
+        ensures { is_none result ≡ well_formed.is_procedure arguments (sees self.now (name_of (names_of self.now) name)) }
+    {
+        match self.get(name) {
+            Some(Meaning::Procedure(_, parameters)) => unless(parameters == arguments, name.line),
+            _ => Some(name.line),
+        }
     }
 
     /// The line of the name, unless it is that of an object, a port or a process of that kind.
-    pub fn no_object(&self, name: Identifier, kind: ObjectKind) -> Option<u32> {
-        let holds = match self.get(name) {
-            Some(Meaning::Object(found, _)) => found == kind,
-            _ => false,
-        };
-        unless(holds, name.line)
+    pub fn no_object(&self, name: Identifier, kind: ObjectKind) -> Option<u32>
+        ensures { is_none result ≡ well_formed.is_object kind (sees self.now (name_of (names_of self.now) name)) }
+    {
+        match self.get(name) {
+            Some(Meaning::Object(found, _)) => unless(is_same_kind(found, kind), name.line),
+            _ => Some(name.line),
+        }
     }
 
     /// The place of a scalar; of any other name it is the first word of the data.
-    pub fn place(&self, name: Identifier) -> Place {
+    pub fn place(&self, name: Identifier) -> Place
+        ensures { result ≡ place_of (sees self.now (name_of (names_of self.now) name)) }
+    {
         match self.get(name) {
             Some(Meaning::Scalar(place)) => place,
             _ => Place::Data(0),
@@ -117,7 +151,10 @@ impl<'a> Scope<'a> {
     }
 
     /// The place and the size of an array; of any other name both are 0.
-    pub fn array(&self, name: Identifier) -> (u32, i64) {
+    pub fn array(&self, name: Identifier) -> (u32, i64)
+        ensures place { result.0 ≡ array_place_of (sees self.now (name_of (names_of self.now) name)) }
+        ensures size { result.1 ≡ array_size_of (sees self.now (name_of (names_of self.now) name)) }
+    {
         match self.get(name) {
             Some(Meaning::Array(place, size)) => (place, size),
             _ => (0, 0),
@@ -125,7 +162,9 @@ impl<'a> Scope<'a> {
     }
 
     /// The number of an object, a port or a process; of any other name it is 0.
-    pub fn number(&self, name: Identifier) -> u32 {
+    pub fn number(&self, name: Identifier) -> u32
+        ensures { result ≡ object_number_of (sees self.now (name_of (names_of self.now) name)) }
+    {
         match self.get(name) {
             Some(Meaning::Object(_, number)) => number,
             _ => 0,
@@ -133,10 +172,27 @@ impl<'a> Scope<'a> {
     }
 
     /// The number of a procedure; of any other name it is 0.
-    pub fn procedure(&self, name: Identifier) -> u32 {
+    pub fn procedure(&self, name: Identifier) -> u32
+        ensures { result ≡ procedure_number_of (sees self.now (name_of (names_of self.now) name)) }
+    {
         match self.get(name) {
             Some(Meaning::Procedure(number, _)) => number,
             _ => 0,
         }
+    }
+}
+
+/// Whether the kinds are one.
+fn is_same_kind(found: ObjectKind, kind: ObjectKind) -> bool
+    ensures { result ≡ well_formed.is_same_kind found kind }
+{
+    match (found, kind) {
+        (ObjectKind::Semaphore, ObjectKind::Semaphore)
+        | (ObjectKind::Event, ObjectKind::Event)
+        | (ObjectKind::Buffer, ObjectKind::Buffer)
+        | (ObjectKind::Blackboard, ObjectKind::Blackboard)
+        | (ObjectKind::Port, ObjectKind::Port)
+        | (ObjectKind::Process, ObjectKind::Process) => true,
+        _ => false,
     }
 }

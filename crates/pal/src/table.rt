@@ -1,81 +1,60 @@
-//! A table over the names of a program, by their numbers.
+//! Tables of what the names of a program stand for.
+
+ghost use Rattle.std.specs.Prelude.{◌≡◌, ◌++◌, ◌∷◌, ◌&&◌, [], List, ℕ, not, is_some, true, IfOk, OnOk};
+ghost use Rattle.apex_meaning.specs.Resolve.{Entry, find};
+ghost use Rattle.apex_meaning.specs.WellFormed.{are_new};
+ghost use Rattle.pal_base.specs.View.{texts, id_text};
+ghost use Rattle.pal.specs.Tables.{entries_of};
 
 use apex_types::Meaning;
-use indexmap::IndexSet;
+use indexmap::{IndexMap, IndexSet};
 use pal_base::syntax::NameId;
 use std::alloc::{AllocError, Global};
 
-/// What each name of a program stands for, where it stands for something. A number beyond those of
-/// the names is the empty name.
+/// What names stand for, by their texts, in the order in which they were entered.
 #[derive(Drop)]
 pub struct NameTable<'a> {
-    names: &'a IndexSet<String>,
-    /// The place of the empty name: behind all others, unless it is among them.
-    empty: usize,
-    entries: Vec<Option<Meaning>>,
+    pub entries: IndexMap<&'a str, Meaning>,
 }
 
 impl<'a> NameTable<'a> {
     /// A table in which no name stands for anything.
-    pub fn new(alloc: Global, names: &'a IndexSet<String>) -> Result<Self, AllocError> {
-        let mut entries = Vec::new(alloc);
-        for _ in 0..=names.len() {
-            entries.push(None)?;
-        }
-        let empty = names.get_index_of("").unwrap_or(names.len());
-        Ok(NameTable {
-            names,
-            empty,
-            entries,
-        })
-    }
-
-    fn place(&self, name: NameId) -> usize {
-        let number = name.0 as usize;
-        if number < self.names.len() {
-            number
-        } else {
-            self.empty
+    pub fn new(alloc: Global) -> Self
+        ensures { entries_of result ≡ [] }
+    {
+        NameTable {
+            entries: IndexMap::new(alloc),
         }
     }
 
     /// What the name stands for.
-    pub fn get(&self, name: NameId) -> Option<Meaning> {
-        match self.entries.get(self.place(name)) {
-            Some(entry) => *entry,
-            None => None,
-        }
+    pub fn get(&self, text: &str) -> Option<Meaning>
+        ensures { result ≡ find text.now (entries_of self.now) }
+    {
+        self.entries.get(text).copied()
     }
 
     /// Lets the name stand for a meaning, unless it stands for one already; answers whether it is
     /// new.
-    pub fn enter(&mut self, name: NameId, meaning: Meaning) -> bool {
-        let place = self.place(name);
-        match self.entries.get_mut(place) {
-            Some(entry) => {
-                let is_new = entry.is_none();
-                if is_new {
-                    *entry = Some(meaning);
-                }
-                is_new
-            }
-            None => false,
+    pub fn enter(&mut self, text: &'a str, meaning: Meaning) -> Result<bool, AllocError>
+        ensures sees { OnOk result ((name : List ℕ) (rest : List Entry) → find name (entries_of self.new ++ rest) ≡ find name (entries_of self.old ++ record { name = text.now; meaning = meaning } ∷ rest)) }
+        ensures fresh { IfOk result (λ is_new. (declared rest : List Entry) → (is_new && not (is_some (find text.now declared)) && are_new declared (entries_of self.new) rest) ≡ are_new declared (entries_of self.old) (record { name = text.now; meaning = meaning } ∷ rest)) }
+        ensures behind { IfOk result (λ is_new. is_new ≡ true → entries_of self.new ≡ entries_of self.old ++ record { name = text.now; meaning = meaning } ∷ []) }
+    {
+        if self.get(text).is_some() {
+            return Ok(false);
         }
-    }
-
-    /// Lets the name stand for nothing.
-    pub fn clear(&mut self, name: NameId) {
-        let place = self.place(name);
-        if let Some(entry) = self.entries.get_mut(place) {
-            *entry = None;
-        }
+        self.entries.insert(text, meaning)?;
+        Ok(true)
     }
 }
 
 /// The text of a name; of a number beyond those of the names it is empty.
-pub fn text_of(names: &IndexSet<String>, name: NameId) -> &[u8] {
+pub fn text_of(names: &IndexSet<String>, name: NameId) -> &str
+    ensures { result.now ≡ id_text (texts names.now.keys) name }
+{
     match names.get_index(name.0 as usize) {
-        Some(text) => text.as_str().as_bytes(),
-        None => &[],
+        Some(text) => text.as_str(),
+        None => "",
     }
 }

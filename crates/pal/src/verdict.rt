@@ -1,6 +1,10 @@
 //! The verdict on a program.
 
-use crate::frames::frames_of;
+ghost use Rattle.std.specs.Prelude.{◌≡◌};
+ghost use Rattle.apex_meaning.specs.WellFormed as well_formed;
+ghost use Rattle.pal_base.specs.View.{program_of};
+ghost use Rattle.pal.specs.Verdicts.{Answers};
+
 use crate::kinds::kind_fault;
 use crate::limits::limit_fault;
 use crate::lines::earlier;
@@ -8,7 +12,6 @@ use crate::meanings::declared_names;
 use crate::names::name_fault;
 use crate::periods::period_fault;
 use crate::resolving::resolve;
-use crate::scope::Scope;
 use pal_base::fault::{PalFault, Refusal};
 use pal_base::program;
 use pal_base::syntax::Program;
@@ -20,33 +23,38 @@ use window_table::PartitionRow;
 pub struct Checked {
     /// The program with its names resolved.
     pub program: program::Program,
-    /// The frames of its bodies in words: INIT, the handler, the processes, the procedures.
-    pub frames: Vec<u64>,
 }
 
 /// The program with its names resolved, if it is well formed for a partition; else the refusal with
 /// the lowest number that holds, and the first line at which it does.
-pub fn check(alloc: Global, program: Program, row: &PartitionRow) -> Result<Checked, PalFault> {
-    let declared = declared_names(alloc, &program, row)?;
-    let mut scope = Scope::new(alloc, &program.names, declared.table)?;
-    let names = earlier(declared.fault, name_fault(&mut scope, &program));
-    refuse(Refusal::Name, names)?;
-    refuse(Refusal::Kind, kind_fault(&mut scope, &program))?;
-    refuse(Refusal::Limit, limit_fault(&program)?)?;
-    refuse(
-        Refusal::Period,
-        period_fault(&program.processes, row.period),
-    )?;
-    Ok(Checked {
-        program: resolve(alloc, &mut scope, &program)?,
-        frames: frames_of(alloc, &program)?,
-    })
+pub fn check(alloc: Global, program: Program, row: &PartitionRow) -> Result<Checked, PalFault>
+    ensures { Answers result (well_formed.verdict row.now.ports.items row.now.period (program_of program)) }
+{
+    judged(alloc, &program, row)
 }
 
-/// The refusal, where there is a line at which it holds.
-fn refuse(refusal: Refusal, line: Option<u32>) -> Result<(), PalFault> {
-    match line {
-        Some(line) => Err(PalFault { refusal, line }),
-        None => Ok(()),
+/// The same of a program that stays.
+fn judged(alloc: Global, program: &Program, row: &PartitionRow) -> Result<Checked, PalFault>
+    ensures { Answers result (well_formed.verdict row.now.ports.items row.now.period (program_of program.now)) }
+{
+    let declared = declared_names(alloc, program, &row.ports)?;
+    let names = name_fault(alloc, &declared.table, program)?;
+    if let Some(line) = earlier(declared.fault, names) {
+        let refusal = Refusal::Name;
+        return Err(PalFault { refusal, line });
     }
+    if let Some(line) = kind_fault(alloc, &declared.table, program)? {
+        let refusal = Refusal::Kind;
+        return Err(PalFault { refusal, line });
+    }
+    if let Some(line) = limit_fault(alloc, &declared.table, program)? {
+        let refusal = Refusal::Limit;
+        return Err(PalFault { refusal, line });
+    }
+    if let Some(line) = period_fault(&program.processes, row.period) {
+        let refusal = Refusal::Period;
+        return Err(PalFault { refusal, line });
+    }
+    let program = resolve(alloc, &declared.table, program)?;
+    Ok(Checked { program })
 }

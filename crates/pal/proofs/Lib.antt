@@ -1,0 +1,6 @@
+pub mod ProgramRows
+pub mod SyntaxRows
+pub mod Tables
+pub mod Tests
+pub mod Counted
+pub mod Resolved

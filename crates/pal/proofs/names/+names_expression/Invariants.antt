@@ -1,0 +1,11 @@
+use Rattle.std.proofs.Common.{◌≡◌, ◌&&◌, drop, is_none}
+use Rattle.pal_base.specs.View.{exprs_of, links_of}
+use Rattle.pal.specs.Scopes.{names_of, sees}
+use Rattle.apex_meaning.specs.WellFormed.{knows_exprs, knows_links}
+use Rattle.pal.proofs.names.+names_expression.Given as goal
+
+abbrev pub invariant-expressions_fault-loop-expression : goal.invariant-expressions_fault-loop-expression
+invariant-expressions_fault-loop-expression l = (is_none l.fault && knows_exprs (sees l.scope) (exprs_of (names_of l.scope) (drop l.expression-index l.expressions))) ≡ knows_exprs (sees l.scope) (exprs_of (names_of l.scope) l.expressions)
+
+abbrev pub invariant-links_fault-loop-link : goal.invariant-links_fault-loop-link
+invariant-links_fault-loop-link l = (is_none l.fault && knows_links (sees l.scope) (links_of (names_of l.scope) (drop l.link-index l.links))) ≡ knows_links (sees l.scope) (links_of (names_of l.scope) l.links)

@@ -1,0 +1,6 @@
+use Rattle.std.proofs.Common.{◌≡◌, ◌++◌, map, drop}
+use Rattle.pal.specs.Costs.{cost_of_procedure}
+use Rattle.pal.proofs.report.report_procedures.Given as goal
+
+abbrev pub invariant-loop-procedure : goal.invariant-loop-procedure
+invariant-loop-procedure l = l.report.items ++ map cost_of_procedure (drop l.procedure-index l.procedures) ≡ l.fn.report.items ++ map cost_of_procedure l.procedures

@@ -1,0 +1,46 @@
+-- What the report of a program's costs has: a row for each body, INIT, the handler, the processes and
+-- the procedures, in this order.
+use Rattle.std.specs.Prelude.{ℕ, List, [], ◌∷◌, ◌++◌, map, min, Option, Some, None}
+use Rattle.apex_meaning.specs.Cost as cost
+use Rattle.pal_base.specs.declared.program.Body.{Body}
+use Rattle.pal_base.specs.declared.program.Procedure as code_procedure
+use Rattle.pal_base.specs.declared.program.Process as code_process
+use Rattle.pal_base.specs.declared.program.Program.{Program}
+use Rattle.pal_base.specs.ProgramView.{body_of, procedure_of}
+use Rattle.pal.specs.declared.report.BodyCost.{BodyCost}
+use Rattle.pal.specs.declared.report.BodyName.{BodyName}
+use Rattle.pal.specs.declared.report.BodyName.TheVariants as name
+
+-- a number as 64 bits hold it: beyond them it is the greatest that they do
+abbrev pub held : ℕ → ℕ
+held n = min n 18446744073709551615
+
+-- its instructions, its frame, and the sum of the costs of its constructs
+abbrev pub cost_of_body : BodyName → Body → BodyCost
+cost_of_body n b = record {
+  name = n;
+  instructions = held (cost.size_of_body (body_of b));
+  frame = held (cost.frame_of_body (body_of b));
+  cost = held (cost.cost_of_body (body_of b));
+}
+
+abbrev pub cost_of_handler : Option Body → List BodyCost
+cost_of_handler None = []
+cost_of_handler (Some b) = cost_of_body name.Handler b ∷ []
+
+abbrev pub cost_of_process : code_process.Process → BodyCost
+cost_of_process p = cost_of_body (name.Process p.name) p.body
+
+abbrev pub cost_of_procedure_body : BodyName → code_procedure.Procedure → BodyCost
+cost_of_procedure_body n p = record {
+  name = n;
+  instructions = held (cost.size_of_procedure (procedure_of p));
+  frame = held (cost.frame_of_procedure (procedure_of p));
+  cost = held (cost.cost_of_procedure (procedure_of p));
+}
+
+abbrev pub cost_of_procedure : code_procedure.Procedure → BodyCost
+cost_of_procedure p = cost_of_procedure_body (name.Procedure p.name) p
+
+abbrev pub costs_of : Program → List BodyCost
+costs_of p = cost_of_body name.Init p.init ∷ cost_of_handler p.handler ++ map cost_of_process p.processes.items ++ map cost_of_procedure p.procedures.items

@@ -1,0 +1,13 @@
+-- What the definitions see of a table of names, and of the counts of declarations.
+use Rattle.std.specs.Prelude.{List, map}
+use Rattle.apex_meaning.specs.Resolve.{Entry, Counts}
+use Rattle.pal.specs.declared.table.NameTable.{NameTable}
+use Rattle.pal.specs.declared.meanings.Counts as code
+
+-- the names with what they stand for, in the order in which they were entered
+abbrev pub entries_of : NameTable → List Entry
+entries_of t = map (λ e. record { name = e.0.now; meaning = e.1 }) t.entries.entries
+
+-- how much is declared
+abbrev pub counts_of : code.Counts → Counts
+counts_of c = record { words = c.words; semaphores = c.semaphores; events = c.events; buffers = c.buffers; blackboards = c.blackboards; ports = c.ports; procedures = c.procedures }
