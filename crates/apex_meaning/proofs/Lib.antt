@@ -22,3 +22,4 @@ pub mod ImageBodies
 pub mod ImageTables
 pub mod ImageLaws
 pub mod StackLength
+pub mod Spelled
