@@ -1,5 +1,6 @@
 //! Laws over the definitions: each is the contract of a function with an empty body.
 
 pub mod checking;
+pub mod grammar;
 pub mod image;
 pub mod tables;

@@ -1,0 +1,125 @@
+-- The grammar of programs: the words that each tree is written with. Each line is one way to write a
+-- thing; rest are the words that follow it.
+use Rattle.std.specs.Prelude.{ℕ, Bool, true, false, if◌then◌else◌, List, [], ◌∷◌, Option, Some, None, codes}
+use Rattle.apex_types.specs.declared.instruction.UnaryOperator.{UnaryOperator}
+use Rattle.apex_types.specs.declared.instruction.UnaryOperator.TheVariants as unary
+use Rattle.apex_types.specs.declared.codes.Discipline.{Discipline}
+use Rattle.apex_types.specs.declared.codes.Discipline.TheVariants as discipline
+use Rattle.apex_meaning.specs.GrammarWords.{Word, Name, Number, Request, Mark}
+use Rattle.apex_meaning.specs.GrammarReading.{operator_mark}
+use Rattle.apex_meaning.specs.Syntax as tree
+
+-- a number that may have a minus sign before it
+abbrev pub integer_words : tree.Integer → List Word → List Word
+integer_words n rest = if n.negative then Mark (codes "-") ∷ Number n.magnitude ∷ rest else Number n.magnitude ∷ rest
+
+-- things one after another, each written so
+abbrev pub all_words : {X : Type 0} → (X → List Word → List Word) → List X → List Word → List Word
+all_words words [] rest = rest
+all_words words (x ∷ xs) rest = words x (all_words words xs rest)
+
+-- names with commas between them
+abbrev pub next_name : List ℕ → List Word → List Word
+next_name x rest = Mark (codes ",") ∷ Name x ∷ rest
+
+abbrev pub names_words : List (List ℕ) → List Word → List Word
+names_words [] rest = rest
+names_words (x ∷ xs) rest = Name x ∷ all_words next_name xs rest
+
+abbrev pub targets_words : List (List ℕ) → List Word → List Word
+targets_words [] rest = rest
+targets_words (x ∷ xs) rest = Mark (codes "->") ∷ names_words (x ∷ xs) rest
+
+-- how a unary operator is written
+abbrev pub sign_of : UnaryOperator → List ℕ
+sign_of unary.Negate = codes "-"
+sign_of unary.Not = codes "not"
+
+-- a comma, but none before the first argument
+abbrev pub comma : Bool → List Word → List Word
+comma true rest = rest
+comma false rest = Mark (codes ",") ∷ rest
+
+-- expressions
+abbrev mutual
+  pub expr_words : tree.Expr → List Word → List Word
+  expr_words (tree.Number value) rest = Number value ∷ rest
+  expr_words (tree.Name x) rest = Name x ∷ rest
+  expr_words (tree.Element x index) rest = Name x ∷ Mark (codes "[") ∷ expr_words index (Mark (codes "]") ∷ rest)
+  expr_words (tree.Apply x arguments) rest = Name x ∷ Mark (codes "(") ∷ arguments_words arguments true (Mark (codes ")") ∷ rest)
+  expr_words (tree.Parenthesis inside) rest = Mark (codes "(") ∷ expr_words inside (Mark (codes ")") ∷ rest)
+  expr_words (tree.Unary operator operand) rest = Mark (sign_of operator) ∷ expr_words operand rest
+  expr_words (tree.Chain first links) rest = expr_words first (links_words links rest)
+
+  pub links_words : tree.Links → List Word → List Word
+  links_words tree.NoLink rest = rest
+  links_words (tree.MoreLinks operator operand links) rest = Mark (operator_mark operator) ∷ expr_words operand (links_words links rest)
+
+  pub arguments_words : tree.Exprs → Bool → List Word → List Word
+  arguments_words tree.NoExpr first rest = rest
+  arguments_words (tree.MoreExprs e es) first rest = comma first (expr_words e (arguments_words es false rest))
+
+-- statements and blocks
+abbrev mutual
+  pub stmt_words : tree.Stmt → List Word → List Word
+  stmt_words (tree.Assign x e) rest = Name x ∷ Mark (codes ":=") ∷ expr_words e (Mark (codes ";") ∷ rest)
+  stmt_words (tree.AssignElement x i e) rest = Name x ∷ Mark (codes "[") ∷ expr_words i (Mark (codes "]") ∷ Mark (codes ":=") ∷ expr_words e (Mark (codes ";") ∷ rest))
+  stmt_words (tree.If e b) rest = Mark (codes "if") ∷ expr_words e (Mark (codes "{") ∷ block_words b (Mark (codes "}") ∷ rest))
+  stmt_words (tree.IfElse e b other) rest = Mark (codes "if") ∷ expr_words e (Mark (codes "{") ∷ block_words b (Mark (codes "}") ∷ Mark (codes "else") ∷ Mark (codes "{") ∷ block_words other (Mark (codes "}") ∷ rest)))
+  stmt_words (tree.While e b) rest = Mark (codes "while") ∷ expr_words e (Mark (codes "{") ∷ block_words b (Mark (codes "}") ∷ rest))
+  stmt_words (tree.Work ticks) rest = Mark (codes "work") ∷ Number ticks ∷ Mark (codes ";") ∷ rest
+  stmt_words (tree.Return e) rest = Mark (codes "return") ∷ expr_words e (Mark (codes ";") ∷ rest)
+  stmt_words (tree.Request service es xs) rest = Request service ∷ Mark (codes "(") ∷ arguments_words es true (Mark (codes ")") ∷ targets_words xs (Mark (codes ";") ∷ rest))
+
+  pub block_words : tree.Block → List Word → List Word
+  block_words tree.NoStmt rest = rest
+  block_words (tree.MoreStmts s ss) rest = stmt_words s (block_words ss rest)
+
+abbrev pub local_words : List ℕ → List Word → List Word
+local_words x rest = Mark (codes "local") ∷ Name x ∷ Mark (codes ";") ∷ rest
+
+abbrev pub body_words : tree.Body → List Word → List Word
+body_words b rest = Mark (codes "{") ∷ all_words local_words b.locals (block_words b.block (Mark (codes "}") ∷ rest))
+
+-- declarations
+abbrev pub discipline_word : Discipline → List ℕ
+discipline_word discipline.Fifo = codes "fifo"
+discipline_word discipline.Priority = codes "priority"
+
+abbrev pub first_words : Option tree.Integer → List Word → List Word
+first_words None rest = rest
+first_words (Some n) rest = Mark (codes "=") ∷ integer_words n rest
+
+abbrev pub values_words : List tree.Integer → List Word → List Word
+values_words [] rest = rest
+values_words (n ∷ ns) rest = Mark (codes "=") ∷ all_words integer_words (n ∷ ns) rest
+
+abbrev pub kind_words : List ℕ → tree.Kind → List Word → List Word
+kind_words x (tree.Variable value) rest = Mark (codes "var") ∷ Name x ∷ first_words value (Mark (codes ";") ∷ rest)
+kind_words x (tree.Array size values) rest = Mark (codes "array") ∷ Name x ∷ Mark (codes "[") ∷ Number size ∷ Mark (codes "]") ∷ values_words values (Mark (codes ";") ∷ rest)
+kind_words x (tree.Semaphore first maximum d) rest = Mark (codes "semaphore") ∷ Name x ∷ Number first ∷ Number maximum ∷ Mark (discipline_word d) ∷ Mark (codes ";") ∷ rest
+kind_words x tree.Event rest = Mark (codes "event") ∷ Name x ∷ Mark (codes ";") ∷ rest
+kind_words x (tree.Buffer words messages d) rest = Mark (codes "buffer") ∷ Name x ∷ Number words ∷ Number messages ∷ Mark (discipline_word d) ∷ Mark (codes ";") ∷ rest
+kind_words x (tree.Blackboard words) rest = Mark (codes "blackboard") ∷ Name x ∷ Number words ∷ Mark (codes ";") ∷ rest
+kind_words x tree.Port rest = Mark (codes "port") ∷ Name x ∷ Mark (codes ";") ∷ rest
+kind_words x (tree.Procedure xs b) rest = Mark (codes "proc") ∷ Name x ∷ Mark (codes "(") ∷ names_words xs (Mark (codes ")") ∷ body_words b rest)
+
+abbrev pub declaration_words : tree.Declaration → List Word → List Word
+declaration_words d rest = kind_words d.name d.kind rest
+
+-- INIT, the handler, the processes, and the program that they make
+abbrev pub stack_body_words : List ℕ → tree.StackBody → List Word → List Word
+stack_body_words mark b rest = Mark mark ∷ Mark (codes "stack") ∷ Number b.stack ∷ body_words b.body rest
+
+abbrev pub handler_words : Option tree.StackBody → List Word → List Word
+handler_words None rest = rest
+handler_words (Some b) rest = stack_body_words (codes "handler") b rest
+
+abbrev pub process_words : tree.Process → List Word → List Word
+process_words p rest =
+    Mark (codes "process") ∷ Name p.name ∷ Mark (codes "priority") ∷ Number p.priority ∷
+    Mark (codes "period") ∷ integer_words p.period (Mark (codes "capacity") ∷ integer_words p.capacity
+    (Mark (codes "stack") ∷ Number p.stack ∷ body_words p.body rest))
+
+unfoldable pub program_words : tree.Program → List Word
+program_words p = all_words declaration_words p.declarations (stack_body_words (codes "init") p.init (handler_words p.handler (all_words process_words p.processes [])))
