@@ -27,3 +27,4 @@ pub mod WellFormedObjects
 pub mod WellFormedSection
 pub mod AcceptedTable
 pub mod AcceptedImage
+pub mod Computing

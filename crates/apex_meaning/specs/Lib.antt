@@ -31,3 +31,4 @@ pub mod Resolve
 pub mod WellFormed
 pub mod GrammarWords
 pub mod GrammarReading
+pub mod Rows
