@@ -28,3 +28,4 @@ pub mod WellFormedSection
 pub mod AcceptedTable
 pub mod AcceptedImage
 pub mod Spelled
+pub mod Computing

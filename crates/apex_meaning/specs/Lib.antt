@@ -32,3 +32,4 @@ pub mod WellFormed
 pub mod GrammarWords
 pub mod GrammarReading
 pub mod Grammar
+pub mod Rows

@@ -4,3 +4,5 @@
 
 pub mod compilation;
 pub mod laws;
+#[cfg(test)]
+mod tests;

@@ -1,0 +1,11 @@
+use Rattle.std.proofs.Common.{refl}
+use Rattle.apex_meaning.proofs.Computing.{reading_texts}
+use Rattle.apex_meaning.proofs.tests.traces.constructs.Goals as goal
+
+pub returns-clause-sums : goal.returns-clause-sums
+unfolding reading_texts
+returns-clause-sums c = refl
+
+pub returns-clause-loops : goal.returns-clause-loops
+unfolding reading_texts
+returns-clause-loops c = refl
