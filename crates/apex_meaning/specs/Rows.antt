@@ -1,11 +1,16 @@
 -- What the worked rows of the tests have in common: their tables, and the ways from texts to the
 -- text of a trace, over the sources and over the image.
-use Rattle.std.specs.Prelude.{ℕ, zero, suc, ◌+◌, true, false, List, [], ◌∷◌, ◌++◌, flat_map, map, Option, Some, None, Result, Ok, Err, option_map, unwrap_or}
+use Rattle.std.specs.Prelude.{ℕ, ℤ, pos, zero, suc, ◌+◌, true, false, List, [], ◌∷◌, ◌++◌, flat_map, map, Option, Some, None, Result, Ok, Err, option_map, unwrap_or, replicate, codes}
 use Rattle.toml.specs.Parse.{parse_document}
 use Rattle.apex_types.specs.Line.{text_of}
+use Rattle.apex_types.specs.declared.codes.ErrorKind.{ErrorKind}
 use Rattle.apex_types.specs.declared.codes.ModuleAction.TheVariants as of_module
 use Rattle.apex_types.specs.declared.codes.PartitionAction.TheVariants.{Ignore}
+use Rattle.apex_types.specs.declared.event.Event.{Event}
+use Rattle.apex_types.specs.declared.event.EventKind.{EventKind}
+use Rattle.apex_types.specs.declared.event.EventKind.TheVariants as event
 use Rattle.apex_types.specs.declared.row.HealthTable.{HealthTable}
+use Rattle.apex_types.specs.declared.row.RoutineRow.{RoutineRow}
 use Rattle.apex_types.specs.declared.row.WindowRow.{WindowRow}
 use Rattle.apex_meaning.specs.CompiledCode.{section_of}
 use Rattle.apex_meaning.specs.Cost.{size_of_body, size_of_procedure, frame_of_body, frame_of_procedure, cost_of_body, cost_of_procedure}
@@ -13,7 +18,7 @@ use Rattle.apex_meaning.specs.GrammarWords.{words_of}
 use Rattle.apex_meaning.specs.GrammarReading.{program_at, ◌>>=◌}
 use Rattle.apex_meaning.specs.Image.{Partition, Table, Item, Image}
 use Rattle.apex_meaning.specs.ImageReading.{Fault, image_at}
-use Rattle.apex_meaning.specs.ImageSpelling.{spelling}
+use Rattle.apex_meaning.specs.ImageSpelling.{u32, i64, spelling}
 use Rattle.apex_meaning.specs.Program.{Program, Body, Procedure}
 use Rattle.apex_meaning.specs.TableRules.{Refusal}
 use Rattle.apex_meaning.specs.TableRules as table_rules
@@ -145,6 +150,10 @@ items_of (p ∷ ps) (q ∷ qs) = record { partition = p; section = section_of q 
 abbrev pub image_of : Table → List Program → Image
 image_of t programs = record { frame = t.frame; fault = t.fault; items = items_of t.partitions programs; windows = t.windows; channels = t.channels }
 
+-- the text of the trace of so many ticks of that image
+abbrev pub text_of_built : Table → List (List ℕ) → ℕ → Option (List ℕ)
+text_of_built t sources n = option_map (λ programs. text_of (machine_trace (image_of t programs) n)) (programs_of t.partitions sources)
+
 -- its bytes
 abbrev pub image_of_sources : Table → List (List ℕ) → Option (List ℕ)
 image_of_sources t sources = option_map (λ programs. spelling (image_of t programs)) (programs_of t.partitions sources)
@@ -156,6 +165,53 @@ text_of_read (Err fault) n = None
 
 abbrev pub text_of_image : List ℕ → ℕ → Option (List ℕ)
 text_of_image bytes n = text_of_read (image_at bytes) n
+
+-- ---- code as it stands
+
+-- the sixteen bytes of an opcode with its fields x and v
+abbrev pub coded : ℕ → ℕ → ℤ → List ℕ
+coded opcode x v = u32 opcode ++ u32 x ++ i64 v
+
+-- INIT alone on a stack of 16 words, with these routines, this code and four words of data
+abbrev pub code_image : List RoutineRow → List (List ℕ) → Image
+code_image routines code = record {
+  frame = 128;
+  fault = of_module.Ignore;
+  items = record {
+    partition = plain_partition (codes "a") 128 128;
+    section = record {
+      initial = replicate 4 (pos 0);
+      semaphores = [];
+      events = 0;
+      buffers = [];
+      blackboards = [];
+      routines = routines;
+      processes = [];
+      init = record { stack = 16; entry = 0; slots = 0; frame = 2 };
+      handler = None;
+      code = code;
+    };
+  } ∷ [];
+  windows = release_window 1 0 128 ∷ [];
+  channels = [];
+}
+
+-- the tick of the first error of a trace, and the error
+abbrev pub error_of : ℕ → EventKind → Option (ℕ × ErrorKind)
+error_of t (event.Error error who response) = Some (t, error)
+error_of t _ = None
+
+abbrev pub or_else : Option (ℕ × ErrorKind) → Option (ℕ × ErrorKind) → Option (ℕ × ErrorKind)
+or_else (Some found) other = Some found
+or_else None other = other
+
+abbrev pub first_error : List Event → Option (ℕ × ErrorKind)
+first_error [] = None
+first_error (e ∷ es) = or_else (error_of e.tick.0 e.kind) (first_error es)
+
+-- the first error of some code within 40 ticks
+abbrev pub error_of_code : List RoutineRow → List (List ℕ) → Option (ℕ × ErrorKind)
+error_of_code routines code = first_error (machine_trace (code_image routines code) 40)
 
 -- ---- images, byte by byte: of the smallest source, of a process that reports, and of one that calls
 -- itself too deep
