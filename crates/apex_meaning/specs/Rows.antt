@@ -1,17 +1,29 @@
--- What the worked rows of the tests have in common: their tables, the way from the texts of the
--- sources to the text of their trace, and the way from an image to it.
-use Rattle.std.specs.Prelude.{ℕ, true, List, [], ◌∷◌, ◌++◌, flat_map, Option, Some, None, Result, Ok, Err, option_map}
+-- What the worked rows of the tests have in common: their tables, and the ways from texts to the
+-- text of a trace, over the sources and over the image.
+use Rattle.std.specs.Prelude.{ℕ, ℤ, pos, zero, suc, ◌+◌, true, false, List, [], ◌∷◌, ◌++◌, flat_map, map, Option, Some, None, Result, Ok, Err, option_map, unwrap_or, replicate, codes}
+use Rattle.toml.specs.Parse.{parse_document}
 use Rattle.apex_types.specs.Line.{text_of}
+use Rattle.apex_types.specs.declared.codes.ErrorKind.{ErrorKind}
 use Rattle.apex_types.specs.declared.codes.ModuleAction.TheVariants as of_module
 use Rattle.apex_types.specs.declared.codes.PartitionAction.TheVariants.{Ignore}
+use Rattle.apex_types.specs.declared.event.Event.{Event}
+use Rattle.apex_types.specs.declared.event.EventKind.{EventKind}
+use Rattle.apex_types.specs.declared.event.EventKind.TheVariants as event
 use Rattle.apex_types.specs.declared.row.HealthTable.{HealthTable}
+use Rattle.apex_types.specs.declared.row.RoutineRow.{RoutineRow}
 use Rattle.apex_types.specs.declared.row.WindowRow.{WindowRow}
+use Rattle.apex_meaning.specs.CompiledCode.{section_of}
+use Rattle.apex_meaning.specs.Cost.{size_of_body, size_of_procedure, frame_of_body, frame_of_procedure, cost_of_body, cost_of_procedure}
 use Rattle.apex_meaning.specs.GrammarWords.{words_of}
 use Rattle.apex_meaning.specs.GrammarReading.{program_at, ◌>>=◌}
-use Rattle.apex_meaning.specs.Image.{Partition, Table}
-use Rattle.apex_meaning.specs.Program.{Program}
-use Rattle.apex_meaning.specs.TwoMeanings.{source_trace}
-use Rattle.apex_meaning.specs.WellFormed.{Refused, verdict}
+use Rattle.apex_meaning.specs.Image.{Partition, Table, Item, Image}
+use Rattle.apex_meaning.specs.ImageReading.{Fault, image_at}
+use Rattle.apex_meaning.specs.ImageSpelling.{u32, i64, spelling}
+use Rattle.apex_meaning.specs.Program.{Program, Body, Procedure}
+use Rattle.apex_meaning.specs.TableRules.{Refusal}
+use Rattle.apex_meaning.specs.TableRules as table_rules
+use Rattle.apex_meaning.specs.TwoMeanings.{source_trace, machine_trace}
+use Rattle.apex_meaning.specs.WellFormed.{Refused, ByName, ByKind, ByLimit, ByPeriod, verdict}
 
 -- every error is ignored
 abbrev pub ignoring : HealthTable
@@ -37,6 +49,19 @@ release_window partition offset length = record { partition = record { 0 = parti
 abbrev pub plain_table : ℕ → List Partition → List WindowRow → Table
 plain_table frame partitions windows = record { frame = frame; fault = of_module.Ignore; partitions = partitions; windows = windows; channels = [] }
 
+-- the major frame of two partitions of which the first has two windows, in the order of the windows
+abbrev pub split_windows : List WindowRow
+split_windows = release_window 1 0 4 ∷ release_window 2 4 8 ∷ release_window 1 12 4 ∷ []
+
+-- a frame with ticks of nobody, and a window that is no release
+abbrev pub sparse_windows : List WindowRow
+sparse_windows = release_window 1 1 3 ∷ release_window 2 4 2 ∷ (record { partition = record { 0 = 1 }; offset = 7; length = 2; release = false }) ∷ []
+
+-- so many ticks from one on
+abbrev pub ticks_from : ℕ → ℕ → List ℕ
+ticks_from t zero = []
+ticks_from t (suc n) = t ∷ ticks_from (t + 1) n
+
 -- one partition that has the whole of each frame
 abbrev pub single_table : List ℕ → ℕ → Table
 single_table name frame = plain_table frame (plain_partition name frame frame ∷ []) (release_window 1 0 frame ∷ [])
@@ -53,6 +78,32 @@ if_accepted (Err refused) = None
 abbrev pub program_of : Partition → List ℕ → Option Program
 program_of p source = program_at (words_of source) >>= λ tree. if_accepted (verdict p.ports p.period tree)
 
+-- the number of the refusal of a source for a partition, 2 where it has no tree, 0 where it is accepted
+abbrev pub number_of_verdict : Result Program Refused → ℕ
+number_of_verdict (Ok program) = 0
+number_of_verdict (Err ByName) = 3
+number_of_verdict (Err ByKind) = 4
+number_of_verdict (Err ByLimit) = 5
+number_of_verdict (Err ByPeriod) = 6
+
+abbrev pub refusal_number : Partition → List ℕ → ℕ
+refusal_number p source = unwrap_or (option_map (λ tree. number_of_verdict (verdict p.ports p.period tree)) (program_at (words_of source))) 2
+
+-- what each body of a program is: its instructions, the words of its frame, and the sum of its costs
+abbrev pub body_costs : Body → ℕ × ℕ × ℕ
+body_costs b = (size_of_body b, frame_of_body b, cost_of_body b)
+
+abbrev pub procedure_costs : Procedure → ℕ × ℕ × ℕ
+procedure_costs p = (size_of_procedure p, frame_of_procedure p, cost_of_procedure p)
+
+abbrev pub handler_costs : Option Body → List (ℕ × ℕ × ℕ)
+handler_costs None = []
+handler_costs (Some b) = body_costs b ∷ []
+
+-- INIT, the handler, the processes and the procedures
+abbrev pub costs_of : Program → List (ℕ × ℕ × ℕ)
+costs_of p = body_costs p.init ∷ handler_costs p.handler ++ map (λ q. body_costs q.body) p.processes ++ map procedure_costs p.procedures
+
 -- the programs of the partitions, in order
 abbrev pub programs_of : List Partition → List (List ℕ) → Option (List Program)
 programs_of [] [] = Some []
@@ -62,3 +113,170 @@ programs_of _ _ = None
 -- the text of the trace of so many ticks of the sources, where all are accepted
 abbrev pub text_of_sources : Table → List (List ℕ) → ℕ → Option (List ℕ)
 text_of_sources t sources n = option_map (λ programs. text_of (source_trace t programs n)) (programs_of t.partitions sources)
+
+-- the same from the text of the table
+abbrev pub verdict_of_table : List ℕ → Option (Result Table Refusal)
+verdict_of_table text = option_map table_rules.verdict (parse_document text)
+
+-- the number of the rule that the text of a table breaks, 1 where it is no document, 0 where it breaks none
+abbrev pub rule_number : Result Table Refusal → ℕ
+rule_number (Ok table) = 0
+rule_number (Err table_rules.Shape) = 2
+rule_number (Err table_rules.Limit) = 3
+rule_number (Err table_rules.Name) = 4
+rule_number (Err table_rules.Overlap) = 5
+rule_number (Err table_rules.Period) = 6
+rule_number (Err table_rules.Duration) = 7
+rule_number (Err table_rules.Release) = 8
+rule_number (Err table_rules.Ends) = 9
+rule_number (Err table_rules.Health) = 10
+
+abbrev pub refused_table : List ℕ → ℕ
+refused_table text = unwrap_or (option_map rule_number (verdict_of_table text)) 1
+
+abbrev pub if_table : Result Table Refusal → Option Table
+if_table (Ok table) = Some table
+if_table (Err refusal) = None
+
+abbrev pub text_of_module : List ℕ → List (List ℕ) → ℕ → Option (List ℕ)
+text_of_module text sources n = verdict_of_table text >>= λ judged. if_table judged >>= λ t. text_of_sources t sources n
+
+-- the image of a table with the programs of its partitions
+abbrev pub items_of : List Partition → List Program → List Item
+items_of [] programs = []
+items_of (p ∷ ps) [] = []
+items_of (p ∷ ps) (q ∷ qs) = record { partition = p; section = section_of q } ∷ items_of ps qs
+
+abbrev pub image_of : Table → List Program → Image
+image_of t programs = record { frame = t.frame; fault = t.fault; items = items_of t.partitions programs; windows = t.windows; channels = t.channels }
+
+-- the text of the trace of so many ticks of that image
+abbrev pub text_of_built : Table → List (List ℕ) → ℕ → Option (List ℕ)
+text_of_built t sources n = option_map (λ programs. text_of (machine_trace (image_of t programs) n)) (programs_of t.partitions sources)
+
+-- its bytes
+abbrev pub image_of_sources : Table → List (List ℕ) → Option (List ℕ)
+image_of_sources t sources = option_map (λ programs. spelling (image_of t programs)) (programs_of t.partitions sources)
+
+-- the text of the trace of so many ticks of an image, where its bytes are one
+abbrev pub text_of_read : Result Image Fault → ℕ → Option (List ℕ)
+text_of_read (Ok image) n = Some (text_of (machine_trace image n))
+text_of_read (Err fault) n = None
+
+abbrev pub text_of_image : List ℕ → ℕ → Option (List ℕ)
+text_of_image bytes n = text_of_read (image_at bytes) n
+
+-- ---- code as it stands
+
+-- the sixteen bytes of an opcode with its fields x and v
+abbrev pub coded : ℕ → ℕ → ℤ → List ℕ
+coded opcode x v = u32 opcode ++ u32 x ++ i64 v
+
+-- INIT alone on a stack of 16 words, with these routines, this code and four words of data
+abbrev pub code_image : List RoutineRow → List (List ℕ) → Image
+code_image routines code = record {
+  frame = 128;
+  fault = of_module.Ignore;
+  items = record {
+    partition = plain_partition (codes "a") 128 128;
+    section = record {
+      initial = replicate 4 (pos 0);
+      semaphores = [];
+      events = 0;
+      buffers = [];
+      blackboards = [];
+      routines = routines;
+      processes = [];
+      init = record { stack = 16; entry = 0; slots = 0; frame = 2 };
+      handler = None;
+      code = code;
+    };
+  } ∷ [];
+  windows = release_window 1 0 128 ∷ [];
+  channels = [];
+}
+
+-- the tick of the first error of a trace, and the error
+abbrev pub error_of : ℕ → EventKind → Option (ℕ × ErrorKind)
+error_of t (event.Error error who response) = Some (t, error)
+error_of t _ = None
+
+abbrev pub or_else : Option (ℕ × ErrorKind) → Option (ℕ × ErrorKind) → Option (ℕ × ErrorKind)
+or_else (Some found) other = Some found
+or_else None other = other
+
+abbrev pub first_error : List Event → Option (ℕ × ErrorKind)
+first_error [] = None
+first_error (e ∷ es) = or_else (error_of e.tick.0 e.kind) (first_error es)
+
+-- the first error of some code within 40 ticks
+abbrev pub error_of_code : List RoutineRow → List (List ℕ) → Option (ℕ × ErrorKind)
+error_of_code routines code = first_error (machine_trace (code_image routines code) 40)
+
+-- ---- images, byte by byte: of the smallest source, of a process that reports, and of one that calls
+-- itself too deep
+
+abbrev pub smallest_image : List ℕ
+smallest_image =
+    65 ∷ 80 ∷ 54 ∷ 53 ∷ 51 ∷ 73 ∷ 77 ∷ 71 ∷ 1 ∷ 0 ∷ 128 ∷ 0 ∷ 0 ∷ 0 ∷ 0 ∷ 1 ∷ 0 ∷ 0 ∷ 0 ∷ 1 ∷ 97 ∷ 128 ∷ 0 ∷ 0 ∷
+    0 ∷ 128 ∷ 0 ∷ 0 ∷ 0 ∷ 0 ∷ 0 ∷ 0 ∷ 0 ∷ 0 ∷ 0 ∷ 0 ∷ 0 ∷ 0 ∷ 0 ∷ 0 ∷ 0 ∷ 0 ∷ 0 ∷ 0 ∷ 0 ∷ 0 ∷ 0 ∷ 0 ∷
+    0 ∷ 0 ∷ 0 ∷ 0 ∷ 0 ∷ 0 ∷ 0 ∷ 0 ∷ 0 ∷ 0 ∷ 0 ∷ 0 ∷ 0 ∷ 0 ∷ 0 ∷ 0 ∷ 0 ∷ 16 ∷ 0 ∷ 0 ∷ 0 ∷ 0 ∷ 0 ∷ 1 ∷
+    0 ∷ 4 ∷ 0 ∷ 0 ∷ 0 ∷ 0 ∷ 4 ∷ 0 ∷ 0 ∷ 0 ∷ 1 ∷ 0 ∷ 0 ∷ 0 ∷ 0 ∷ 0 ∷ 0 ∷ 0 ∷ 3 ∷ 0 ∷ 0 ∷ 0 ∷ 0 ∷ 0 ∷
+    0 ∷ 0 ∷ 28 ∷ 0 ∷ 0 ∷ 0 ∷ 2 ∷ 0 ∷ 0 ∷ 0 ∷ 0 ∷ 0 ∷ 0 ∷ 0 ∷ 0 ∷ 0 ∷ 0 ∷ 0 ∷ 5 ∷ 0 ∷ 0 ∷ 0 ∷ 0 ∷ 0 ∷
+    0 ∷ 0 ∷ 0 ∷ 0 ∷ 0 ∷ 0 ∷ 0 ∷ 0 ∷ 0 ∷ 0 ∷ 29 ∷ 0 ∷ 0 ∷ 0 ∷ 0 ∷ 0 ∷ 0 ∷ 0 ∷ 0 ∷ 0 ∷ 0 ∷ 0 ∷ 0 ∷ 0 ∷
+    0 ∷ 0 ∷ 1 ∷ 0 ∷ 0 ∷ 0 ∷ 1 ∷ 0 ∷ 0 ∷ 0 ∷ 0 ∷ 128 ∷ 0 ∷ 0 ∷ 0 ∷ 1 ∷ 0 ∷ 0 ∷ 0 ∷ 0 ∷
+    []
+
+abbrev pub reporting_image : List ℕ
+reporting_image =
+    65 ∷ 80 ∷ 54 ∷ 53 ∷ 51 ∷ 73 ∷ 77 ∷ 71 ∷ 1 ∷ 0 ∷ 128 ∷ 0 ∷ 0 ∷ 0 ∷ 0 ∷ 1 ∷ 0 ∷ 0 ∷ 0 ∷ 1 ∷ 97 ∷ 128 ∷ 0 ∷ 0 ∷
+    0 ∷ 128 ∷ 0 ∷ 0 ∷ 0 ∷ 0 ∷ 0 ∷ 0 ∷ 0 ∷ 0 ∷ 0 ∷ 0 ∷ 0 ∷ 0 ∷ 0 ∷ 0 ∷ 2 ∷ 0 ∷ 0 ∷ 0 ∷ 0 ∷ 0 ∷ 0 ∷ 0 ∷
+    0 ∷ 0 ∷ 0 ∷ 0 ∷ 0 ∷ 0 ∷ 0 ∷ 0 ∷ 0 ∷ 0 ∷ 0 ∷ 0 ∷ 0 ∷ 0 ∷ 0 ∷ 0 ∷ 0 ∷ 0 ∷ 0 ∷ 0 ∷ 0 ∷ 0 ∷ 0 ∷ 0 ∷
+    0 ∷ 0 ∷ 0 ∷ 0 ∷ 0 ∷ 1 ∷ 0 ∷ 0 ∷ 0 ∷ 1 ∷ 112 ∷ 5 ∷ 255 ∷ 255 ∷ 255 ∷ 255 ∷ 255 ∷ 255 ∷ 255 ∷ 255 ∷ 255 ∷ 255 ∷ 255 ∷ 255 ∷
+    255 ∷ 255 ∷ 255 ∷ 255 ∷ 16 ∷ 0 ∷ 11 ∷ 0 ∷ 0 ∷ 0 ∷ 2 ∷ 0 ∷ 7 ∷ 0 ∷ 0 ∷ 0 ∷ 16 ∷ 0 ∷ 0 ∷ 0 ∷ 0 ∷ 0 ∷ 2 ∷ 0 ∷
+    6 ∷ 0 ∷ 0 ∷ 0 ∷ 0 ∷ 27 ∷ 0 ∷ 0 ∷ 0 ∷ 1 ∷ 0 ∷ 0 ∷ 0 ∷ 0 ∷ 0 ∷ 0 ∷ 0 ∷ 1 ∷ 0 ∷ 0 ∷ 0 ∷ 0 ∷ 0 ∷ 0 ∷
+    0 ∷ 28 ∷ 0 ∷ 0 ∷ 0 ∷ 5 ∷ 0 ∷ 0 ∷ 0 ∷ 0 ∷ 0 ∷ 0 ∷ 0 ∷ 0 ∷ 0 ∷ 0 ∷ 0 ∷ 5 ∷ 0 ∷ 0 ∷ 0 ∷ 0 ∷ 0 ∷ 0 ∷
+    0 ∷ 0 ∷ 0 ∷ 0 ∷ 0 ∷ 0 ∷ 0 ∷ 0 ∷ 0 ∷ 5 ∷ 0 ∷ 0 ∷ 0 ∷ 1 ∷ 0 ∷ 0 ∷ 0 ∷ 0 ∷ 0 ∷ 0 ∷ 0 ∷ 0 ∷ 0 ∷ 0 ∷
+    0 ∷ 4 ∷ 0 ∷ 0 ∷ 0 ∷ 1 ∷ 0 ∷ 0 ∷ 0 ∷ 0 ∷ 0 ∷ 0 ∷ 0 ∷ 0 ∷ 0 ∷ 0 ∷ 0 ∷ 28 ∷ 0 ∷ 0 ∷ 0 ∷ 12 ∷ 0 ∷ 0 ∷
+    0 ∷ 0 ∷ 0 ∷ 0 ∷ 0 ∷ 0 ∷ 0 ∷ 0 ∷ 0 ∷ 5 ∷ 0 ∷ 0 ∷ 0 ∷ 0 ∷ 0 ∷ 0 ∷ 0 ∷ 0 ∷ 0 ∷ 0 ∷ 0 ∷ 0 ∷ 0 ∷ 0 ∷
+    0 ∷ 1 ∷ 0 ∷ 0 ∷ 0 ∷ 0 ∷ 0 ∷ 0 ∷ 0 ∷ 3 ∷ 0 ∷ 0 ∷ 0 ∷ 0 ∷ 0 ∷ 0 ∷ 0 ∷ 28 ∷ 0 ∷ 0 ∷ 0 ∷ 2 ∷ 0 ∷ 0 ∷
+    0 ∷ 0 ∷ 0 ∷ 0 ∷ 0 ∷ 0 ∷ 0 ∷ 0 ∷ 0 ∷ 5 ∷ 0 ∷ 0 ∷ 0 ∷ 0 ∷ 0 ∷ 0 ∷ 0 ∷ 0 ∷ 0 ∷ 0 ∷ 0 ∷ 0 ∷ 0 ∷ 0 ∷
+    0 ∷ 29 ∷ 0 ∷ 0 ∷ 0 ∷ 0 ∷ 0 ∷ 0 ∷ 0 ∷ 0 ∷ 0 ∷ 0 ∷ 0 ∷ 0 ∷ 0 ∷ 0 ∷ 0 ∷ 27 ∷ 0 ∷ 0 ∷ 0 ∷ 0 ∷ 0 ∷ 0 ∷
+    0 ∷ 3 ∷ 0 ∷ 0 ∷ 0 ∷ 0 ∷ 0 ∷ 0 ∷ 0 ∷ 28 ∷ 0 ∷ 0 ∷ 0 ∷ 19 ∷ 0 ∷ 0 ∷ 0 ∷ 0 ∷ 0 ∷ 0 ∷ 0 ∷ 0 ∷ 0 ∷ 0 ∷
+    0 ∷ 5 ∷ 0 ∷ 0 ∷ 0 ∷ 0 ∷ 0 ∷ 0 ∷ 0 ∷ 0 ∷ 0 ∷ 0 ∷ 0 ∷ 0 ∷ 0 ∷ 0 ∷ 0 ∷ 5 ∷ 0 ∷ 0 ∷ 0 ∷ 1 ∷ 0 ∷ 0 ∷
+    0 ∷ 0 ∷ 0 ∷ 0 ∷ 0 ∷ 0 ∷ 0 ∷ 0 ∷ 0 ∷ 1 ∷ 0 ∷ 0 ∷ 0 ∷ 0 ∷ 0 ∷ 0 ∷ 0 ∷ 0 ∷ 0 ∷ 0 ∷ 0 ∷ 0 ∷ 0 ∷ 0 ∷
+    0 ∷ 4 ∷ 0 ∷ 0 ∷ 0 ∷ 1 ∷ 0 ∷ 0 ∷ 0 ∷ 0 ∷ 0 ∷ 0 ∷ 0 ∷ 0 ∷ 0 ∷ 0 ∷ 0 ∷ 7 ∷ 0 ∷ 0 ∷ 0 ∷ 0 ∷ 0 ∷ 0 ∷
+    0 ∷ 2 ∷ 0 ∷ 0 ∷ 0 ∷ 0 ∷ 0 ∷ 0 ∷ 0 ∷ 1 ∷ 0 ∷ 0 ∷ 0 ∷ 0 ∷ 0 ∷ 0 ∷ 0 ∷ 1 ∷ 0 ∷ 0 ∷ 0 ∷ 0 ∷ 0 ∷ 0 ∷
+    0 ∷ 1 ∷ 0 ∷ 0 ∷ 0 ∷ 0 ∷ 0 ∷ 0 ∷ 0 ∷ 7 ∷ 0 ∷ 0 ∷ 0 ∷ 0 ∷ 0 ∷ 0 ∷ 0 ∷ 7 ∷ 0 ∷ 0 ∷ 0 ∷ 0 ∷ 0 ∷ 0 ∷
+    0 ∷ 2 ∷ 0 ∷ 0 ∷ 0 ∷ 0 ∷ 0 ∷ 0 ∷ 0 ∷ 1 ∷ 0 ∷ 0 ∷ 0 ∷ 0 ∷ 0 ∷ 0 ∷ 0 ∷ 0 ∷ 0 ∷ 0 ∷ 0 ∷ 0 ∷ 0 ∷ 0 ∷
+    0 ∷ 1 ∷ 0 ∷ 0 ∷ 0 ∷ 0 ∷ 0 ∷ 0 ∷ 0 ∷ 2 ∷ 0 ∷ 0 ∷ 0 ∷ 0 ∷ 0 ∷ 0 ∷ 0 ∷ 1 ∷ 0 ∷ 0 ∷ 0 ∷ 0 ∷ 0 ∷ 0 ∷
+    0 ∷ 2 ∷ 0 ∷ 0 ∷ 0 ∷ 0 ∷ 0 ∷ 0 ∷ 0 ∷ 28 ∷ 0 ∷ 0 ∷ 0 ∷ 54 ∷ 0 ∷ 0 ∷ 0 ∷ 0 ∷ 0 ∷ 0 ∷ 0 ∷ 0 ∷ 0 ∷ 0 ∷
+    0 ∷ 5 ∷ 0 ∷ 0 ∷ 0 ∷ 0 ∷ 0 ∷ 0 ∷ 0 ∷ 0 ∷ 0 ∷ 0 ∷ 0 ∷ 0 ∷ 0 ∷ 0 ∷ 0 ∷ 29 ∷ 0 ∷ 0 ∷ 0 ∷ 0 ∷ 0 ∷ 0 ∷
+    0 ∷ 0 ∷ 0 ∷ 0 ∷ 0 ∷ 0 ∷ 0 ∷ 0 ∷ 0 ∷ 1 ∷ 0 ∷ 0 ∷ 0 ∷ 1 ∷ 0 ∷ 0 ∷ 0 ∷ 0 ∷ 128 ∷ 0 ∷ 0 ∷ 0 ∷ 1 ∷ 0 ∷
+    0 ∷ 0 ∷ 0 ∷
+    []
+
+abbrev pub recursive_image : List ℕ
+recursive_image =
+    65 ∷ 80 ∷ 54 ∷ 53 ∷ 51 ∷ 73 ∷ 77 ∷ 71 ∷ 1 ∷ 0 ∷ 128 ∷ 0 ∷ 0 ∷ 0 ∷ 0 ∷ 1 ∷ 0 ∷ 0 ∷ 0 ∷ 1 ∷ 97 ∷ 128 ∷ 0 ∷ 0 ∷
+    0 ∷ 128 ∷ 0 ∷ 0 ∷ 0 ∷ 0 ∷ 0 ∷ 0 ∷ 0 ∷ 0 ∷ 0 ∷ 0 ∷ 0 ∷ 0 ∷ 0 ∷ 0 ∷ 0 ∷ 0 ∷ 0 ∷ 0 ∷ 0 ∷ 0 ∷ 0 ∷ 0 ∷
+    0 ∷ 0 ∷ 0 ∷ 0 ∷ 0 ∷ 0 ∷ 0 ∷ 0 ∷ 0 ∷ 1 ∷ 0 ∷ 0 ∷ 0 ∷ 15 ∷ 0 ∷ 0 ∷ 0 ∷ 1 ∷ 1 ∷ 0 ∷ 5 ∷ 0 ∷ 0 ∷ 0 ∷
+    1 ∷ 0 ∷ 0 ∷ 0 ∷ 1 ∷ 112 ∷ 5 ∷ 255 ∷ 255 ∷ 255 ∷ 255 ∷ 255 ∷ 255 ∷ 255 ∷ 255 ∷ 255 ∷ 255 ∷ 255 ∷ 255 ∷ 255 ∷ 255 ∷ 255 ∷ 255 ∷ 17 ∷
+    0 ∷ 11 ∷ 0 ∷ 0 ∷ 0 ∷ 1 ∷ 0 ∷ 4 ∷ 0 ∷ 0 ∷ 0 ∷ 16 ∷ 0 ∷ 0 ∷ 0 ∷ 0 ∷ 0 ∷ 2 ∷ 0 ∷ 6 ∷ 0 ∷ 0 ∷ 0 ∷ 0 ∷
+    22 ∷ 0 ∷ 0 ∷ 0 ∷ 1 ∷ 0 ∷ 0 ∷ 0 ∷ 0 ∷ 0 ∷ 0 ∷ 0 ∷ 1 ∷ 0 ∷ 0 ∷ 0 ∷ 0 ∷ 0 ∷ 0 ∷ 0 ∷ 28 ∷ 0 ∷ 0 ∷ 0 ∷
+    5 ∷ 0 ∷ 0 ∷ 0 ∷ 0 ∷ 0 ∷ 0 ∷ 0 ∷ 0 ∷ 0 ∷ 0 ∷ 0 ∷ 5 ∷ 0 ∷ 0 ∷ 0 ∷ 0 ∷ 0 ∷ 0 ∷ 0 ∷ 0 ∷ 0 ∷ 0 ∷ 0 ∷
+    0 ∷ 0 ∷ 0 ∷ 0 ∷ 5 ∷ 0 ∷ 0 ∷ 0 ∷ 1 ∷ 0 ∷ 0 ∷ 0 ∷ 0 ∷ 0 ∷ 0 ∷ 0 ∷ 0 ∷ 0 ∷ 0 ∷ 0 ∷ 4 ∷ 0 ∷ 0 ∷ 0 ∷
+    1 ∷ 0 ∷ 0 ∷ 0 ∷ 0 ∷ 0 ∷ 0 ∷ 0 ∷ 0 ∷ 0 ∷ 0 ∷ 0 ∷ 28 ∷ 0 ∷ 0 ∷ 0 ∷ 12 ∷ 0 ∷ 0 ∷ 0 ∷ 0 ∷ 0 ∷ 0 ∷ 0 ∷
+    0 ∷ 0 ∷ 0 ∷ 0 ∷ 5 ∷ 0 ∷ 0 ∷ 0 ∷ 0 ∷ 0 ∷ 0 ∷ 0 ∷ 0 ∷ 0 ∷ 0 ∷ 0 ∷ 0 ∷ 0 ∷ 0 ∷ 0 ∷ 1 ∷ 0 ∷ 0 ∷ 0 ∷
+    0 ∷ 0 ∷ 0 ∷ 0 ∷ 3 ∷ 0 ∷ 0 ∷ 0 ∷ 0 ∷ 0 ∷ 0 ∷ 0 ∷ 28 ∷ 0 ∷ 0 ∷ 0 ∷ 2 ∷ 0 ∷ 0 ∷ 0 ∷ 0 ∷ 0 ∷ 0 ∷ 0 ∷
+    0 ∷ 0 ∷ 0 ∷ 0 ∷ 5 ∷ 0 ∷ 0 ∷ 0 ∷ 0 ∷ 0 ∷ 0 ∷ 0 ∷ 0 ∷ 0 ∷ 0 ∷ 0 ∷ 0 ∷ 0 ∷ 0 ∷ 0 ∷ 29 ∷ 0 ∷ 0 ∷ 0 ∷
+    0 ∷ 0 ∷ 0 ∷ 0 ∷ 0 ∷ 0 ∷ 0 ∷ 0 ∷ 0 ∷ 0 ∷ 0 ∷ 0 ∷ 1 ∷ 0 ∷ 0 ∷ 0 ∷ 0 ∷ 0 ∷ 0 ∷ 0 ∷ 0 ∷ 0 ∷ 0 ∷ 0 ∷
+    0 ∷ 0 ∷ 0 ∷ 0 ∷ 25 ∷ 0 ∷ 0 ∷ 0 ∷ 0 ∷ 0 ∷ 0 ∷ 0 ∷ 0 ∷ 0 ∷ 0 ∷ 0 ∷ 0 ∷ 0 ∷ 0 ∷ 0 ∷ 5 ∷ 0 ∷ 0 ∷ 0 ∷
+    0 ∷ 0 ∷ 0 ∷ 0 ∷ 0 ∷ 0 ∷ 0 ∷ 0 ∷ 0 ∷ 0 ∷ 0 ∷ 0 ∷ 29 ∷ 0 ∷ 0 ∷ 0 ∷ 0 ∷ 0 ∷ 0 ∷ 0 ∷ 0 ∷ 0 ∷ 0 ∷ 0 ∷
+    0 ∷ 0 ∷ 0 ∷ 0 ∷ 4 ∷ 0 ∷ 0 ∷ 0 ∷ 0 ∷ 0 ∷ 0 ∷ 0 ∷ 0 ∷ 0 ∷ 0 ∷ 0 ∷ 0 ∷ 0 ∷ 0 ∷ 0 ∷ 1 ∷ 0 ∷ 0 ∷ 0 ∷
+    0 ∷ 0 ∷ 0 ∷ 0 ∷ 1 ∷ 0 ∷ 0 ∷ 0 ∷ 0 ∷ 0 ∷ 0 ∷ 0 ∷ 8 ∷ 0 ∷ 0 ∷ 0 ∷ 0 ∷ 0 ∷ 0 ∷ 0 ∷ 0 ∷ 0 ∷ 0 ∷ 0 ∷
+    0 ∷ 0 ∷ 0 ∷ 0 ∷ 25 ∷ 0 ∷ 0 ∷ 0 ∷ 0 ∷ 0 ∷ 0 ∷ 0 ∷ 0 ∷ 0 ∷ 0 ∷ 0 ∷ 0 ∷ 0 ∷ 0 ∷ 0 ∷ 26 ∷ 0 ∷ 0 ∷ 0 ∷
+    1 ∷ 0 ∷ 0 ∷ 0 ∷ 0 ∷ 0 ∷ 0 ∷ 0 ∷ 0 ∷ 0 ∷ 0 ∷ 0 ∷ 1 ∷ 0 ∷ 0 ∷ 0 ∷ 0 ∷ 0 ∷ 0 ∷ 0 ∷ 0 ∷ 0 ∷ 0 ∷ 0 ∷
+    0 ∷ 0 ∷ 0 ∷ 0 ∷ 26 ∷ 0 ∷ 0 ∷ 0 ∷ 1 ∷ 0 ∷ 0 ∷ 0 ∷ 0 ∷ 0 ∷ 0 ∷ 0 ∷ 0 ∷ 0 ∷ 0 ∷ 0 ∷ 1 ∷ 0 ∷ 0 ∷ 0 ∷
+    1 ∷ 0 ∷ 0 ∷ 0 ∷ 0 ∷ 128 ∷ 0 ∷ 0 ∷ 0 ∷ 1 ∷ 0 ∷ 0 ∷ 0 ∷ 0 ∷
+    []

@@ -1,4 +1,11 @@
 //! The definitions computed on small inputs. The values are worked out apart from them.
 
+mod code;
+mod costs;
+mod images;
+mod judging;
+mod processor;
 mod smallest;
+mod tables;
 mod traces;
+mod windows;

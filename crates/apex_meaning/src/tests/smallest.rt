@@ -1,15 +1,18 @@
-//! The smallest source, from its text to its trace.
+//! The words of a text, the tree of the smallest source, and its program.
 
-ghost use Rattle.std.specs.Prelude.{◌≡◌, ◌∷◌, [], Some, None, codes};
-ghost use Rattle.apex_types.specs.declared.service.Service.TheVariants.{SetPartitionMode};
-ghost use Rattle.apex_meaning.specs.Syntax as written;
-ghost use Rattle.apex_meaning.specs.GrammarWords.{words_of};
+ghost use Rattle.std.specs.Prelude.{◌≡◌, ◌∷◌, [], Some, None, codes, pos};
+ghost use Rattle.apex_types.specs.declared.place.Place.TheVariants.{Slot};
+ghost use Rattle.apex_types.specs.declared.service.Service.TheVariants.{GetTime, SetPartitionMode};
 ghost use Rattle.apex_meaning.specs.GrammarReading.{program_at};
-ghost use Rattle.apex_meaning.specs.Rows.{lines, single_table, text_of_sources};
+ghost use Rattle.apex_meaning.specs.GrammarWords.{Mark, Name, Number, Request, Stray, words_of};
+ghost use Rattle.apex_meaning.specs.Program as program;
+ghost use Rattle.apex_meaning.specs.Rows.{plain_partition, program_of};
+ghost use Rattle.apex_meaning.specs.Syntax as written;
 
-/// Its tree.
-fn a_source_is_its_tree()
-    ensures { program_at (words_of (codes "init stack 16 { local r; SET_PARTITION_MODE(3) -> r; }")) ≡ Some (record {
+/// From bytes to words, from words to a tree, and from that to a program.
+fn a_source_is_read()
+    ensures words { words_of (codes "x1:=-2>=y;#:=\n GET_TIME 9223372036854775808 A!") ≡ Name (codes "x1") ∷ Mark (codes ":=") ∷ Mark (codes "-") ∷ Number (Some 2) ∷ Mark (codes ">=") ∷ Name (codes "y") ∷ Mark (codes ";") ∷ Request GetTime ∷ Number None ∷ Stray ∷ Stray ∷ [] }
+    ensures tree { program_at (words_of (codes "init stack 16 { local r; SET_PARTITION_MODE(3) -> r; }")) ≡ Some (record {
       declarations = [];
       init = record {
         stack = Some 16;
@@ -21,25 +24,19 @@ fn a_source_is_its_tree()
       handler = None;
       processes = [];
     }) }
-{}
-
-/// What its text means in four ticks.
-fn a_beginning_of_the_trace()
-    ensures { text_of_sources (single_table (codes "a") 128) (codes "init stack 16 { local r; SET_PARTITION_MODE(3) -> r; }" ∷ []) 4 ≡ Some (lines (
-        codes "0000000000000 a MODE COLD_START" ∷
-        codes "0000000000000 a STATE INIT READY" ∷
-        codes "0000000000000 a STATE INIT RUNNING" ∷
-        [])) }
-{}
-
-/// What its text means in 128 ticks.
-fn a_text_means_a_trace()
-    ensures { text_of_sources (single_table (codes "a") 128) (codes "init stack 16 { local r; SET_PARTITION_MODE(3) -> r; }" ∷ []) 128 ≡ Some (lines (
-        codes "0000000000000 a MODE COLD_START" ∷
-        codes "0000000000000 a STATE INIT READY" ∷
-        codes "0000000000000 a STATE INIT RUNNING" ∷
-        codes "0000000000004 a RET INIT SET_PARTITION_MODE 0" ∷
-        codes "0000000000004 a STATE INIT DORMANT" ∷
-        codes "0000000000004 a MODE NORMAL" ∷
-        [])) }
+    ensures program { program_of (plain_partition (codes "a") 128 128) (codes "init stack 16 { local r; SET_PARTITION_MODE(3) -> r; }") ≡ Some (record {
+      initial = [];
+      semaphores = [];
+      events = 0;
+      buffers = [];
+      blackboards = [];
+      procedures = [];
+      init = record {
+        stack = 16;
+        locals = 1;
+        block = program.MoreStmts (program.Request SetPartitionMode (program.MoreExprs (program.Literal (pos 3)) program.NoExpr) (Slot 0 ∷ [])) program.NoStmt;
+      };
+      handler = None;
+      processes = [];
+    }) }
 {}

@@ -3,7 +3,7 @@
 ghost use Rattle.std.specs.Prelude.{◌≡◌, ◌∷◌, [], Some, codes};
 ghost use Rattle.apex_meaning.specs.Rows.{lines, plain_partition, plain_table, release_window, single_table, text_of_sources};
 
-/// A process is created, started and runs to its end.
+/// A process is created, started and runs to its end, or waits for a tick.
 fn one_process()
     ensures reports { text_of_sources (single_table (codes "a") 128) (codes "array m[2]; init stack 16 { local r; local i; CREATE_PROCESS(p) -> r, i; START(i) -> r; SET_PARTITION_MODE(3) -> r; } process p priority 5 period -1 capacity -1 stack 16 { local r; local t; work 3; GET_TIME() -> r, t; m[0] := t; m[1] := 7; REPORT_APPLICATION_MESSAGE(m, 2) -> r; }" ∷ []) 128 ≡ Some (lines (
         codes "0000000000000 a MODE COLD_START" ∷
@@ -60,7 +60,7 @@ fn init_alone()
         [])) }
 {}
 
-/// Expressions and loops take the ticks of their constructs.
+/// Expressions, branches and loops take the ticks of their constructs.
 fn constructs()
     ensures sums { text_of_sources (single_table (codes "a") 128) (codes "var x = 1; init stack 16 { local r; local t; x := 2 + 3 * x; GET_TIME() -> r, t; }" ∷ []) 128 ≡ Some (lines (
         codes "0000000000000 a MODE COLD_START" ∷
@@ -75,6 +75,66 @@ fn constructs()
         codes "0000000000000 a STATE INIT RUNNING" ∷
         codes "0000000000034 a RET INIT GET_TIME 0" ∷
         codes "0000000000040 a MODE IDLE" ∷
+        [])) }
+    ensures first_block { text_of_sources (single_table (codes "a") 128) (codes "var x = 1; var y; init stack 16 { local r; local t; if x { y := 1; } else { y := 2; } GET_TIME() -> r, t; }" ∷ []) 128 ≡ Some (lines (
+        codes "0000000000000 a MODE COLD_START" ∷
+        codes "0000000000000 a STATE INIT READY" ∷
+        codes "0000000000000 a STATE INIT RUNNING" ∷
+        codes "0000000000008 a RET INIT GET_TIME 0" ∷
+        codes "0000000000014 a MODE IDLE" ∷
+        [])) }
+    ensures other_block { text_of_sources (single_table (codes "a") 128) (codes "var x; var y; init stack 16 { local r; local t; if x { y := 1; } else { y := 2; } GET_TIME() -> r, t; }" ∷ []) 128 ≡ Some (lines (
+        codes "0000000000000 a MODE COLD_START" ∷
+        codes "0000000000000 a STATE INIT READY" ∷
+        codes "0000000000000 a STATE INIT RUNNING" ∷
+        codes "0000000000007 a RET INIT GET_TIME 0" ∷
+        codes "0000000000013 a MODE IDLE" ∷
+        [])) }
+{}
+
+/// What expressions and procedures come to.
+fn values()
+    ensures divides { text_of_sources (single_table (codes "a") 128) (codes "array m[5]; init stack 32 { local r; local x; m[0] := (0 - 7) / 2; m[1] := (0 - 7) % 2; m[2] := (0 - 9223372036854775807 - 1) % (0 - 1); m[3] := 7 / -2; m[4] := 7 % -2; REPORT_APPLICATION_MESSAGE(m, 5) -> r; }" ∷ []) 128 ≡ Some (lines (
+        codes "0000000000000 a MODE COLD_START" ∷
+        codes "0000000000000 a STATE INIT READY" ∷
+        codes "0000000000000 a STATE INIT RUNNING" ∷
+        codes "0000000000065 a RET INIT REPORT_APPLICATION_MESSAGE 0" ∷
+        codes "0000000000065 a REPORT INIT -3 -1 0 -3 1" ∷
+        codes "0000000000070 a MODE IDLE" ∷
+        [])) }
+    ensures ranks { text_of_sources (single_table (codes "a") 128) (codes "array m[13]; init stack 32 { local r; local x; m[0] := 2 - 3 - 4; m[1] := 1 + 2 * 3; m[2] := 100 / 10 / 2; m[3] := -3 * 2; m[4] := not 1 = 0; m[5] := 1 or 0 and 0; m[6] := 1 < 2 and 2 >= 3; m[7] := 2 + 3 <> 5; m[8] := - -5 - 1; m[9] := not not 7; m[10] := 17 % 5 * 2; m[11] := 1 + 1 <= 2; m[12] := 3 > 2; REPORT_APPLICATION_MESSAGE(m, 13) -> r; }" ∷ []) 256 ≡ Some (lines (
+        codes "0000000000000 a MODE COLD_START" ∷
+        codes "0000000000000 a STATE INIT READY" ∷
+        codes "0000000000000 a STATE INIT RUNNING" ∷
+        codes "0000000000120 a RET INIT REPORT_APPLICATION_MESSAGE 0" ∷
+        codes "0000000000120 a REPORT INIT -5 7 5 -6 1 1 0 0 4 1 4 1 1" ∷
+        codes "0000000000125 a MODE IDLE" ∷
+        [])) }
+    ensures calls { text_of_sources (single_table (codes "a") 128) (codes "array m[4]; proc gcd(a, b) { local t; while b <> 0 { t := a % b; a := b; b := t; } return a; } proc none() { m[3] := 9; } init stack 64 { local r; local i; while i < 3 { if i = 1 { m[i] := gcd(12 * i, gcd(18, 27)); } else { m[i] := i - 10; } i := i + 1; } r := none() + m[3]; REPORT_APPLICATION_MESSAGE(m, m[3] - 5) -> r; }" ∷ []) 256 ≡ Some (lines (
+        codes "0000000000000 a MODE COLD_START" ∷
+        codes "0000000000000 a STATE INIT READY" ∷
+        codes "0000000000000 a STATE INIT RUNNING" ∷
+        codes "0000000000192 a RET INIT REPORT_APPLICATION_MESSAGE 0" ∷
+        codes "0000000000192 a REPORT INIT -10 3 -8 9" ∷
+        codes "0000000000197 a MODE IDLE" ∷
+        [])) }
+{}
+
+/// Calls that are refused, and INIT that sets the idle mode.
+fn services()
+    ensures { text_of_sources (single_table (codes "a") 128) (codes "array m[2]; init stack 16 { local r; REPORT_APPLICATION_MESSAGE(m, 3) -> r; REPORT_APPLICATION_MESSAGE(m, 0) -> r; m[0] := r; REPORT_APPLICATION_MESSAGE(m, 1) -> r; SET_PARTITION_MODE(4) -> r; SET_PARTITION_MODE(2) -> r; TIMED_WAIT(1) -> r; SET_PARTITION_MODE(0) -> r; }" ∷ []) 128 ≡ Some (lines (
+        codes "0000000000000 a MODE COLD_START" ∷
+        codes "0000000000000 a STATE INIT READY" ∷
+        codes "0000000000000 a STATE INIT RUNNING" ∷
+        codes "0000000000008 a RET INIT REPORT_APPLICATION_MESSAGE 3" ∷
+        codes "0000000000018 a RET INIT REPORT_APPLICATION_MESSAGE 3" ∷
+        codes "0000000000032 a RET INIT REPORT_APPLICATION_MESSAGE 0" ∷
+        codes "0000000000032 a REPORT INIT 3" ∷
+        codes "0000000000038 a RET INIT SET_PARTITION_MODE 3" ∷
+        codes "0000000000044 a RET INIT SET_PARTITION_MODE 5" ∷
+        codes "0000000000050 a RET INIT TIMED_WAIT 5" ∷
+        codes "0000000000056 a RET INIT SET_PARTITION_MODE 0" ∷
+        codes "0000000000056 a MODE IDLE" ∷
         [])) }
 {}
 
@@ -128,7 +188,7 @@ fn windows()
         [])) }
 {}
 
-/// A process with a fault becomes dormant.
+/// A process with a fault becomes dormant, INIT leaves the partition idle.
 fn faults()
     ensures overflows { text_of_sources (single_table (codes "a") 128) (codes "init stack 16 { local r; local i; CREATE_PROCESS(p) -> r, i; START(i) -> r; SET_PARTITION_MODE(3) -> r; } process p priority 5 period -1 capacity -1 stack 16 { local x; x := (0 - 9223372036854775807 - 1) / (0 - 1); }" ∷ []) 128 ≡ Some (lines (
         codes "0000000000000 a MODE COLD_START" ∷
@@ -159,5 +219,13 @@ fn faults()
         codes "0000000000022 a STATE p RUNNING" ∷
         codes "0000000000049 a STATE p DORMANT" ∷
         codes "0000000000049 a HM STACK_OVERFLOW p PARTITION IGNORE" ∷
+        [])) }
+    ensures stores_outside { text_of_sources (single_table (codes "a") 128) (codes "array m[2]; init stack 16 { local r; local i; while 1 { m[i] := i; i := i + 1; } }" ∷ []) 128 ≡ Some (lines (
+        codes "0000000000000 a MODE COLD_START" ∷
+        codes "0000000000000 a STATE INIT READY" ∷
+        codes "0000000000000 a STATE INIT RUNNING" ∷
+        codes "0000000000027 a STATE INIT DORMANT" ∷
+        codes "0000000000027 a HM MEMORY_VIOLATION INIT PARTITION IGNORE" ∷
+        codes "0000000000027 a MODE IDLE" ∷
         [])) }
 {}

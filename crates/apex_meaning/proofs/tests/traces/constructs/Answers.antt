@@ -9,3 +9,11 @@ returns-clause-sums c = refl
 pub returns-clause-loops : goal.returns-clause-loops
 unfolding reading_texts
 returns-clause-loops c = refl
+
+pub returns-clause-first_block : goal.returns-clause-first_block
+unfolding reading_texts
+returns-clause-first_block c = refl
+
+pub returns-clause-other_block : goal.returns-clause-other_block
+unfolding reading_texts
+returns-clause-other_block c = refl

@@ -9,3 +9,7 @@ returns-clause-overflows c = refl
 pub returns-clause-calls_too_deep : goal.returns-clause-calls_too_deep
 unfolding reading_texts
 returns-clause-calls_too_deep c = refl
+
+pub returns-clause-stores_outside : goal.returns-clause-stores_outside
+unfolding reading_texts
+returns-clause-stores_outside c = refl

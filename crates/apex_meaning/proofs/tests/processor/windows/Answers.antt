@@ -1,6 +1,6 @@
 use Rattle.std.proofs.Common.{refl}
 use Rattle.apex_meaning.proofs.Computing.{reading_texts}
-use Rattle.apex_meaning.proofs.tests.smallest.a_beginning_of_the_trace.Goals as goal
+use Rattle.apex_meaning.proofs.tests.processor.windows.Goals as goal
 
 pub returns : goal.returns
 unfolding reading_texts

@@ -1,6 +1,6 @@
 use Rattle.std.proofs.Common.{refl}
 use Rattle.apex_meaning.proofs.Computing.{reading_texts}
-use Rattle.apex_meaning.proofs.tests.smallest.a_text_means_a_trace.Goals as goal
+use Rattle.apex_meaning.proofs.tests.processor.preemption.Goals as goal
 
 pub returns : goal.returns
 unfolding reading_texts
