@@ -23,3 +23,4 @@ pub mod ImageTables
 pub mod ImageLaws
 pub mod StackLength
 pub mod Spelled
+pub mod Shaped
