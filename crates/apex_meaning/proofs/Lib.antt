@@ -29,3 +29,4 @@ pub mod AcceptedTable
 pub mod AcceptedImage
 pub mod Spelled
 pub mod Computing
+pub mod Shaped

@@ -19,32 +19,32 @@ abbrev shown : {X : Type 0} → (X → List Word → List Word) → Option (X ×
 shown words (Some r) = words r.0 r.1
 shown words None = []
 
-abbrev found : {X : Type 0} → X → List Word → Option (X × List Word)
+abbrev pub found : {X : Type 0} → X → List Word → Option (X × List Word)
 found x rest = Some (x, rest)
 
 ends : {X : Type 0} (words : X → List Word → List Word) (ws vs us : List Word) (y x : X) → ws ≡ words y vs → found y vs ≡ found x us → ws ≡ words x us
 ends words ws vs us y x h e = h ∙ ap (shown words) e
 
-nothing : {A P : Type 0} (a : A) → None ≡ Some a → P
+pub nothing : {A P : Type 0} (a : A) → None ≡ Some a → P
 nothing a h = absurd (let e : ⊥ = cc in e)
 
-and_then : {A B P : Type 0} (o : Option A) (f : A → Option B) (y : B) → (o >>= f) ≡ Some y → ((a : A) → o ≡ Some a → f a ≡ Some y → P) → P
+pub and_then : {A B P : Type 0} (o : Option A) (f : A → Option B) (y : B) → (o >>= f) ≡ Some y → ((a : A) → o ≡ Some a → f a ≡ Some y → P) → P
 and_then (Some a) f y h k = k a refl h
 and_then None f y h k = nothing y h
 
-one_way : {A B P : Type 0} (o : Option A) (f : A → Option B) (other : Option B) (y : B) → either o f other ≡ Some y → ((a : A) → o ≡ Some a → f a ≡ Some y → P) → (other ≡ Some y → P) → P
+pub one_way : {A B P : Type 0} (o : Option A) (f : A → Option B) (other : Option B) (y : B) → either o f other ≡ Some y → ((a : A) → o ≡ Some a → f a ≡ Some y → P) → (other ≡ Some y → P) → P
 one_way (Some a) f other y h k l = k a refl h
 one_way None f other y h k l = l h
 
-each_some : {A X P : Type 0} (o : Option A) (read : A → Option (X × List Word)) (x : X × List Word) → each o read ≡ Some (Some x) → ((a : A) → o ≡ Some a → read a ≡ Some x → P) → P
+pub each_some : {A X P : Type 0} (o : Option A) (read : A → Option (X × List Word)) (x : X × List Word) → each o read ≡ Some (Some x) → ((a : A) → o ≡ Some a → read a ≡ Some x → P) → P
 each_some (Some a) read x h k = and_then (read a) (λ y. Some (Some y)) (Some x) h (λ y e f. k a refl (e ∙ cc))
 each_some None read x h k = absurd (let e : ⊥ = cc in e)
 
-until_some : {A X : Type 0} (o : Option A) (read : Option (X × List Word)) (x : X × List Word) → until o read ≡ Some (Some x) → read ≡ Some x
+pub until_some : {A X : Type 0} (o : Option A) (read : Option (X × List Word)) (x : X × List Word) → until o read ≡ Some (Some x) → read ≡ Some x
 until_some (Some a) read x h = absurd (let e : ⊥ = cc in e)
 until_some None read x h = and_then read (λ y. Some (Some y)) (Some x) h (λ y e f. e ∙ cc)
 
-passed : {B : Type 0} (t : Bool) (o : Option B) (y : B) → cond t o None ≡ Some y → o ≡ Some y
+pub passed : {B : Type 0} (t : Bool) (o : Option B) (y : B) → cond t o None ≡ Some y → o ≡ Some y
 passed true o y h = h
 passed false o y h = nothing y h
 
@@ -107,7 +107,7 @@ discipline_spells ws us x h = one_way _ _ _ _ h
     (λ vs e h. ends discipline_words ws vs us discipline.Fifo x (expect_spells _ ws vs e) h)
     (λ h. and_then _ _ _ h (λ vs e h. ends discipline_words ws vs us discipline.Priority x (expect_spells _ ws vs e) h))
 
-abbrev Turn : Type 0 → Type 0
+abbrev pub Turn : Type 0 → Type 0
 Turn X = List Word → Option (Option (X × List Word))
 
 abbrev TurnSpells : (X : Type 0) → (X → List Word → List Word) → Turn X → Type 0

@@ -1,12 +1,14 @@
 -- The grammar of programs: the words that each tree is written with. Each line is one way to write a
 -- thing; rest are the words that follow it.
-use Rattle.std.specs.Prelude.{ℕ, Bool, true, false, if◌then◌else◌, List, [], ◌∷◌, Option, Some, None, codes}
+use Rattle.std.specs.Prelude.{◌≡◌, ◌≤◌, ℕ, ◌-◌, Bool, true, false, if◌then◌else◌, List, [], ◌∷◌, Option, Some, None, codes}
+use Rattle.apex_types.specs.declared.instruction.BinaryOperator.{BinaryOperator}
+use Rattle.apex_types.specs.declared.instruction.BinaryOperator.TheVariants as binary
 use Rattle.apex_types.specs.declared.instruction.UnaryOperator.{UnaryOperator}
 use Rattle.apex_types.specs.declared.instruction.UnaryOperator.TheVariants as unary
 use Rattle.apex_types.specs.declared.codes.Discipline.{Discipline}
 use Rattle.apex_types.specs.declared.codes.Discipline.TheVariants as discipline
 use Rattle.apex_meaning.specs.GrammarWords.{Word, Name, Number, Request, Mark}
-use Rattle.apex_meaning.specs.GrammarReading.{operator_mark}
+use Rattle.apex_meaning.specs.GrammarReading.{operator_mark, Rank, Disjunction, Conjunction, Comparison, Sum, Product}
 use Rattle.apex_meaning.specs.Syntax as tree
 
 -- a number that may have a minus sign before it
@@ -123,3 +125,112 @@ process_words p rest =
 
 unfoldable pub program_words : tree.Program → List Word
 program_words p = all_words declaration_words p.declarations (stack_body_words (codes "init") p.init (handler_words p.handler (all_words process_words p.processes [])))
+
+-- the rank of each operator
+abbrev pub rank_of : BinaryOperator → Rank
+rank_of binary.Or = Disjunction
+rank_of binary.And = Conjunction
+rank_of binary.Equal = Comparison
+rank_of binary.NotEqual = Comparison
+rank_of binary.Less = Comparison
+rank_of binary.LessOrEqual = Comparison
+rank_of binary.Greater = Comparison
+rank_of binary.GreaterOrEqual = Comparison
+rank_of binary.Add = Sum
+rank_of binary.Subtract = Sum
+rank_of binary.Multiply = Product
+rank_of binary.Divide = Product
+rank_of binary.Remainder = Product
+
+-- how loosely a rank binds
+abbrev pub looseness : Rank → ℕ
+looseness Disjunction = 5
+looseness Conjunction = 4
+looseness Comparison = 3
+looseness Sum = 2
+looseness Product = 1
+
+-- that there is an operator, and of comparisons no second one
+abbrev pub HasLink : tree.Links → Type 0
+HasLink tree.NoLink = ⊥
+HasLink (tree.MoreLinks operator operand links) = Unit {0}
+
+abbrev pub IsSingle : tree.Links → Type 0
+IsSingle tree.NoLink = Unit {0}
+IsSingle (tree.MoreLinks operator operand tree.NoLink) = Unit {0}
+IsSingle (tree.MoreLinks operator operand (tree.MoreLinks second third links)) = ⊥
+
+abbrev pub IsFew : Rank → tree.Links → Type 0
+IsFew Disjunction links = Unit {0}
+IsFew Conjunction links = Unit {0}
+IsFew Comparison links = IsSingle links
+IsFew Sum links = Unit {0}
+IsFew Product links = Unit {0}
+
+-- An expression where levels may still be opened, and where no operator may stand outside parentheses
+-- that binds more loosely. The operands of a chain bind more tightly than its operators, which are of
+-- one rank.
+abbrev mutual
+  pub IsExpr : tree.Expr → ℕ → ℕ → Type 0
+  IsExpr (tree.Number value) levels loosest = Unit {0}
+  IsExpr (tree.Name x) levels loosest = Unit {0}
+  IsExpr (tree.Element x index) levels loosest = (1 ≤ levels) × IsExpr index (levels - 1) 5
+  IsExpr (tree.Apply x arguments) levels loosest = (1 ≤ levels) × AreArguments arguments (levels - 1)
+  IsExpr (tree.Parenthesis inside) levels loosest = (1 ≤ levels) × IsExpr inside (levels - 1) 5
+  IsExpr (tree.Unary operator operand) levels loosest = (1 ≤ levels) × IsExpr operand (levels - 1) 0
+  IsExpr (tree.Chain first links) levels loosest =
+      (rank : Rank) × (looseness rank ≤ loosest) × IsExpr first levels (looseness rank - 1) × AreLinks links levels rank × HasLink links × IsFew rank links
+
+  pub AreLinks : tree.Links → ℕ → Rank → Type 0
+  AreLinks tree.NoLink levels rank = Unit {0}
+  AreLinks (tree.MoreLinks operator operand links) levels rank = (rank_of operator ≡ rank) × IsExpr operand levels (looseness rank - 1) × AreLinks links levels rank
+
+  pub AreArguments : tree.Exprs → ℕ → Type 0
+  AreArguments tree.NoExpr levels = Unit {0}
+  AreArguments (tree.MoreExprs e es) levels = IsExpr e levels 5 × AreArguments es levels
+
+-- statements and blocks where levels may still be opened
+abbrev mutual
+  pub IsStmt : tree.Stmt → ℕ → Type 0
+  IsStmt (tree.Assign x e) levels = IsExpr e levels 5
+  IsStmt (tree.AssignElement x i e) levels = (1 ≤ levels) × IsExpr i (levels - 1) 5 × IsExpr e levels 5
+  IsStmt (tree.If e b) levels = IsExpr e levels 5 × (1 ≤ levels) × IsBlock b (levels - 1)
+  IsStmt (tree.IfElse e b other) levels = IsExpr e levels 5 × (1 ≤ levels) × IsBlock b (levels - 1) × IsBlock other (levels - 1)
+  IsStmt (tree.While e b) levels = IsExpr e levels 5 × (1 ≤ levels) × IsBlock b (levels - 1)
+  IsStmt (tree.Work ticks) levels = Unit {0}
+  IsStmt (tree.Return e) levels = IsExpr e levels 5
+  IsStmt (tree.Request service es xs) levels = (1 ≤ levels) × AreArguments es (levels - 1)
+
+  pub IsBlock : tree.Block → ℕ → Type 0
+  IsBlock tree.NoStmt levels = Unit {0}
+  IsBlock (tree.MoreStmts s ss) levels = IsStmt s levels × IsBlock ss levels
+
+-- a body opens the first of 64 levels
+abbrev pub IsBody : tree.Body → Type 0
+IsBody b = IsBlock b.block 63
+
+abbrev pub IsKind : tree.Kind → Type 0
+IsKind (tree.Procedure xs b) = IsBody b
+IsKind (tree.Variable value) = Unit {0}
+IsKind (tree.Array size values) = Unit {0}
+IsKind (tree.Semaphore first maximum d) = Unit {0}
+IsKind tree.Event = Unit {0}
+IsKind (tree.Buffer words messages d) = Unit {0}
+IsKind (tree.Blackboard words) = Unit {0}
+IsKind tree.Port = Unit {0}
+
+-- each of these is so
+abbrev pub Each : {X : Type 0} → (X → Type 0) → List X → Type 0
+Each P [] = Unit {0}
+Each P (x ∷ xs) = P x × Each P xs
+
+abbrev pub IsHandler : Option tree.StackBody → Type 0
+IsHandler None = Unit {0}
+IsHandler (Some b) = IsBody b.body
+
+abbrev pub IsProgram : tree.Program → Type 0
+IsProgram p = Each (λ d. IsKind d.kind) p.declarations × IsBody p.init.body × IsHandler p.handler × Each (λ q. IsBody q.body) p.processes
+
+-- the grammar: these words are written as this program
+abbrev pub IsWritten : List Word → tree.Program → Type 0
+IsWritten words program = IsProgram program × (words ≡ program_words program)

@@ -1,5 +1,8 @@
 -- What a refusal of the words says of the text.
-use Rattle.std.proofs.Common.{◌≡◌, ℕ, List, sym, ap, ◌∙◌, subst}
+use Rattle.std.proofs.Common.{Some, ◌≡◌, ℕ, List, sym, ap, ◌∙◌, subst}
+use Rattle.apex_meaning.specs.Grammar.{IsWritten}
+use Rattle.apex_meaning.specs.Syntax as tree
+use Rattle.apex_meaning.proofs.Shaped.{program_is_written}
 use Rattle.apex_meaning.specs.GrammarWords as grammar
 use Rattle.apex_meaning.specs.GrammarReading.{program_at}
 use Rattle.pal_base.specs.Answers.{IsText, IsRefused, read_program}
@@ -19,3 +22,8 @@ refused_so (Refused line) text ws is_text same given = (is_text, same ∙ given)
 
 pub refused_words : (error : ReadError) (refusal : Refusal) (text : List ℕ) (ws : List grammar.Word) → refusal ≡ refusal_of error → IsText text → ws ≡ grammar.words_of text → Refuses error (program_at ws) → IsRefused refusal text
 refused_words error refusal text ws is is_text words given = subst (λ r. IsRefused r text) (sym is) (refused_so error text ws is_text (words_give text ws words) given)
+
+-- the program of a text is written so in its words
+pub written_so : (text : List ℕ) (program : tree.Program) → read_program text ≡ Some program → IsWritten (grammar.words_of text) program
+unfolding read_program
+written_so text program read = program_is_written (grammar.words_of text) program read

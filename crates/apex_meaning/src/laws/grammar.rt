@@ -1,12 +1,13 @@
 //! Programs and their words.
 
 ghost use Rattle.std.specs.Prelude.{◌≡◌, List, Some};
-ghost use Rattle.apex_meaning.specs.Grammar.{program_words};
+ghost use Rattle.apex_meaning.specs.Grammar.{IsWritten};
 ghost use Rattle.apex_meaning.specs.GrammarReading.{program_at};
 ghost use Rattle.apex_meaning.specs.GrammarWords.{Word};
 ghost use Rattle.apex_meaning.specs.Syntax.{Program};
 
-/// The words that are read as a program are the words that this program is written with.
+/// What is read as a program is written so: the words are those of the program, its operators stand
+/// in the order of their ranks, and it opens at most 64 levels.
 pub fn program_is_written_so()
-    ensures { (words : List Word) (program : Program) → program_at words ≡ Some program → words ≡ program_words program }
+    ensures { (words : List Word) (program : Program) → program_at words ≡ Some program → IsWritten words program }
 {}
