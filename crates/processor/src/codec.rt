@@ -122,7 +122,6 @@ pub fn encode(instruction: &Instr) -> [u8; 16]
 }
 
 /// The opcode as it stands in sixteen bytes.
-
 fn opcode_field(bytes: &[u8; 16]) -> u32
     ensures { result ≡ opcode_in bytes.now }
 {
@@ -130,7 +129,6 @@ fn opcode_field(bytes: &[u8; 16]) -> u32
 }
 
 /// The field x as it stands in sixteen bytes.
-
 fn x_field(bytes: &[u8; 16]) -> u32
     ensures { result ≡ x_in bytes.now }
 {
