@@ -17,6 +17,8 @@ mod resolving;
 mod scope;
 mod size;
 mod table;
+#[cfg(test)]
+mod tests;
 mod ticks;
 mod verdict;
 

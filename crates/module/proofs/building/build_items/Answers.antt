@@ -10,7 +10,7 @@ loop-row-preserved c =
     let pushed : c.push.new.self.items ≡ c.loop-row.items.items ++ c.in_ok-build_item.field-0 ∷ [] = search rules in
     let read = c.in-Some-get.ensures.lookup in
     let got : slice_get (map (λ s. s.now) c.args.sources.now) c.loop-row.place ≡ Some c.in-Some-get.source.now.now =
-        slice_get-map _ c.args.sources.now c.loop-row.place ∙ ap (option_map (λ s. s.now)) (slice_get_read c.args.sources.now _ c.loop-row.place c.in-Some-get.source.now refl read.3.0 read.1) in
+    slice_get-map _ c.args.sources.now c.loop-row.place ∙ ap (option_map (λ s. s.now)) (slice_get_read c.args.sources.now _ c.loop-row.place c.in-Some-get.source.now refl read.3.0 read.1) in
     record {
       place = one_longer c.loop-row.yielded c.in-Some.row c.loop-row.place c.loop-row.invariant.place;
       built = one_more_item c.loop-row.yielded c.in-Some.row _ c.loop-row.place _ _ _ _ c.loop-row.invariant.built got pushed c.in_ok-build_item.ensures.row c.in_ok-build_item.ensures.built;
