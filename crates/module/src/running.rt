@@ -70,16 +70,16 @@ fn load(alloc: Global, bytes: &[u8]) -> Result<Image, RunFault>
 
 /// The start of each partition, then so many ticks; without a tick nothing happens.
 fn run_module<E: Executor, S: Sink>(
-    module: &mut Module<E>,
+    running: &mut Module<E>,
     ticks: u64,
     sink: &mut S,
 ) -> Result<(), SinkFault>
     requires ticks { ticks ≤ 2 ^ 40 }
     requires failures { S.failures sink.old < 2 ^ 64 - 1 }
-    ensures ok { OnOk result (Appends (S.taken sink.old) (S.taken sink.new) (text_of (meaning.trace (module_of E.Executor module.old) ticks))) }
+    ensures ok { OnOk result (Appends (S.taken sink.old) (S.taken sink.new) (text_of (meaning.trace (module_of E.Executor running.old) ticks))) }
     ensures quiet { OnOk result (S.failures sink.new ≡ S.failures sink.old) }
     ensures failed { OnErr result (S.failures sink.new ≡ S.failures sink.old + 1) }
-    ensures beginning { OnErr result (TakesBeginning (S.taken sink.old) (S.taken sink.new) (text_of (meaning.trace (module_of E.Executor module.old) ticks))) }
+    ensures beginning { OnErr result (TakesBeginning (S.taken sink.old) (S.taken sink.new) (text_of (meaning.trace (module_of E.Executor running.old) ticks))) }
 {
     if ticks == 0 {
         return Ok(());
@@ -88,32 +88,32 @@ fn run_module<E: Executor, S: Sink>(
         lines: Events::new(),
         actions: Actions::new(),
     };
-    start(module, &mut out, sink)?;
-    run_ticks(module, ticks, &mut out, sink)
+    start(running, &mut out, sink)?;
+    run_ticks(running, ticks, &mut out, sink)
 }
 
 /// The first start of each partition, in order.
 fn start<E: Executor, S: Sink>(
-    module: &mut Module<E>,
+    running: &mut Module<E>,
     out: &mut Out,
     sink: &mut S,
 ) -> Result<(), SinkFault>
     requires lines { out.old.lines.items ≡ [] }
     requires actions { out.old.actions.items ≡ [] }
     requires failures { S.failures sink.old < 2 ^ 64 - 1 }
-    ensures frame { module.new.frame ≡ module.old.frame }
-    ensures windows { module.new.windows.items ≡ module.old.windows.items }
-    ensures members { OnOk result (members_of E.Executor module.new.members.items ≡ (meaning.starts (members_of E.Executor module.old.members.items)).members) }
-    ensures ok { OnOk result (Appends (S.taken sink.old) (S.taken sink.new) (text_of (meaning.starts (members_of E.Executor module.old.members.items)).lines)) }
+    ensures frame { running.new.frame ≡ running.old.frame }
+    ensures windows { running.new.windows.items ≡ running.old.windows.items }
+    ensures members { OnOk result (members_of E.Executor running.new.members.items ≡ (meaning.starts (members_of E.Executor running.old.members.items)).members) }
+    ensures ok { OnOk result (Appends (S.taken sink.old) (S.taken sink.new) (text_of (meaning.starts (members_of E.Executor running.old.members.items)).lines)) }
     ensures quiet { OnOk result (S.failures sink.new ≡ S.failures sink.old) }
     ensures failed { OnErr result (S.failures sink.new ≡ S.failures sink.old + 1) }
-    ensures beginning { OnErr result (TakesBeginning (S.taken sink.old) (S.taken sink.new) (text_of (meaning.starts (members_of E.Executor module.old.members.items)).lines)) }
+    ensures beginning { OnErr result (TakesBeginning (S.taken sink.old) (S.taken sink.new) (text_of (meaning.starts (members_of E.Executor running.old.members.items)).lines)) }
     ensures lines { OnOk result (out.new.lines.items ≡ []) }
     ensures actions { OnOk result (out.new.actions.items ≡ []) }
 {
     let mut place = 0;
-    while place < module.members.len() {
-        module.start_at(place, out);
+    while place < running.members.len() {
+        running.start_at(place, out);
         write_events(out.lines.as_slice(), sink)?;
         out.lines.clear();
         place += 1;
@@ -123,7 +123,7 @@ fn start<E: Executor, S: Sink>(
 
 /// So many ticks from tick 0 on.
 fn run_ticks<E: Executor, S: Sink>(
-    module: &mut Module<E>,
+    running: &mut Module<E>,
     ticks: u64,
     out: &mut Out,
     sink: &mut S,
@@ -132,15 +132,15 @@ fn run_ticks<E: Executor, S: Sink>(
     requires lines { out.old.lines.items ≡ [] }
     requires actions { out.old.actions.items ≡ [] }
     requires failures { S.failures sink.old < 2 ^ 64 - 1 }
-    ensures ok { OnOk result (Appends (S.taken sink.old) (S.taken sink.new) (text_of (meaning.trace_from module.old.frame module.old.windows.items ticks 0 (members_of E.Executor module.old.members.items)))) }
+    ensures ok { OnOk result (Appends (S.taken sink.old) (S.taken sink.new) (text_of (meaning.trace_from running.old.frame running.old.windows.items ticks 0 (members_of E.Executor running.old.members.items)))) }
     ensures quiet { OnOk result (S.failures sink.new ≡ S.failures sink.old) }
     ensures failed { OnErr result (S.failures sink.new ≡ S.failures sink.old + 1) }
-    ensures beginning { OnErr result (TakesBeginning (S.taken sink.old) (S.taken sink.new) (text_of (meaning.trace_from module.old.frame module.old.windows.items ticks 0 (members_of E.Executor module.old.members.items)))) }
+    ensures beginning { OnErr result (TakesBeginning (S.taken sink.old) (S.taken sink.new) (text_of (meaning.trace_from running.old.frame running.old.windows.items ticks 0 (members_of E.Executor running.old.members.items)))) }
 {
     let mut left = ticks;
     let mut now = 0;
     while left > 0 {
-        module.tick(now, out);
+        running.tick(now, out);
         write_events(out.lines.as_slice(), sink)?;
         out.lines.clear();
         left -= 1;

@@ -3,6 +3,8 @@
 #![tactic(auto)]
 
 mod arguments;
+#[cfg(test)]
+mod examples;
 mod frames;
 mod kinds;
 mod limits;
@@ -17,8 +19,6 @@ mod resolving;
 mod scope;
 mod size;
 mod table;
-#[cfg(test)]
-mod tests;
 mod ticks;
 mod verdict;
 

@@ -27,5 +27,5 @@ returns-in_err-write_events-clause-beginning g c =
     let i = c.loop-left.invariant in
     let split = tick_text _ _ _ _ c.loop-left.left c.loop-left.now _ _ c.as_slice.result.now i.frame i.windows (omega arith) (c.as_slice.ensures.value ∙ c.tick.ensures.lines) c.tick.ensures.members in
     let left = rw split at i.under_way in
-    let out : TakesBeginning (g.S.Sink.taken c.args.sink.now) (g.S.Sink.taken c.write_events.new.sink) (text_of (meaning.trace_from c.args.module.now.frame c.args.module.now.windows.items c.args.ticks 0 (members_of g.E.Executor c.args.module.now.members.items))) = under_way_fails _ _ _ _ (text_of c.as_slice.result.now) _ left c.in_err-write_events.ensures.beginning in
+    let out : TakesBeginning (g.S.Sink.taken c.args.sink.now) (g.S.Sink.taken c.write_events.new.sink) (text_of (meaning.trace_from c.args.running.now.frame c.args.running.now.windows.items c.args.ticks 0 (members_of g.E.Executor c.args.running.now.members.items))) = under_way_fails _ _ _ _ (text_of c.as_slice.result.now) _ left c.in_err-write_events.ensures.beginning in
     err_at c.from_residual.result out

@@ -10,7 +10,7 @@ use Rattle.module.proofs.running.start.Goals as goal
 pub loop-place-preserved : goal.loop-place-preserved
 loop-place-preserved g c =
     let so_far = c.loop-place.invariant.members in
-    let within = within_members (view_of g.E.Executor) c.loop-place.module.members.items c.loop-place.place _ so_far (search rules) in
+    let within = within_members (view_of g.E.Executor) c.loop-place.running.members.items c.loop-place.place _ so_far (search rules) in
     let split = step_text _ _ c.loop-place.place c.as_slice.result.now so_far within (c.as_slice.ensures.value ∙ c.start_at.ensures.lines) in
     let left = rw split at c.loop-place.invariant.under_way in
     record {
@@ -26,8 +26,8 @@ loop-place-preserved g c =
 pub returns-in_err-write_events-clause-beginning : goal.returns-in_err-write_events-clause-beginning
 returns-in_err-write_events-clause-beginning g c =
     let so_far = c.loop-place.invariant.members in
-    let within = within_members (view_of g.E.Executor) c.loop-place.module.members.items c.loop-place.place _ so_far (search rules) in
+    let within = within_members (view_of g.E.Executor) c.loop-place.running.members.items c.loop-place.place _ so_far (search rules) in
     let split = step_text _ _ c.loop-place.place c.as_slice.result.now so_far within (c.as_slice.ensures.value ∙ c.start_at.ensures.lines) in
     let left = rw split at c.loop-place.invariant.under_way in
-    let out : TakesBeginning (g.S.Sink.taken c.args.sink.now) (g.S.Sink.taken c.write_events.new.sink) (text_of (meaning.starts (members_of g.E.Executor c.args.module.now.members.items)).lines) = under_way_fails _ _ _ _ (text_of c.as_slice.result.now) _ left c.in_err-write_events.ensures.beginning in
+    let out : TakesBeginning (g.S.Sink.taken c.args.sink.now) (g.S.Sink.taken c.write_events.new.sink) (text_of (meaning.starts (members_of g.E.Executor c.args.running.now.members.items)).lines) = under_way_fails _ _ _ _ (text_of c.as_slice.result.now) _ left c.in_err-write_events.ensures.beginning in
     err_at c.from_residual.result out

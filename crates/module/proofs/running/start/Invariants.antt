@@ -11,12 +11,12 @@ abbrev pub invariant-loop-place : goal.invariant-loop-place
 invariant-loop-place g l = record {
   lines : l.out.lines.items ≡ [];
   actions : l.out.actions.items ≡ [];
-  frame : l.module.frame ≡ l.fn.module.frame;
-  windows : l.module.windows.items ≡ l.fn.module.windows.items;
-  members : members_of g.E.Executor l.module.members.items ≡ started_to l.place (members_of g.E.Executor l.fn.module.members.items);
-  under_way : IsUnderWay (g.S.Sink.taken l.fn.sink) (g.S.Sink.taken l.sink) (text_of (flat_map start_lines (members_of g.E.Executor l.fn.module.members.items))) (text_of (flat_map start_lines (drop l.place (members_of g.E.Executor l.fn.module.members.items))));
+  frame : l.running.frame ≡ l.fn.running.frame;
+  windows : l.running.windows.items ≡ l.fn.running.windows.items;
+  members : members_of g.E.Executor l.running.members.items ≡ started_to l.place (members_of g.E.Executor l.fn.running.members.items);
+  under_way : IsUnderWay (g.S.Sink.taken l.fn.sink) (g.S.Sink.taken l.sink) (text_of (flat_map start_lines (members_of g.E.Executor l.fn.running.members.items))) (text_of (flat_map start_lines (drop l.place (members_of g.E.Executor l.fn.running.members.items))));
   quiet : g.S.Sink.failures l.sink ≡ g.S.Sink.failures l.fn.sink;
 }
 
 abbrev pub decreases-loop-place : goal.decreases-loop-place
-decreases-loop-place g l = length l.module.members.items - l.place
+decreases-loop-place g l = length l.running.members.items - l.place
