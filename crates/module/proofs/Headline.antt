@@ -1,6 +1,10 @@
 -- From accepted sources to the text of their trace.
-use Rattle.std.proofs.Common.{◌≡◌, ℕ, ◌≤◌, List, [], ◌∷◌, length, Option, Result, Ok, Err, IfOk, refl, sym, ap, subst, ◌∙◌, arith}
+use Rattle.std.proofs.Common.{◌≡◌, ◌≢◌, ℕ, ◌≤◌, List, [], ◌∷◌, length, Option, Result, Ok, Err, IfOk, refl, sym, ap, subst, ◌∙◌, arith}
+use Rattle.std.specs.Prelude.{Bool, true, ◌&&◌, ◌==◌}
+use Rattle.std.specs.List.{list_all}
 use Rattle.std.specs.Io.KnownBytes.{Appends}
+use Rattle.std.proofs.lemmas.Bool.{and_parts, eqb-true}
+use Rattle.std.proofs.lemmas.List.{nil_from_length}
 use Rattle.toml.specs.Data.{Members}
 use Rattle.apex_types.specs.declared.event.Event.{Event}
 use Rattle.apex_types.specs.Line.{text_of}
@@ -17,8 +21,9 @@ use Rattle.apex_meaning.proofs.ImageLaws.{spelled_is_read}
 use Rattle.apex_meaning.proofs.WellFormedSection.{accepted_section}
 use Rattle.module.specs.Accepted.{IsTable}
 use Rattle.module.specs.Built.{built_items, built_image}
-use Rattle.module.specs.Building.{IsBuilt, AreBuilt, IsImageOf, IsOfPart, IsSpelledFrom, image_with}
-use Rattle.module.specs.Promises.{IsRun, Runs, IsAcceptedRun, Means, ran}
+use Rattle.module.specs.Building.{IsBuilt, AreBuilt, IsImageOf, IsSpelledFrom, image_with}
+use Rattle.module.specs.Part.{is_row_of_part, is_table_of_part}
+use Rattle.module.specs.Promises.{IsRun, IsOutside, Runs, IsAcceptedRun, Means, ran}
 use Rattle.module.specs.declared.fault.RunFault.{RunFault}
 use Rattle.module.specs.declared.fault.RunFault.TheVariants.{Ticks, NotYet, Memory, Write}
 use Rattle.module.proofs.Built.{have_programs}
@@ -29,8 +34,21 @@ lawful_section : (row : Partition) (source : List ℕ) (section : Section) → I
 lawful_section row source section h =
     subst (IsSection row.period) (sym h.is) (accepted_section row.ports row.period h.accepted.tree h.program h.accepted.judged h.compiled.size h.compiled.words)
 
+-- one partition with one window, and no channel
+record IsAlone (t : Table) : Type 0 where
+  partitions : length t.partitions ≡ 1
+  windows : length t.windows ≡ 1
+  channels : t.channels ≡ []
+
+table_alone : (t : Table) → is_table_of_part t ≡ true → IsAlone t
+table_alone t h =
+    let a = and_parts ((length t.channels == 0) && (length t.windows == 1) && (length t.partitions == 1)) (list_all is_row_of_part t.partitions) h in
+    let b = and_parts ((length t.channels == 0) && (length t.windows == 1)) (length t.partitions == 1) a.0 in
+    let c = and_parts (length t.channels == 0) (length t.windows == 1) b.0 in
+    record { partitions = eqb-true (length t.partitions) 1 b.1; windows = eqb-true (length t.windows) 1 c.1; channels = nil_from_length t.channels (eqb-true (length t.channels) 0 c.0) }
+
 lawful_image : (ms : Members) (t : Table) (rows : List Partition) (sources : List (List ℕ)) (items : List Item)
-    → verdict ms ≡ Ok t → IsOfPart t → t.partitions ≡ rows → length rows ≡ 1 → AreBuilt rows sources items → IsLawful (image_with t items)
+    → verdict ms ≡ Ok t → IsAlone t → t.partitions ≡ rows → length rows ≡ 1 → AreBuilt rows sources items → IsLawful (image_with t items)
 lawful_image ms t [] sources items judged part same one h = absurd (omega arith)
 lawful_image ms t (row ∷ other ∷ rows) sources items judged part same one h = absurd (omega arith)
 lawful_image ms t (row ∷ []) [] items judged part same one h = absurd h
@@ -41,8 +59,9 @@ lawful_image ms t (row ∷ []) (source ∷ []) (item ∷ other ∷ items) judged
 lawful_image ms t (row ∷ []) (source ∷ other ∷ sources) (item ∷ items) judged part same one h = absurd h.2
 
 -- the image of an accepted module, and its bytes
-pub module_image : (table : List ℕ) (sources : List (List ℕ)) (t : Table) (bytes : List ℕ) → IsTable table t → IsOfPart t → IsSpelledFrom t sources bytes → IsImageOf table sources bytes
+module_image : (table : List ℕ) (sources : List (List ℕ)) (t : Table) (bytes : List ℕ) → IsTable table t → is_table_of_part t ≡ true → IsSpelledFrom t sources bytes → IsImageOf table sources bytes
 module_image table sources t bytes is_table part h =
+    let alone = table_alone t part in
     let have = have_programs t.partitions sources h.items h.built in
     let same : image_with t h.items ≡ built_image t have.programs = ap (image_with t) have.is in
     record {
@@ -50,12 +69,12 @@ module_image table sources t bytes is_table part h =
       programs = have.programs;
       accepted = record { rows = is_table; accepted = have.accepted };
       image = image_with t h.items;
-      loaded = ap image_at h.spelled ∙ spelled_is_read (image_with t h.items) (lawful_image is_table.0 t t.partitions sources h.items is_table.2 part refl part.partitions h.built);
+      loaded = ap image_at h.spelled ∙ spelled_is_read (image_with t h.items) (lawful_image is_table.0 t t.partitions sources h.items is_table.2 alone refl alone.partitions h.built);
       meaning = λ n. ap (λ (i : Image). machine_trace i n) same ∙ sym (traces_same t have.programs n have.compiled);
     }
 
 pub built_bytes : {A E : Type 0} (view : A → List ℕ) (table : List ℕ) (sources : List (List ℕ)) (t : Table) (answer : Result A E)
-    → IsTable table t → IsOfPart t → IfOk answer (λ b. IsSpelledFrom t sources (view b)) → IfOk answer (λ b. IsImageOf table sources (view b))
+    → IsTable table t → IfOk answer (λ b. is_table_of_part t ≡ true) → IfOk answer (λ b. IsSpelledFrom t sources (view b)) → IfOk answer (λ b. IsImageOf table sources (view b))
 built_bytes view table sources t (Ok b) is_table part h = module_image table sources t (view b) is_table part h
 built_bytes view table sources t (Err e) is_table part h = tt
 
@@ -76,12 +95,17 @@ accepted_run : (table : List ℕ) (sources : List (List ℕ)) (bytes devices : L
     → IsAcceptedRun table sources devices n h.rows h.programs
 accepted_run table sources bytes devices n image h r = record { accepted = h.accepted; alone = r.alone; few = r.few }
 
+-- an image that is loaded is refused for its devices alone
+has_devices : (read : Result Image Fault) (image : Image) (devices : List ℕ) → read ≡ ok_image image → IsOutside read devices → devices ≢ []
+has_devices (Ok other) image devices e h = h
+has_devices (Err fault) image devices e h = absurd cc
+
 pub run_means : (table : List ℕ) (sources : List (List ℕ)) (bytes devices : List ℕ) (n : ℕ) (old new : Option (List ℕ)) (answer : Result (Unit {0}) RunFault)
     → IsImageOf table sources bytes → Runs (image_at bytes) devices n old new answer → Means table sources devices n old new (ran answer)
 run_means table sources bytes devices n old new (Ok x) h (image, r, out) =
     (h.rows, h.programs, accepted_run table sources bytes devices n image h r, subst (Appends old new) (same_text table sources bytes devices n image h r) out)
 run_means table sources bytes devices n old new (Err Write) h (image, r, out) =
     (h.rows, h.programs, accepted_run table sources bytes devices n image h r, subst (TakesBeginning old new) (same_text table sources bytes devices n image h r) out)
-run_means table sources bytes devices n old new (Err Ticks) h r = r.1
-run_means table sources bytes devices n old new (Err NotYet) h r = r.1
+run_means table sources bytes devices n old new (Err Ticks) h r = r
+run_means table sources bytes devices n old new (Err NotYet) h r = (has_devices (image_at bytes) h.image devices h.loaded r.0, r.1)
 run_means table sources bytes devices n old new (Err Memory) h r = r

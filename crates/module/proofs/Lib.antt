@@ -5,3 +5,5 @@ pub mod Reading
 pub mod SameTraces
 pub mod Starting
 pub mod Texts
+pub mod Parts
+pub mod Refused

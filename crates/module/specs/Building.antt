@@ -1,13 +1,22 @@
 -- What building promises, and the parts of it.
-use Rattle.std.specs.Prelude.{◌≡◌, ℕ, List, [], ◌∷◌, length, Ok}
+use Rattle.std.specs.Prelude.{◌≡◌, ℕ, true, List, [], ◌∷◌, Some, Result, Ok, Err}
+use Rattle.std.specs.List.{list_all}
 use Rattle.apex_meaning.specs.CompiledCode.{section_of}
 use Rattle.apex_meaning.specs.Image.{Partition, Section, Item, Table, Image}
 use Rattle.apex_meaning.specs.ImageReading.{image_at}
 use Rattle.apex_meaning.specs.ImageSpelling.{spelling}
 use Rattle.apex_meaning.specs.Program.{Program}
+use Rattle.apex_meaning.specs.Syntax as written
 use Rattle.apex_meaning.specs.TwoMeanings.{source_trace, machine_trace}
-use Rattle.module.specs.Accepted.{IsAccepted, IsModule}
+use Rattle.apex_meaning.specs.WellFormed.{verdict}
+use Rattle.pal_base.specs.Answers.{IsText, read_program}
+use Rattle.pal_base.specs.declared.fault.Refusal.{Refusal}
+use Rattle.pal_base.specs.declared.fault.Refusal.TheVariants as refusal
+use Rattle.module.specs.Accepted.{IsAccepted, AreAccepted, IsTable, IsModule}
 use Rattle.module.specs.Built.{IsCompiled}
+use Rattle.module.specs.Part.{is_program_of_part, is_built, is_module_built}
+use Rattle.module.specs.declared.fault.BuildFault.{BuildFault}
+use Rattle.module.specs.declared.fault.BuildFault.TheVariants.{NotYet, Memory}
 
 -- a section is what an accepted source is compiled to
 pub record IsBuilt (row : Partition) (source : List ℕ) (section : Section) : Type 0 where
@@ -41,8 +50,43 @@ pub record IsImageOf (table : List ℕ) (sources : List (List ℕ)) (bytes : Lis
   pub loaded : image_at bytes ≡ Ok image
   pub meaning : (n : ℕ) → machine_trace image n ≡ source_trace rows programs n
 
--- the part that is built so far: one partition with one window, and no channel
-pub record IsOfPart (t : Table) : Type 0 where
-  pub partitions : length t.partitions ≡ 1
-  pub windows : length t.windows ≡ 1
-  pub channels : t.channels ≡ []
+-- ---- refusals
+
+-- A refusal comes only where it must; want of memory says nothing.
+abbrev pub IsRefusedWhere : {A : Type 0} → Type 0 → Result A BuildFault → Type 0
+IsRefusedWhere outside (Ok x) = Unit {0}
+IsRefusedWhere outside (Err Memory) = Unit {0}
+IsRefusedWhere outside (Err NotYet) = outside
+
+-- what a refusal of a source becomes
+abbrev pub fault_of : Refusal → BuildFault
+fault_of refusal.Memory = Memory
+fault_of _ = NotYet
+
+-- this text of a table is not accepted
+abbrev pub IsNoTable : List ℕ → Type 0
+IsNoTable text = (t : Table) → IsTable text t → ⊥
+
+-- this source is not the text of a program
+abbrev pub IsNoProgram : List ℕ → Type 0
+IsNoProgram source = (tree : written.Program) → IsText source → read_program source ≡ Some tree → ⊥
+
+-- this program is not well formed for its partition as a program of the part
+abbrev pub IsNotOfPart : Partition → written.Program → Type 0
+IsNotOfPart row tree = (p : Program) → verdict row.ports row.period tree ≡ Ok p → is_program_of_part p ≡ true → ⊥
+
+-- this source is not accepted as a program that is built
+abbrev pub IsNotBuilt : Partition → List ℕ → Type 0
+IsNotBuilt row source = (p : Program) → IsAccepted row source p → is_built p ≡ true → ⊥
+
+-- these sources are not accepted as programs that are built
+abbrev pub AreNotBuilt : List Partition → List (List ℕ) → Type 0
+AreNotBuilt rows sources = (ps : List Program) → AreAccepted rows sources ps → list_all is_built ps ≡ true → ⊥
+
+-- with this table, these sources are not accepted as a module that is built
+abbrev pub IsTableOutside : Table → List (List ℕ) → Type 0
+IsTableOutside t sources = (ps : List Program) → AreAccepted t.partitions sources ps → is_module_built t ps ≡ true → ⊥
+
+-- this table and these sources are not accepted as a module that is built
+abbrev pub IsModuleOutside : List ℕ → List (List ℕ) → Type 0
+IsModuleOutside table sources = (t : Table) (ps : List Program) → IsModule table sources t ps → is_module_built t ps ≡ true → ⊥

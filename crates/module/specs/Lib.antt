@@ -5,3 +5,4 @@ pub mod Loading
 pub mod Members
 pub mod Promises
 pub mod Views
+pub mod Part

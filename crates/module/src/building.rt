@@ -1,7 +1,8 @@
 //! From a module table and sources to the bytes of an image.
 
-ghost use Rattle.std.specs.Prelude.{◌≡◌, ◌≤◌, length, map, IfOk, IsTrue, Some, Ok, All, FitsSigned};
+ghost use Rattle.std.specs.Prelude.{◌≡◌, ◌≤◌, ◌<◌, length, map, IfOk, IfErr, Some, Ok, Err, All, FitsSigned, true, false};
 ghost use Rattle.std.specs.Int.{w64};
+ghost use Rattle.std.specs.List.{list_all};
 ghost use Rattle.apex_meaning.specs.CompiledCode as code_of;
 ghost use Rattle.apex_meaning.specs.Cost.{size_of};
 ghost use Rattle.apex_meaning.specs.ImageSpelling.{spelling};
@@ -13,7 +14,9 @@ ghost use Rattle.pal_base.specs.ProgramView as resolved;
 ghost use Rattle.pal_base.specs.View as written;
 ghost use Rattle.window_table.specs.Views.{table_of};
 ghost use Rattle.module.specs.Accepted.{IsTable};
-ghost use Rattle.module.specs.Building.{AreBuilt, IsBuilt, IsImageOf, IsSpelledFrom, image_with};
+ghost use Rattle.module.specs.Building.{AreBuilt, IsBuilt, IsImageOf, IsSpelledFrom, IsRefusedWhere, fault_of, IsNoTable, IsNotBuilt, AreNotBuilt, IsNoProgram, IsNotOfPart, IsTableOutside, IsModuleOutside, image_with};
+ghost use Rattle.module.specs.Part.{is_program_of_part, is_table_of_part, is_built};
+ghost use Rattle.module.specs.declared.fault.BuildFault.TheVariants as fault;
 
 use crate::fault::BuildFault;
 use crate::part::{is_program_of_part, is_table_of_part};
@@ -24,7 +27,7 @@ use pal::{Checked, check};
 use pal_base::fault::Refusal;
 use pal_base::parse::parse;
 use pal_base::program;
-use pal_base::syntax::{Declaration, DeclarationKind, Program};
+use pal_base::syntax::Program;
 use std::alloc::Global;
 use window_table::{ModuleTable, PartitionRow, TableFault, read_table};
 
@@ -36,9 +39,20 @@ use window_table::{ModuleTable, PartitionRow, TableFault, read_table};
 /// Memory where there is none left, else `NotYet` where they are refused or are outside the part
 /// that is built so far.
 pub fn build(alloc: Global, table: &[u8], sources: &[&[u8]]) -> Result<Vec<u8>, BuildFault>
-    ensures { IfOk result (λ bytes. IsImageOf table.now (map (λ s. s.now) sources.now) bytes.items) }
+    ensures image { IfOk result (λ bytes. IsImageOf table.now (map (λ s. s.now) sources.now) bytes.items) }
+    ensures refused { IsRefusedWhere (IsModuleOutside table.now (map (λ s. s.now) sources.now)) result }
 {
     let table = read(alloc, table)?;
+    build_table(alloc, table, sources)
+}
+
+/// The bytes of the image of a table that is of the part, and has as many partitions as there are
+/// sources.
+fn build_table(alloc: Global, table: ModuleTable, sources: &[&[u8]]) -> Result<Vec<u8>, BuildFault>
+    ensures part { IfOk result (λ bytes. is_table_of_part (table_of table) ≡ true) }
+    ensures spelled { IfOk result (λ bytes. IsSpelledFrom (table_of table) (map (λ s. s.now) sources.now) bytes.items) }
+    ensures refused { IsRefusedWhere (IsTableOutside (table_of table) (map (λ s. s.now) sources.now)) result }
+{
     if !is_table_of_part(&table) || sources.len() != table.partitions.len() {
         return Err(BuildFault::NotYet);
     }
@@ -48,7 +62,8 @@ pub fn build(alloc: Global, table: &[u8], sources: &[&[u8]]) -> Result<Vec<u8>, 
 /// The bytes of the image of a table.
 fn build_bytes(alloc: Global, table: ModuleTable, sources: &[&[u8]]) -> Result<Vec<u8>, BuildFault>
     requires { length sources.now ≡ length table.partitions.items }
-    ensures { IfOk result (λ bytes. IsSpelledFrom (table_of table) (map (λ s. s.now) sources.now) bytes.items) }
+    ensures spelled { IfOk result (λ bytes. IsSpelledFrom (table_of table) (map (λ s. s.now) sources.now) bytes.items) }
+    ensures refused { IsRefusedWhere (AreNotBuilt (table_of table).partitions (map (λ s. s.now) sources.now)) result }
 {
     let image = build_image(alloc, table, sources)?;
     match write_image(alloc, &image) {
@@ -62,6 +77,7 @@ fn build_image(alloc: Global, table: ModuleTable, sources: &[&[u8]]) -> Result<I
     requires { length sources.now ≡ length table.partitions.items }
     ensures rows { IfOk result (λ image. image_of image ≡ image_with (table_of table) (items_of image.partitions.items)) }
     ensures built { IfOk result (λ image. AreBuilt (table_of table).partitions (map (λ s. s.now) sources.now) (items_of image.partitions.items)) }
+    ensures refused { IsRefusedWhere (AreNotBuilt (table_of table).partitions (map (λ s. s.now) sources.now)) result }
 {
     let ModuleTable {
         frame,
@@ -81,7 +97,8 @@ fn build_image(alloc: Global, table: ModuleTable, sources: &[&[u8]]) -> Result<I
 }
 
 fn read(alloc: Global, text: &[u8]) -> Result<ModuleTable, BuildFault>
-    ensures { IfOk result (λ table. IsTable text.now (table_of table)) }
+    ensures table { IfOk result (λ table. IsTable text.now (table_of table)) }
+    ensures refused { IsRefusedWhere (IsNoTable text.now) result }
 {
     match read_table(alloc, text) {
         Ok(table) => Ok(table),
@@ -97,7 +114,8 @@ fn build_items(
     sources: &[&[u8]],
 ) -> Result<Vec<PartitionItem>, BuildFault>
     requires { length sources.now ≡ length rows.items }
-    ensures { IfOk result (λ items. AreBuilt (map partition_of rows.items) (map (λ s. s.now) sources.now) (items_of items.items)) }
+    ensures built { IfOk result (λ items. AreBuilt (map partition_of rows.items) (map (λ s. s.now) sources.now) (items_of items.items)) }
+    ensures refused { IsRefusedWhere (AreNotBuilt (map partition_of rows.items) (map (λ s. s.now) sources.now)) result }
 {
     let mut items = Vec::with_capacity(alloc, sources.len())?;
     let mut place = 0usize;
@@ -115,6 +133,7 @@ fn build_items(
 fn build_item(alloc: Global, row: PartitionRow, source: &[u8]) -> Result<PartitionItem, BuildFault>
     ensures row { IfOk result (λ item. partition_of item.row ≡ partition_of row) }
     ensures built { IfOk result (λ item. IsBuilt (partition_of row) source.now (section_of item.section)) }
+    ensures refused { IsRefusedWhere (IsNotBuilt (partition_of row) source.now) result }
 {
     let section = build_section(alloc, &row, source)?;
     Ok(PartitionItem { row, section })
@@ -122,40 +141,37 @@ fn build_item(alloc: Global, row: PartitionRow, source: &[u8]) -> Result<Partiti
 
 /// What a partition's source becomes.
 fn build_section(alloc: Global, row: &PartitionRow, source: &[u8]) -> Result<Section, BuildFault>
-    ensures { IfOk result (λ section. IsBuilt (partition_of row.now) source.now (section_of section)) }
+    ensures built { IfOk result (λ section. IsBuilt (partition_of row.now) source.now (section_of section)) }
+    ensures refused { IsRefusedWhere (IsNotBuilt (partition_of row.now) source.now) result }
 {
     let written = read_source(alloc, source)?;
     let checked = check_program(alloc, written, row)?;
     compile(alloc, &checked.program)
 }
 
-/// The tree of a source text, which declares no port.
+/// The tree of a source text.
 fn read_source(alloc: Global, source: &[u8]) -> Result<Program, BuildFault>
     ensures text { IfOk result (λ program. IsText source.now) }
     ensures tree { IfOk result (λ program. read_program source.now ≡ Some (written.program_of program)) }
+    ensures refused { IsRefusedWhere (IsNoProgram source.now) result }
 {
-    let program = match parse(alloc, source) {
-        Ok(program) => program,
-        Err(fault) => return Err(refused(fault.refusal)),
-    };
-    if has_port(&program.declarations) {
-        return Err(BuildFault::NotYet);
+    match parse(alloc, source) {
+        Ok(program) => Ok(program),
+        Err(fault) => Err(refused(fault.refusal)),
     }
-    Ok(program)
 }
 
 /// A program that is well formed for its partition, and of the part.
 fn check_program(alloc: Global, program: Program, row: &PartitionRow) -> Result<Checked, BuildFault>
-    ensures { IfOk result (λ checked. verdict (partition_of row.now).ports (partition_of row.now).period (written.program_of program) ≡ Ok (resolved.program_of checked.program)) }
+    ensures judged { IfOk result (λ checked. verdict (partition_of row.now).ports (partition_of row.now).period (written.program_of program) ≡ Ok (resolved.program_of checked.program)) }
+    ensures part { IfOk result (λ checked. is_program_of_part (resolved.program_of checked.program) ≡ true) }
+    ensures refused { IsRefusedWhere (IsNotOfPart (partition_of row.now) (written.program_of program)) result }
 {
-    let checked = match check(alloc, program, row) {
-        Ok(checked) => checked,
-        Err(fault) => return Err(refused(fault.refusal)),
-    };
-    if !is_program_of_part(&checked.program) {
-        return Err(BuildFault::NotYet);
+    match check(alloc, program, row) {
+        Ok(checked) if is_program_of_part(&checked.program) => Ok(checked),
+        Ok(_) => Err(BuildFault::NotYet),
+        Err(fault) => Err(refused(fault.refusal)),
     }
-    Ok(checked)
 }
 
 /// The section of a program.
@@ -164,6 +180,7 @@ fn compile(alloc: Global, program: &program::Program) -> Result<Section, BuildFa
     ensures reads_back { IfOk result (λ section. map reading section.code.items ≡ map Some (code_of.code_of (resolved.program_of program.now))) }
     ensures words { IfOk result (λ section. All (FitsSigned w64) section.initial.items) }
     ensures size { IfOk result (λ section. size_of (resolved.program_of program.now) ≤ 65_536) }
+    ensures refused { IsRefusedWhere (65_536 < size_of (resolved.program_of program.now)) result }
 {
     match compile_program(alloc, program) {
         Ok(section) => Ok(section),
@@ -172,12 +189,9 @@ fn compile(alloc: Global, program: &program::Program) -> Result<Section, BuildFa
     }
 }
 
-/// Whether a port is declared.
-fn has_port(declarations: &[Declaration]) -> bool {
-    declarations.iter().any(|declaration| matches!(declaration.kind, DeclarationKind::Port))
-}
-
-fn refused(refusal: Refusal) -> BuildFault {
+fn refused(refusal: Refusal) -> BuildFault
+    ensures { result ≡ fault_of refusal }
+{
     match refusal {
         Refusal::Memory => BuildFault::Memory,
         _ => BuildFault::NotYet,

@@ -1,40 +1,64 @@
 //! The part of Pal and of the module table that is built so far.
 
-ghost use Rattle.std.specs.Prelude.{IsTrue};
-ghost use Rattle.window_table.specs.Views.{table_of};
-ghost use Rattle.module.specs.Building.{IsOfPart};
+ghost use Rattle.std.specs.Prelude.{◌≡◌};
+ghost use Rattle.std.specs.List.{list_all};
+
+ghost use Rattle.pal_base.specs.ProgramView.{expr_of, exprs_of, stmt_of, block_of, process_of, program_of};
+ghost use Rattle.window_table.specs.Views.{partition_view, table_of};
+ghost use Rattle.module.specs.Part.{ignores_all, is_row_of_part, is_table_of_part, is_leaf, are_leaves, is_index_within, is_normal, is_three, is_request_of_part, is_stmt_of_part, is_block_of_part, is_process_of_part, is_program_of_part, is_ignored};
 
 use apex_types::{HealthTable, PartitionAction, Service};
 use pal_base::program::{Expr, Process, Program, Stmt};
-use window_table::ModuleTable;
+use window_table::{ModuleTable, PartitionRow};
+
+fn is_ignored(action: PartitionAction) -> bool
+    ensures { result ≡ is_ignored action }
+{
+    matches!(action, PartitionAction::Ignore)
+}
+
+fn ignores_all(health: &HealthTable) -> bool
+    ensures { result ≡ ignores_all health.now }
+{
+    is_ignored(health.deadline_missed)
+        && is_ignored(health.application_error)
+        && is_ignored(health.numeric_error)
+        && is_ignored(health.illegal_request)
+        && is_ignored(health.stack_overflow)
+        && is_ignored(health.memory_violation)
+        && is_ignored(health.hardware_fault)
+}
+
+fn is_row_of_part(row: &PartitionRow) -> bool
+    ensures { result ≡ is_row_of_part (partition_view row.now) }
+{
+    row.ports.is_empty() && ignores_all(&row.health)
+}
 
 /// Whether a table is of the part: one partition with one window, no port and no channel, and
 /// every error ignored.
+#[tactic(auto, using(crate::proofs::Parts::table_is))]
 pub fn is_table_of_part(table: &ModuleTable) -> bool
-    ensures { IsTrue result → IsOfPart (table_of table.now) }
+    ensures { result ≡ is_table_of_part (table_of table.now) }
 {
     table.channels.is_empty()
         && table.windows.len() == 1
         && table.partitions.len() == 1
-        && table
-            .partitions
-            .iter()
-            .all(|row| row.ports.is_empty() && ignores_all(&row.health))
+        && are_rows_of_part(&table.partitions)
 }
 
-fn ignores_all(health: &HealthTable) -> bool {
-    health.deadline_missed == PartitionAction::Ignore
-        && health.application_error == PartitionAction::Ignore
-        && health.numeric_error == PartitionAction::Ignore
-        && health.illegal_request == PartitionAction::Ignore
-        && health.stack_overflow == PartitionAction::Ignore
-        && health.memory_violation == PartitionAction::Ignore
-        && health.hardware_fault == PartitionAction::Ignore
+fn are_rows_of_part(rows: &[PartitionRow]) -> bool
+    ensures { result ≡ list_all (λ row. is_row_of_part (partition_view row)) rows.now }
+{
+    rows.iter().all(|row| is_row_of_part(row))
 }
 
 /// Whether a program is of the part: variables and arrays, INIT and at most one process without
 /// period and capacity, whose statements and services are of the part.
-pub fn is_program_of_part(program: &Program) -> bool {
+#[tactic(auto, using(crate::proofs::Parts::program_is))]
+pub fn is_program_of_part(program: &Program) -> bool
+    ensures { result ≡ is_program_of_part (program_of program.now) }
+{
     program.semaphores.is_empty()
         && program.events == 0
         && program.buffers.is_empty()
@@ -43,27 +67,39 @@ pub fn is_program_of_part(program: &Program) -> bool {
         && program.handler.is_none()
         && program.processes.len() <= 1
         && is_block_of_part(&program.init.block)
-        && program
-            .processes
-            .iter()
-            .all(|process| is_process_of_part(process))
+        && are_processes_of_part(&program.processes)
 }
 
-fn is_process_of_part(process: &Process) -> bool {
+fn are_processes_of_part(processes: &[Process]) -> bool
+    ensures { result ≡ list_all (λ process. is_process_of_part (process_of process)) processes.now }
+{
+    processes
+        .iter()
+        .all(|process| is_process_of_part(process))
+}
+
+#[tactic(auto, using(crate::proofs::Parts::block_is))]
+fn is_process_of_part(process: &Process) -> bool
+    ensures { result ≡ is_process_of_part (process_of process.now) }
+{
     process.period.is_none() && process.capacity.is_none() && is_block_of_part(&process.body.block)
 }
 
-fn is_block_of_part(block: &[Stmt]) -> bool {
+fn is_block_of_part(block: &[Stmt]) -> bool
+    ensures { result ≡ list_all (λ stmt. is_stmt_of_part (stmt_of stmt)) block.now }
+{
     block.iter().all(|stmt| is_stmt_of_part(stmt))
 }
 
 /// Scalar assignments, array assignments with a literal index within the array, `work`, and
 /// services.
-fn is_stmt_of_part(stmt: &Stmt) -> bool {
+fn is_stmt_of_part(stmt: &Stmt) -> bool
+    ensures { result ≡ is_stmt_of_part (stmt_of stmt.now) }
+{
     match stmt {
-        Stmt::Assign(_, value) => is_expr_of_part(value),
+        Stmt::Assign(_, value) => is_leaf(value),
         Stmt::AssignElement(_, size, index, value) => {
-            is_index_within(index, *size) && is_expr_of_part(value)
+            is_index_within(*size, index) && is_leaf(value)
         }
         Stmt::Work(_) => true,
         Stmt::Request(service, arguments, _) => is_request_of_part(*service, arguments),
@@ -72,34 +108,62 @@ fn is_stmt_of_part(stmt: &Stmt) -> bool {
 }
 
 /// Literals and scalar reads.
-fn is_expr_of_part(expr: &Expr) -> bool {
+fn is_leaf(expr: &Expr) -> bool
+    ensures { result ≡ is_leaf (expr_of expr.now) }
+{
     match expr {
         Expr::Literal(_) | Expr::Read(_) => true,
         _ => false,
     }
 }
 
-fn is_index_within(index: &Expr, size: i64) -> bool {
+fn are_leaves(exprs: &[Expr]) -> bool
+    ensures { result ≡ list_all (λ expr. is_leaf (expr_of expr)) exprs.now }
+{
+    exprs.iter().all(|expr| is_leaf(expr))
+}
+
+fn is_index_within(size: i64, index: &Expr) -> bool
+    ensures { result ≡ is_index_within size (expr_of index.now) }
+{
     match index {
         Expr::Literal(place) => 0 <= *place && *place < size,
         _ => false,
     }
 }
 
+fn is_three(expr: &Expr) -> bool
+    ensures { result ≡ is_three (expr_of expr.now) }
+{
+    match expr {
+        Expr::Literal(value) => *value == 3,
+        _ => false,
+    }
+}
+
+/// The literal 3 alone, which is NORMAL.
+#[tactic(auto, using(crate::proofs::Parts::normal_is))]
+fn is_normal(arguments: &[Expr]) -> bool
+    ensures { result ≡ is_normal (exprs_of arguments.now) }
+{
+    match arguments.split_first() {
+        Some((first, others)) => others.is_empty() && is_three(first),
+        None => false,
+    }
+}
+
 /// SET_PARTITION_MODE with the literal 3, CREATE_PROCESS, START, GET_TIME and
 /// REPORT_APPLICATION_MESSAGE.
-fn is_request_of_part(service: Service, arguments: &[Expr]) -> bool {
+#[tactic(auto, using(crate::proofs::Parts::leaves_are))]
+fn is_request_of_part(service: Service, arguments: &[Expr]) -> bool
+    ensures { result ≡ is_request_of_part service (exprs_of arguments.now) }
+{
     match service {
-        Service::SetPartitionMode => match arguments {
-            [Expr::Literal(3)] => true,
-            _ => false,
-        },
+        Service::SetPartitionMode => is_normal(arguments),
         Service::CreateProcess
         | Service::Start
         | Service::GetTime
-        | Service::ReportApplicationMessage => arguments
-            .iter()
-            .all(|argument| is_expr_of_part(argument)),
+        | Service::ReportApplicationMessage => are_leaves(arguments),
         _ => false,
     }
 }

@@ -1,0 +1,96 @@
+-- The part of the module table and of Pal that is built so far.
+use Rattle.std.specs.Prelude.{◌≡◌, pos, ℤ, Bool, true, false, ◌&&◌, ◌==◌, int_le, int_lt, is_none, nat_le, List, [], length}
+use Rattle.std.specs.List.{list_all}
+use Rattle.std.specs.Ordering.{int_eq}
+use Rattle.apex_types.specs.declared.codes.PartitionAction.{PartitionAction}
+use Rattle.apex_types.specs.declared.codes.PartitionAction.TheVariants as action
+use Rattle.apex_types.specs.declared.row.HealthTable.{HealthTable}
+use Rattle.apex_types.specs.declared.service.Service.{Service}
+use Rattle.apex_types.specs.declared.service.Service.TheVariants as service
+use Rattle.apex_meaning.specs.Cost.{size_of}
+use Rattle.apex_meaning.specs.Image.{Partition, Table}
+use Rattle.apex_meaning.specs.Program.{Expr, Literal, Read, Exprs, NoExpr, MoreExprs, Stmt, Assign, AssignElement, Work, Request, Block, NoStmt, MoreStmts, Process, Program}
+
+-- ---- the table: one partition with one window, no port and no channel, and every error ignored
+
+abbrev pub is_ignored : PartitionAction → Bool
+is_ignored action.Ignore = true
+is_ignored action.Idle = false
+is_ignored action.WarmStart = false
+is_ignored action.ColdStart = false
+
+abbrev pub ignores_all : HealthTable → Bool
+ignores_all h =
+    is_ignored h.deadline_missed && is_ignored h.application_error && is_ignored h.numeric_error && is_ignored h.illegal_request
+    && is_ignored h.stack_overflow && is_ignored h.memory_violation && is_ignored h.hardware_fault
+
+abbrev pub is_row_of_part : Partition → Bool
+is_row_of_part row = (length row.ports == 0) && ignores_all row.health
+
+abbrev pub is_table_of_part : Table → Bool
+is_table_of_part t = (length t.channels == 0) && (length t.windows == 1) && (length t.partitions == 1) && list_all is_row_of_part t.partitions
+
+-- ---- programs
+
+-- a literal, or a scalar that is read
+abbrev pub is_leaf : Expr → Bool
+is_leaf (Literal value) = true
+is_leaf (Read place) = true
+is_leaf _ = false
+
+abbrev pub are_leaves : Exprs → Bool
+are_leaves NoExpr = true
+are_leaves (MoreExprs e es) = is_leaf e && are_leaves es
+
+-- a literal within an array of so many words
+abbrev pub is_index_within : ℤ → Expr → Bool
+is_index_within size (Literal place) = int_le (pos 0) place && int_lt place size
+is_index_within size _ = false
+
+-- the literal 3 alone, which is NORMAL
+abbrev pub is_three : Expr → Bool
+is_three (Literal value) = int_eq value (pos 3)
+is_three _ = false
+
+abbrev pub is_normal : Exprs → Bool
+is_normal (MoreExprs e NoExpr) = is_three e
+is_normal _ = false
+
+abbrev pub is_request_of_part : Service → Exprs → Bool
+is_request_of_part service.SetPartitionMode arguments = is_normal arguments
+is_request_of_part service.CreateProcess arguments = are_leaves arguments
+is_request_of_part service.Start arguments = are_leaves arguments
+is_request_of_part service.GetTime arguments = are_leaves arguments
+is_request_of_part service.ReportApplicationMessage arguments = are_leaves arguments
+is_request_of_part _ arguments = false
+
+abbrev pub is_stmt_of_part : Stmt → Bool
+is_stmt_of_part (Assign place value) = is_leaf value
+is_stmt_of_part (AssignElement place size index value) = is_index_within size index && is_leaf value
+is_stmt_of_part (Work ticks) = true
+is_stmt_of_part (Request service arguments targets) = is_request_of_part service arguments
+is_stmt_of_part _ = false
+
+abbrev pub is_block_of_part : Block → Bool
+is_block_of_part NoStmt = true
+is_block_of_part (MoreStmts s ss) = is_stmt_of_part s && is_block_of_part ss
+
+-- a process without period and capacity
+abbrev pub is_process_of_part : Process → Bool
+is_process_of_part p = is_none p.period && is_none p.capacity && is_block_of_part p.body.block
+
+-- variables and arrays, INIT and at most one process
+abbrev pub is_program_of_part : Program → Bool
+is_program_of_part p =
+    (length p.semaphores == 0) && (p.events == 0) && (length p.buffers == 0) && (length p.blackboards == 0) && (length p.procedures == 0)
+    && is_none p.handler && nat_le (length p.processes) 1 && is_block_of_part p.init.block && list_all is_process_of_part p.processes
+
+-- ---- what is built
+
+-- a program of the part, of at most 65,536 instructions
+abbrev pub is_built : Program → Bool
+is_built p = is_program_of_part p && nat_le (size_of p) 65_536
+
+-- a table of the part, and programs that are built
+abbrev pub is_module_built : Table → List Program → Bool
+is_module_built t programs = is_table_of_part t && list_all is_built programs
