@@ -30,3 +30,9 @@ pub mod AcceptedImage
 pub mod Spelled
 pub mod Computing
 pub mod Shaped
+pub mod Longer
+pub mod Followed
+pub mod ReadSteps
+pub mod ReadExpressions
+pub mod ReadStatements
+pub mod ReadPrograms

@@ -11,3 +11,13 @@ ghost use Rattle.apex_meaning.specs.Syntax.{Program};
 pub fn program_is_written_so()
     ensures { (words : List Word) (program : Program) → program_at words ≡ Some program → IsWritten words program }
 {}
+
+/// What is written as a program is read as it.
+pub fn written_program_is_read()
+    ensures { (words : List Word) (program : Program) → IsWritten words program → program_at words ≡ Some program }
+{}
+
+/// Words are written as one program at most.
+pub fn words_are_of_one_program()
+    ensures { (words : List Word) (first second : Program) → IsWritten words first → IsWritten words second → first ≡ second }
+{}
