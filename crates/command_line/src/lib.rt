@@ -12,7 +12,7 @@ mod refusal;
 mod tests;
 
 use commands::perform;
-pub use files::{FileFault, Files, HostFiles};
+pub use files::{FileFault, Files};
 use refusal::{Failure, Refusal};
 use std::alloc::Global;
 use std::convert::AsStr;

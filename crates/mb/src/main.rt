@@ -1,7 +1,10 @@
 //! Builds ARINC 653 modules and runs them.
 #![tactic(auto)]
 
-use command_line::{HostFiles, command};
+mod files;
+
+use command_line::command;
+use files::HostFiles;
 use std::alloc::AllocGlobal;
 use std::env;
 use std::io::{self, ErrorKind, Write};

@@ -10,18 +10,20 @@ use Rattle.std.proofs.lemmas.Option.{none-some, same_Some}
 use Rattle.std.proofs.lemmas.List.{length-map, map-append}
 use Rattle.toml.specs.Data.{Members}
 use Rattle.apex_meaning.specs.Cost.{size_of}
+use Rattle.apex_meaning.specs.GrammarWords.{words_of}
 use Rattle.apex_meaning.specs.Image.{Partition, Table}
+use Rattle.apex_meaning.proofs.ReadPrograms.{written_once}
 use Rattle.apex_meaning.specs.Program.{Program}
 use Rattle.apex_meaning.specs.Syntax as written
 use Rattle.apex_meaning.specs.TableRules as rules_of
 use Rattle.apex_meaning.specs.WellFormed.{Refused, verdict}
-use Rattle.pal_base.specs.Answers.{read_program}
+use Rattle.pal_base.specs.Answers.{IsProgramOf}
 use Rattle.image.specs.Views.{partition_of}
 use Rattle.window_table.specs.Answers.{IsDocument}
 use Rattle.window_table.specs.declared.table.PartitionRow.{PartitionRow}
 use Rattle.module.specs.Accepted.{IsAccepted, AreAccepted, IsTable, IsModule}
 use Rattle.module.specs.Part.{is_program_of_part, is_table_of_part, is_built, is_module_built}
-use Rattle.module.specs.Building.{IsRefusedWhere, IsNoTable, IsNoProgram, IsNotOfPart, IsNotBuilt, AreNotBuilt, IsTableOutside, IsModuleOutside}
+use Rattle.module.specs.Building.{IsRefusedWhere, IsNoTable, IsNotOfPart, IsNotBuilt, AreNotBuilt, IsTableOutside, IsModuleOutside}
 use Rattle.module.specs.declared.fault.BuildFault.{BuildFault}
 use Rattle.module.specs.declared.fault.BuildFault.TheVariants.{NotYet, Memory}
 
@@ -90,24 +92,21 @@ ok_program p = Ok p
 same_program : (p q : Program) → ok_program p ≡ ok_program q → p ≡ q
 same_program p q e = cc
 
-tree_is : (row : Partition) (source : List ℕ) (tree : written.Program) (p : Program) (h : IsAccepted row source p) → read_program source ≡ Some tree → tree ≡ h.tree
-tree_is row source tree p h e = same_Some tree h.tree (sym e ∙ h.read)
+tree_is : (row : Partition) (source : List ℕ) (tree : written.Program) (p : Program) (h : IsAccepted row source p) → IsProgramOf source tree → tree ≡ h.tree
+tree_is row source tree p h is = written_once (words_of source) tree h.tree is.1 h.written.1
 
-program_is : (row : Partition) (source : List ℕ) (tree : written.Program) (p q : Program) → IsAccepted row source p → read_program source ≡ Some tree → verdict row.ports row.period tree ≡ Ok q → p ≡ q
-program_is row source tree p q h e judged =
-    same_program p q (sym h.judged ∙ ap (verdict row.ports row.period) (sym (tree_is row source tree p h e)) ∙ judged)
+program_is : (row : Partition) (source : List ℕ) (tree : written.Program) (p q : Program) → IsAccepted row source p → IsProgramOf source tree → verdict row.ports row.period tree ≡ Ok q → p ≡ q
+program_is row source tree p q h is judged =
+    same_program p q (sym h.judged ∙ ap (verdict row.ports row.period) (sym (tree_is row source tree p h is)) ∙ judged)
 
-pub no_text : (row : Partition) (source : List ℕ) → IsNoProgram source → IsNotBuilt row source
-no_text row source h p a built = h a.tree a.text a.read
+pub other_program : (row : Partition) (source : List ℕ) (tree : written.Program) → IsProgramOf source tree → IsNotOfPart row tree → IsNotBuilt row source
+other_program row source tree is h p a built =
+    h p (ap (verdict row.ports row.period) (tree_is row source tree p a is) ∙ a.judged) (and_parts (is_program_of_part p) (nat_le (size_of p) 65_536) built).0
 
-pub other_program : (row : Partition) (source : List ℕ) (tree : written.Program) → read_program source ≡ Some tree → IsNotOfPart row tree → IsNotBuilt row source
-other_program row source tree e h p a built =
-    h p (ap (verdict row.ports row.period) (tree_is row source tree p a e) ∙ a.judged) (and_parts (is_program_of_part p) (nat_le (size_of p) 65_536) built).0
-
-pub too_long : (row : Partition) (source : List ℕ) (tree : written.Program) (q : Program) → read_program source ≡ Some tree → verdict row.ports row.period tree ≡ Ok q → 65_536 < size_of q → IsNotBuilt row source
-too_long row source tree q e judged long p a built =
+pub too_long : (row : Partition) (source : List ℕ) (tree : written.Program) (q : Program) → IsProgramOf source tree → verdict row.ports row.period tree ≡ Ok q → 65_536 < size_of q → IsNotBuilt row source
+too_long row source tree q is judged long p a built =
     let small : size_of p ≤ 65_536 = leb-true (size_of p) 65_536 (and_parts (is_program_of_part p) (nat_le (size_of p) 65_536) built).1 in
-    let same : size_of p ≡ size_of q = ap size_of (program_is row source tree p q a e judged) in
+    let same : size_of p ≡ size_of q = ap size_of (program_is row source tree p q a is judged) in
     omega (arith, small, same, long)
 
 -- ---- sources one after the other

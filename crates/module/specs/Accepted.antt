@@ -1,20 +1,19 @@
 -- What a module table and the sources of its partitions are accepted as.
-use Rattle.std.specs.Prelude.{◌≡◌, ℕ, List, [], ◌∷◌, Some, Ok}
+use Rattle.std.specs.Prelude.{◌≡◌, ℕ, List, [], ◌∷◌, Ok}
 use Rattle.toml.specs.Data.{Members}
 use Rattle.apex_meaning.specs.Image.{Partition, Table}
 use Rattle.apex_meaning.specs.Program.{Program}
 use Rattle.apex_meaning.specs.Syntax as written
 use Rattle.apex_meaning.specs.TableRules as table_rules
 use Rattle.apex_meaning.specs.WellFormed.{verdict}
-use Rattle.pal_base.specs.Answers.{IsText, read_program}
+use Rattle.pal_base.specs.Answers.{IsProgramOf}
 use Rattle.window_table.specs.Answers.{IsDocument}
 
 -- The text of a source is a program's, which is well formed for its partition; with its names
 -- resolved it is this program.
 pub record IsAccepted (row : Partition) (source : List ℕ) (program : Program) : Type 0 where
   pub tree : written.Program
-  pub text : IsText source
-  pub read : read_program source ≡ Some tree
+  pub written : IsProgramOf source tree
   pub judged : verdict row.ports row.period tree ≡ Ok program
 
 -- one source for each partition, in order

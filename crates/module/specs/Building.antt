@@ -1,5 +1,5 @@
 -- What building promises, and the parts of it.
-use Rattle.std.specs.Prelude.{◌≡◌, ℕ, true, List, [], ◌∷◌, Some, Result, Ok, Err}
+use Rattle.std.specs.Prelude.{◌≡◌, ℕ, true, List, [], ◌∷◌, Result, Ok, Err}
 use Rattle.std.specs.List.{list_all}
 use Rattle.apex_meaning.specs.CompiledCode.{section_of}
 use Rattle.apex_meaning.specs.Image.{Partition, Section, Item, Table, Image}
@@ -9,7 +9,7 @@ use Rattle.apex_meaning.specs.Program.{Program}
 use Rattle.apex_meaning.specs.Syntax as written
 use Rattle.apex_meaning.specs.TwoMeanings.{source_trace, machine_trace}
 use Rattle.apex_meaning.specs.WellFormed.{verdict}
-use Rattle.pal_base.specs.Answers.{IsText, read_program}
+use Rattle.pal_base.specs.Answers.{IsProgramOf}
 use Rattle.pal_base.specs.declared.fault.Refusal.{Refusal}
 use Rattle.pal_base.specs.declared.fault.Refusal.TheVariants as refusal
 use Rattle.module.specs.Accepted.{IsAccepted, AreAccepted, IsTable, IsModule}
@@ -69,7 +69,7 @@ IsNoTable text = (t : Table) → IsTable text t → ⊥
 
 -- this source is not the text of a program
 abbrev pub IsNoProgram : List ℕ → Type 0
-IsNoProgram source = (tree : written.Program) → IsText source → read_program source ≡ Some tree → ⊥
+IsNoProgram source = (tree : written.Program) → IsProgramOf source tree → ⊥
 
 -- this program is not well formed for its partition as a program of the part
 abbrev pub IsNotOfPart : Partition → written.Program → Type 0

@@ -9,7 +9,7 @@ ghost use Rattle.apex_meaning.specs.ImageSpelling.{spelling};
 ghost use Rattle.apex_meaning.specs.Instructions.{reading};
 ghost use Rattle.apex_meaning.specs.WellFormed.{verdict};
 ghost use Rattle.image.specs.Views.{image_of, items_of, partition_of, section_of};
-ghost use Rattle.pal_base.specs.Answers.{IsText, read_program};
+ghost use Rattle.pal_base.specs.Answers.{IsProgramOf};
 ghost use Rattle.pal_base.specs.ProgramView as resolved;
 ghost use Rattle.pal_base.specs.View as written;
 ghost use Rattle.window_table.specs.Views.{table_of};
@@ -151,8 +151,7 @@ fn build_section(alloc: Global, row: &PartitionRow, source: &[u8]) -> Result<Sec
 
 /// The tree of a source text.
 fn read_source(alloc: Global, source: &[u8]) -> Result<Program, BuildFault>
-    ensures text { IfOk result (λ program. IsText source.now) }
-    ensures tree { IfOk result (λ program. read_program source.now ≡ Some (written.program_of program)) }
+    ensures tree { IfOk result (λ program. IsProgramOf source.now (written.program_of program)) }
     ensures refused { IsRefusedWhere (IsNoProgram source.now) result }
 {
     match parse(alloc, source) {

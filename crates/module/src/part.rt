@@ -2,7 +2,6 @@
 
 ghost use Rattle.std.specs.Prelude.{◌≡◌};
 ghost use Rattle.std.specs.List.{list_all};
-
 ghost use Rattle.pal_base.specs.ProgramView.{expr_of, exprs_of, stmt_of, block_of, process_of, program_of};
 ghost use Rattle.window_table.specs.Views.{partition_view, table_of};
 ghost use Rattle.module.specs.Part.{ignores_all, is_row_of_part, is_table_of_part, is_leaf, are_leaves, is_index_within, is_normal, is_three, is_request_of_part, is_stmt_of_part, is_block_of_part, is_process_of_part, is_program_of_part, is_ignored};
@@ -73,9 +72,7 @@ pub fn is_program_of_part(program: &Program) -> bool
 fn are_processes_of_part(processes: &[Process]) -> bool
     ensures { result ≡ list_all (λ process. is_process_of_part (process_of process)) processes.now }
 {
-    processes
-        .iter()
-        .all(|process| is_process_of_part(process))
+    processes.iter().all(|process| is_process_of_part(process))
 }
 
 #[tactic(auto, using(crate::proofs::Parts::block_is))]

@@ -2,10 +2,9 @@
 
 ghost use Rattle.std.specs.Prelude.{◌≡◌, ◌<◌, ◌≤◌, length, map, option_map, Some, IfOk, IfErr, MatchOption};
 ghost use Rattle.std.specs.Str.{IsAscii};
-ghost use Rattle.apex_meaning.specs.Grammar.{IsWritten};
 ghost use Rattle.apex_meaning.specs.GrammarReading as reading;
 ghost use Rattle.apex_meaning.specs.GrammarWords as grammar;
-ghost use Rattle.pal_base.specs.Answers.{IsText, IsRefused, read_program};
+ghost use Rattle.pal_base.specs.Answers.{IsText, IsProgramOf, IsRefused};
 ghost use Rattle.pal_base.specs.Marks.{mark_text};
 ghost use Rattle.pal_base.specs.Parts.{parts_of};
 ghost use Rattle.pal_base.specs.Seen.{seen, names_of, Gives};
@@ -27,8 +26,7 @@ const GREATEST_LENGTH: usize = 1_048_576;
 ///
 /// 1 where the text is not ASCII or too long, 2 where it is not in the grammar, or 7.
 pub fn parse(alloc: Global, text: &[u8]) -> Result<Program, PalFault>
-    ensures tree { IfOk result (λ program. IsText text.now × (read_program text.now ≡ Some (program_of program))) }
-    ensures written { IfOk result (λ program. IsWritten (grammar.words_of text.now) (program_of program)) }
+    ensures tree { IfOk result (λ program. IsProgramOf text.now (program_of program)) }
     ensures refusal { IfErr result (λ fault. IsRefused fault.refusal text.now) }
 {
     if let Some(line) = fault_of_text(text) {

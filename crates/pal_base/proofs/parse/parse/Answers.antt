@@ -3,7 +3,7 @@ use Rattle.std.proofs.lemmas.Result.{err_from_is_err_and}
 use Rattle.apex_meaning.specs.GrammarWords as grammar
 use Rattle.pal_base.specs.View.{texts}
 use Rattle.pal_base.specs.WordView.{token_of}
-use Rattle.pal_base.proofs.Refusals.{words_give, refused_words, written_so}
+use Rattle.pal_base.proofs.Refusals.{refused_words, written_so}
 use Rattle.pal_base.proofs.parse.parse.Goals as goal
 
 pub returns-in_err-parts-clause-refusal : goal.returns-in_err-parts-clause-refusal
@@ -19,11 +19,4 @@ returns-clause-tree c =
     let text = c.args.text.now in
     let view = token_of (texts c.in_ok-names.field-0.names.keys) in
     let words : map view c.as_slice.result.now ≡ grammar.words_of text = ap (map view) c.as_slice.ensures.value ∙ c.in_ok-names.ensures.words in
-    (c.in_default.ensures, words_give text (map view c.as_slice.result.now) words ∙ c.in_ok-parts.ensures.exact)
-
-pub returns-clause-written : goal.returns-clause-written
-returns-clause-written c =
-    let text = c.args.text.now in
-    let view = token_of (texts c.in_ok-names.field-0.names.keys) in
-    let words : map view c.as_slice.result.now ≡ grammar.words_of text = ap (map view) c.as_slice.ensures.value ∙ c.in_ok-names.ensures.words in
-    written_so text _ (words_give text (map view c.as_slice.result.now) words ∙ c.in_ok-parts.ensures.exact)
+    (c.in_default.ensures, written_so text (map view c.as_slice.result.now) _ words c.in_ok-parts.ensures.exact)
