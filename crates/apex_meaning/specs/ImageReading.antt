@@ -1,11 +1,11 @@
 -- Reading an image from left to right, with the first fault that is met: each field is judged when
 -- it is read, before the next one.
-use Rattle.std.specs.Prelude.{ℕ, zero, suc, ◌+◌, ◌-◌, ◌/◌, ◌%◌, ◌^◌, ℤ, pos, negsuc, Bool, true, false, not, ◌&&◌, ◌||◌, List, [], ◌∷◌, ◌++◌, length, take, drop, max, slice_get, Option, Some, None, Result, Ok, Err, nat_lt, nat_le, ◌==◌, if◌then◌else◌}
+use Rattle.std.specs.Prelude.{ℕ, zero, suc, ◌+◌, ◌-◌, ◌%◌, ◌^◌, ℤ, pos, negsuc, Bool, true, false, not, ◌&&◌, ◌||◌, List, [], ◌∷◌, ◌++◌, length, map, take, drop, max, slice_get, Option, Some, None, Result, Ok, Err, nat_lt, nat_le, ◌==◌, if◌then◌else◌}
 use Rattle.std.specs.List.{list_all, list_any}
 use Rattle.std.specs.Str.{bytes_eq}
 use Rattle.std.specs.Int.{Width, w16, w32, w64, byte_len, from_le_bytes, cast_signed}
 use Rattle.apex_types.specs.NameText.{is_name}
-use Rattle.apex_meaning.specs.TableRules.{falls_short}
+use Rattle.apex_meaning.specs.TableRules.{has_odd_period, has_short_period, lacks_release}
 use Rattle.apex_types.specs.declared.codes.Discipline.{Discipline}
 use Rattle.apex_types.specs.declared.codes.Discipline.TheVariants.{Fifo, Priority}
 use Rattle.apex_types.specs.declared.codes.ModuleAction.{ModuleAction}
@@ -27,7 +27,7 @@ use Rattle.apex_types.specs.declared.row.BlackboardRow.{BlackboardRow}
 use Rattle.apex_types.specs.declared.row.RoutineRow.{RoutineRow}
 use Rattle.apex_types.specs.declared.row.ProcessRow.{ProcessRow}
 use Rattle.apex_types.specs.declared.row.BodyRow.{BodyRow}
-use Rattle.apex_meaning.specs.Image.{Section, Partition, Channel, Item, Image}
+use Rattle.apex_meaning.specs.Image.{Section, Partition, Channel, Item, Table, Image}
 use Rattle.apex_meaning.specs.ImageSpelling.{magic, version, Objects, Bodies}
 
 -- Truncated: a field is not all there. Foreign: another magic or version. Limit: a value outside its
@@ -383,26 +383,28 @@ fields_at bytes = do
   channels ← list_at 0 64 channel_at windows.1
   Ok (record { frame = frame.0; fault = fault.0; items = items.0; windows = windows.0; channels = channels.0 }, channels.1)
 
--- One release window of each partition, in their order, which offers the partition its duration in
--- each of its periods; no channel.
-abbrev pub has_window : ℕ → ℕ → Item → WindowRow → Bool
-has_window frame number it row =
-    (row.partition.0 == number) && row.release && nat_le (row.offset + row.length) frame
-    && not (it.partition.period == 0) && (frame % it.partition.period == 0)
-    && not (falls_short (frame / it.partition.period) row.partition.0 it.partition.period it.partition.duration (row ∷ []))
+-- the module table that an image carries
+abbrev pub table_in : Image → Table
+table_in image = record { frame = image.frame; fault = image.fault; partitions = map (λ it. it.partition) image.items; windows = image.windows; channels = image.channels }
 
-unfoldable pub have_windows : ℕ → ℕ → List Item → List WindowRow → Bool
-have_windows frame number [] [] = true
-have_windows frame number [] (row ∷ rows) = false
-have_windows frame number (it ∷ items) [] = false
-have_windows frame number (it ∷ items) (row ∷ rows) = has_window frame number it row && have_windows frame (number + 1) items rows
+-- a window of a partition that is none of so many, or that ends past the frame
+abbrev pub is_wrong_window : ℕ → ℕ → WindowRow → Bool
+is_wrong_window frame count row = nat_lt row.partition.0 1 || nat_lt count row.partition.0 || nat_lt frame (row.offset + row.length)
 
-abbrev pub is_plain : Image → Bool
-is_plain image = have_windows image.frame 1 image.items image.windows && (length image.channels == 0)
+abbrev pub has_wrong_window : Table → Bool
+has_wrong_window t = list_any (is_wrong_window t.frame (length t.partitions)) t.windows
+
+-- The rules of the module table, which are judged when all fields are read: windows are of
+-- partitions and within the frame, each partition's period divides the frame, its windows offer its
+-- duration in each of its periods, and it has a release window; no channel so far.
+abbrev pub keeps_rules : Image → Bool
+keeps_rules image =
+    let t = table_in image in
+    not (has_wrong_window t) && not (has_odd_period t) && not (has_short_period t) && not (lacks_release t) && (length t.channels == 0)
 
 -- The image's verdict: nothing stands behind the last field, and the rules of the module table are
 -- kept.
 unfoldable pub image_at : List ℕ → Result Image Fault
 image_at bytes = do
   image ← fields_at bytes
-  if length image.1 == 0 then (if is_plain image.0 then Ok image.0 else Err Limit) else Err Trailing
+  if length image.1 == 0 then (if keeps_rules image.0 then Ok image.0 else Err Limit) else Err Trailing

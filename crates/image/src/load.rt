@@ -6,7 +6,7 @@ ghost use Rattle.image.specs.Views.{Gives, image_of};
 
 use crate::fault::ImageFault;
 use crate::reading::image::fields_at;
-use crate::rules::is_plain;
+use crate::rules::keeps_rules;
 use crate::value::Image;
 use std::alloc::Global;
 
@@ -20,7 +20,7 @@ pub fn load_image(alloc: Global, bytes: &[u8]) -> Result<Image, ImageFault>
     if !rest.is_empty() {
         return Err(ImageFault::Trailing);
     }
-    if !is_plain(&image) {
+    if !keeps_rules(&image) {
         return Err(ImageFault::Limit);
     }
     Ok(image)

@@ -43,9 +43,9 @@ fn section(alloc: Global) -> Result<Section, Fail> {
     })
 }
 
-fn smallest(alloc: Global) -> Result<Image, Fail> {
+fn health() -> HealthTable {
     let ignore = PartitionAction::Ignore;
-    let health = HealthTable {
+    HealthTable {
         deadline_missed: ignore,
         application_error: ignore,
         numeric_error: ignore,
@@ -53,32 +53,45 @@ fn smallest(alloc: Global) -> Result<Image, Fail> {
         stack_overflow: ignore,
         memory_violation: ignore,
         hardware_fault: ignore,
-    };
-    let name = Name::new(b"a".as_slice()).ok_or("a is a name")?;
+    }
+}
+
+fn partition(
+    alloc: Global,
+    name: &[u8],
+    period: u32,
+    duration: u32,
+) -> Result<PartitionItem, Fail> {
     let row = PartitionRow {
-        name,
-        period: 128,
-        duration: 128,
-        health,
+        name: Name::new(name).ok_or("it is a name")?,
+        period,
+        duration,
+        health: health(),
         ports: Vec::new(alloc),
     };
-    let item = PartitionItem {
+    Ok(PartitionItem {
         row,
         section: section(alloc)?,
-    };
-    let window = WindowRow {
-        partition: PartitionId(1),
-        offset: 0,
-        length: 128,
-        release: true,
-    };
+    })
+}
+
+fn window(partition: u8, offset: u32, length: u32, release: bool) -> WindowRow {
+    WindowRow {
+        partition: PartitionId(partition),
+        offset,
+        length,
+        release,
+    }
+}
+
+fn smallest(alloc: Global) -> Result<Image, Fail> {
     let mut partitions = Vec::new(alloc);
-    partitions.push(item)?;
+    partitions.push(partition(alloc, b"a".as_slice(), 128, 128)?)?;
     Ok(Image {
         frame: 128,
         fault: ModuleAction::Ignore,
         partitions,
-        windows: vec![in alloc; window]?,
+        windows: vec![in alloc; window(1, 0, 128, true)]?,
         channels: Vec::new(alloc),
     })
 }
@@ -116,5 +129,80 @@ fn cut_or_longer(rt: HostRuntime) -> Result<(), Fail> {
     assert_eq!(rt; truncated, 164);
     bytes.push(0)?;
     assert!(rt; matches!(load_image(rt.alloc(), &bytes), Err(ImageFault::Trailing)));
+    Ok(())
+}
+
+/// What loading answers on the image of two partitions in a frame of 128 ticks, the first with this
+/// period and duration, the second with 32 ticks in 128.
+fn two_loaded(
+    alloc: Global,
+    period: u32,
+    duration: u32,
+    windows: &[WindowRow],
+) -> Result<Result<Image, ImageFault>, Fail> {
+    let mut partitions = Vec::new(alloc);
+    partitions.push(partition(alloc, b"a".as_slice(), period, duration)?)?;
+    partitions.push(partition(alloc, b"b".as_slice(), 128, 32)?)?;
+    let mut rows = Vec::new(alloc);
+    rows.extend_from_slice(windows)?;
+    let image = Image {
+        frame: 128,
+        fault: ModuleAction::Ignore,
+        partitions,
+        windows: rows,
+        channels: Vec::new(alloc),
+    };
+    let bytes = write_image(alloc, &image)
+        .ok()
+        .ok_or("the image is written")?;
+    Ok(load_image(alloc, &bytes))
+}
+
+/// Windows of two partitions in turn, where the last is this one.
+fn in_turn(last: WindowRow) -> [WindowRow; 4] {
+    [
+        window(1, 0, 32, true),
+        window(2, 32, 32, true),
+        window(1, 64, 32, false),
+        last,
+    ]
+}
+
+#[test]
+fn windows_in_turn(rt: HostRuntime) -> Result<(), Fail> {
+    let windows = in_turn(window(2, 96, 32, false));
+    let image = two_loaded(rt.alloc(), 64, 32, &windows)?
+        .ok()
+        .ok_or("the image is read")?;
+    assert_eq!(rt; image.partitions.len(), 2);
+    assert_eq!(rt; image.windows.len(), 4);
+    Ok(())
+}
+
+#[test]
+fn wrong_windows(rt: HostRuntime) -> Result<(), Fail> {
+    let past_the_frame = in_turn(window(2, 96, 33, false));
+    let of_none = in_turn(window(0, 96, 32, false));
+    let of_a_third = in_turn(window(3, 96, 32, false));
+    for windows in [past_the_frame, of_none, of_a_third] {
+        let loaded = two_loaded(rt.alloc(), 64, 32, &windows)?;
+        assert!(rt; matches!(loaded, Err(ImageFault::Limit)));
+    }
+    Ok(())
+}
+
+#[test]
+fn broken_rules(rt: HostRuntime) -> Result<(), Fail> {
+    let windows = in_turn(window(2, 96, 32, false));
+    let odd_period = two_loaded(rt.alloc(), 48, 0, &windows)?;
+    assert!(rt; matches!(odd_period, Err(ImageFault::Limit)));
+    let short_duration = two_loaded(rt.alloc(), 64, 33, &windows)?;
+    assert!(rt; matches!(short_duration, Err(ImageFault::Limit)));
+    let releases_one = [window(1, 0, 32, true), window(2, 32, 96, false)];
+    let no_release = two_loaded(rt.alloc(), 128, 32, &releases_one)?;
+    assert!(rt; matches!(no_release, Err(ImageFault::Limit)));
+    let releases_both = [window(1, 0, 32, true), window(2, 32, 96, true)];
+    let both = two_loaded(rt.alloc(), 128, 32, &releases_both)?;
+    assert!(rt; both.is_ok());
     Ok(())
 }

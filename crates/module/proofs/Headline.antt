@@ -1,10 +1,11 @@
 -- From accepted sources to the text of their trace.
-use Rattle.std.proofs.Common.{◌≡◌, ◌≢◌, ℕ, ◌≤◌, List, [], ◌∷◌, length, Option, Result, Ok, Err, IfOk, refl, sym, ap, subst, ◌∙◌, arith}
+use Rattle.std.proofs.Common.{◌≡◌, ◌≢◌, ℕ, List, [], ◌∷◌, length, map, Option, Result, Ok, Err, IfOk, refl, sym, ap, subst, ◌∙◌}
 use Rattle.std.specs.Prelude.{Bool, true, ◌&&◌, ◌==◌}
-use Rattle.std.specs.List.{list_all}
+use Rattle.std.specs.List.{list_all, All}
 use Rattle.std.specs.Io.KnownBytes.{Appends}
 use Rattle.std.proofs.lemmas.Bool.{and_parts, eqb-true}
 use Rattle.std.proofs.lemmas.List.{nil_from_length}
+use Rattle.std.proofs.lemmas.List.Elements.{All-nil, All-cons}
 use Rattle.toml.specs.Data.{Members}
 use Rattle.apex_types.specs.declared.event.Event.{Event}
 use Rattle.apex_types.specs.Line.{text_of}
@@ -16,7 +17,7 @@ use Rattle.apex_meaning.specs.ImageReading.{Fault, image_at}
 use Rattle.apex_meaning.specs.Program.{Program}
 use Rattle.apex_meaning.specs.TableRules.{verdict}
 use Rattle.apex_meaning.specs.TwoMeanings.{source_trace, machine_trace}
-use Rattle.apex_meaning.proofs.AcceptedImage.{accepted_single}
+use Rattle.apex_meaning.proofs.AcceptedImage.{accepted_image}
 use Rattle.apex_meaning.proofs.ImageLaws.{spelled_is_read}
 use Rattle.apex_meaning.proofs.WellFormedSection.{accepted_section}
 use Rattle.module.specs.Accepted.{IsTable}
@@ -34,34 +35,38 @@ lawful_section : (row : Partition) (source : List ℕ) (section : Section) → I
 lawful_section row source section h =
     subst (IsSection row.period) (sym h.is) (accepted_section row.ports row.period h.accepted.tree h.program h.accepted.judged h.compiled.size h.compiled.words)
 
--- one partition with one window, and no channel
-record IsAlone (t : Table) : Type 0 where
-  partitions : length t.partitions ≡ 1
-  windows : length t.windows ≡ 1
-  channels : t.channels ≡ []
-
-table_alone : (t : Table) → is_table_of_part t ≡ true → IsAlone t
-table_alone t h =
+-- a table of the part has no channel
+no_channel : (t : Table) → is_table_of_part t ≡ true → t.channels ≡ []
+no_channel t h =
     let a = and_parts ((length t.channels == 0) && (length t.windows == 1) && (length t.partitions == 1)) (list_all is_row_of_part t.partitions) h in
     let b = and_parts ((length t.channels == 0) && (length t.windows == 1)) (length t.partitions == 1) a.0 in
     let c = and_parts (length t.channels == 0) (length t.windows == 1) b.0 in
-    record { partitions = eqb-true (length t.partitions) 1 b.1; windows = eqb-true (length t.windows) 1 c.1; channels = nil_from_length t.channels (eqb-true (length t.channels) 0 c.0) }
+    nil_from_length t.channels (eqb-true (length t.channels) 0 c.0)
 
-lawful_image : (ms : Members) (t : Table) (rows : List Partition) (sources : List (List ℕ)) (items : List Item)
-    → verdict ms ≡ Ok t → IsAlone t → t.partitions ≡ rows → length rows ≡ 1 → AreBuilt rows sources items → IsLawful (image_with t items)
-lawful_image ms t [] sources items judged part same one h = absurd (omega arith)
-lawful_image ms t (row ∷ other ∷ rows) sources items judged part same one h = absurd (omega arith)
-lawful_image ms t (row ∷ []) [] items judged part same one h = absurd h
-lawful_image ms t (row ∷ []) (source ∷ sources) [] judged part same one h = absurd h
-lawful_image ms t (row ∷ []) (source ∷ []) (item ∷ []) judged part same one h =
-    accepted_single ms t item judged (same ∙ ap (λ (r : Partition). r ∷ []) (sym h.0)) (subst (λ (r : Partition). IsSection r.period item.section) (sym h.0) (lawful_section row source item.section h.1)) part.windows part.channels
-lawful_image ms t (row ∷ []) (source ∷ []) (item ∷ other ∷ items) judged part same one h = absurd h.2
-lawful_image ms t (row ∷ []) (source ∷ other ∷ sources) (item ∷ items) judged part same one h = absurd h.2
+-- a partition and its section, which an image may have
+abbrev IsLawfulItem : Item → Type 0
+IsLawfulItem it = IsSection it.partition.period it.section
+
+-- what is built has the table's rows, and lawful sections
+items_lawful : (rows : List Partition) (sources : List (List ℕ)) (items : List Item) → AreBuilt rows sources items → (map (λ (it : Item). it.partition) items ≡ rows) × All IsLawfulItem items
+items_lawful [] [] [] h = (refl, All-nil IsLawfulItem)
+items_lawful [] [] (i ∷ items) h = absurd h
+items_lawful [] (s ∷ sources) items h = absurd h
+items_lawful (r ∷ rows) [] items h = absurd h
+items_lawful (r ∷ rows) (s ∷ sources) [] h = absurd h
+items_lawful (r ∷ rows) (s ∷ sources) (i ∷ items) h =
+    let rest = items_lawful rows sources items h.2 in
+    let one : IsLawfulItem i = subst (λ (row : Partition). IsSection row.period i.section) (sym h.0) (lawful_section r s i.section h.1) in
+    (ap (λ (row : Partition). row ∷ map (λ (it : Item). it.partition) items) h.0 ∙ ap (λ (xs : List Partition). r ∷ xs) rest.0, All-cons IsLawfulItem i items one rest.1)
+
+lawful_image : (ms : Members) (t : Table) (sources : List (List ℕ)) (items : List Item) → verdict ms ≡ Ok t → t.channels ≡ [] → AreBuilt t.partitions sources items → IsLawful (image_with t items)
+lawful_image ms t sources items judged none h =
+    let each = items_lawful t.partitions sources items h in
+    accepted_image ms t items judged each.0 each.1 none
 
 -- the image of an accepted module, and its bytes
 module_image : (table : List ℕ) (sources : List (List ℕ)) (t : Table) (bytes : List ℕ) → IsTable table t → is_table_of_part t ≡ true → IsSpelledFrom t sources bytes → IsImageOf table sources bytes
 module_image table sources t bytes is_table part h =
-    let alone = table_alone t part in
     let have = have_programs t.partitions sources h.items h.built in
     let same : image_with t h.items ≡ built_image t have.programs = ap (image_with t) have.is in
     record {
@@ -69,7 +74,7 @@ module_image table sources t bytes is_table part h =
       programs = have.programs;
       accepted = record { rows = is_table; accepted = have.accepted };
       image = image_with t h.items;
-      loaded = ap image_at h.spelled ∙ spelled_is_read (image_with t h.items) (lawful_image is_table.0 t t.partitions sources h.items is_table.2 alone refl alone.partitions h.built);
+      loaded = ap image_at h.spelled ∙ spelled_is_read (image_with t h.items) (lawful_image is_table.0 t sources h.items is_table.2 (no_channel t part) h.built);
       meaning = λ n. ap (λ (i : Image). machine_trace i n) same ∙ sym (traces_same t have.programs n have.compiled);
     }
 
