@@ -4,7 +4,7 @@ use Rattle.std.specs.Prelude.{◌==◌}
 use Rattle.std.specs.List.{list_any}
 use Rattle.std.proofs.lemmas.Bool.{or_from, ne_eqb}
 use Rattle.std.proofs.lemmas.List.{length-map}
-use Rattle.apex_meaning.specs.Image.{Item, Image}
+use Rattle.apex_meaning.specs.Image.{Item}
 use Rattle.apex_meaning.specs.ImageReading.{fields_at, table_in}
 use Rattle.apex_meaning.specs.ImageLimits.{EachBeside, IsItem, IsWithinLimits}
 use Rattle.apex_meaning.proofs.ImageLaws.{fields_reads}
