@@ -1,7 +1,7 @@
 -- The part, of lists as the code holds them.
-use Rattle.std.proofs.Common.{◌≡◌, Bool, map, List, [], ◌∷◌, Option, Some, None, refl, sym, ap, arith}
-use Rattle.std.specs.Prelude.{◌&&◌, ◌==◌, length, is_none, nat_le}
-use Rattle.std.specs.List.{list_all}
+use Rattle.std.proofs.Common.{◌≡◌, ◌∙◌, ℕ, Bool, map, List, [], ◌∷◌, Option, Some, None, refl, sym, ap, arith}
+use Rattle.std.specs.Prelude.{◌&&◌, ◌||◌, ◌==◌, length, is_none, nat_le}
+use Rattle.std.specs.List.{list_all, list_any}
 use Rattle.std.specs.Option.{option_map}
 use Rattle.std.proofs.lemmas.Bool.{ne_eqb}
 use Rattle.std.proofs.lemmas.List.{length-map}
@@ -12,8 +12,14 @@ use Rattle.pal_base.specs.declared.program.Body.{Body}
 use Rattle.pal_base.specs.declared.program.Program.{Program}
 use Rattle.pal_base.specs.declared.program.Expr.{Expr}
 use Rattle.pal_base.specs.declared.program.Stmt.{Stmt}
+use Rattle.apex_meaning.specs.Syntax as written
+use Rattle.pal_base.specs.View.{texts, declared_of, declaration_of, program_of as written_of}
+use Rattle.pal_base.specs.declared.syntax.DeclarationKind.{DeclarationKind}
+use Rattle.pal_base.specs.declared.syntax.DeclarationKind.TheVariants as kind
+use Rattle.pal_base.specs.declared.syntax.Declaration.{Declaration}
+use Rattle.pal_base.specs.declared.syntax.Program as source
 use Rattle.pal_base.specs.ProgramView.{expr_of, exprs_of, stmt_of, block_of, body_of, procedure_of, process_of, program_of}
-use Rattle.module.specs.Part.{is_leaf, are_leaves, is_three, is_normal, is_stmt_of_part, is_block_of_part, is_process_of_part, is_row_of_part, is_table_of_part, is_program_of_part}
+use Rattle.module.specs.Part.{is_leaf, are_leaves, is_three, is_normal, is_stmt_of_part, is_block_of_part, is_process_of_part, is_row_of_part, is_table_of_part, is_program_of_part, is_port, declares_port}
 
 pub leaves_are : (es : List Expr) → list_all (λ e. is_leaf (expr_of e)) es ≡ are_leaves (exprs_of es)
 leaves_are [] = refl
@@ -54,3 +60,23 @@ program_is p = same_program
     (ap (λ n. nat_le n 1) (length-map p.processes.items process_of))
     (sym (block_is p.init.block.items))
     (list_all-map is_process_of_part process_of p.processes.items)
+
+-- a kind is that of a port whatever the names are
+kind_is : (names : List (List ℕ)) (k : DeclarationKind) → is_port (declared_of names k) ≡ is_port (declared_of [] k)
+kind_is names (kind.Variable value) = refl
+kind_is names (kind.Array size values) = refl
+kind_is names (kind.Semaphore first maximum discipline) = refl
+kind_is names kind.Event = refl
+kind_is names (kind.Buffer words messages discipline) = refl
+kind_is names (kind.Blackboard words) = refl
+kind_is names kind.Port = refl
+kind_is names (kind.Procedure parameters body) = refl
+
+any_port : (names : List (List ℕ)) (ds : List Declaration) → list_any (λ (d : written.Declaration). is_port d.kind) (map (declaration_of names) ds) ≡ list_any (λ d. is_port (declared_of [] d.kind)) ds
+any_port names [] = refl
+any_port names (d ∷ ds) =
+    ap (λ b. b || list_any (λ (e : written.Declaration). is_port e.kind) (map (declaration_of names) ds)) (kind_is names d.kind)
+    ∙ ap (λ b. is_port (declared_of [] d.kind) || b) (any_port names ds)
+
+pub ports_are : (p : source.Program) → declares_port (written_of p) ≡ list_any (λ d. is_port (declared_of [] d.kind)) p.declarations.items
+ports_are p = any_port (texts p.names.keys) p.declarations.items

@@ -22,8 +22,8 @@ use Rattle.image.specs.Views.{partition_of}
 use Rattle.window_table.specs.Answers.{IsDocument}
 use Rattle.window_table.specs.declared.table.PartitionRow.{PartitionRow}
 use Rattle.module.specs.Accepted.{IsAccepted, AreAccepted, IsTable, IsModule}
-use Rattle.module.specs.Part.{is_program_of_part, is_table_of_part, is_built, is_module_built}
-use Rattle.module.specs.Building.{IsRefusedWhere, IsNoTable, IsNotOfPart, IsNotBuilt, AreNotBuilt, IsTableOutside, IsModuleOutside}
+use Rattle.module.specs.Part.{is_program_of_part, is_table_of_part, declares_port}
+use Rattle.module.specs.Building.{IsRefusedWhere, IsOffered, IsNoProgram, IsNoTable, IsNotOfPart, IsNotBuilt, AreNotBuilt, IsTableOutside, IsModuleOutside}
 use Rattle.module.specs.declared.fault.BuildFault.{BuildFault}
 use Rattle.module.specs.declared.fault.BuildFault.TheVariants.{NotYet, Memory}
 
@@ -71,18 +71,18 @@ passed_on one other Memory (Err NotYet) h f r = absurd cc
 passed_on one other fault (Err Memory) h f r = tt
 
 pub other_table : (t : Table) (sources : List (List ℕ)) → is_table_of_part t ≡ false → IsTableOutside t sources
-other_table t sources h ps a built = absurd (and_first (is_table_of_part t) (list_all is_built ps) h built)
+other_table t sources h ps a part offered = absurd (not_both (is_table_of_part t) h part)
   where
-    and_first : (b c : Bool) → b ≡ false → (b && c) ≡ true → ⊥
-    and_first b c h k = cc
+    not_both : (b : Bool) → b ≡ false → b ≡ true → ⊥
+    not_both b h k = cc
 
 pub other_count : (t : Table) (sources : List (List ℕ)) → length sources ≢ length t.partitions → IsTableOutside t sources
-other_count t sources h ps a built = h (sym (as_many t.partitions sources ps a))
+other_count t sources h ps a part offered = h (sym (as_many t.partitions sources ps a))
 
 pub other_sources : (table : List ℕ) (sources : List (List ℕ)) (t : Table) → IsTable table t → IsTableOutside t sources → IsModuleOutside table sources
-other_sources table sources t is h s ps m built =
+other_sources table sources t is h s ps m part offered =
     let same : t ≡ s = table_is table t s is m.rows in
-    h ps (subst (λ (t : Table). AreAccepted t.partitions sources ps) (sym same) m.accepted) (ap (λ (t : Table). is_module_built t ps) same ∙ built)
+    h ps (subst (λ (t : Table). AreAccepted t.partitions sources ps) (sym same) m.accepted) (ap is_table_of_part same ∙ part) offered
 
 -- ---- one source
 
@@ -99,13 +99,24 @@ program_is : (row : Partition) (source : List ℕ) (tree : written.Program) (p q
 program_is row source tree p q h is judged =
     same_program p q (sym h.judged ∙ ap (verdict row.ports row.period) (sym (tree_is row source tree p h is)) ∙ judged)
 
+-- a text that declares a port is none of a program without
+pub has_a_port : (source : List ℕ) (tree : written.Program) → IsProgramOf source tree → declares_port tree ≡ true → IsNoProgram source
+has_a_port source tree is port other h none =
+    not_so (declares_port tree) port (ap declares_port (written_once (words_of source) tree other is.1 h.1) ∙ none)
+  where
+    not_so : (b : Bool) → b ≡ true → b ≡ false → ⊥
+    not_so b h k = cc
+
+pub no_text : (row : Partition) (source : List ℕ) → IsNoProgram source → IsNotBuilt row source
+no_text row source h p a offered = h a.tree a.written (offered.ports a.tree a.written)
+
 pub other_program : (row : Partition) (source : List ℕ) (tree : written.Program) → IsProgramOf source tree → IsNotOfPart row tree → IsNotBuilt row source
-other_program row source tree is h p a built =
-    h p (ap (verdict row.ports row.period) (tree_is row source tree p a is) ∙ a.judged) (and_parts (is_program_of_part p) (nat_le (size_of p) 65_536) built).0
+other_program row source tree is h p a offered =
+    h p (ap (verdict row.ports row.period) (tree_is row source tree p a is) ∙ a.judged) (and_parts (is_program_of_part p) (nat_le (size_of p) 65_536) offered.built).0
 
 pub too_long : (row : Partition) (source : List ℕ) (tree : written.Program) (q : Program) → IsProgramOf source tree → verdict row.ports row.period tree ≡ Ok q → 65_536 < size_of q → IsNotBuilt row source
-too_long row source tree q is judged long p a built =
-    let small : size_of p ≤ 65_536 = leb-true (size_of p) 65_536 (and_parts (is_program_of_part p) (nat_le (size_of p) 65_536) built).1 in
+too_long row source tree q is judged long p a offered =
+    let small : size_of p ≤ 65_536 = leb-true (size_of p) 65_536 (and_parts (is_program_of_part p) (nat_le (size_of p) 65_536) offered.built).1 in
     let same : size_of p ≡ size_of q = ap size_of (program_is row source tree p q a is judged) in
     omega (arith, small, same, long)
 
@@ -113,14 +124,14 @@ too_long row source tree q is judged long p a built =
 
 -- what one of them is not accepted as
 pub one_of_them : (front back : List Partition) (row : Partition) (sources : List (List ℕ)) (source : List ℕ) → slice_get sources (length front) ≡ Some source → IsNotBuilt row source → AreNotBuilt (front ++ row ∷ back) sources
-one_of_them [] back row [] source e h ps a built = absurd (none-some source e)
-one_of_them [] back row (s ∷ sources) source e h [] a built = absurd a
-one_of_them [] back row (s ∷ sources) source e h (p ∷ ps) a built =
-    h p (subst (λ (s : List ℕ). IsAccepted row s p) (same_Some s source e) a.0) (and_parts (is_built p) (list_all is_built ps) built).0
-one_of_them (r ∷ front) back row [] source e h ps a built = absurd (none-some source e)
-one_of_them (r ∷ front) back row (s ∷ sources) source e h [] a built = absurd a
-one_of_them (r ∷ front) back row (s ∷ sources) source e h (p ∷ ps) a built =
-    one_of_them front back row sources source e h ps a.1 (and_parts (is_built p) (list_all is_built ps) built).1
+one_of_them [] back row [] source e h ps a offered = absurd (none-some source e)
+one_of_them [] back row (s ∷ sources) source e h [] a offered = absurd a
+one_of_them [] back row (s ∷ sources) source e h (p ∷ ps) a offered =
+    h p (subst (λ (s : List ℕ). IsAccepted row s p) (same_Some s source e) a.0) (subst (λ (s : List ℕ). IsOffered s p) (same_Some s source e) offered.0)
+one_of_them (r ∷ front) back row [] source e h ps a offered = absurd (none-some source e)
+one_of_them (r ∷ front) back row (s ∷ sources) source e h [] a offered = absurd a
+one_of_them (r ∷ front) back row (s ∷ sources) source e h (p ∷ ps) a offered =
+    one_of_them front back row sources source e h ps a.1 offered.1
 
 -- the first of the rows behind some is refused
 pub next_of_them : (front : List PartitionRow) (rows : List PartitionRow) (row : PartitionRow) (back : List PartitionRow) (place : ℕ) (texts : List (Bor (List ℕ))) (text : Bor (List ℕ))

@@ -1,6 +1,5 @@
 -- What building promises, and the parts of it.
-use Rattle.std.specs.Prelude.{◌≡◌, ℕ, true, List, [], ◌∷◌, Result, Ok, Err}
-use Rattle.std.specs.List.{list_all}
+use Rattle.std.specs.Prelude.{◌≡◌, ℕ, true, false, List, [], ◌∷◌, Result, Ok, Err}
 use Rattle.apex_meaning.specs.CompiledCode.{section_of}
 use Rattle.apex_meaning.specs.Image.{Partition, Section, Item, Table, Image}
 use Rattle.apex_meaning.specs.ImageReading.{image_at}
@@ -14,7 +13,7 @@ use Rattle.pal_base.specs.declared.fault.Refusal.{Refusal}
 use Rattle.pal_base.specs.declared.fault.Refusal.TheVariants as refusal
 use Rattle.module.specs.Accepted.{IsAccepted, AreAccepted, IsTable, IsModule}
 use Rattle.module.specs.Built.{IsCompiled}
-use Rattle.module.specs.Part.{is_program_of_part, is_built, is_module_built}
+use Rattle.module.specs.Part.{is_table_of_part, is_program_of_part, is_built, declares_port}
 use Rattle.module.specs.declared.fault.BuildFault.{BuildFault}
 use Rattle.module.specs.declared.fault.BuildFault.TheVariants.{NotYet, Memory}
 
@@ -67,9 +66,19 @@ fault_of _ = NotYet
 abbrev pub IsNoTable : List ℕ → Type 0
 IsNoTable text = (t : Table) → IsTable text t → ⊥
 
--- this source is not the text of a program
+-- A source that declares no port, as a program that is built.
+pub record IsOffered (source : List ℕ) (p : Program) : Type 0 where
+  pub ports : (tree : written.Program) → IsProgramOf source tree → declares_port tree ≡ false
+  pub built : is_built p ≡ true
+
+abbrev pub AreOffered : List (List ℕ) → List Program → Type 0
+AreOffered [] [] = Unit {0}
+AreOffered (source ∷ sources) (p ∷ ps) = IsOffered source p × AreOffered sources ps
+AreOffered _ _ = ⊥
+
+-- this source is not the text of a program without ports
 abbrev pub IsNoProgram : List ℕ → Type 0
-IsNoProgram source = (tree : written.Program) → IsProgramOf source tree → ⊥
+IsNoProgram source = (tree : written.Program) → IsProgramOf source tree → declares_port tree ≡ false → ⊥
 
 -- this program is not well formed for its partition as a program of the part
 abbrev pub IsNotOfPart : Partition → written.Program → Type 0
@@ -77,16 +86,16 @@ IsNotOfPart row tree = (p : Program) → verdict row.ports row.period tree ≡ O
 
 -- this source is not accepted as a program that is built
 abbrev pub IsNotBuilt : Partition → List ℕ → Type 0
-IsNotBuilt row source = (p : Program) → IsAccepted row source p → is_built p ≡ true → ⊥
+IsNotBuilt row source = (p : Program) → IsAccepted row source p → IsOffered source p → ⊥
 
 -- these sources are not accepted as programs that are built
 abbrev pub AreNotBuilt : List Partition → List (List ℕ) → Type 0
-AreNotBuilt rows sources = (ps : List Program) → AreAccepted rows sources ps → list_all is_built ps ≡ true → ⊥
+AreNotBuilt rows sources = (ps : List Program) → AreAccepted rows sources ps → AreOffered sources ps → ⊥
 
 -- with this table, these sources are not accepted as a module that is built
 abbrev pub IsTableOutside : Table → List (List ℕ) → Type 0
-IsTableOutside t sources = (ps : List Program) → AreAccepted t.partitions sources ps → is_module_built t ps ≡ true → ⊥
+IsTableOutside t sources = (ps : List Program) → AreAccepted t.partitions sources ps → is_table_of_part t ≡ true → AreOffered sources ps → ⊥
 
 -- this table and these sources are not accepted as a module that is built
 abbrev pub IsModuleOutside : List ℕ → List (List ℕ) → Type 0
-IsModuleOutside table sources = (t : Table) (ps : List Program) → IsModule table sources t ps → is_module_built t ps ≡ true → ⊥
+IsModuleOutside table sources = (t : Table) (ps : List Program) → IsModule table sources t ps → is_table_of_part t ≡ true → AreOffered sources ps → ⊥

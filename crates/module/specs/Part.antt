@@ -1,6 +1,6 @@
 -- The part of the module table and of Pal that is built so far.
 use Rattle.std.specs.Prelude.{◌≡◌, pos, ℤ, Bool, true, false, ◌&&◌, ◌==◌, int_le, int_lt, is_none, nat_le, List, [], length}
-use Rattle.std.specs.List.{list_all}
+use Rattle.std.specs.List.{list_all, list_any}
 use Rattle.std.specs.Ordering.{int_eq}
 use Rattle.apex_types.specs.declared.codes.PartitionAction.{PartitionAction}
 use Rattle.apex_types.specs.declared.codes.PartitionAction.TheVariants as action
@@ -9,6 +9,7 @@ use Rattle.apex_types.specs.declared.service.Service.{Service}
 use Rattle.apex_types.specs.declared.service.Service.TheVariants as service
 use Rattle.apex_meaning.specs.Cost.{size_of}
 use Rattle.apex_meaning.specs.Image.{Partition, Table}
+use Rattle.apex_meaning.specs.Syntax as written
 use Rattle.apex_meaning.specs.Program.{Expr, Literal, Read, Exprs, NoExpr, MoreExprs, Stmt, Assign, AssignElement, Work, Request, Block, NoStmt, MoreStmts, Process, Program}
 
 -- ---- the table: one partition with one window, no port and no channel, and every error ignored
@@ -91,6 +92,9 @@ is_program_of_part p =
 abbrev pub is_built : Program → Bool
 is_built p = is_program_of_part p && nat_le (size_of p) 65_536
 
--- a table of the part, and programs that are built
-abbrev pub is_module_built : Table → List Program → Bool
-is_module_built t programs = is_table_of_part t && list_all is_built programs
+abbrev pub is_port : written.Kind → Bool
+is_port written.Port = true
+is_port _ = false
+
+abbrev pub declares_port : written.Program → Bool
+declares_port tree = list_any (λ (d : written.Declaration). is_port d.kind) tree.declarations

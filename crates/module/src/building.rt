@@ -15,11 +15,11 @@ ghost use Rattle.pal_base.specs.View as written;
 ghost use Rattle.window_table.specs.Views.{table_of};
 ghost use Rattle.module.specs.Accepted.{IsTable};
 ghost use Rattle.module.specs.Building.{AreBuilt, IsBuilt, IsImageOf, IsSpelledFrom, IsRefusedWhere, fault_of, IsNoTable, IsNotBuilt, AreNotBuilt, IsNoProgram, IsNotOfPart, IsTableOutside, IsModuleOutside, image_with};
-ghost use Rattle.module.specs.Part.{is_program_of_part, is_table_of_part, is_built};
+ghost use Rattle.module.specs.Part.{is_program_of_part, is_table_of_part, declares_port};
 ghost use Rattle.module.specs.declared.fault.BuildFault.TheVariants as fault;
 
 use crate::fault::BuildFault;
-use crate::part::{is_program_of_part, is_table_of_part};
+use crate::part::{declares_port, is_program_of_part, is_table_of_part};
 use apex_types::Section;
 use compiler::{CompileFault, compile_program};
 use image::{Image, PartitionItem, write_image};
@@ -149,12 +149,14 @@ fn build_section(alloc: Global, row: &PartitionRow, source: &[u8]) -> Result<Sec
     compile(alloc, &checked.program)
 }
 
-/// The tree of a source text.
+/// The tree of a source text, which declares no port.
 fn read_source(alloc: Global, source: &[u8]) -> Result<Program, BuildFault>
     ensures tree { IfOk result (λ program. IsProgramOf source.now (written.program_of program)) }
+    ensures ports { IfOk result (λ program. declares_port (written.program_of program) ≡ false) }
     ensures refused { IsRefusedWhere (IsNoProgram source.now) result }
 {
     match parse(alloc, source) {
+        Ok(program) if declares_port(&program) => Err(BuildFault::NotYet),
         Ok(program) => Ok(program),
         Err(fault) => Err(refused(fault.refusal)),
     }

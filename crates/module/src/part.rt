@@ -1,13 +1,15 @@
 //! The part of Pal and of the module table that is built so far.
 
-ghost use Rattle.std.specs.Prelude.{◌≡◌};
-ghost use Rattle.std.specs.List.{list_all};
+ghost use Rattle.std.specs.Prelude.{◌≡◌, []};
+ghost use Rattle.std.specs.List.{list_all, list_any};
 ghost use Rattle.pal_base.specs.ProgramView.{expr_of, exprs_of, stmt_of, block_of, process_of, program_of};
+ghost use Rattle.pal_base.specs.View as written;
 ghost use Rattle.window_table.specs.Views.{partition_view, table_of};
-ghost use Rattle.module.specs.Part.{ignores_all, is_row_of_part, is_table_of_part, is_leaf, are_leaves, is_index_within, is_normal, is_three, is_request_of_part, is_stmt_of_part, is_block_of_part, is_process_of_part, is_program_of_part, is_ignored};
+ghost use Rattle.module.specs.Part.{ignores_all, is_row_of_part, is_table_of_part, is_leaf, are_leaves, is_index_within, is_normal, is_three, is_request_of_part, is_stmt_of_part, is_block_of_part, is_process_of_part, is_program_of_part, is_ignored, is_port, declares_port};
 
 use apex_types::{HealthTable, PartitionAction, Service};
 use pal_base::program::{Expr, Process, Program, Stmt};
+use pal_base::syntax::{self, Declaration, DeclarationKind};
 use window_table::{ModuleTable, PartitionRow};
 
 fn is_ignored(action: PartitionAction) -> bool
@@ -50,6 +52,28 @@ fn are_rows_of_part(rows: &[PartitionRow]) -> bool
     ensures { result ≡ list_all (λ row. is_row_of_part (partition_view row)) rows.now }
 {
     rows.iter().all(|row| is_row_of_part(row))
+}
+
+/// Whether a port is declared.
+#[tactic(auto, using(crate::proofs::Parts::ports_are))]
+pub fn declares_port(program: &syntax::Program) -> bool
+    ensures { result ≡ declares_port (written.program_of program.now) }
+{
+    has_port(&program.declarations)
+}
+
+fn has_port(declarations: &[Declaration]) -> bool
+    ensures { result ≡ list_any (λ declaration. is_port (written.declared_of [] declaration.kind)) declarations.now }
+{
+    declarations
+        .iter()
+        .any(|declaration| is_port(&declaration.kind))
+}
+
+fn is_port(kind: &DeclarationKind) -> bool
+    ensures { result ≡ is_port (written.declared_of [] kind.now) }
+{
+    matches!(kind, DeclarationKind::Port)
 }
 
 /// Whether a program is of the part: variables and arrays, INIT and at most one process without

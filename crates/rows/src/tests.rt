@@ -5,6 +5,7 @@ mod greatest;
 mod images;
 mod memory;
 mod processes;
+mod refusals;
 mod shelf;
 mod sinks;
 mod smallest;

@@ -12,4 +12,4 @@ pub returns-clause-refused : goal.returns-clause-refused
 returns-clause-refused c = weaker _ _ c.build_table.result (other_sources _ _ _ c.in_ok-table.ensures.table) c.build_table.ensures.refused
 
 pub returns-in_err-table-clause-refused : goal.returns-in_err-table-clause-refused
-returns-in_err-table-clause-refused c = passed_on _ _ c.in_err-table.field-0.0 c.from_residual.result c.from_residual.ensures (λ h t ps m built. h t m.rows) c.in_err-table.ensures.refused
+returns-in_err-table-clause-refused c = passed_on _ _ c.in_err-table.field-0.0 c.from_residual.result c.from_residual.ensures (λ h t ps m part offered. h t m.rows) c.in_err-table.ensures.refused
