@@ -1,7 +1,7 @@
 -- How long it is until a release, and what one period of many says of them all.
 use Rattle.std.proofs.Common.{◌≡◌, ℕ, zero, suc, ◌+◌, ◌-◌, ◌*◌, ◌/◌, ◌%◌, ◌<◌, ◌≤◌, min, Bool, true, false, ◌||◌, cond, nat_lt, List, [], ◌∷◌, refl, sym, ap, ◌∙◌, arith, inl, inr}
 use Rattle.std.proofs.Common.{mul-le-mul_right, ◌⊎◌}
-use Rattle.std.proofs.lemmas.Bool.{false≢true}
+use Rattle.std.proofs.lemmas.Bool.{false≢true, le-ltb}
 use Rattle.apex_types.specs.declared.row.WindowRow.{WindowRow}
 use Rattle.apex_meaning.specs.Windows.{releases, until_start, until_release}
 use Rattle.apex_meaning.specs.TableRules.{offered, falls_short}
@@ -39,6 +39,20 @@ one_short (suc n) k p period duration ws h short = elim (split k n h) [
   | inl e ↦ or-left (nat_lt (offered p (n * period) ((n + 1) * period) ws) duration) _ (rw (← e) short)
   | inr l ↦ or-right _ _ (one_short n k p period duration ws l short)
 ]
+
+-- a duration of 0 is offered in each period
+pub none_is_enough : (n p period : ℕ) (ws : List WindowRow) → falls_short n p period 0 ws ≡ false
+unfolding falls_short
+none_is_enough zero p period ws = refl
+none_is_enough (suc n) p period ws = or-both (nat_lt (offered p (n * period) ((n + 1) * period) ws) 0) (falls_short n p period 0 ws) (le-ltb (offered p (n * period) ((n + 1) * period) ws) 0 (omega arith)) (none_is_enough n p period ws)
+  where
+    or-both : (a b : Bool) → a ≡ false → b ≡ false → (a || b) ≡ false
+    or-both a b h k = cc
+
+-- a partition without a duration is offered it
+pub no_duration : (n p period duration same : ℕ) (ws : List WindowRow) → duration ≡ same → duration ≡ 0 → false ≡ falls_short n p period same ws
+no_duration n p period duration same ws is none =
+    sym (ap (λ (d : ℕ). falls_short n p period d ws) (sym is ∙ none) ∙ none_is_enough n p period ws)
 
 -- the end of a period of the frame
 pub period_within : (frame period k : ℕ) → k < frame / period → 0 < period → (k + 1) * period ≤ frame

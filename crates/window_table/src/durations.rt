@@ -85,6 +85,9 @@ pub fn falls_short(
 {
     let period = u64::from(partition.period);
     let duration = u64::from(partition.duration);
+    if duration == 0 {
+        return false;
+    }
     let mut rest = windows;
     let mut low: u64 = 0;
     for _ in 0..frame / partition.period {
