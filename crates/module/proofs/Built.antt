@@ -1,5 +1,5 @@
--- Partitions that are built one after the other.
-use Rattle.std.proofs.Common.{◌≡◌, ℕ, zero, suc, ◌+◌, ◌≤◌, List, [], ◌∷◌, ◌++◌, length, map, take, Some, Result, Ok, Err, IfOk, All, FitsSigned, w64, refl, sym, ap, subst, ◌∙◌, arith, length-append}
+-- Programs that are compiled one after the other.
+use Rattle.std.proofs.Common.{◌≡◌, ℕ, zero, suc, ◌+◌, ◌≤◌, List, [], ◌∷◌, ◌++◌, length, map, take, Some, Ok, All, FitsSigned, w64, refl, sym, ap, subst, ◌∙◌, arith, length-append}
 use Rattle.std.specs.Prelude.{slice_get}
 use Rattle.std.proofs.lemmas.List.{map-append}
 use Rattle.std.proofs.lemmas.Option.{none-some, same_Some}
@@ -10,68 +10,41 @@ use Rattle.apex_meaning.proofs.WellFormedFits.{well_formed_fits}
 use Rattle.image.specs.declared.value.PartitionItem.{PartitionItem}
 use Rattle.image.specs.Views.{item_of, items_of, partition_of, section_of as view}
 use Rattle.window_table.specs.declared.table.PartitionRow.{PartitionRow}
-use Rattle.module.specs.declared.fault.BuildFault.{BuildFault}
 use Rattle.apex_meaning.specs.CompiledCode.{code_of, section_of}
 use Rattle.apex_meaning.specs.Image.{Partition, Section, Item}
 use Rattle.apex_meaning.specs.Program.{Program}
-use Rattle.module.specs.Accepted.{IsAccepted, AreAccepted}
-use Rattle.module.specs.Built.{built_items, AreCompiled}
-use Rattle.module.specs.Building.{IsBuilt, AreBuilt}
+use Rattle.module.specs.Accepted.{AreAccepted}
+use Rattle.module.specs.Built.{built_item, built_items, IsCoded, AreCoded, AreCompiled}
 
-pub one_more_built : (rows : List Partition) (sources : List (List ℕ)) (items : List Item) (row : Partition) (source : List ℕ) (item : Item)
-    → AreBuilt rows sources items → item.partition ≡ row → IsBuilt row source item.section → AreBuilt (rows ++ row ∷ []) (sources ++ source ∷ []) (items ++ item ∷ [])
-one_more_built [] [] [] row source item h same one = (same, one, tt)
-one_more_built [] [] (i ∷ items) row source item h same one = absurd h
-one_more_built [] (s ∷ sources) items row source item h same one = absurd h
-one_more_built (r ∷ rows) [] items row source item h same one = absurd h
-one_more_built (r ∷ rows) (s ∷ sources) [] row source item h same one = absurd h
-one_more_built (r ∷ rows) (s ∷ sources) (i ∷ items) row source item h same one = (h.0, h.1, one_more_built rows sources items row source item h.2 same one)
-
--- the programs of the sources
-pub record HasPrograms (rows : List Partition) (sources : List (List ℕ)) (items : List Item) : Type 0 where
-  pub programs : List Program
-  pub accepted : AreAccepted rows sources programs
-  pub compiled : AreCompiled programs
-  pub is : items ≡ built_items rows programs
-
-abbrev made : Partition → Section → Item
-made row section = record { partition = row; section = section }
-
-item_is : (row : Partition) (item : Item) (section : Section) → item.partition ≡ row → item.section ≡ section → item ≡ record { partition = row; section = section }
-item_is row item section one other = ap (λ (p : Partition). made p item.section) one ∙ ap (λ (s : Section). made row s) other
-
-pub have_programs : (rows : List Partition) (sources : List (List ℕ)) (items : List Item) → AreBuilt rows sources items → HasPrograms rows sources items
-have_programs [] [] [] h = record { programs = []; accepted = tt; compiled = tt; is = refl }
-have_programs [] [] (i ∷ items) h = absurd h
-have_programs [] (s ∷ sources) items h = absurd h
-have_programs (r ∷ rows) [] items h = absurd h
-have_programs (r ∷ rows) (s ∷ sources) [] h = absurd h
-have_programs (r ∷ rows) (s ∷ sources) (i ∷ items) h =
-    let rest = have_programs rows sources items h.2 in
-    let one = h.1 in
-    record {
-      programs = one.program ∷ rest.programs;
-      accepted = (one.accepted, rest.accepted);
-      compiled = (one.compiled, rest.compiled);
-      is = ap (λ (x : Item). x ∷ items) (item_is r i (section_of one.program) h.0 one.is) ∙ ap (λ (xs : List Item). made r (section_of one.program) ∷ xs) rest.is;
-    }
-
--- What a source is compiled to, where it was accepted as this program.
-pub built_section : (row : Partition) (source : List ℕ) (p : Program) (accepted : IsAccepted row source p) (answer : Result code.Section BuildFault)
-    → IfOk answer (λ s. view s ≡ section_of p) → IfOk answer (λ s. map reading s.code.items ≡ map Some (code_of p)) → IfOk answer (λ s. All (FitsSigned w64) s.initial.items) → IfOk answer (λ s. size_of p ≤ 65_536)
-    → IfOk answer (λ s. IsBuilt row source (view s))
-built_section row source p accepted (Ok s) is reads words size = record {
-  program = p;
-  accepted = accepted;
-  compiled = record {
-    fits = well_formed_fits row.ports row.period accepted.tree p accepted.judged size;
-    size = size;
-    code = ap (λ (x : Section). map reading x.code) (sym is) ∙ reads;
-    words = subst (All (FitsSigned w64)) (ap (λ (x : Section). x.initial) is) words;
-  };
-  is = is;
+-- what is compiled
+pub coded_section : (p : Program) (s : code.Section) → view s ≡ section_of p → map reading s.code.items ≡ map Some (code_of p) → All (FitsSigned w64) s.initial.items → size_of p ≤ 65_536 → IsCoded p
+coded_section p s is reads words size = record {
+  size = size;
+  code = ap (λ (x : Section). map reading x.code) (sym is) ∙ reads;
+  words = subst (All (FitsSigned w64)) (ap (λ (x : Section). x.initial) is) words;
 }
-built_section row source p accepted (Err e) is reads words size = tt
+
+-- what is accepted and compiled fits
+pub are_compiled : (rows : List Partition) (sources : List (List ℕ)) (ps : List Program) → AreAccepted rows sources ps → AreCoded ps → AreCompiled ps
+are_compiled [] [] [] a h = tt
+are_compiled [] [] (p ∷ ps) a h = absurd a
+are_compiled [] (s ∷ sources) ps a h = absurd a
+are_compiled (r ∷ rows) [] ps a h = absurd a
+are_compiled (r ∷ rows) (s ∷ sources) [] a h = absurd a
+are_compiled (r ∷ rows) (s ∷ sources) (p ∷ ps) a h =
+    (record { fits = well_formed_fits r.ports r.period a.0.tree p a.0.judged h.0.size; coded = h.0 }, are_compiled rows sources ps a.1 h.1)
+
+-- ---- one more partition
+
+one_more_built : (rows : List Partition) (ps : List Program) (row : Partition) (p : Program) → length rows ≡ length ps → built_items (rows ++ row ∷ []) (ps ++ p ∷ []) ≡ built_items rows ps ++ built_item row p ∷ []
+one_more_built [] [] row p h = refl
+one_more_built [] (q ∷ ps) row p h = absurd (omega (arith, h))
+one_more_built (r ∷ rows) [] row p h = absurd (omega (arith, h))
+one_more_built (r ∷ rows) (q ∷ ps) row p h = ap (λ l. built_item r q ∷ l) (one_more_built rows ps row p (omega (arith, h)))
+
+one_more_coded : (ps : List Program) (p : Program) → AreCoded ps → IsCoded p → AreCoded (ps ++ p ∷ [])
+one_more_coded [] p h one = (one, tt)
+one_more_coded (q ∷ ps) p h one = (h.0, one_more_coded ps p h.1 one)
 
 take_one : {A : Type 0} (xs : List A) (n : ℕ) (x : A) → slice_get xs n ≡ Some x → take (n + 1) xs ≡ take n xs ++ x ∷ []
 take_one [] n x e = absurd (none-some x e)
@@ -80,18 +53,31 @@ take_one (y ∷ xs) (suc n) x e =
     let at : suc n + 1 ≡ suc (n + 1) = omega arith in
     ap (λ k. take k (y ∷ xs)) at ∙ ap (λ l. y ∷ l) (take_one xs n x e)
 
+take_length : {A : Type 0} (xs : List A) (n : ℕ) (x : A) → slice_get xs n ≡ Some x → length (take n xs) ≡ n
+take_length [] n x e = absurd (none-some x e)
+take_length (y ∷ xs) zero x e = refl
+take_length (y ∷ xs) (suc n) x e = ap suc (take_length xs n x e)
+
 pub one_longer : {A : Type 0} (xs : List A) (x : A) (n : ℕ) → n ≡ length xs → n + 1 ≡ length (xs ++ x ∷ [])
 one_longer xs x n e = ap (λ k. k + 1) e ∙ sym (length-append xs (x ∷ []))
 
--- one more partition is built, from the next source
-pub one_more_item : (rows : List PartitionRow) (row : PartitionRow) (texts : List (List ℕ)) (n : ℕ) (source : List ℕ) (items next : List PartitionItem) (item : PartitionItem)
-    → AreBuilt (map partition_of rows) (take n texts) (items_of items) → slice_get texts n ≡ Some source → next ≡ items ++ item ∷ []
-    → partition_of item.row ≡ partition_of row → IsBuilt (partition_of row) source (view item.section)
-    → AreBuilt (map partition_of (rows ++ row ∷ [])) (take (n + 1) texts) (items_of next)
-one_more_item rows row texts n source items next item so_far got pushed same one =
-    let rows_are : map partition_of (rows ++ row ∷ []) ≡ map partition_of rows ++ partition_of row ∷ [] = map-append partition_of rows (row ∷ []) in
-    let items_are : items_of next ≡ items_of items ++ item_of item ∷ [] = ap items_of pushed ∙ map-append item_of items (item ∷ []) in
-    subst (λ (rs : List Partition). AreBuilt rs (take (n + 1) texts) (items_of next)) (sym rows_are)
-    (subst (λ (ss : List (List ℕ)). AreBuilt (map partition_of rows ++ partition_of row ∷ []) ss (items_of next)) (sym (take_one texts n source got))
-    (subst (λ (is : List Item). AreBuilt (map partition_of rows ++ partition_of row ∷ []) (take n texts ++ source ∷ []) is) (sym items_are)
-    (one_more_built (map partition_of rows) (take n texts) (items_of items) (partition_of row) source (item_of item) so_far same one)))
+length_of : (rows : List PartitionRow) → length (map partition_of rows) ≡ length rows
+length_of [] = refl
+length_of (r ∷ rows) = ap suc (length_of rows)
+
+pub one_more_item : (rows : List PartitionRow) (row : PartitionRow) (ps : List Program) (n : ℕ) (p : Program) (items next : List PartitionItem) (item : PartitionItem)
+    → n ≡ length rows → items_of items ≡ built_items (map partition_of rows) (take n ps) → slice_get ps n ≡ Some p → next ≡ items ++ item ∷ []
+    → item_of item ≡ built_item (partition_of row) p
+    → items_of next ≡ built_items (map partition_of (rows ++ row ∷ [])) (take (n + 1) ps)
+one_more_item rows row ps n p items next item at so_far got pushed one =
+    let as_many : length (map partition_of rows) ≡ length (take n ps) = length_of rows ∙ sym at ∙ sym (take_length ps n p got) in
+    ap items_of pushed
+    ∙ map-append item_of items (item ∷ [])
+    ∙ ap (λ l. l ++ item_of item ∷ []) so_far
+    ∙ ap (λ (i : Item). built_items (map partition_of rows) (take n ps) ++ i ∷ []) one
+    ∙ sym (one_more_built (map partition_of rows) (take n ps) (partition_of row) p as_many)
+    ∙ ap (λ (l : List Partition). built_items l (take n ps ++ p ∷ [])) (sym (map-append partition_of rows (row ∷ [])))
+    ∙ ap (built_items (map partition_of (rows ++ row ∷ []))) (sym (take_one ps n p got))
+
+pub one_more_program : (ps : List Program) (n : ℕ) (p : Program) → AreCoded (take n ps) → slice_get ps n ≡ Some p → IsCoded p → AreCoded (take (n + 1) ps)
+one_more_program ps n p so_far got one = subst AreCoded (sym (take_one ps n p got)) (one_more_coded (take n ps) p so_far one)

@@ -20,20 +20,19 @@ use Rattle.apex_meaning.specs.TwoMeanings.{source_trace, machine_trace}
 use Rattle.apex_meaning.proofs.AcceptedImage.{accepted_image}
 use Rattle.apex_meaning.proofs.ImageLaws.{spelled_is_read}
 use Rattle.apex_meaning.proofs.WellFormedSection.{accepted_section}
-use Rattle.module.specs.Accepted.{IsTable}
-use Rattle.module.specs.Built.{built_items, built_image}
-use Rattle.module.specs.Building.{IsBuilt, AreBuilt, IsImageOf, IsSpelledFrom, image_with}
+use Rattle.module.specs.Accepted.{IsAccepted, AreAccepted, IsTable}
+use Rattle.module.specs.Built.{built_item, built_items, built_image, IsCoded, AreCoded, IsBuiltFrom}
+use Rattle.module.specs.Building.{IsImageOf}
 use Rattle.module.specs.Part.{is_row_of_part, is_table_of_part}
 use Rattle.module.specs.Promises.{IsRun, IsOutside, Runs, IsAcceptedRun, Means, ran}
 use Rattle.module.specs.declared.fault.RunFault.{RunFault}
 use Rattle.module.specs.declared.fault.RunFault.TheVariants.{Ticks, NotYet, Memory, Write}
-use Rattle.module.proofs.Built.{have_programs}
+use Rattle.module.proofs.Built.{are_compiled}
 use Rattle.module.proofs.SameTraces.{traces_same}
 
 -- what is built is a section that an image may have
-lawful_section : (row : Partition) (source : List ℕ) (section : Section) → IsBuilt row source section → IsSection row.period section
-lawful_section row source section h =
-    subst (IsSection row.period) (sym h.is) (accepted_section row.ports row.period h.accepted.tree h.program h.accepted.judged h.compiled.size h.compiled.words)
+lawful_section : (row : Partition) (source : List ℕ) (p : Program) → IsAccepted row source p → IsCoded p → IsSection row.period (section_of p)
+lawful_section row source p a h = accepted_section row.ports row.period a.tree p a.judged h.size h.words
 
 -- a table of the part has no channel
 no_channel : (t : Table) → is_table_of_part t ≡ true → t.channels ≡ []
@@ -48,38 +47,34 @@ abbrev IsLawfulItem : Item → Type 0
 IsLawfulItem it = IsSection it.partition.period it.section
 
 -- what is built has the table's rows, and lawful sections
-items_lawful : (rows : List Partition) (sources : List (List ℕ)) (items : List Item) → AreBuilt rows sources items → (map (λ (it : Item). it.partition) items ≡ rows) × All IsLawfulItem items
-items_lawful [] [] [] h = (refl, All-nil IsLawfulItem)
-items_lawful [] [] (i ∷ items) h = absurd h
-items_lawful [] (s ∷ sources) items h = absurd h
-items_lawful (r ∷ rows) [] items h = absurd h
-items_lawful (r ∷ rows) (s ∷ sources) [] h = absurd h
-items_lawful (r ∷ rows) (s ∷ sources) (i ∷ items) h =
-    let rest = items_lawful rows sources items h.2 in
-    let one : IsLawfulItem i = subst (λ (row : Partition). IsSection row.period i.section) (sym h.0) (lawful_section r s i.section h.1) in
-    (ap (λ (row : Partition). row ∷ map (λ (it : Item). it.partition) items) h.0 ∙ ap (λ (xs : List Partition). r ∷ xs) rest.0, All-cons IsLawfulItem i items one rest.1)
+items_lawful : (rows : List Partition) (sources : List (List ℕ)) (ps : List Program) → AreAccepted rows sources ps → AreCoded ps → (map (λ (it : Item). it.partition) (built_items rows ps) ≡ rows) × All IsLawfulItem (built_items rows ps)
+items_lawful [] [] [] a h = (refl, All-nil IsLawfulItem)
+items_lawful [] [] (p ∷ ps) a h = absurd a
+items_lawful [] (s ∷ sources) ps a h = absurd a
+items_lawful (r ∷ rows) [] ps a h = absurd a
+items_lawful (r ∷ rows) (s ∷ sources) [] a h = absurd a
+items_lawful (r ∷ rows) (s ∷ sources) (p ∷ ps) a h =
+    let rest = items_lawful rows sources ps a.1 h.1 in
+    (ap (λ (xs : List Partition). r ∷ xs) rest.0, All-cons IsLawfulItem (built_item r p) (built_items rows ps) (lawful_section r s p a.0 h.0) rest.1)
 
-lawful_image : (ms : Members) (t : Table) (sources : List (List ℕ)) (items : List Item) → verdict ms ≡ Ok t → t.channels ≡ [] → AreBuilt t.partitions sources items → IsLawful (image_with t items)
-lawful_image ms t sources items judged none h =
-    let each = items_lawful t.partitions sources items h in
-    accepted_image ms t items judged each.0 each.1 none
+lawful_image : (ms : Members) (t : Table) (sources : List (List ℕ)) (ps : List Program) → verdict ms ≡ Ok t → t.channels ≡ [] → AreAccepted t.partitions sources ps → AreCoded ps → IsLawful (built_image t ps)
+lawful_image ms t sources ps judged none a h =
+    let each = items_lawful t.partitions sources ps a h in
+    accepted_image ms t (built_items t.partitions ps) judged each.0 each.1 none
 
 -- the image of an accepted module, and its bytes
-module_image : (table : List ℕ) (sources : List (List ℕ)) (t : Table) (bytes : List ℕ) → IsTable table t → is_table_of_part t ≡ true → IsSpelledFrom t sources bytes → IsImageOf table sources bytes
-module_image table sources t bytes is_table part h =
-    let have = have_programs t.partitions sources h.items h.built in
-    let same : image_with t h.items ≡ built_image t have.programs = ap (image_with t) have.is in
-    record {
-      rows = t;
-      programs = have.programs;
-      accepted = record { rows = is_table; accepted = have.accepted };
-      image = image_with t h.items;
-      loaded = ap image_at h.spelled ∙ spelled_is_read (image_with t h.items) (lawful_image is_table.0 t sources h.items is_table.2 (no_channel t part) h.built);
-      meaning = λ n. ap (λ (i : Image). machine_trace i n) same ∙ sym (traces_same t have.programs n have.compiled);
-    }
+module_image : (table : List ℕ) (sources : List (List ℕ)) (t : Table) (bytes : List ℕ) → IsTable table t → is_table_of_part t ≡ true → IsBuiltFrom t sources bytes → IsImageOf table sources bytes
+module_image table sources t bytes is_table part h = record {
+  rows = t;
+  programs = h.programs;
+  accepted = record { rows = is_table; accepted = h.accepted };
+  image = built_image t h.programs;
+  loaded = ap image_at h.spelled ∙ spelled_is_read (built_image t h.programs) (lawful_image is_table.0 t sources h.programs is_table.2 (no_channel t part) h.accepted h.coded);
+  meaning = λ n. sym (traces_same t h.programs n (are_compiled t.partitions sources h.programs h.accepted h.coded));
+}
 
 pub built_bytes : {A E : Type 0} (view : A → List ℕ) (table : List ℕ) (sources : List (List ℕ)) (t : Table) (answer : Result A E)
-    → IsTable table t → IfOk answer (λ b. is_table_of_part t ≡ true) → IfOk answer (λ b. IsSpelledFrom t sources (view b)) → IfOk answer (λ b. IsImageOf table sources (view b))
+    → IsTable table t → IfOk answer (λ b. is_table_of_part t ≡ true) → IfOk answer (λ b. IsBuiltFrom t sources (view b)) → IfOk answer (λ b. IsImageOf table sources (view b))
 built_bytes view table sources t (Ok b) is_table part h = module_image table sources t (view b) is_table part h
 built_bytes view table sources t (Err e) is_table part h = tt
 

@@ -33,7 +33,7 @@ Related p c m = Keeps (map reading (section_of p).code) p.procedures c m
 
 member_same : (row : Partition) (p : Program) → IsCompiled p → SameMember (Related p) (source_member row p) (machine_member (record { partition = row; section = section_of p }))
 member_same row p h = record {
-  engine = compiled_correctly p h.fits h.code;
+  engine = compiled_correctly p h.fits h.coded.code;
   world = subst (λ (rows : List ProcessStatus). SameWorld (Related p) (fresh_world (fresh_kernel row (map source_row p.processes)) p.initial) (fresh_world (fresh_kernel row rows) p.initial)) (rows_same (processes_place p) p.processes) (fresh_same (Related p) (fresh_kernel row (map source_row p.processes)) p.initial);
 }
 

@@ -1,43 +1,24 @@
 -- What building promises, and the parts of it.
-use Rattle.std.specs.Prelude.{◌≡◌, ℕ, true, false, List, [], ◌∷◌, Result, Ok, Err}
-use Rattle.apex_meaning.specs.CompiledCode.{section_of}
-use Rattle.apex_meaning.specs.Image.{Partition, Section, Item, Table, Image}
+use Rattle.std.specs.Prelude.{◌≡◌, ◌≢◌, ◌⊎◌, ℕ, Bool, true, false, nat_lt, List, [], ◌∷◌, length, Result, Ok, Err}
+use Rattle.std.specs.List.{list_any}
+use Rattle.apex_meaning.specs.Cost.{size_of}
+use Rattle.apex_meaning.specs.Image.{Partition, Table, Image}
 use Rattle.apex_meaning.specs.ImageReading.{image_at}
-use Rattle.apex_meaning.specs.ImageSpelling.{spelling}
 use Rattle.apex_meaning.specs.Program.{Program}
 use Rattle.apex_meaning.specs.Syntax as written
 use Rattle.apex_meaning.specs.TwoMeanings.{source_trace, machine_trace}
 use Rattle.apex_meaning.specs.WellFormed.{verdict}
-use Rattle.pal_base.specs.Answers.{IsProgramOf}
+use Rattle.pal.specs.Verdicts.{Refuses}
+use Rattle.pal_base.specs.Answers.{IsProgramOf, IsRefused}
+use Rattle.pal_base.specs.declared.fault.PalFault.{PalFault}
 use Rattle.pal_base.specs.declared.fault.Refusal.{Refusal}
 use Rattle.pal_base.specs.declared.fault.Refusal.TheVariants as refusal
+use Rattle.window_table.specs.Answers.{AnswersText}
+use Rattle.window_table.specs.declared.fault.TableFault.TheVariants as table_fault
 use Rattle.module.specs.Accepted.{IsAccepted, AreAccepted, IsTable, IsModule}
-use Rattle.module.specs.Built.{IsCompiled}
 use Rattle.module.specs.Part.{is_table_of_part, is_program_of_part, is_built, declares_port}
 use Rattle.module.specs.declared.fault.BuildFault.{BuildFault}
-use Rattle.module.specs.declared.fault.BuildFault.TheVariants.{NotYet, Memory}
-
--- a section is what an accepted source is compiled to
-pub record IsBuilt (row : Partition) (source : List ℕ) (section : Section) : Type 0 where
-  pub program : Program
-  pub accepted : IsAccepted row source program
-  pub compiled : IsCompiled program
-  pub is : section ≡ section_of program
-
-abbrev pub AreBuilt : List Partition → List (List ℕ) → List Item → Type 0
-AreBuilt [] [] [] = Unit {0}
-AreBuilt (row ∷ rows) (source ∷ sources) (item ∷ items) = (item.partition ≡ row) × IsBuilt row source item.section × AreBuilt rows sources items
-AreBuilt _ _ _ = ⊥
-
--- the image of a table whose partitions have become these items
-abbrev pub image_with : Table → List Item → Image
-image_with t items = record { frame = t.frame; fault = t.fault; items = items; windows = t.windows; channels = t.channels }
-
--- the bytes spell the image of a table whose sources are built
-pub record IsSpelledFrom (t : Table) (sources : List (List ℕ)) (bytes : List ℕ) : Type 0 where
-  pub items : List Item
-  pub built : AreBuilt t.partitions sources items
-  pub spelled : bytes ≡ spelling (image_with t items)
+use Rattle.module.specs.declared.fault.BuildFault.TheVariants as fault
 
 -- The bytes are an image's, which for every number of ticks means what the accepted table and sources
 -- mean.
@@ -49,22 +30,23 @@ pub record IsImageOf (table : List ℕ) (sources : List (List ℕ)) (bytes : Lis
   pub loaded : image_at bytes ≡ Ok image
   pub meaning : (n : ℕ) → machine_trace image n ≡ source_trace rows programs n
 
--- ---- refusals
+-- ---- refusals of a source
 
--- A refusal comes only where it must; want of memory says nothing.
-abbrev pub IsRefusedWhere : {A : Type 0} → Type 0 → Result A BuildFault → Type 0
-IsRefusedWhere outside (Ok x) = Unit {0}
-IsRefusedWhere outside (Err Memory) = Unit {0}
-IsRefusedWhere outside (Err NotYet) = outside
+-- the text is refused, or the program that it is the text of is refused for this partition
+abbrev pub IsNotAccepted : Partition → List ℕ → Refusal → Type 0
+IsNotAccepted row source r = IsRefused r source ⊎ ((tree : written.Program) × IsProgramOf source tree × Refuses r (verdict row.ports row.period tree))
 
--- what a refusal of a source becomes
-abbrev pub fault_of : Refusal → BuildFault
-fault_of refusal.Memory = Memory
-fault_of _ = NotYet
+-- a refusal that says something of the source
+abbrev pub IsSourceRefused : Partition → List ℕ → Refusal → Type 0
+IsSourceRefused row source r = (r ≢ refusal.Memory) × IsNotAccepted row source r
 
--- this text of a table is not accepted
-abbrev pub IsNoTable : List ℕ → Type 0
-IsNoTable text = (t : Table) → IsTable text t → ⊥
+-- one source for each partition: the first that is refused is that of the partition of this name
+abbrev pub IsFirstRefused : List Partition → List (List ℕ) → List ℕ → Refusal → Type 0
+IsFirstRefused (row ∷ rows) (source ∷ sources) name r =
+    ((name ≡ row.name) × IsSourceRefused row source r) ⊎ ((p : Program) × IsAccepted row source p × IsFirstRefused rows sources name r)
+IsFirstRefused _ _ name r = ⊥
+
+-- ---- what is accepted and not built yet
 
 -- A source that declares no port, as a program that is built.
 pub record IsOffered (source : List ℕ) (p : Program) : Type 0 where
@@ -76,26 +58,70 @@ AreOffered [] [] = Unit {0}
 AreOffered (source ∷ sources) (p ∷ ps) = IsOffered source p × AreOffered sources ps
 AreOffered _ _ = ⊥
 
--- this source is not the text of a program without ports
-abbrev pub IsNoProgram : List ℕ → Type 0
-IsNoProgram source = (tree : written.Program) → IsProgramOf source tree → declares_port tree ≡ false → ⊥
+-- With this table the sources are accepted, and are outside the part.
+pub record IsOutside (t : Table) (sources : List (List ℕ)) : Type 0 where
+  pub programs : List Program
+  pub accepted : AreAccepted t.partitions sources programs
+  pub outside : is_table_of_part t ≡ true → AreOffered sources programs → ⊥
 
--- this program is not well formed for its partition as a program of the part
-abbrev pub IsNotOfPart : Partition → written.Program → Type 0
-IsNotOfPart row tree = (p : Program) → verdict row.ports row.period tree ≡ Ok p → is_program_of_part p ≡ true → ⊥
+-- ---- refusals of a module
 
--- this source is not accepted as a program that is built
-abbrev pub IsNotBuilt : Partition → List ℕ → Type 0
-IsNotBuilt row source = (p : Program) → IsAccepted row source p → IsOffered source p → ⊥
+-- why sources are refused with an accepted table
+abbrev pub IsRefusedWith : Table → List (List ℕ) → BuildFault → Type 0
+IsRefusedWith t sources (fault.Table f) = ⊥
+IsRefusedWith t sources fault.Sources = length sources ≢ length t.partitions
+IsRefusedWith t sources (fault.Pal name f) = (length sources ≡ length t.partitions) × IsFirstRefused t.partitions sources name f.refusal
+IsRefusedWith t sources fault.NotYet = IsOutside t sources
+IsRefusedWith t sources fault.Memory = Unit {0}
 
--- these sources are not accepted as programs that are built
-abbrev pub AreNotBuilt : List Partition → List (List ℕ) → Type 0
-AreNotBuilt rows sources = (ps : List Program) → AreAccepted rows sources ps → AreOffered sources ps → ⊥
+-- Why a table and sources are refused: for the table; with an accepted table for the number of the
+-- sources, or for the first source that is refused; or because they are accepted and outside the part
+-- that is built so far. Want of memory says nothing.
+abbrev pub IsRefusal : List ℕ → List (List ℕ) → BuildFault → Type 0
+IsRefusal table sources (fault.Table f) = (f ≢ table_fault.Memory) × AnswersText table (Err f)
+IsRefusal table sources fault.Memory = Unit {0}
+IsRefusal table sources f = (t : Table) × IsTable table t × IsRefusedWith t sources f
 
--- with this table, these sources are not accepted as a module that is built
-abbrev pub IsTableOutside : Table → List (List ℕ) → Type 0
-IsTableOutside t sources = (ps : List Program) → AreAccepted t.partitions sources ps → is_table_of_part t ≡ true → AreOffered sources ps → ⊥
+-- ---- the steps of building
 
--- this table and these sources are not accepted as a module that is built
-abbrev pub IsModuleOutside : List ℕ → List (List ℕ) → Type 0
-IsModuleOutside table sources = (t : Table) (ps : List Program) → IsModule table sources t ps → is_table_of_part t ≡ true → AreOffered sources ps → ⊥
+-- what a table is refused for
+abbrev pub IsTableRefusal : List ℕ → BuildFault → Type 0
+IsTableRefusal text (fault.Table f) = (f ≢ table_fault.Memory) × AnswersText text (Err f)
+IsTableRefusal text fault.Memory = Unit {0}
+IsTableRefusal text _ = ⊥
+
+-- what one source is refused for
+abbrev pub IsSourceRefusal : Partition → List ℕ → BuildFault → Type 0
+IsSourceRefusal row source (fault.Pal name f) = (name ≡ row.name) × IsSourceRefused row source f.refusal
+IsSourceRefusal row source fault.Memory = Unit {0}
+IsSourceRefusal row source _ = ⊥
+
+-- want of memory is told as such
+abbrev pub unless_memory : Refusal → BuildFault → BuildFault
+unless_memory refusal.Memory f = fault.Memory
+unless_memory _ f = f
+
+-- the refusal of the source of the partition of this name
+abbrev pub refusal_of : List ℕ → PalFault → BuildFault
+refusal_of name f = unless_memory f.refusal (fault.Pal name f)
+
+-- what sources are refused for, one for each partition
+abbrev pub AreSourceRefusals : List Partition → List (List ℕ) → BuildFault → Type 0
+AreSourceRefusals rows sources (fault.Pal name f) = IsFirstRefused rows sources name f.refusal
+AreSourceRefusals rows sources fault.Memory = Unit {0}
+AreSourceRefusals rows sources _ = ⊥
+
+abbrev pub is_too_long : Program → Bool
+is_too_long p = nat_lt 65_536 (size_of p)
+
+-- what an accepted program is refused for
+abbrev pub IsProgramRefusal : Program → BuildFault → Type 0
+IsProgramRefusal p fault.NotYet = is_too_long p ≡ true
+IsProgramRefusal p fault.Memory = Unit {0}
+IsProgramRefusal p _ = ⊥
+
+-- what accepted programs are refused for
+abbrev pub IsLengthRefusal : List Program → BuildFault → Type 0
+IsLengthRefusal ps fault.NotYet = list_any is_too_long ps ≡ true
+IsLengthRefusal ps fault.Memory = Unit {0}
+IsLengthRefusal ps _ = ⊥

@@ -1,30 +1,51 @@
 -- The image that a module table and the programs of its partitions become.
-use Rattle.std.specs.Prelude.{◌≡◌, ◌≤◌, List, [], ◌∷◌, map, Some, All, FitsSigned}
+use Rattle.std.specs.Prelude.{◌≡◌, ◌≤◌, ℕ, List, [], ◌∷◌, map, Some, All, FitsSigned}
 use Rattle.std.specs.Int.{w64}
 use Rattle.apex_meaning.specs.Cost.{size_of}
 use Rattle.apex_meaning.specs.Program.{Program}
 use Rattle.apex_meaning.specs.CompiledCode.{code_of, section_of}
 use Rattle.apex_meaning.specs.Fits.{Fits}
 use Rattle.apex_meaning.specs.Image.{Partition, Table, Item, Image}
+use Rattle.apex_meaning.specs.ImageSpelling.{spelling}
 use Rattle.apex_meaning.specs.Instructions.{reading}
+use Rattle.module.specs.Accepted.{AreAccepted}
 
--- each partition with what its program is compiled to, in order
+-- a partition with what its program is compiled to
+abbrev pub built_item : Partition → Program → Item
+built_item row p = record { partition = row; section = section_of p }
+
+-- each partition with its program, in order
 abbrev pub built_items : List Partition → List Program → List Item
 built_items [] programs = []
 built_items (row ∷ rows) [] = []
-built_items (row ∷ rows) (p ∷ ps) = record { partition = row; section = section_of p } ∷ built_items rows ps
+built_items (row ∷ rows) (p ∷ ps) = built_item row p ∷ built_items rows ps
 
 abbrev pub built_image : Table → List Program → Image
 built_image t programs = record { frame = t.frame; fault = t.fault; items = built_items t.partitions programs; windows = t.windows; channels = t.channels }
 
--- A program that fits, of at most 65,536 instructions, which are read again from their bytes, and of
--- words of 64 bits.
-pub record IsCompiled (p : Program) : Type 0 where
-  pub fits : Fits p
+-- A program of at most 65,536 instructions, which are read again from their bytes, and of words of 64
+-- bits.
+pub record IsCoded (p : Program) : Type 0 where
   pub size : size_of p ≤ 65_536
   pub code : map reading (section_of p).code ≡ map Some (code_of p)
   pub words : All (FitsSigned w64) p.initial
 
+abbrev pub AreCoded : List Program → Type 0
+AreCoded [] = Unit {0}
+AreCoded (p ∷ ps) = IsCoded p × AreCoded ps
+
+-- A program that fits, with its code.
+pub record IsCompiled (p : Program) : Type 0 where
+  pub fits : Fits p
+  pub coded : IsCoded p
+
 abbrev pub AreCompiled : List Program → Type 0
 AreCompiled [] = Unit {0}
 AreCompiled (p ∷ ps) = IsCompiled p × AreCompiled ps
+
+-- The bytes spell the image of a table whose sources are accepted and compiled.
+pub record IsBuiltFrom (t : Table) (sources : List (List ℕ)) (bytes : List ℕ) : Type 0 where
+  pub programs : List Program
+  pub accepted : AreAccepted t.partitions sources programs
+  pub coded : AreCoded programs
+  pub spelled : bytes ≡ spelling (built_image t programs)

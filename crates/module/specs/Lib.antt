@@ -1,6 +1,7 @@
 pub mod Accepted
 pub mod Built
 pub mod Building
+pub mod Sources
 pub mod Loading
 pub mod Members
 pub mod Promises

@@ -12,8 +12,7 @@ use Rattle.module.specs.declared.fault.BuildAndRunFault.{BuildAndRunFault}
 use Rattle.module.specs.declared.fault.BuildAndRunFault.TheVariants.{Build, Run}
 use Rattle.module.specs.declared.fault.RunFault.{RunFault}
 use Rattle.module.specs.declared.fault.RunFault.TheVariants.{Ticks, NotYet, Memory, Write}
-use Rattle.module.specs.declared.fault.BuildFault.TheVariants as building
-use Rattle.module.specs.Building.{IsModuleOutside}
+use Rattle.module.specs.Building.{IsRefusal}
 
 -- what is refused for now: bytes that are no image, and device texts that are not empty
 abbrev pub IsOutside : Result Image Fault → List ℕ → Type 0
@@ -53,8 +52,7 @@ pub record IsAcceptedRun (table : List ℕ) (sources : List (List ℕ)) (devices
 abbrev pub Means : List ℕ → List (List ℕ) → List ℕ → ℕ → Option (List ℕ) → Option (List ℕ) → Result (Unit {0}) BuildAndRunFault → Type 0
 Means table sources devices n old new (Ok _) = (t : Table) × (programs : List Program) × IsAcceptedRun table sources devices n t programs × Appends old new (text_of (source_trace t programs n))
 Means table sources devices n old new (Err (Run Write)) = (t : Table) × (programs : List Program) × IsAcceptedRun table sources devices n t programs × TakesBeginning old new (text_of (source_trace t programs n))
-Means table sources devices n old new (Err (Build building.NotYet)) = IsModuleOutside table sources × (new ≡ old)
-Means table sources devices n old new (Err (Build building.Memory)) = new ≡ old
+Means table sources devices n old new (Err (Build fault)) = IsRefusal table sources fault × (new ≡ old)
 Means table sources devices n old new (Err (Run Ticks)) = (2 ^ 40 < n) × (new ≡ old)
 Means table sources devices n old new (Err (Run NotYet)) = (devices ≢ []) × (new ≡ old)
 Means table sources devices n old new (Err (Run Memory)) = new ≡ old

@@ -1,33 +1,24 @@
 //! From a module table and sources to the bytes of an image.
 
-ghost use Rattle.std.specs.Prelude.{◌≡◌, ◌≤◌, ◌<◌, length, map, IfOk, IfErr, Some, Ok, Err, All, FitsSigned, true, false};
-ghost use Rattle.std.specs.Int.{w64};
-ghost use Rattle.std.specs.List.{list_all};
+ghost use Rattle.std.specs.Prelude.{◌≡◌, length, map, IfOk, IfErr, true};
 ghost use Rattle.apex_meaning.specs.CompiledCode as code_of;
-ghost use Rattle.apex_meaning.specs.Cost.{size_of};
 ghost use Rattle.apex_meaning.specs.ImageSpelling.{spelling};
-ghost use Rattle.apex_meaning.specs.Instructions.{reading};
-ghost use Rattle.apex_meaning.specs.WellFormed.{verdict};
-ghost use Rattle.image.specs.Views.{image_of, items_of, partition_of, section_of};
-ghost use Rattle.pal_base.specs.Answers.{IsProgramOf};
-ghost use Rattle.pal_base.specs.ProgramView as resolved;
-ghost use Rattle.pal_base.specs.View as written;
+ghost use Rattle.image.specs.Views.{image_of, item_of, items_of, partition_of, section_of};
+ghost use Rattle.pal_base.specs.ProgramView.{program_of};
 ghost use Rattle.window_table.specs.Views.{table_of};
 ghost use Rattle.module.specs.Accepted.{IsTable};
-ghost use Rattle.module.specs.Building.{AreBuilt, IsBuilt, IsImageOf, IsSpelledFrom, IsRefusedWhere, fault_of, IsNoTable, IsNotBuilt, AreNotBuilt, IsNoProgram, IsNotOfPart, IsTableOutside, IsModuleOutside, image_with};
-ghost use Rattle.module.specs.Part.{is_program_of_part, is_table_of_part, declares_port};
-ghost use Rattle.module.specs.declared.fault.BuildFault.TheVariants as fault;
+ghost use Rattle.module.specs.Building.{IsImageOf, IsRefusal, IsRefusedWith, IsTableRefusal, IsProgramRefusal, IsLengthRefusal};
+ghost use Rattle.module.specs.Built.{IsBuiltFrom, IsCoded, AreCoded, built_image, built_item, built_items};
+ghost use Rattle.module.specs.Part.{is_table_of_part};
+ghost use Rattle.module.specs.Sources.{programs_of};
 
+use crate::accepting::{AcceptedSource, accept_sources, are_of_part};
 use crate::fault::BuildFault;
-use crate::part::{declares_port, is_program_of_part, is_table_of_part};
+use crate::part::is_table_of_part;
 use apex_types::Section;
 use compiler::{CompileFault, compile_program};
 use image::{Image, PartitionItem, write_image};
-use pal::{Checked, check};
-use pal_base::fault::Refusal;
-use pal_base::parse::parse;
-use pal_base::program;
-use pal_base::syntax::Program;
+use pal_base::program::Program;
 use std::alloc::Global;
 use window_table::{ModuleTable, PartitionRow, TableFault, read_table};
 
@@ -36,34 +27,56 @@ use window_table::{ModuleTable, PartitionRow, TableFault, read_table};
 ///
 /// # Errors
 ///
-/// Memory where there is none left, else `NotYet` where they are refused or are outside the part
-/// that is built so far.
+/// Memory where there is none left. Else, in this order: the lowest rule that the table breaks;
+/// a number of sources that is not the number of partitions; the lowest rule that a source breaks,
+/// with its line, of the first partition whose source is refused; and `NotYet` where all are
+/// accepted and are outside the part that is built so far.
 pub fn build(alloc: Global, table: &[u8], sources: &[&[u8]]) -> Result<Vec<u8>, BuildFault>
     ensures image { IfOk result (λ bytes. IsImageOf table.now (map (λ s. s.now) sources.now) bytes.items) }
-    ensures refused { IsRefusedWhere (IsModuleOutside table.now (map (λ s. s.now) sources.now)) result }
+    ensures refused { IfErr result (λ fault. IsRefusal table.now (map (λ s. s.now) sources.now) fault) }
 {
     let table = read(alloc, table)?;
     build_table(alloc, table, sources)
 }
 
-/// The bytes of the image of a table that is of the part, and has as many partitions as there are
-/// sources.
-fn build_table(alloc: Global, table: ModuleTable, sources: &[&[u8]]) -> Result<Vec<u8>, BuildFault>
-    ensures part { IfOk result (λ bytes. is_table_of_part (table_of table) ≡ true) }
-    ensures spelled { IfOk result (λ bytes. IsSpelledFrom (table_of table) (map (λ s. s.now) sources.now) bytes.items) }
-    ensures refused { IsRefusedWhere (IsTableOutside (table_of table) (map (λ s. s.now) sources.now)) result }
+/// The module table that the text is.
+fn read(alloc: Global, text: &[u8]) -> Result<ModuleTable, BuildFault>
+    ensures table { IfOk result (λ table. IsTable text.now (table_of table)) }
+    ensures refused { IfErr result (λ fault. IsTableRefusal text.now fault) }
 {
-    if !is_table_of_part(&table) || sources.len() != table.partitions.len() {
-        return Err(BuildFault::NotYet);
+    match read_table(alloc, text) {
+        Ok(table) => Ok(table),
+        Err(TableFault::Memory) => Err(BuildFault::Memory),
+        Err(fault) => Err(BuildFault::Table(fault)),
     }
-    build_bytes(alloc, table, sources)
 }
 
-/// The bytes of the image of a table.
-fn build_bytes(alloc: Global, table: ModuleTable, sources: &[&[u8]]) -> Result<Vec<u8>, BuildFault>
+/// The bytes of the image of an accepted table and its sources.
+fn build_table(alloc: Global, table: ModuleTable, sources: &[&[u8]]) -> Result<Vec<u8>, BuildFault>
+    ensures built { IfOk result (λ bytes. IsBuiltFrom (table_of table) (map (λ s. s.now) sources.now) bytes.items) }
+    ensures part { IfOk result (λ bytes. is_table_of_part (table_of table) ≡ true) }
+    ensures refused { IfErr result (λ fault. IsRefusedWith (table_of table) (map (λ s. s.now) sources.now) fault) }
+{
+    if sources.len() != table.partitions.len() {
+        return Err(BuildFault::Sources);
+    }
+    let accepted = accept_sources(alloc, table.partitions.as_slice(), sources)?;
+    if !is_table_of_part(&table) || !are_of_part(&accepted) {
+        return Err(BuildFault::NotYet);
+    }
+    build_bytes(alloc, table, &accepted)
+}
+
+/// The bytes of the image of a table and the programs of its partitions.
+fn build_bytes(
+    alloc: Global,
+    table: ModuleTable,
+    sources: &[AcceptedSource],
+) -> Result<Vec<u8>, BuildFault>
     requires { length sources.now ≡ length table.partitions.items }
-    ensures spelled { IfOk result (λ bytes. IsSpelledFrom (table_of table) (map (λ s. s.now) sources.now) bytes.items) }
-    ensures refused { IsRefusedWhere (AreNotBuilt (table_of table).partitions (map (λ s. s.now) sources.now)) result }
+    ensures spelled { IfOk result (λ bytes. bytes.items ≡ spelling (built_image (table_of table) (programs_of sources.now))) }
+    ensures coded { IfOk result (λ bytes. AreCoded (programs_of sources.now)) }
+    ensures refused { IfErr result (λ fault. IsLengthRefusal (programs_of sources.now) fault) }
 {
     let image = build_image(alloc, table, sources)?;
     match write_image(alloc, &image) {
@@ -72,12 +85,16 @@ fn build_bytes(alloc: Global, table: ModuleTable, sources: &[&[u8]]) -> Result<V
     }
 }
 
-/// The image of a table.
-fn build_image(alloc: Global, table: ModuleTable, sources: &[&[u8]]) -> Result<Image, BuildFault>
+/// The image of a table and the programs of its partitions.
+fn build_image(
+    alloc: Global,
+    table: ModuleTable,
+    sources: &[AcceptedSource],
+) -> Result<Image, BuildFault>
     requires { length sources.now ≡ length table.partitions.items }
-    ensures rows { IfOk result (λ image. image_of image ≡ image_with (table_of table) (items_of image.partitions.items)) }
-    ensures built { IfOk result (λ image. AreBuilt (table_of table).partitions (map (λ s. s.now) sources.now) (items_of image.partitions.items)) }
-    ensures refused { IsRefusedWhere (AreNotBuilt (table_of table).partitions (map (λ s. s.now) sources.now)) result }
+    ensures image { IfOk result (λ image. image_of image ≡ built_image (table_of table) (programs_of sources.now)) }
+    ensures coded { IfOk result (λ image. AreCoded (programs_of sources.now)) }
+    ensures refused { IfErr result (λ fault. IsLengthRefusal (programs_of sources.now) fault) }
 {
     let ModuleTable {
         frame,
@@ -96,105 +113,53 @@ fn build_image(alloc: Global, table: ModuleTable, sources: &[&[u8]]) -> Result<I
     })
 }
 
-fn read(alloc: Global, text: &[u8]) -> Result<ModuleTable, BuildFault>
-    ensures table { IfOk result (λ table. IsTable text.now (table_of table)) }
-    ensures refused { IsRefusedWhere (IsNoTable text.now) result }
-{
-    match read_table(alloc, text) {
-        Ok(table) => Ok(table),
-        Err(TableFault::Memory) => Err(BuildFault::Memory),
-        Err(_) => Err(BuildFault::NotYet),
-    }
-}
-
-/// Each partition with what its source becomes.
+/// Each partition with what its program becomes.
 fn build_items(
     alloc: Global,
     rows: Vec<PartitionRow>,
-    sources: &[&[u8]],
+    sources: &[AcceptedSource],
 ) -> Result<Vec<PartitionItem>, BuildFault>
     requires { length sources.now ≡ length rows.items }
-    ensures built { IfOk result (λ items. AreBuilt (map partition_of rows.items) (map (λ s. s.now) sources.now) (items_of items.items)) }
-    ensures refused { IsRefusedWhere (AreNotBuilt (map partition_of rows.items) (map (λ s. s.now) sources.now)) result }
+    ensures items { IfOk result (λ items. items_of items.items ≡ built_items (map partition_of rows.items) (programs_of sources.now)) }
+    ensures coded { IfOk result (λ items. AreCoded (programs_of sources.now)) }
+    ensures refused { IfErr result (λ fault. IsLengthRefusal (programs_of sources.now) fault) }
 {
     let mut items = Vec::with_capacity(alloc, sources.len())?;
     let mut place = 0usize;
     for row in rows {
         let Some(source) = sources.get(place) else {
-            return Err(BuildFault::NotYet);
+            return Err(BuildFault::Sources);
         };
-        items.push(build_item(alloc, row, source)?)?;
+        items.push(build_item(alloc, row, &source.program)?)?;
         place += 1;
     }
     Ok(items)
 }
 
-/// A partition with what its source becomes.
-fn build_item(alloc: Global, row: PartitionRow, source: &[u8]) -> Result<PartitionItem, BuildFault>
-    ensures row { IfOk result (λ item. partition_of item.row ≡ partition_of row) }
-    ensures built { IfOk result (λ item. IsBuilt (partition_of row) source.now (section_of item.section)) }
-    ensures refused { IsRefusedWhere (IsNotBuilt (partition_of row) source.now) result }
+/// A partition with what its program becomes.
+fn build_item(
+    alloc: Global,
+    row: PartitionRow,
+    program: &Program,
+) -> Result<PartitionItem, BuildFault>
+    ensures item { IfOk result (λ item. item_of item ≡ built_item (partition_of row) (program_of program.now)) }
+    ensures coded { IfOk result (λ item. IsCoded (program_of program.now)) }
+    ensures refused { IfErr result (λ fault. IsProgramRefusal (program_of program.now) fault) }
 {
-    let section = build_section(alloc, &row, source)?;
+    let section = compile(alloc, program)?;
     Ok(PartitionItem { row, section })
 }
 
-/// What a partition's source becomes.
-fn build_section(alloc: Global, row: &PartitionRow, source: &[u8]) -> Result<Section, BuildFault>
-    ensures built { IfOk result (λ section. IsBuilt (partition_of row.now) source.now (section_of section)) }
-    ensures refused { IsRefusedWhere (IsNotBuilt (partition_of row.now) source.now) result }
-{
-    let written = read_source(alloc, source)?;
-    let checked = check_program(alloc, written, row)?;
-    compile(alloc, &checked.program)
-}
-
-/// The tree of a source text, which declares no port.
-fn read_source(alloc: Global, source: &[u8]) -> Result<Program, BuildFault>
-    ensures tree { IfOk result (λ program. IsProgramOf source.now (written.program_of program)) }
-    ensures ports { IfOk result (λ program. declares_port (written.program_of program) ≡ false) }
-    ensures refused { IsRefusedWhere (IsNoProgram source.now) result }
-{
-    match parse(alloc, source) {
-        Ok(program) if declares_port(&program) => Err(BuildFault::NotYet),
-        Ok(program) => Ok(program),
-        Err(fault) => Err(refused(fault.refusal)),
-    }
-}
-
-/// A program that is well formed for its partition, and of the part.
-fn check_program(alloc: Global, program: Program, row: &PartitionRow) -> Result<Checked, BuildFault>
-    ensures judged { IfOk result (λ checked. verdict (partition_of row.now).ports (partition_of row.now).period (written.program_of program) ≡ Ok (resolved.program_of checked.program)) }
-    ensures part { IfOk result (λ checked. is_program_of_part (resolved.program_of checked.program) ≡ true) }
-    ensures refused { IsRefusedWhere (IsNotOfPart (partition_of row.now) (written.program_of program)) result }
-{
-    match check(alloc, program, row) {
-        Ok(checked) if is_program_of_part(&checked.program) => Ok(checked),
-        Ok(_) => Err(BuildFault::NotYet),
-        Err(fault) => Err(refused(fault.refusal)),
-    }
-}
-
 /// The section of a program.
-fn compile(alloc: Global, program: &program::Program) -> Result<Section, BuildFault>
-    ensures section { IfOk result (λ section. section_of section ≡ code_of.section_of (resolved.program_of program.now)) }
-    ensures reads_back { IfOk result (λ section. map reading section.code.items ≡ map Some (code_of.code_of (resolved.program_of program.now))) }
-    ensures words { IfOk result (λ section. All (FitsSigned w64) section.initial.items) }
-    ensures size { IfOk result (λ section. size_of (resolved.program_of program.now) ≤ 65_536) }
-    ensures refused { IsRefusedWhere (65_536 < size_of (resolved.program_of program.now)) result }
+#[tactic(auto, using(crate::proofs::Built::coded_section, crate::proofs::Refused::too_long))]
+fn compile(alloc: Global, program: &Program) -> Result<Section, BuildFault>
+    ensures section { IfOk result (λ section. section_of section ≡ code_of.section_of (program_of program.now)) }
+    ensures coded { IfOk result (λ section. IsCoded (program_of program.now)) }
+    ensures refused { IfErr result (λ fault. IsProgramRefusal (program_of program.now) fault) }
 {
     match compile_program(alloc, program) {
         Ok(section) => Ok(section),
         Err(CompileFault::Memory(_)) => Err(BuildFault::Memory),
         Err(CompileFault::TooLong) => Err(BuildFault::NotYet),
-    }
-}
-
-fn refused(refusal: Refusal) -> BuildFault
-    ensures { result ≡ fault_of refusal }
-{
-    match refusal {
-        Refusal::Memory => BuildFault::Memory,
-        _ => BuildFault::NotYet,
     }
 }

@@ -4,13 +4,26 @@ ghost use Rattle.std.specs.Prelude.{◌≡◌};
 ghost use Rattle.module.specs.declared.fault.BuildFault.TheVariants as build;
 ghost use Rattle.module.specs.declared.fault.RunFault.TheVariants as run;
 
+use apex_types::Name;
+use pal_base::fault::PalFault;
 use std::alloc::{AllocError, AllocFailed};
 use thiserror::Error;
+use window_table::TableFault;
 
-/// Why a table and sources are not built.
+/// Why a table and sources are not built. Where several reasons hold, the first of this list is
+/// answered, and of several sources that are refused the first; want of memory may be answered
+/// before. The module table comes first.
 #[derive(Clone, Copy, Debug, PartialEq, Eq, Error)]
 pub enum BuildFault {
-    /// They are refused, or are outside the part that is built so far.
+    #[error("table {}", .0.number())]
+    Table(TableFault),
+    /// There are fewer or more sources than partitions.
+    #[error("sources")]
+    Sources,
+    /// The source of the partition of that name is refused.
+    #[error("pal {} {} line {}", .partition.as_str(), .fault.number(), .fault.line)]
+    Pal { partition: Name, fault: PalFault },
+    /// They are accepted, and are outside the part that is built so far.
     #[error("not yet")]
     NotYet,
     #[error("memory")]

@@ -1,6 +1,7 @@
 //! Building modules into images, and running images.
 #![tactic(auto)]
 
+mod accepting;
 mod advance;
 mod building;
 mod fault;

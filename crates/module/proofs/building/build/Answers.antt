@@ -1,15 +1,17 @@
 use Rattle.std.proofs.Common.{map}
 use Rattle.window_table.specs.Views.{table_of}
 use Rattle.module.proofs.Headline.{built_bytes}
-use Rattle.module.proofs.Refused.{weaker, passed_on, other_sources}
+use Rattle.module.proofs.Refused.{weaker, passed_on, table_refused, refused_with}
 use Rattle.module.proofs.building.build.Goals as goal
 
 pub returns-clause-image : goal.returns-clause-image
 returns-clause-image c =
-    built_bytes (λ bytes. bytes.items) c.args.table.now (map (λ s. s.now) c.args.sources.now) (table_of c.in_ok-table.table) c.build_table.result c.in_ok-table.ensures.table c.build_table.ensures.part c.build_table.ensures.spelled
+    built_bytes (λ bytes. bytes.items) c.args.table.now (map (λ s. s.now) c.args.sources.now) (table_of c.in_ok-table.table) c.build_table.result c.in_ok-table.ensures.table c.build_table.ensures.part c.build_table.ensures.built
 
 pub returns-clause-refused : goal.returns-clause-refused
-returns-clause-refused c = weaker _ _ c.build_table.result (other_sources _ _ _ c.in_ok-table.ensures.table) c.build_table.ensures.refused
+returns-clause-refused c =
+    weaker _ _ c.build_table.result (refused_with c.args.table.now (map (λ s. s.now) c.args.sources.now) (table_of c.in_ok-table.table) c.in_ok-table.ensures.table) c.build_table.ensures.refused
 
 pub returns-in_err-table-clause-refused : goal.returns-in_err-table-clause-refused
-returns-in_err-table-clause-refused c = passed_on _ _ c.in_err-table.field-0.0 c.from_residual.result c.from_residual.ensures (λ h t ps m part offered. h t m.rows) c.in_err-table.ensures.refused
+returns-in_err-table-clause-refused c =
+    passed_on _ _ c.in_err-table.field-0.0 c.from_residual.result c.from_residual.ensures (table_refused c.args.table.now (map (λ s. s.now) c.args.sources.now)) c.in_err-table.ensures.refused

@@ -1,0 +1,28 @@
+-- Accepted sources as the code holds them.
+use Rattle.std.specs.Prelude.{◌≡◌, ℕ, Bool, ◌&&◌, not, List, [], ◌∷◌, map, Ok}
+use Rattle.apex_meaning.specs.Image.{Partition}
+use Rattle.apex_meaning.specs.Program.{Program}
+use Rattle.apex_meaning.specs.Syntax as written
+use Rattle.apex_meaning.specs.WellFormed.{verdict}
+use Rattle.pal_base.specs.Answers.{IsProgramOf}
+use Rattle.pal_base.specs.ProgramView.{program_of}
+use Rattle.module.specs.Part.{is_program_of_part, declares_port}
+use Rattle.module.specs.declared.accepting.AcceptedSource.{AcceptedSource}
+
+abbrev pub programs_of : List AcceptedSource → List Program
+programs_of accepted = map (λ (a : AcceptedSource). program_of a.program) accepted
+
+-- The source is the text of a program, which is well formed for its partition.
+pub record IsSource (row : Partition) (source : List ℕ) (a : AcceptedSource) : Type 0 where
+  pub tree : written.Program
+  pub written : IsProgramOf source tree
+  pub judged : verdict row.ports row.period tree ≡ Ok (program_of a.program)
+  pub port : a.declares_port ≡ declares_port tree
+
+abbrev pub AreSources : List Partition → List (List ℕ) → List AcceptedSource → Type 0
+AreSources [] [] [] = Unit {0}
+AreSources (row ∷ rows) (source ∷ sources) (a ∷ accepted) = IsSource row source a × AreSources rows sources accepted
+AreSources _ _ _ = ⊥
+
+abbrev pub is_source_of_part : AcceptedSource → Bool
+is_source_of_part a = not a.declares_port && is_program_of_part (program_of a.program)
