@@ -1,6 +1,6 @@
 -- From accepted sources to the text of their trace.
 use Rattle.std.proofs.Common.{◌≡◌, ◌≢◌, ℕ, List, [], ◌∷◌, length, map, Option, Result, Ok, Err, IfOk, refl, sym, ap, subst, ◌∙◌}
-use Rattle.std.specs.Prelude.{Bool, true, ◌&&◌, ◌==◌}
+use Rattle.std.specs.Prelude.{true, ◌==◌}
 use Rattle.std.specs.List.{list_all, All}
 use Rattle.std.specs.Io.KnownBytes.{Appends}
 use Rattle.std.proofs.lemmas.Bool.{and_parts, eqb-true}
@@ -37,10 +37,7 @@ lawful_section row source p a h = accepted_section row.ports row.period a.tree p
 -- a table of the part has no channel
 no_channel : (t : Table) → is_table_of_part t ≡ true → t.channels ≡ []
 no_channel t h =
-    let a = and_parts ((length t.channels == 0) && (length t.windows == 1) && (length t.partitions == 1)) (list_all is_row_of_part t.partitions) h in
-    let b = and_parts ((length t.channels == 0) && (length t.windows == 1)) (length t.partitions == 1) a.0 in
-    let c = and_parts (length t.channels == 0) (length t.windows == 1) b.0 in
-    nil_from_length t.channels (eqb-true (length t.channels) 0 c.0)
+    nil_from_length t.channels (eqb-true (length t.channels) 0 (and_parts (length t.channels == 0) (list_all is_row_of_part t.partitions) h).0)
 
 -- a partition and its section, which an image may have
 abbrev IsLawfulItem : Item → Type 0

@@ -2,13 +2,13 @@
 
 ghost use Rattle.std.specs.Prelude.{◌≡◌, []};
 ghost use Rattle.std.specs.List.{list_all, list_any};
-ghost use Rattle.pal_base.specs.ProgramView.{expr_of, exprs_of, stmt_of, block_of, process_of, program_of};
+ghost use Rattle.pal_base.specs.ProgramView.{expr_of, exprs_of, links_of, stmt_of, block_of, process_of, program_of};
 ghost use Rattle.pal_base.specs.View as written;
 ghost use Rattle.window_table.specs.Views.{partition_view, table_of};
-ghost use Rattle.module.specs.Part.{ignores_all, is_row_of_part, is_table_of_part, is_leaf, are_leaves, is_index_within, is_normal, is_three, is_request_of_part, is_stmt_of_part, is_block_of_part, is_process_of_part, is_program_of_part, is_ignored, is_port, declares_port};
+ghost use Rattle.module.specs.Part.{ignores_all, is_row_of_part, is_table_of_part, is_plus, is_expr_of_part, are_links_of_part, are_exprs_of_part, is_index_within, is_normal, is_three, is_request_of_part, is_stmt_of_part, is_block_of_part, is_process_of_part, is_program_of_part, is_ignored, is_port, declares_port};
 
-use apex_types::{HealthTable, PartitionAction, Service};
-use pal_base::program::{Expr, Process, Program, Stmt};
+use apex_types::{BinaryOperator, HealthTable, PartitionAction, Service};
+use pal_base::program::{Expr, Link, Process, Program, Stmt};
 use pal_base::syntax::{self, Declaration, DeclarationKind};
 use window_table::{ModuleTable, PartitionRow};
 
@@ -36,16 +36,12 @@ fn is_row_of_part(row: &PartitionRow) -> bool
     row.ports.is_empty() && ignores_all(&row.health)
 }
 
-/// Whether a table is of the part: one partition with one window, no port and no channel, and
-/// every error ignored.
+/// Whether a table is of the part: no port and no channel, and every error of a partition ignored.
 #[tactic(auto, using(crate::proofs::Parts::table_is))]
 pub fn is_table_of_part(table: &ModuleTable) -> bool
     ensures { result ≡ is_table_of_part (table_of table.now) }
 {
-    table.channels.is_empty()
-        && table.windows.len() == 1
-        && table.partitions.len() == 1
-        && are_rows_of_part(&table.partitions)
+    table.channels.is_empty() && are_rows_of_part(&table.partitions)
 }
 
 fn are_rows_of_part(rows: &[PartitionRow]) -> bool
@@ -76,8 +72,8 @@ fn is_port(kind: &DeclarationKind) -> bool
     matches!(kind, DeclarationKind::Port)
 }
 
-/// Whether a program is of the part: variables and arrays, INIT and at most one process without
-/// period and capacity, whose statements and services are of the part.
+/// Whether a program is of the part: variables and arrays, INIT and processes without period and
+/// capacity, whose statements and services are of the part.
 #[tactic(auto, using(crate::proofs::Parts::program_is))]
 pub fn is_program_of_part(program: &Program) -> bool
     ensures { result ≡ is_program_of_part (program_of program.now) }
@@ -88,7 +84,6 @@ pub fn is_program_of_part(program: &Program) -> bool
         && program.blackboards.is_empty()
         && program.procedures.is_empty()
         && program.handler.is_none()
-        && program.processes.len() <= 1
         && is_block_of_part(&program.init.block)
         && are_processes_of_part(&program.processes)
 }
@@ -118,9 +113,9 @@ fn is_stmt_of_part(stmt: &Stmt) -> bool
     ensures { result ≡ is_stmt_of_part (stmt_of stmt.now) }
 {
     match stmt {
-        Stmt::Assign(_, value) => is_leaf(value),
+        Stmt::Assign(_, value) => is_expr_of_part(value),
         Stmt::AssignElement(_, size, index, value) => {
-            is_index_within(*size, index) && is_leaf(value)
+            is_index_within(*size, index) && is_expr_of_part(value)
         }
         Stmt::Work(_) => true,
         Stmt::Request(service, arguments, _) => is_request_of_part(*service, arguments),
@@ -128,20 +123,42 @@ fn is_stmt_of_part(stmt: &Stmt) -> bool
     }
 }
 
-/// Literals and scalar reads.
-fn is_leaf(expr: &Expr) -> bool
-    ensures { result ≡ is_leaf (expr_of expr.now) }
+fn is_plus(operator: BinaryOperator) -> bool
+    ensures { result ≡ is_plus operator }
+{
+    matches!(operator, BinaryOperator::Add)
+}
+
+/// Literals, scalar reads, and sums of such expressions at any depth.
+#[cycle(is_expr_of_part)]
+fn is_expr_of_part(expr: &Expr) -> bool
+    ensures { result ≡ is_expr_of_part (expr_of expr.now) }
 {
     match expr {
         Expr::Literal(_) | Expr::Read(_) => true,
+        Expr::Chain(first, links) => is_expr_of_part(first) && are_links_of_part(links),
         _ => false,
     }
 }
 
-fn are_leaves(exprs: &[Expr]) -> bool
-    ensures { result ≡ list_all (λ expr. is_leaf (expr_of expr)) exprs.now }
+/// Whether each operator is `+`, with an operand of the part. A chain may have very many links, so
+/// they are walked by a loop.
+#[cycle(is_expr_of_part)]
+fn are_links_of_part(links: &[Link]) -> bool
+    ensures { result ≡ are_links_of_part (links_of links.now) }
 {
-    exprs.iter().all(|expr| is_leaf(expr))
+    for link in links {
+        if !is_plus(link.operator) || !is_expr_of_part(&link.operand) {
+            return false;
+        }
+    }
+    true
+}
+
+fn are_exprs_of_part(exprs: &[Expr]) -> bool
+    ensures { result ≡ list_all (λ expr. is_expr_of_part (expr_of expr)) exprs.now }
+{
+    exprs.iter().all(|expr| is_expr_of_part(expr))
 }
 
 fn is_index_within(size: i64, index: &Expr) -> bool
@@ -173,9 +190,9 @@ fn is_normal(arguments: &[Expr]) -> bool
     }
 }
 
-/// SET_PARTITION_MODE with the literal 3, CREATE_PROCESS, START, GET_TIME and
+/// SET_PARTITION_MODE with the literal 3, CREATE_PROCESS, START, TIMED_WAIT, GET_TIME and
 /// REPORT_APPLICATION_MESSAGE.
-#[tactic(auto, using(crate::proofs::Parts::leaves_are))]
+#[tactic(auto, using(crate::proofs::Parts::exprs_are))]
 fn is_request_of_part(service: Service, arguments: &[Expr]) -> bool
     ensures { result ≡ is_request_of_part service (exprs_of arguments.now) }
 {
@@ -183,8 +200,9 @@ fn is_request_of_part(service: Service, arguments: &[Expr]) -> bool
         Service::SetPartitionMode => is_normal(arguments),
         Service::CreateProcess
         | Service::Start
+        | Service::TimedWait
         | Service::GetTime
-        | Service::ReportApplicationMessage => are_leaves(arguments),
+        | Service::ReportApplicationMessage => are_exprs_of_part(arguments),
         _ => false,
     }
 }
