@@ -1,5 +1,5 @@
 -- What is refused, and for what.
-use Rattle.std.proofs.Common.{◌≡◌, ◌≢◌, ◌⊎◌, inl, inr, ℕ, zero, suc, ◌+◌, ◌≤◌, ◌<◌, Bool, true, false, List, [], ◌∷◌, ◌++◌, length, map, drop, Some, Result, Ok, Err, IfErr, refl, sym, ap, subst, ◌∙◌, arith, Bor}
+use Rattle.std.proofs.Common.{◌≡◌, ◌≢◌, ◌⊎◌, inl, inr, ℕ, zero, suc, ◌+◌, ◌≤◌, ◌<◌, Bool, true, false, List, [], ◌∷◌, ◌++◌, length, map, drop, Some, Result, Ok, Err, IfOk, IfErr, refl, sym, ap, subst, ◌∙◌, arith, append-nil}
 use Rattle.std.specs.Prelude.{IsErr, IsErrAnd, ◌&&◌, ◌||◌, not, nat_le, nat_lt, slice_get}
 use Rattle.std.specs.List.{list_all, list_any}
 use Rattle.std.proofs.lemmas.Bool.{and_parts, leb-true, le-ltb, ltb-false}
@@ -18,9 +18,14 @@ use Rattle.pal_base.specs.declared.fault.PalFault.{PalFault}
 use Rattle.pal_base.specs.declared.fault.Refusal.{Refusal}
 use Rattle.pal_base.specs.declared.fault.Refusal.TheVariants as refusal
 use Rattle.module.specs.Accepted.{IsAccepted, AreAccepted, IsTable}
+use Rattle.apex_meaning.specs.ImageSpelling.{spelling}
+use Rattle.module.specs.Built.{built_image, AreCoded, IsBuiltFrom}
 use Rattle.module.specs.Part.{is_program_of_part, is_table_of_part, is_built, declares_port}
 use Rattle.module.specs.Building.{IsNotAccepted, IsSourceRefused, IsFirstRefused, IsOffered, AreOffered, IsOutside, IsRefusedWith, IsRefusal, IsTableRefusal, IsSourceRefusal, AreSourceRefusals, IsLengthRefusal, IsProgramRefusal, is_too_long, unless_memory, refusal_of}
 use Rattle.module.specs.Sources.{programs_of, IsSource, AreSources, is_source_of_part}
+use Rattle.std.proofs.lemmas.List.{append_assoc}
+use Rattle.image.specs.Views.{partition_of}
+use Rattle.window_table.specs.declared.table.PartitionRow.{PartitionRow}
 use Rattle.module.specs.declared.accepting.AcceptedSource.{AcceptedSource}
 use Rattle.module.specs.declared.fault.BuildFault.{BuildFault}
 use Rattle.module.specs.declared.fault.BuildFault.TheVariants as fault
@@ -60,21 +65,68 @@ too_long p h = is_less (nat_lt 65_536 (size_of p)) refl
 
 -- ---- sources one after the other
 
--- the first of some partitions is refused
-pub first_refused : (row : Partition) (rows : List Partition) (source : List ℕ) (sources : List (List ℕ)) (f : BuildFault) → IsSourceRefusal row source f → AreSourceRefusals (row ∷ rows) (source ∷ sources) f
-first_refused row rows source sources (fault.Table f) h = absurd h
-first_refused row rows source sources fault.Sources h = absurd h
-first_refused row rows source sources (fault.Pal name f) h = inl h
-first_refused row rows source sources fault.NotYet h = absurd h
-first_refused row rows source sources fault.Memory h = tt
-
 accepted_as : (row : Partition) (source : List ℕ) (a : AcceptedSource) → IsSource row source a → IsAccepted row source (program_of a.program)
 accepted_as row source a h = record { tree = h.tree; written = h.written; judged = h.judged }
 
--- the first is accepted
-pub later_refused : (row : Partition) (rows : List Partition) (source : List ℕ) (sources : List (List ℕ)) (a : AcceptedSource) (name : List ℕ) (r : Refusal)
-    → IsSource row source a → IsFirstRefused rows sources name r → IsFirstRefused (row ∷ rows) (source ∷ sources) name r
-later_refused row rows source sources a name r one h = inr (program_of a.program, accepted_as row source a one, h)
+pub drop_next : {X : Type 0} (xs : List X) (i : ℕ) (x : X) → slice_get xs i ≡ Some x → drop i xs ≡ x ∷ drop (i + 1) xs
+drop_next [] i x e = absurd (none-some x e)
+drop_next (y ∷ xs) zero x e = ap (λ z. z ∷ xs) (same_Some y x e)
+drop_next (y ∷ xs) (suc i) x e =
+    let at : suc i + 1 ≡ suc (i + 1) = omega arith in
+    drop_next xs i x e ∙ ap (λ k. x ∷ drop k (y ∷ xs)) (sym at)
+
+-- what the first sources are accepted as, whatever those from here on are accepted as
+abbrev pub AreBefore : List PartitionRow → List (List ℕ) → ℕ → List AcceptedSource → Type 0
+AreBefore rows texts i given =
+    (more : List AcceptedSource) → AreSources (map partition_of (drop i rows)) (drop i texts) more → AreSources (map partition_of rows) texts (given ++ more)
+
+-- the first refusal from here on is the first of all
+abbrev pub IsNoneBefore : List PartitionRow → List (List ℕ) → ℕ → Type 0
+IsNoneBefore rows texts i =
+    (name : List ℕ) (r : Refusal) → IsFirstRefused (map partition_of (drop i rows)) (drop i texts) name r → IsFirstRefused (map partition_of rows) texts name r
+
+pub next_accepted : (rows : List PartitionRow) (texts : List (List ℕ)) (i : ℕ) (given next : List AcceptedSource) (row : PartitionRow) (source : List ℕ) (a : AcceptedSource)
+    → drop i rows ≡ row ∷ drop (i + 1) rows → drop i texts ≡ source ∷ drop (i + 1) texts → next ≡ given ++ a ∷ [] → IsSource (partition_of row) source a
+    → AreBefore rows texts i given → AreBefore rows texts (i + 1) next
+next_accepted rows texts i given next row source a rows_are texts_are pushed one before more rest =
+    let here : AreSources (map partition_of (drop i rows)) (drop i texts) (a ∷ more) =
+      subst (λ (rs : List PartitionRow). AreSources (map partition_of rs) (drop i texts) (a ∷ more)) (sym rows_are)
+      (subst (λ (ts : List (List ℕ)). AreSources (map partition_of (row ∷ drop (i + 1) rows)) ts (a ∷ more)) (sym texts_are) (one, rest)) in
+    let one_by_one : given ++ a ∷ more ≡ next ++ more = sym (append_assoc given (a ∷ []) more) ∙ ap (λ l. l ++ more) (sym pushed) in
+    subst (AreSources (map partition_of rows) texts) one_by_one (before (a ∷ more) here)
+
+pub next_refused : (rows : List PartitionRow) (texts : List (List ℕ)) (i : ℕ) (row : PartitionRow) (source : List ℕ) (a : AcceptedSource)
+    → drop i rows ≡ row ∷ drop (i + 1) rows → drop i texts ≡ source ∷ drop (i + 1) texts → IsSource (partition_of row) source a
+    → IsNoneBefore rows texts i → IsNoneBefore rows texts (i + 1)
+next_refused rows texts i row source a rows_are texts_are one before name r later =
+    before name r
+    (subst (λ (rs : List PartitionRow). IsFirstRefused (map partition_of rs) (drop i texts) name r) (sym rows_are)
+    (subst (λ (ts : List (List ℕ)). IsFirstRefused (map partition_of (row ∷ drop (i + 1) rows)) ts name r) (sym texts_are)
+    (inr (program_of a.program, accepted_as (partition_of row) source a one, later))))
+
+pub here_refused : (rows : List PartitionRow) (texts : List (List ℕ)) (i : ℕ) (row : PartitionRow) (source : List ℕ)
+    → drop i rows ≡ row ∷ drop (i + 1) rows → drop i texts ≡ source ∷ drop (i + 1) texts → IsNoneBefore rows texts i
+    → (f : BuildFault) → IsSourceRefusal (partition_of row) source f → AreSourceRefusals (map partition_of rows) texts f
+here_refused rows texts i row source rows_are texts_are before (fault.Table f) h = absurd h
+here_refused rows texts i row source rows_are texts_are before fault.Sources h = absurd h
+here_refused rows texts i row source rows_are texts_are before (fault.Pal name f) h =
+    before name f.refusal
+    (subst (λ (rs : List PartitionRow). IsFirstRefused (map partition_of rs) (drop i texts) name f.refusal) (sym rows_are)
+    (subst (λ (ts : List (List ℕ)). IsFirstRefused (map partition_of (row ∷ drop (i + 1) rows)) ts name f.refusal) (sym texts_are) (inl h)))
+here_refused rows texts i row source rows_are texts_are before fault.NotYet h = absurd h
+here_refused rows texts i row source rows_are texts_are before fault.Memory h = tt
+
+-- all of them are accepted
+pub all_accepted : (rows : List PartitionRow) (texts : List (List ℕ)) (i : ℕ) (given : List AcceptedSource) → i ≡ length rows → length texts ≡ length rows → AreBefore rows texts i given → AreSources (map partition_of rows) texts given
+all_accepted rows texts i given at count before =
+    let no_row : drop i rows ≡ [] = ap (λ k. drop k rows) at ∙ drop-all rows in
+    let no_text : drop i texts ≡ [] = ap (λ k. drop k texts) (at ∙ sym count) ∙ drop-all texts in
+    subst (AreSources (map partition_of rows) texts) (append-nil given)
+    (before [] (subst (λ (rs : List PartitionRow). AreSources (map partition_of rs) (drop i texts) []) (sym no_row) (subst (λ (ts : List (List ℕ)). AreSources [] ts []) (sym no_text) tt)))
+  where
+    drop-all : {X : Type 0} (xs : List X) → drop (length xs) xs ≡ []
+    drop-all [] = refl
+    drop-all (x ∷ xs) = drop-all xs
 
 pub are_accepted : (rows : List Partition) (sources : List (List ℕ)) (given : List AcceptedSource) → AreSources rows sources given → AreAccepted rows sources (programs_of given)
 are_accepted [] [] [] h = tt
@@ -83,6 +135,26 @@ are_accepted [] (s ∷ sources) given h = absurd h
 are_accepted (r ∷ rows) [] given h = absurd h
 are_accepted (r ∷ rows) (s ∷ sources) [] h = absurd h
 are_accepted (r ∷ rows) (s ∷ sources) (a ∷ given) h = (accepted_as r s a h.0, are_accepted rows sources given h.1)
+
+-- the same rows and sources, as they are lent
+pub same_sources : (other rows : List PartitionRow) (texts : List (List ℕ)) (given same : List AcceptedSource) → other ≡ rows → same ≡ given
+    → AreSources (map partition_of other) texts given → AreSources (map partition_of rows) texts same
+same_sources other rows texts given same e f h =
+    subst (AreSources (map partition_of rows) texts) (sym f) (subst (λ (rs : List PartitionRow). AreSources (map partition_of rs) texts given) e h)
+
+pub as_many : (rows : List Partition) (sources : List (List ℕ)) (given : List AcceptedSource) → AreSources rows sources given → length given ≡ length rows
+as_many [] [] [] h = refl
+as_many [] [] (a ∷ given) h = absurd h
+as_many [] (s ∷ sources) given h = absurd h
+as_many (r ∷ rows) [] given h = absurd h
+as_many (r ∷ rows) (s ∷ sources) [] h = absurd h
+as_many (r ∷ rows) (s ∷ sources) (a ∷ given) h = ap suc (as_many rows sources given h.1)
+
+-- the bytes of accepted sources that are compiled
+pub built_from : {A E : Type 0} (view : A → List ℕ) (t : Table) (sources : List (List ℕ)) (given : List AcceptedSource) (answer : Result A E)
+    → AreSources t.partitions sources given → IfOk answer (λ b. view b ≡ spelling (built_image t (programs_of given))) → IfOk answer (λ b. AreCoded (programs_of given)) → IfOk answer (λ b. IsBuiltFrom t sources (view b))
+built_from view t sources given (Ok b) a spelled coded = record { programs = programs_of given; accepted = are_accepted t.partitions sources given a; coded = coded; spelled = spelled }
+built_from view t sources given (Err e) a spelled coded = tt
 
 -- ---- what is accepted and outside the part
 
