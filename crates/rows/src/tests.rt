@@ -13,6 +13,7 @@ mod shelf;
 mod sinks;
 mod smallest;
 mod sources;
+mod sums;
 mod tables;
 mod texts;
 mod values;
