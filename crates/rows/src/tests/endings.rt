@@ -92,7 +92,7 @@ work 1;
 #[test]
 fn bodies_end(rt: HostRuntime) -> Result<(), Fail> {
     for (source, ticks, trace) in &CASES {
-        expect_trace(&rt, rt.alloc(), TABLE, source, ticks, trace);
+        expect_trace(&rt, rt.alloc(), TABLE, &[*source], ticks, trace)?;
     }
     Ok(())
 }

@@ -1,11 +1,24 @@
 //! The order in which faults are met: the words, the files, the call, the file written.
 
-use super::shelf::{Shelf, expect_command, written};
+use super::shelf::{Shelf, expect_command};
 use super::texts::{SMALLEST, SMALLEST_IMAGE, TABLE};
 use command_line::command;
+use std::test::Fail;
 
 /// Words over a good table, source and image, with the line on the standard error.
-static LINES: [(&[&str], &str); 11] = [
+static LINES: [(&[&str], &str); 17] = [
+    (&["mb", "check", "gone", "lost"], "mb: file gone\n"),
+    (&["mb", "check", "table", "lost"], "mb: file lost\n"),
+    (
+        &["mb", "check", "source", "source", "lost"],
+        "mb: file lost\n",
+    ),
+    (
+        &["mb", "check", "table", "source", "source2"],
+        "mb: file source2\n",
+    ),
+    (&["mb", "check", "source", "table"], "mb: table 1\n"),
+    (&["mb", "check", "table", "table"], "mb: pal a 2 line 1\n"),
     (
         &["mb", "build", "gone", "closed", "lost"],
         "mb: file gone\n",
@@ -24,7 +37,7 @@ static LINES: [(&[&str], &str); 11] = [
     ),
     (
         &["mb", "build", "source", "closed", "table"],
-        "mb: not yet\n",
+        "mb: table 1\n",
     ),
     (&["mb", "run", "gone", "lost", "5"], "mb: file gone\n"),
     (&["mb", "run", "image", "lost", "5"], "mb: file lost\n"),
@@ -47,16 +60,23 @@ static LINES: [(&[&str], &str); 11] = [
 ];
 
 #[test]
-fn the_first_fault_is_told(rt: HostRuntime) {
+fn the_first_fault_is_told(rt: HostRuntime) -> Result<(), Fail> {
+    let sources = [SMALLEST.as_bytes()];
     for (words, line) in &LINES {
-        let mut shelf = Shelf::new(TABLE.as_bytes(), SMALLEST.as_bytes());
-        shelf.image = written(&SMALLEST_IMAGE);
+        let mut shelf = Shelf::new(rt.alloc(), TABLE.as_bytes(), &sources);
+        shelf.image = Some(Vec::from_slice(rt.alloc(), &SMALLEST_IMAGE)?);
         expect_command(&rt, rt.alloc(), &mut shelf, words, (1, "", *line));
     }
+    Ok(())
 }
 
 /// Words that are no command. No file is read for them.
-static NO_COMMANDS: [&[&str]; 7] = [
+static NO_COMMANDS: [&[&str]; 12] = [
+    &["mb", "check", "gone"],
+    &["mb", "check", "table"],
+    &["mb", "check"],
+    &["mb", "check", "gone", "--all", "lost"],
+    &["mb", "check", "gone", "-a"],
     &["mb", "run", "gone", "lost", "x12"],
     &["mb", "run", "gone", "lost", "12 "],
     &["mb", "run", "gone", "lost", ""],
@@ -69,7 +89,7 @@ static NO_COMMANDS: [&[&str]; 7] = [
 #[test]
 fn words_that_are_no_command(rt: HostRuntime) {
     for words in &NO_COMMANDS {
-        let mut shelf = Shelf::new(TABLE.as_bytes(), SMALLEST.as_bytes());
+        let mut shelf = Shelf::new(rt.alloc(), TABLE.as_bytes(), &[]);
         let mut out: Vec<u8> = Vec::new(rt.alloc());
         let mut err: Vec<u8> = Vec::new(rt.alloc());
         let status = command(rt.alloc(), words, &mut shelf, &mut out, &mut err);

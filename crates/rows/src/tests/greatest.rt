@@ -1,8 +1,9 @@
 //! The longest code and the most data.
 
+use super::shelf::{NOT_YET, expect_accepted, expect_refused};
 use super::sinks::narrow_sink;
 use super::texts::{SMALLEST_TRACE, TABLE};
-use module::{BuildFault, build, run};
+use module::{build, run};
 use std::alloc::{AllocError, Global};
 use std::test::Fail;
 
@@ -41,11 +42,12 @@ fn the_longest_code(rt: HostRuntime) -> Result<(), Fail> {
 
 #[test]
 fn code_that_is_longer_by_one(rt: HostRuntime) -> Result<(), Fail> {
+    let source = working(rt.alloc(), 65_532)?;
+    let sources = [source.as_slice()];
+    expect_accepted(&rt, rt.alloc(), TABLE.as_bytes(), &sources)?;
     let source = working(rt.alloc(), 65_533)?;
     let sources = [source.as_slice()];
-    let refused = build(rt.alloc(), TABLE.as_bytes(), &sources);
-    assert!(rt; matches!(refused, Err(BuildFault::NotYet)));
-    Ok(())
+    expect_refused(&rt, rt.alloc(), TABLE.as_bytes(), &sources, NOT_YET)
 }
 
 /// The smallest source with the longest array.

@@ -1,9 +1,10 @@
 //! Images and device texts that are refused, and those outside the part that is run so far.
 
-use super::shelf::{NOT_YET, Shelf, expect_command, written};
+use super::shelf::{NOT_YET, Shelf, expect_command};
 use super::sinks::narrow_sink;
 use super::texts::SMALLEST_IMAGE;
 use module::RunFault;
+use std::alloc::{AllocError, Global};
 use std::test::Fail;
 
 /// Bytes that are no image.
@@ -15,13 +16,14 @@ static NO_IMAGES: [&[u8]; 4] = [
 ];
 
 #[test]
-fn bytes_that_are_no_image(rt: HostRuntime) {
+fn bytes_that_are_no_image(rt: HostRuntime) -> Result<(), Fail> {
     for bytes in &NO_IMAGES {
-        let mut shelf = Shelf::new(&[], &[]);
-        shelf.image = written(bytes);
+        let mut shelf = Shelf::new(rt.alloc(), &[], &[]);
+        shelf.image = Some(Vec::from_slice(rt.alloc(), bytes)?);
         let words = ["mb", "run", "image", "devices", "128"];
-        expect_command(&rt, rt.alloc(), &mut shelf, &words, NOT_YET);
+        expect_command(&rt, rt.alloc(), &mut shelf, &words, (1, "", NOT_YET));
     }
+    Ok(())
 }
 
 #[test]
@@ -38,22 +40,32 @@ fn a_cut_image(rt: HostRuntime) -> Result<(), Fail> {
 
 #[test]
 fn an_image_with_one_byte_more(rt: HostRuntime) -> Result<(), Fail> {
-    let mut image = written(&SMALLEST_IMAGE).ok_or("long")?;
-    image.try_extend_from_slice(b"\0").map_err(|_| "full")?;
-    let mut shelf = Shelf::new(&[], &[]);
+    let mut image = Vec::from_slice(rt.alloc(), &SMALLEST_IMAGE)?;
+    image.push(0)?;
+    let mut shelf = Shelf::new(rt.alloc(), &[], &[]);
     shelf.image = Some(image);
     let words = ["mb", "run", "image", "devices", "128"];
-    expect_command(&rt, rt.alloc(), &mut shelf, &words, NOT_YET);
+    expect_command(&rt, rt.alloc(), &mut shelf, &words, (1, "", NOT_YET));
     Ok(())
 }
 
+/// Device texts that are not empty.
+static DEVICES: [&str; 4] = ["3 FAULT\n", "3 FAULT a\n", "\n", "nothing"];
+
+/// A shelf with the smallest image and that device text.
+fn shelf_with(alloc: Global, devices: &[u8]) -> Result<Shelf<'_>, AllocError> {
+    let mut shelf = Shelf::new(alloc, &[], &[]);
+    shelf.devices = devices;
+    shelf.image = Some(Vec::from_slice(alloc, &SMALLEST_IMAGE)?);
+    Ok(shelf)
+}
+
 #[test]
-fn device_texts_with_a_line(rt: HostRuntime) {
-    for devices in ["3 FAULT\n", "3 FAULT a\n", "\n", "nothing"] {
-        let mut shelf = Shelf::new(&[], &[]);
-        shelf.image = written(&SMALLEST_IMAGE);
-        shelf.devices = devices.as_bytes();
+fn device_texts_with_a_line(rt: HostRuntime) -> Result<(), Fail> {
+    for devices in &DEVICES {
+        let mut shelf = shelf_with(rt.alloc(), devices.as_bytes())?;
         let words = ["mb", "run", "image", "devices", "128"];
-        expect_command(&rt, rt.alloc(), &mut shelf, &words, NOT_YET);
+        expect_command(&rt, rt.alloc(), &mut shelf, &words, (1, "", NOT_YET));
     }
+    Ok(())
 }

@@ -67,7 +67,7 @@ fn running(rt: HostRuntime) -> Result<(), Fail> {
 #[test]
 fn commanding(rt: HostRuntime) -> Result<(), Fail> {
     let words = ["mb"];
-    let mut shelf = Shelf::new(&[], &[]);
+    let mut shelf = Shelf::new(rt.alloc(), &[], &[]);
     let mut out: Vec<u8> = Vec::with_capacity(rt.alloc(), 1024)?;
     let mut err: Vec<u8> = Vec::with_capacity(rt.alloc(), 1024)?;
     expect_command(&rt, rt.alloc(), &mut shelf, &words, (0, FIRST_TRACE, ""));

@@ -210,7 +210,7 @@ REPORT_APPLICATION_MESSAGE(m, 1) -> r;
 #[test]
 fn processes_run(rt: HostRuntime) -> Result<(), Fail> {
     for (source, ticks, trace) in &CASES {
-        expect_trace(&rt, rt.alloc(), TABLE, source, ticks, trace);
+        expect_trace(&rt, rt.alloc(), TABLE, &[*source], ticks, trace)?;
     }
     Ok(())
 }

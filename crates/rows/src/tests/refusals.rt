@@ -1,26 +1,28 @@
-//! Refusals of tables and sources, by number and line. The wanted ones come from an independent
-//! program and from the rules.
+//! What `check` and `build` answer to tables and sources, by number and line. The wanted answers
+//! come from an independent program and from the rules.
 
+mod lowest;
+mod orders;
 mod programs;
 mod rules;
 mod shapes;
 mod texts;
 
-use pal::check;
-use pal_base::fault::PalFault;
-use pal_base::parse::parse;
-use std::alloc::Global;
+use super::shelf::{NOT_YET, bytes_of, expect_accepted, expect_refused};
+use std::alloc::{AllocError, Global};
 use std::process::Abort;
-use window_table::{PartitionRow, read_table};
+use std::test::Fail;
 
-/// The first refusal in the order table, number of sources, partitions.
-#[derive(Clone, Copy, Debug, PartialEq, Eq)]
+/// The first refusal in the order table, number of sources, partitions, part.
+#[derive(Clone, Copy)]
 pub enum Verdict {
     Accepted,
     Table(u8),
     Sources,
     /// The partition's number, and the number and the line of the refusal of its source.
     Program(u8, u8, u32),
+    /// Accepted, and outside the part that is offered.
+    NotYet,
 }
 
 /// A table, its sources and their verdict.
@@ -30,7 +32,7 @@ pub struct Case {
     pub verdict: Verdict,
 }
 
-/// One partition without ports, of period 8.
+/// One partition without ports, of period 128.
 pub const SMALL: &str = "\
 frame = 128
 fault = \"IGNORE\"
@@ -46,34 +48,28 @@ length = 128
 release = true
 ";
 
-fn verdict_on(alloc: Global, table: &str, sources: &[&str]) -> Verdict {
-    let table = match read_table(alloc, table.as_bytes()) {
-        Ok(table) => table,
-        Err(fault) => return Verdict::Table(fault.number()),
-    };
-    if sources.len() != table.partitions.len() {
-        return Verdict::Sources;
+/// The line on the standard error, where the verdict refuses. The partitions are named a and b.
+fn line_of(alloc: Global, verdict: Verdict) -> Result<Option<String>, AllocError> {
+    match verdict {
+        Verdict::Accepted => Ok(None),
+        Verdict::Table(number) => Ok(Some(format!(in alloc; "mb: table {number}\n")?)),
+        Verdict::Sources => Ok(Some(format!(in alloc; "mb: sources\n")?)),
+        Verdict::Program(partition, number, line) => {
+            let name = if partition == 1 { "a" } else { "b" };
+            Ok(Some(format!(in alloc; "mb: pal {name} {number} line {line}\n")?))
+        }
+        Verdict::NotYet => Ok(Some(format!(in alloc; "{NOT_YET}")?)),
     }
-    let mut partition: u8 = 0;
-    for row in table.partitions.as_slice() {
-        let source = sources.get(usize::from(partition)).unwrap_or(&"");
-        partition = partition.wrapping_add(1);
-        if let Err(fault) = judge(alloc, source, row) {
-            return Verdict::Program(partition, fault.number(), fault.line);
+}
+
+pub fn expect_verdicts(rt: &impl Abort, alloc: Global, cases: &[Case]) -> Result<(), Fail> {
+    for case in cases {
+        let table = case.table.as_bytes();
+        let sources = bytes_of(alloc, case.sources)?;
+        match line_of(alloc, case.verdict)? {
+            None => expect_accepted(rt, alloc, table, sources.as_slice())?,
+            Some(line) => expect_refused(rt, alloc, table, sources.as_slice(), line.as_str())?,
         }
     }
-    Verdict::Accepted
-}
-
-fn judge(alloc: Global, source: &str, row: &PartitionRow) -> Result<(), PalFault> {
-    let program = parse(alloc, source.as_bytes())?;
-    let _ = check(alloc, program, row)?;
     Ok(())
-}
-
-pub fn expect_verdicts(rt: &impl Abort, alloc: Global, cases: &[Case]) {
-    for case in cases {
-        let found = verdict_on(alloc, case.table, case.sources);
-        assert_eq!(rt; found, case.verdict);
-    }
 }

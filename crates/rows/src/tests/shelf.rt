@@ -1,32 +1,43 @@
 //! A fake of the files, and commands over it.
 
-use arrayvec::ArrayVec;
 use command_line::{FileFault, Files, command};
-use std::alloc::Global;
+use std::alloc::{AllocError, Global};
 use std::process::Abort;
+use std::test::Fail;
 
-/// The bytes of a file that a test writes.
-pub type Written = ArrayVec<u8, 4096>;
+/// The names of the sources on a shelf, in their order.
+static SOURCE_NAMES: [&str; 16] = [
+    "source", "source2", "source3", "source4", "source5", "source6", "source7", "source8",
+    "source9", "source10", "source11", "source12", "source13", "source14", "source15", "source16",
+];
 
-/// The files "table", "source" and "devices", and room for one that is named "image". No other
-/// file can be read or written.
+/// The files "table", "devices" and "source", "source2" up to "source16", as far as there are
+/// sources, and room for one that is named "image". No other file can be read or written.
 #[derive(Drop)]
 pub struct Shelf<'a> {
+    alloc: Global,
     pub table: &'a [u8],
-    pub source: &'a [u8],
+    pub sources: &'a [&'a [u8]],
     pub devices: &'a [u8],
-    pub image: Option<Written>,
+    pub image: Option<Vec<u8>>,
 }
 
 impl<'a> Shelf<'a> {
-    /// A shelf with a table and a source, an empty device text and no image.
-    pub fn new(table: &'a [u8], source: &'a [u8]) -> Self {
+    /// A shelf with a table and sources, an empty device text and no image.
+    pub fn new(alloc: Global, table: &'a [u8], sources: &'a [&'a [u8]]) -> Self {
         Shelf {
+            alloc,
             table,
-            source,
+            sources,
             devices: &[],
             image: None,
         }
+    }
+
+    /// The source of that name.
+    fn source(&self, name: &str) -> Option<&'a [u8]> {
+        let place = SOURCE_NAMES.iter().position(|source| *source == name)?;
+        self.sources.get(place).copied()
     }
 }
 
@@ -34,13 +45,15 @@ impl<'a> Files for Shelf<'a> {
     fn read(&mut self, alloc: Global, name: &str) -> Result<Vec<u8>, FileFault> {
         match name {
             "table" => copy(alloc, self.table),
-            "source" => copy(alloc, self.source),
             "devices" => copy(alloc, self.devices),
             "image" => match &self.image {
                 Some(image) => copy(alloc, image.as_slice()),
                 None => Err(FileFault::Unavailable),
             },
-            _ => Err(FileFault::Unavailable),
+            _ => match self.source(name) {
+                Some(source) => copy(alloc, source),
+                None => Err(FileFault::Unavailable),
+            },
         }
     }
 
@@ -48,12 +61,8 @@ impl<'a> Files for Shelf<'a> {
         if name != "image" {
             return Err(FileFault::Unavailable);
         }
-        self.image = written(bytes);
-        if self.image.is_some() {
-            Ok(())
-        } else {
-            Err(FileFault::Unavailable)
-        }
+        self.image = Some(copy(self.alloc, bytes)?);
+        Ok(())
     }
 }
 
@@ -64,13 +73,22 @@ fn copy(alloc: Global, bytes: &[u8]) -> Result<Vec<u8>, FileFault> {
     }
 }
 
-/// The bytes as a file, where they fit into one.
-pub fn written(bytes: &[u8]) -> Option<Written> {
-    let mut file = Written::new();
-    match file.try_extend_from_slice(bytes) {
-        Ok(()) => Some(file),
-        Err(_) => None,
+/// The bytes of several texts.
+pub fn bytes_of<'a>(alloc: Global, texts: &[&'a str]) -> Result<Vec<&'a [u8]>, AllocError> {
+    texts.iter().map(|text| text.as_bytes()).collect(alloc)
+}
+
+/// These words, and behind them the names of so many sources.
+fn words_over(
+    alloc: Global,
+    words: &[&'static str],
+    sources: usize,
+) -> Result<Vec<&'static str>, AllocError> {
+    let mut all = Vec::from_slice(alloc, words)?;
+    for name in SOURCE_NAMES.iter().take(sources) {
+        all.push(*name)?;
     }
+    Ok(all)
 }
 
 /// Does what the words say, and expects the status and the texts on the standard output and the
@@ -91,33 +109,75 @@ pub fn expect_command(
     assert_eq!(rt; found, status);
 }
 
-/// Builds a table and a source, runs the image for so many ticks and expects the trace.
+/// Builds what lies on the shelf, and expects that an image is written.
+fn expect_built(rt: &impl Abort, alloc: Global, shelf: &mut Shelf<'_>) -> Result<(), Fail> {
+    let words = words_over(
+        alloc,
+        &["mb", "build", "table", "image"],
+        shelf.sources.len(),
+    )?;
+    let mut out: Vec<u8> = Vec::new(alloc);
+    let mut err: Vec<u8> = Vec::new(alloc);
+    let status = command(alloc, words.as_slice(), shelf, &mut out, &mut err);
+    assert_eq!(rt; err.as_slice(), b"".as_slice());
+    assert_eq!(rt; status, 0);
+    assert!(rt; shelf.image.is_some());
+    Ok(())
+}
+
+/// Builds a table and its sources, runs the image for so many ticks and expects the trace.
 pub fn expect_trace(
     rt: &impl Abort,
     alloc: Global,
     table: &str,
-    source: &str,
+    sources: &[&str],
     ticks: &str,
     trace: &str,
-) {
-    let mut shelf = Shelf::new(table.as_bytes(), source.as_bytes());
-    let words = ["mb", "build", "table", "image", "source"];
-    let mut out: Vec<u8> = Vec::new(alloc);
-    let mut err: Vec<u8> = Vec::new(alloc);
-    let status = command(alloc, &words, &mut shelf, &mut out, &mut err);
-    assert_eq!(rt; err.as_slice(), b"".as_slice(), "building {source}");
-    assert_eq!(rt; status, 0);
+) -> Result<(), Fail> {
+    let sources = bytes_of(alloc, sources)?;
+    let mut shelf = Shelf::new(alloc, table.as_bytes(), sources.as_slice());
+    expect_built(rt, alloc, &mut shelf)?;
     let words = ["mb", "run", "image", "devices", ticks];
     expect_command(rt, alloc, &mut shelf, &words, (0, trace, ""));
+    Ok(())
 }
 
-/// Builds a table and a source, and expects that they are refused and that no image is written.
-pub fn expect_not_built(rt: &impl Abort, alloc: Global, table: &[u8], source: &[u8]) {
-    let mut shelf = Shelf::new(table, source);
-    let words = ["mb", "build", "table", "image", "source"];
-    expect_command(rt, alloc, &mut shelf, &words, NOT_YET);
+/// Checks a table and its sources, and expects that they are accepted, and that they are built.
+pub fn expect_accepted(
+    rt: &impl Abort,
+    alloc: Global,
+    table: &[u8],
+    sources: &[&[u8]],
+) -> Result<(), Fail> {
+    let mut shelf = Shelf::new(alloc, table, sources);
+    let words = words_over(alloc, &["mb", "check", "table"], sources.len())?;
+    expect_command(rt, alloc, &mut shelf, words.as_slice(), ACCEPTED);
     assert!(rt; shelf.image.is_none());
+    expect_built(rt, alloc, &mut shelf)
 }
 
-/// What is answered where the input is outside the part that is offered.
-pub const NOT_YET: (u8, &str, &str) = (1, "", "mb: not yet\n");
+/// Checks and builds a table and its sources, and expects that both are refused with the same
+/// line, and that no image is written.
+pub fn expect_refused(
+    rt: &impl Abort,
+    alloc: Global,
+    table: &[u8],
+    sources: &[&[u8]],
+    line: &str,
+) -> Result<(), Fail> {
+    let mut shelf = Shelf::new(alloc, table, sources);
+    let refused = (1, "", line);
+    let words = words_over(alloc, &["mb", "check", "table"], sources.len())?;
+    expect_command(rt, alloc, &mut shelf, words.as_slice(), refused);
+    let words = words_over(alloc, &["mb", "build", "table", "image"], sources.len())?;
+    expect_command(rt, alloc, &mut shelf, words.as_slice(), refused);
+    assert!(rt; shelf.image.is_none());
+    Ok(())
+}
+
+/// What `check` answers where the table and its sources are accepted and of the part that is
+/// offered.
+pub const ACCEPTED: (u8, &str, &str) = (0, "accepted\n", "");
+
+/// The line where they are accepted, and are outside that part.
+pub const NOT_YET: &str = "mb: not yet\n";

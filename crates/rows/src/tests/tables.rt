@@ -1,10 +1,11 @@
-//! Tables that are refused, and those that are outside the part that is built so far.
+//! Tables at the edge of the part that is built so far, and tables that are refused.
 
-use super::shelf::{NOT_YET, Shelf, expect_command, expect_not_built};
+use super::shelf::{NOT_YET, expect_accepted, expect_refused};
 use super::texts::SMALLEST;
+use std::test::Fail;
 
 /// Accepted, and each with one thing more than the part has.
-static OUTSIDE: [&str; 4] = [
+static OUTSIDE: [&str; 3] = [
     // A port
     "\
 frame = 128
@@ -101,8 +102,10 @@ offset = 0
 length = 128
 release = true
 ",
-    // Two windows
-    "\
+];
+
+/// One partition with two windows.
+static TWO_WINDOWS: &str = "\
 frame = 128
 fault = \"IGNORE\"
 
@@ -131,8 +134,7 @@ partition = \"a\"
 offset = 64
 length = 64
 release = true
-",
-];
+";
 
 /// Two partitions, each with a half of the frame.
 static TWO_PARTITIONS: &str = "\
@@ -180,16 +182,20 @@ length = 64
 release = true
 ";
 
-/// Each is refused as a table.
-static REFUSED: [&str; 5] = [
+/// Each is refused as a table, with its line.
+static REFUSED: [(&str, &str); 5] = [
     // No document
-    "\
+    (
+        "\
 frame = 
 ",
+        "mb: table 1\n",
+    ),
     // No table at all
-    "",
+    ("", "mb: table 2\n"),
     // A key too many
-    "\
+    (
+        "\
 frame = 128
 fault = \"IGNORE\"
 
@@ -215,8 +221,11 @@ release = true
 
 [other]
 ",
+        "mb: table 2\n",
+    ),
     // A frame that is no multiple
-    "\
+    (
+        "\
 frame = 128
 fault = \"IGNORE\"
 
@@ -240,8 +249,11 @@ offset = 0
 length = 128
 release = true
 ",
+        "mb: table 6\n",
+    ),
     // An action that is none
-    "\
+    (
+        "\
 frame = 128
 fault = \"IGNORE\"
 
@@ -265,26 +277,43 @@ offset = 0
 length = 128
 release = true
 ",
+        "mb: table 10\n",
+    ),
 ];
 
 #[test]
-fn tables_outside_the_part(rt: HostRuntime) {
+fn tables_outside_the_part(rt: HostRuntime) -> Result<(), Fail> {
+    let sources = [SMALLEST.as_bytes()];
     for table in &OUTSIDE {
-        expect_not_built(&rt, rt.alloc(), table.as_bytes(), SMALLEST.as_bytes());
+        expect_refused(&rt, rt.alloc(), table.as_bytes(), &sources, NOT_YET)?;
     }
+    Ok(())
 }
 
 #[test]
-fn refused_tables(rt: HostRuntime) {
-    for table in &REFUSED {
-        expect_not_built(&rt, rt.alloc(), table.as_bytes(), SMALLEST.as_bytes());
-    }
+fn tables_of_the_part(rt: HostRuntime) -> Result<(), Fail> {
+    let source = SMALLEST.as_bytes();
+    expect_accepted(&rt, rt.alloc(), TWO_WINDOWS.as_bytes(), &[source])?;
+    expect_accepted(
+        &rt,
+        rt.alloc(),
+        TWO_PARTITIONS.as_bytes(),
+        &[source, source],
+    )
 }
 
 #[test]
-fn two_partitions(rt: HostRuntime) {
-    let mut shelf = Shelf::new(TWO_PARTITIONS.as_bytes(), SMALLEST.as_bytes());
-    let words = ["mb", "build", "table", "image", "source", "source"];
-    expect_command(&rt, rt.alloc(), &mut shelf, &words, NOT_YET);
-    assert!(rt; shelf.image.is_none());
+fn refused_tables(rt: HostRuntime) -> Result<(), Fail> {
+    let sources = [SMALLEST.as_bytes()];
+    for (table, line) in &REFUSED {
+        expect_refused(&rt, rt.alloc(), table.as_bytes(), &sources, line)?;
+    }
+    Ok(())
+}
+
+#[test]
+fn one_source_for_two_partitions(rt: HostRuntime) -> Result<(), Fail> {
+    let sources = [SMALLEST.as_bytes()];
+    let table = TWO_PARTITIONS.as_bytes();
+    expect_refused(&rt, rt.alloc(), table, &sources, "mb: sources\n")
 }

@@ -156,7 +156,7 @@ init stack 16
 #[test]
 fn values_are_reported(rt: HostRuntime) -> Result<(), Fail> {
     for (source, ticks, trace) in &CASES {
-        expect_trace(&rt, rt.alloc(), TABLE, source, ticks, trace);
+        expect_trace(&rt, rt.alloc(), TABLE, &[*source], ticks, trace)?;
     }
     Ok(())
 }

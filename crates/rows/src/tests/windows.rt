@@ -1,6 +1,6 @@
-//! A window that is a part of its frame.
+//! Windows that are a part of their frame.
 
-use super::shelf::expect_trace;
+use super::shelf::{expect_refused, expect_trace};
 use super::texts::SMALLEST;
 use std::test::Fail;
 
@@ -167,7 +167,7 @@ SET_PARTITION_MODE(3) -> r;
 #[test]
 fn a_partition_waits_for_its_window(rt: HostRuntime) -> Result<(), Fail> {
     for (source, ticks, trace) in &CASES {
-        expect_trace(&rt, rt.alloc(), TABLE, source, ticks, trace);
+        expect_trace(&rt, rt.alloc(), TABLE, &[*source], ticks, trace)?;
     }
     Ok(())
 }
@@ -209,7 +209,115 @@ static TWO_PERIODS_TRACE: &str = "\
 ";
 
 #[test]
-fn a_window_over_two_periods(rt: HostRuntime) {
+fn a_window_over_two_periods(rt: HostRuntime) -> Result<(), Fail> {
     let trace = TWO_PERIODS_TRACE;
-    expect_trace(&rt, rt.alloc(), TWO_PERIODS, SMALLEST, "100", trace);
+    expect_trace(&rt, rt.alloc(), TWO_PERIODS, &[SMALLEST], "100", trace)
+}
+
+/// Two partitions, each with a half of the frame.
+static HALVES: &str = "\
+frame = 16
+fault = \"IGNORE\"
+
+[[partition]]
+name = \"a\"
+period = 16
+duration = 8
+
+[partition.hm]
+DEADLINE_MISSED = \"IGNORE\"
+APPLICATION_ERROR = \"IGNORE\"
+NUMERIC_ERROR = \"IGNORE\"
+ILLEGAL_REQUEST = \"IGNORE\"
+STACK_OVERFLOW = \"IGNORE\"
+MEMORY_VIOLATION = \"IGNORE\"
+HARDWARE_FAULT = \"IGNORE\"
+
+[[partition]]
+name = \"b\"
+period = 16
+duration = 8
+
+[partition.hm]
+DEADLINE_MISSED = \"IGNORE\"
+APPLICATION_ERROR = \"IGNORE\"
+NUMERIC_ERROR = \"IGNORE\"
+ILLEGAL_REQUEST = \"IGNORE\"
+STACK_OVERFLOW = \"IGNORE\"
+MEMORY_VIOLATION = \"IGNORE\"
+HARDWARE_FAULT = \"IGNORE\"
+
+[[window]]
+partition = \"a\"
+offset = 0
+length = 8
+release = true
+
+[[window]]
+partition = \"b\"
+offset = 8
+length = 8
+release = true
+";
+
+/// The smallest source in both. Before any window the partitions start in their order.
+static HALVES_TRACE: &str = "\
+0000000000000 a MODE COLD_START
+0000000000000 a STATE INIT READY
+0000000000000 b MODE COLD_START
+0000000000000 b STATE INIT READY
+0000000000000 a STATE INIT RUNNING
+0000000000004 a RET INIT SET_PARTITION_MODE 0
+0000000000004 a STATE INIT DORMANT
+0000000000004 a MODE NORMAL
+0000000000008 b STATE INIT RUNNING
+0000000000012 b RET INIT SET_PARTITION_MODE 0
+0000000000012 b STATE INIT DORMANT
+0000000000012 b MODE NORMAL
+";
+
+#[test]
+fn partitions_in_their_halves(rt: HostRuntime) -> Result<(), Fail> {
+    let sources = [SMALLEST, SMALLEST];
+    expect_trace(&rt, rt.alloc(), HALVES, &sources, "16", HALVES_TRACE)?;
+    expect_trace(&rt, rt.alloc(), HALVES, &sources, "1000", HALVES_TRACE)
+}
+
+/// A window begins one tick before the end of the window before it.
+static OVERLAP: &str = "\
+frame = 8
+fault = \"IGNORE\"
+
+[[partition]]
+name = \"a\"
+period = 8
+duration = 8
+
+[partition.hm]
+DEADLINE_MISSED = \"IGNORE\"
+APPLICATION_ERROR = \"IGNORE\"
+NUMERIC_ERROR = \"IGNORE\"
+ILLEGAL_REQUEST = \"IGNORE\"
+STACK_OVERFLOW = \"IGNORE\"
+MEMORY_VIOLATION = \"IGNORE\"
+HARDWARE_FAULT = \"IGNORE\"
+
+[[window]]
+partition = \"a\"
+offset = 0
+length = 5
+release = true
+
+[[window]]
+partition = \"a\"
+offset = 4
+length = 4
+release = true
+";
+
+#[test]
+fn windows_that_overlap(rt: HostRuntime) -> Result<(), Fail> {
+    let sources = [SMALLEST.as_bytes()];
+    let table = OVERLAP.as_bytes();
+    expect_refused(&rt, rt.alloc(), table, &sources, "mb: table 5\n")
 }

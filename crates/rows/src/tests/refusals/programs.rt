@@ -1,6 +1,7 @@
 //! Sources that are not well formed: names, kinds, limits and periods.
 
 use super::{Case, SMALL, Verdict, expect_verdicts};
+use std::test::Fail;
 
 static CASES: [Case; 26] = [
     // An unknown name, before a wrong kind above it
@@ -41,7 +42,7 @@ static CASES: [Case; 26] = [
         sources: &[
             "proc f(a) { local b; return a; } proc g(a) { local b; return b; } init stack 16 { local a; local b; }",
         ],
-        verdict: Verdict::Accepted,
+        verdict: Verdict::NotYet,
     },
     // An array without index
     Case {
@@ -91,7 +92,7 @@ static CASES: [Case; 26] = [
         sources: &[
             "port o; event e; init stack 16 { local r; CREATE_SAMPLING_PORT(o) -> r, r; CREATE_QUEUING_PORT(o) -> r, r; CREATE_EVENT(e) -> r, r; }",
         ],
-        verdict: Verdict::Accepted,
+        verdict: Verdict::NotYet,
     },
     // A stack of 15
     Case {
@@ -178,6 +179,6 @@ static CASES: [Case; 26] = [
 ];
 
 #[test]
-fn programs_of_sources(rt: HostRuntime) {
-    expect_verdicts(&rt, rt.alloc(), &CASES);
+fn programs_of_sources(rt: HostRuntime) -> Result<(), Fail> {
+    expect_verdicts(&rt, rt.alloc(), &CASES)
 }

@@ -1,6 +1,7 @@
 //! Tables that are no documents, have another shape, or are outside a limit.
 
 use super::{Case, SMALL, Verdict, expect_verdicts};
+use std::test::Fail;
 
 static CASES: [Case; 17] = [
     // The smallest table
@@ -443,6 +444,6 @@ release = true
 ];
 
 #[test]
-fn shapes_of_tables(rt: HostRuntime) {
-    expect_verdicts(&rt, rt.alloc(), &CASES);
+fn shapes_of_tables(rt: HostRuntime) -> Result<(), Fail> {
+    expect_verdicts(&rt, rt.alloc(), &CASES)
 }

@@ -1,0 +1,408 @@
+//! Random modules whose partitions have processes that preempt each other.
+
+use super::{Module, expect_traces};
+use std::test::Fail;
+
+static CASES: [Module; 2] = [
+    // 3 partitions in 6 windows, 6 processes, 3 timed waits end, 2 sums of processes overflow
+    Module {
+        table: "\
+frame = 60
+fault = \"IGNORE\"
+[[partition]]
+name = \"p0\"
+period = 60
+duration = 0
+hm = { DEADLINE_MISSED = \"IGNORE\", APPLICATION_ERROR = \"IGNORE\", NUMERIC_ERROR = \"IGNORE\", ILLEGAL_REQUEST = \"IGNORE\", STACK_OVERFLOW = \"IGNORE\", MEMORY_VIOLATION = \"IGNORE\", HARDWARE_FAULT = \"IGNORE\" }
+[[partition]]
+name = \"p1\"
+period = 60
+duration = 0
+hm = { DEADLINE_MISSED = \"IGNORE\", APPLICATION_ERROR = \"IGNORE\", NUMERIC_ERROR = \"IGNORE\", ILLEGAL_REQUEST = \"IGNORE\", STACK_OVERFLOW = \"IGNORE\", MEMORY_VIOLATION = \"IGNORE\", HARDWARE_FAULT = \"IGNORE\" }
+[[partition]]
+name = \"p2\"
+period = 60
+duration = 0
+hm = { DEADLINE_MISSED = \"IGNORE\", APPLICATION_ERROR = \"IGNORE\", NUMERIC_ERROR = \"IGNORE\", ILLEGAL_REQUEST = \"IGNORE\", STACK_OVERFLOW = \"IGNORE\", MEMORY_VIOLATION = \"IGNORE\", HARDWARE_FAULT = \"IGNORE\" }
+[[window]]
+partition = \"p0\"
+offset = 0
+length = 26
+release = true
+[[window]]
+partition = \"p1\"
+offset = 26
+length = 5
+release = true
+[[window]]
+partition = \"p2\"
+offset = 32
+length = 6
+release = true
+[[window]]
+partition = \"p1\"
+offset = 38
+length = 1
+release = true
+[[window]]
+partition = \"p2\"
+offset = 39
+length = 19
+release = true
+[[window]]
+partition = \"p0\"
+offset = 58
+length = 2
+release = false
+",
+        sources: &[
+            "\
+init stack 64 { local r; local i; local t;
+  SET_PARTITION_MODE(3) -> r;
+}
+",
+            "\
+init stack 64 { local r; local i; local t;
+  SET_PARTITION_MODE(3) -> r;
+}
+",
+            "\
+var g0;
+var g1;
+var g2;
+init stack 64 { local r; local i; local t;
+  CREATE_PROCESS(p0) -> r, i;
+  START(i) -> r;
+  CREATE_PROCESS(p1) -> r, i;
+  START(i) -> r;
+  CREATE_PROCESS(p2) -> r, i;
+  START(i) -> r;
+  CREATE_PROCESS(p3) -> r, i;
+  START(i) -> r;
+  CREATE_PROCESS(p4) -> r, i;
+  START(i) -> r;
+  CREATE_PROCESS(p5) -> r, i;
+  START(i) -> r;
+  SET_PARTITION_MODE(3) -> r;
+}
+process p0 priority 5 period -1 capacity -1 stack 4096 { local r; local i;
+  TIMED_WAIT(g1) -> g1;
+  g1 := g2;
+  GET_TIME() -> g0, r;
+}
+process p1 priority 1 period -1 capacity -1 stack 4096 { local r; local i; local t; local k;
+  START(g2) -> g0;
+  g0 := t;
+}
+process p2 priority 1 period -1 capacity -1 stack 4096 { local r; local i; local t; local k;
+  i := ((r + t) + 1);
+  GET_TIME() -> g0, t;
+  TIMED_WAIT(4) -> r;
+}
+process p3 priority 5 period -1 capacity -1 stack 4096 { local r; local i; local t; local k;
+  
+}
+process p4 priority 9 period -1 capacity -1 stack 4096 { local r; local i; local t;
+  t := 9 + (((g0 + 5) + 1) + 6);
+  r := g1;
+  g1 := (g2 + (9223372036854775807 + i));
+  GET_TIME() -> i, g1;
+}
+process p5 priority 239 period -1 capacity -1 stack 64 { local r; local i; local t; local k;
+  START(t) -> g0;
+  CREATE_PROCESS(p2) -> g2, i;
+  TIMED_WAIT(0) -> t;
+  work 8;
+}
+",
+        ],
+        ticks: "900",
+        trace: "\
+0000000000000 p0 MODE COLD_START
+0000000000000 p0 STATE INIT READY
+0000000000000 p1 MODE COLD_START
+0000000000000 p1 STATE INIT READY
+0000000000000 p2 MODE COLD_START
+0000000000000 p2 STATE INIT READY
+0000000000000 p0 STATE INIT RUNNING
+0000000000004 p0 RET INIT SET_PARTITION_MODE 0
+0000000000004 p0 STATE INIT DORMANT
+0000000000004 p0 MODE NORMAL
+0000000000026 p1 STATE INIT RUNNING
+0000000000030 p1 RET INIT SET_PARTITION_MODE 0
+0000000000030 p1 STATE INIT DORMANT
+0000000000030 p1 MODE NORMAL
+0000000000032 p2 STATE INIT RUNNING
+0000000000041 p2 RET INIT CREATE_PROCESS 0
+0000000000048 p2 RET INIT START 0
+0000000000048 p2 STATE p0 WAITING
+0000000000092 p2 RET INIT CREATE_PROCESS 0
+0000000000100 p2 RET INIT START 0
+0000000000100 p2 STATE p1 WAITING
+0000000000110 p2 RET INIT CREATE_PROCESS 0
+0000000000117 p2 RET INIT START 0
+0000000000117 p2 STATE p2 WAITING
+0000000000162 p2 RET INIT CREATE_PROCESS 0
+0000000000169 p2 RET INIT START 0
+0000000000169 p2 STATE p3 WAITING
+0000000000213 p2 RET INIT CREATE_PROCESS 0
+0000000000221 p2 RET INIT START 0
+0000000000221 p2 STATE p4 WAITING
+0000000000231 p2 RET INIT CREATE_PROCESS 0
+0000000000272 p2 RET INIT START 0
+0000000000272 p2 STATE p5 WAITING
+0000000000279 p2 RET INIT SET_PARTITION_MODE 0
+0000000000279 p2 STATE INIT DORMANT
+0000000000279 p2 MODE NORMAL
+0000000000279 p2 STATE p0 READY
+0000000000279 p2 STATE p1 READY
+0000000000279 p2 STATE p2 READY
+0000000000279 p2 STATE p3 READY
+0000000000279 p2 STATE p4 READY
+0000000000279 p2 STATE p5 READY
+0000000000280 p2 STATE p5 RUNNING
+0000000000284 p2 RET p5 START 3
+0000000000294 p2 RET p5 CREATE_PROCESS 5
+0000000000335 p2 RET p5 TIMED_WAIT 0
+0000000000349 p2 STATE p5 DORMANT
+0000000000350 p2 STATE p4 RUNNING
+0000000000401 p2 STATE p4 DORMANT
+0000000000401 p2 HM NUMERIC_ERROR p4 PARTITION IGNORE
+0000000000402 p2 STATE p0 RUNNING
+0000000000406 p2 RET p0 TIMED_WAIT 0
+0000000000407 p2 STATE p0 READY
+0000000000407 p2 STATE p3 RUNNING
+0000000000410 p2 STATE p3 DORMANT
+0000000000411 p2 STATE p0 RUNNING
+0000000000417 p2 RET p0 GET_TIME 0
+0000000000457 p2 STATE p0 DORMANT
+0000000000459 p2 STATE p1 RUNNING
+0000000000463 p2 RET p1 START 0
+0000000000463 p2 STATE p4 READY
+0000000000464 p2 STATE p1 READY
+0000000000464 p2 STATE p4 RUNNING
+0000000000514 p2 STATE p4 DORMANT
+0000000000514 p2 HM NUMERIC_ERROR p4 PARTITION IGNORE
+0000000000515 p2 STATE p1 RUNNING
+0000000000522 p2 STATE p1 DORMANT
+0000000000523 p2 STATE p2 RUNNING
+0000000000532 p2 RET p2 GET_TIME 0
+0000000000573 p2 STATE p2 WAITING
+0000000000577 p2 RET p2 TIMED_WAIT 0
+0000000000577 p2 STATE p2 READY
+0000000000577 p2 STATE p2 RUNNING
+0000000000582 p2 STATE p2 DORMANT
+",
+    },
+    // 2 partitions in 6 windows, 7 processes, 7 timed waits end
+    Module {
+        table: "\
+frame = 16
+fault = \"IGNORE\"
+[[partition]]
+name = \"p0\"
+period = 16
+duration = 1
+hm = { DEADLINE_MISSED = \"IGNORE\", APPLICATION_ERROR = \"IGNORE\", NUMERIC_ERROR = \"IGNORE\", ILLEGAL_REQUEST = \"IGNORE\", STACK_OVERFLOW = \"IGNORE\", MEMORY_VIOLATION = \"IGNORE\", HARDWARE_FAULT = \"IGNORE\" }
+[[partition]]
+name = \"p1\"
+period = 16
+duration = 0
+hm = { DEADLINE_MISSED = \"IGNORE\", APPLICATION_ERROR = \"IGNORE\", NUMERIC_ERROR = \"IGNORE\", ILLEGAL_REQUEST = \"IGNORE\", STACK_OVERFLOW = \"IGNORE\", MEMORY_VIOLATION = \"IGNORE\", HARDWARE_FAULT = \"IGNORE\" }
+[[window]]
+partition = \"p0\"
+offset = 0
+length = 3
+release = true
+[[window]]
+partition = \"p1\"
+offset = 3
+length = 3
+release = true
+[[window]]
+partition = \"p0\"
+offset = 6
+length = 6
+release = true
+[[window]]
+partition = \"p0\"
+offset = 12
+length = 2
+release = true
+[[window]]
+partition = \"p0\"
+offset = 14
+length = 1
+release = false
+[[window]]
+partition = \"p1\"
+offset = 15
+length = 1
+release = false
+",
+        sources: &[
+            "\
+init stack 64 { local r; local i; local t; local k;
+  CREATE_PROCESS(p0) -> r, i;
+  START(i) -> r;
+  CREATE_PROCESS(p1) -> r, i;
+  START(i) -> r;
+  CREATE_PROCESS(p2) -> r, i;
+  START(i) -> r;
+  START(i) -> r;
+  SET_PARTITION_MODE(3) -> r;
+}
+process p0 priority 1 period -1 capacity -1 stack 64 { local r; local i; local t;
+  START(3) -> r;
+}
+process p1 priority 9 period -1 capacity -1 stack 64 { local r; local i; local t;
+  TIMED_WAIT(10) -> i;
+  GET_TIME() -> r, i;
+  work 20;
+}
+process p2 priority 239 period -1 capacity -1 stack 32 { local r; local i;
+  r := i;
+  GET_TIME() -> r, r;
+  i := r;
+  TIMED_WAIT(25) -> r;
+}
+process p3 priority 1 period -1 capacity -1 stack 32 { local r; local i; local t;
+  GET_TIME() -> t, i;
+}
+",
+            "\
+array m1[20] = 63 7 35 40 13 49 84 10 85 84 16;
+var g0 = -4611686018427387904;
+array m0[16] = 75 64 67 48 -2 61 31 62 16 9;
+init stack 64 { local r; local i;
+  CREATE_PROCESS(p0) -> r, i;
+  START(i) -> r;
+  CREATE_PROCESS(p1) -> r, i;
+  START(i) -> r;
+  CREATE_PROCESS(p2) -> r, i;
+  START(i) -> r;
+  GET_TIME() -> r, i;
+  i := r;
+  TIMED_WAIT(3) -> i;
+  SET_PARTITION_MODE(3) -> r;
+}
+process p0 priority 9 period -1 capacity -1 stack 64 { local r; local i; local t;
+  m1[18] := i + ((i + 100) + ((t + r) + (t + t)));
+  GET_TIME() -> r, g0;
+  r := i;
+  TIMED_WAIT(0) -> i;
+  TIMED_WAIT(1) -> g0;
+  GET_TIME() -> t, i;
+  TIMED_WAIT(1) -> r;
+}
+process p1 priority 9 period -1 capacity -1 stack 4096 { local r; local i; local t;
+  GET_TIME() -> i, g0;
+  m1[4] := i;
+}
+process p2 priority 5 period -1 capacity -1 stack 32 { local r; local i; local t; local k;
+  REPORT_APPLICATION_MESSAGE(m0, 14) -> g0;
+  TIMED_WAIT(0) -> k;
+  m0[11] := ((r + (65536 + r)) + 3);
+  START(g0) -> k;
+  CREATE_PROCESS(p2) -> k, r;
+  GET_TIME() -> g0, r;
+  g0 := i;
+}
+",
+        ],
+        ticks: "900",
+        trace: "\
+0000000000000 p0 MODE COLD_START
+0000000000000 p0 STATE INIT READY
+0000000000000 p1 MODE COLD_START
+0000000000000 p1 STATE INIT READY
+0000000000000 p0 STATE INIT RUNNING
+0000000000003 p1 STATE INIT RUNNING
+0000000000011 p0 RET INIT CREATE_PROCESS 0
+0000000000022 p0 RET INIT START 0
+0000000000022 p0 STATE p0 WAITING
+0000000000033 p0 RET INIT CREATE_PROCESS 0
+0000000000035 p1 RET INIT CREATE_PROCESS 0
+0000000000043 p0 RET INIT START 0
+0000000000043 p0 STATE p1 WAITING
+0000000000057 p0 RET INIT CREATE_PROCESS 0
+0000000000063 p1 RET INIT START 0
+0000000000063 p1 STATE p0 WAITING
+0000000000065 p0 RET INIT START 0
+0000000000065 p0 STATE p2 WAITING
+0000000000074 p0 RET INIT START 1
+0000000000081 p0 RET INIT SET_PARTITION_MODE 0
+0000000000081 p0 STATE INIT DORMANT
+0000000000081 p0 MODE NORMAL
+0000000000081 p0 STATE p0 READY
+0000000000081 p0 STATE p1 READY
+0000000000081 p0 STATE p2 READY
+0000000000082 p0 STATE p2 RUNNING
+0000000000090 p0 RET p2 GET_TIME 0
+0000000000100 p1 RET INIT CREATE_PROCESS 0
+0000000000103 p0 STATE p2 WAITING
+0000000000104 p0 STATE p1 RUNNING
+0000000000108 p0 STATE p1 WAITING
+0000000000109 p0 STATE p0 RUNNING
+0000000000114 p0 RET p0 START 1
+0000000000118 p0 RET p1 TIMED_WAIT 0
+0000000000118 p0 STATE p1 READY
+0000000000118 p0 STATE p0 READY
+0000000000118 p0 STATE p1 RUNNING
+0000000000122 p0 RET p1 GET_TIME 0
+0000000000128 p0 RET p2 TIMED_WAIT 0
+0000000000128 p0 STATE p2 READY
+0000000000128 p0 STATE p1 READY
+0000000000128 p0 STATE p2 RUNNING
+0000000000131 p1 RET INIT START 0
+0000000000131 p1 STATE p1 WAITING
+0000000000135 p0 STATE p2 DORMANT
+0000000000136 p0 STATE p1 RUNNING
+0000000000162 p0 STATE p1 DORMANT
+0000000000165 p1 RET INIT CREATE_PROCESS 0
+0000000000166 p0 STATE p0 RUNNING
+0000000000170 p0 STATE p0 DORMANT
+0000000000196 p1 RET INIT START 0
+0000000000196 p1 STATE p2 WAITING
+0000000000213 p1 RET INIT GET_TIME 0
+0000000000255 p1 RET INIT TIMED_WAIT 5
+0000000000276 p1 RET INIT SET_PARTITION_MODE 0
+0000000000276 p1 STATE INIT DORMANT
+0000000000276 p1 MODE NORMAL
+0000000000276 p1 STATE p0 READY
+0000000000276 p1 STATE p1 READY
+0000000000276 p1 STATE p2 READY
+0000000000277 p1 STATE p0 RUNNING
+0000000000356 p1 RET p0 GET_TIME 0
+0000000000389 p1 RET p0 TIMED_WAIT 0
+0000000000399 p1 STATE p0 READY
+0000000000399 p1 STATE p1 RUNNING
+0000000000405 p1 RET p1 GET_TIME 0
+0000000000451 p1 STATE p1 DORMANT
+0000000000452 p1 STATE p0 RUNNING
+0000000000469 p1 STATE p0 WAITING
+0000000000479 p1 RET p0 TIMED_WAIT 0
+0000000000479 p1 STATE p0 READY
+0000000000479 p1 STATE p0 RUNNING
+0000000000495 p1 RET p0 GET_TIME 0
+0000000000517 p1 STATE p0 WAITING
+0000000000527 p1 RET p0 TIMED_WAIT 0
+0000000000527 p1 STATE p0 READY
+0000000000527 p1 STATE p0 RUNNING
+0000000000543 p1 STATE p0 DORMANT
+0000000000547 p1 STATE p2 RUNNING
+0000000000579 p1 RET p2 REPORT_APPLICATION_MESSAGE 0
+0000000000579 p1 REPORT p2 75 64 67 48 -2 61 31 62 16 9 0 0 0 0
+0000000000597 p1 RET p2 TIMED_WAIT 0
+0000000000661 p1 RET p2 START 3
+0000000000707 p1 RET p2 CREATE_PROCESS 5
+0000000000725 p1 RET p2 GET_TIME 0
+0000000000757 p1 STATE p2 DORMANT
+",
+    },
+];
+
+#[test]
+fn busy_partitions(rt: HostRuntime) -> Result<(), Fail> {
+    expect_traces(&rt, rt.alloc(), &CASES)
+}
