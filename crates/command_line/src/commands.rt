@@ -1,6 +1,12 @@
 //! What each command does.
 
-ghost use Rattle.std.specs.Prelude.{◌≡◌, IfOk};
+ghost use Rattle.std.specs.Prelude.{◌≡◌, ◌++◌, ◌∷◌, [], map, true, IfOk, OnOk, IfErr, IfSome};
+ghost use Rattle.std.specs.Io.KnownBytes.{Appends};
+ghost use Rattle.command_line.specs.Done.{IsDone, TellsSize, accepted_text};
+ghost use Rattle.command_line.specs.Refusals.{IsUsage, IsNoHelp};
+ghost use Rattle.command_line.specs.Words.{mb_app};
+ghost use Rattle.clap.specs.Takes.{takes};
+ghost use Rattle.clap.specs.Simple.{subcommand_of};
 
 use crate::files::Files;
 use crate::first_run::{SOURCE, TABLE, TICKS};
@@ -10,17 +16,23 @@ use apex_types::WriterSink;
 use clap::ArgMatches;
 use std::alloc::Global;
 use std::convert::AsStr;
+use std::fmt::Display;
 use std::io::{BufWriter, Write};
 
 /// Does what the words say.
-pub fn perform<'a, S: AsStr, F: Files, O: Write>(
+pub fn perform<S: AsStr, F: Files, O: Write>(
     alloc: Global,
-    words: &'a [S],
+    words: &[S],
     files: &mut F,
     out: &mut O,
-) -> Result<(), Failure<'a>> {
+) -> Result<(), Failure>
+    ensures untouched { IfErr result (λ failure. IsUsage failure → O.contents out.new ≡ O.contents out.old) }
+    ensures usage { takes mb_app (map S.text words.now) ≡ true → IfErr result IsNoHelp }
+    ensures done { OnOk result (IsDone (subcommand_of mb_app (map S.text words.now)) (O.contents out.old) (O.contents out.new)) }
+{
     let matches = grammar(alloc)?.try_get_matches_from(words)?;
     match matches.subcommand() {
+        Some(("check", found)) => Ok(check(alloc, found, files, out)?),
         Some(("build", found)) => Ok(build(alloc, found, files, out)?),
         Some(("run", found)) => run(alloc, found, files, out),
         _ => Ok(run_first(alloc, out)?),
@@ -28,7 +40,7 @@ pub fn perform<'a, S: AsStr, F: Files, O: Write>(
 }
 
 /// Runs the stored first module.
-fn run_first<'a, O: Write>(alloc: Global, out: &mut O) -> Result<(), Refusal<'a>> {
+fn run_first<O: Write>(alloc: Global, out: &mut O) -> Result<(), Refusal> {
     let mut sink = sink_of(alloc, out)?;
     let sources = [SOURCE.as_bytes()];
     let table = TABLE.as_bytes();
@@ -39,33 +51,66 @@ fn run_first<'a, O: Write>(alloc: Global, out: &mut O) -> Result<(), Refusal<'a>
     finish(sink.writer, outcome)
 }
 
-fn build<'a, F: Files, O: Write>(
+fn check<F: Files, O: Write>(
     alloc: Global,
-    found: &ArgMatches<'a>,
+    found: &ArgMatches<'_>,
     files: &mut F,
     out: &mut O,
-) -> Result<(), Refusal<'a>> {
+) -> Result<(), Refusal>
+    ensures { OnOk result (Appends (O.contents out.old) (O.contents out.new) accepted_text) }
+{
+    build_named(alloc, found, files)?;
+    say(out, "accepted")
+}
+
+fn build<F: Files, O: Write>(
+    alloc: Global,
+    found: &ArgMatches<'_>,
+    files: &mut F,
+    out: &mut O,
+) -> Result<(), Refusal>
+    ensures { OnOk result (TellsSize (O.contents out.old) (O.contents out.new)) }
+{
+    let image = build_named(alloc, found, files)?;
+    let name = word(found, "IMAGE");
+    files
+        .write(name, image.as_slice())
+        .map_err(|fault| Refusal::of_file(alloc, name, fault))?;
+    say(out, format_args!("built {} bytes", image.len()))
+}
+
+/// Writes a line, to its end.
+fn say<O: Write, D: Display + Drop>(out: &mut O, line: D) -> Result<(), Refusal>
+    ensures { OnOk result (IfSome (D.output line) (λ text. Appends (O.contents out.old) (O.contents out.new) (text ++ 10 ∷ []))) }
+{
+    writeln!(out, "{line}").map_err(|_| Refusal::Write)?;
+    out.flush().map_err(|_| Refusal::Write)
+}
+
+/// The image of the table and the sources that the words name.
+fn build_named<F: Files>(
+    alloc: Global,
+    found: &ArgMatches<'_>,
+    files: &mut F,
+) -> Result<Vec<u8>, Refusal> {
     let table = read(alloc, word(found, "TABLE"), files)?;
     let sources = read_all(alloc, found.get_strs("SOURCE").unwrap_or(&[]), files)?;
     let texts: Vec<&[u8]> = sources
         .iter()
         .map(|source| source.as_slice())
         .collect(alloc)?;
-    let image = module::build(alloc, table.as_slice(), texts.as_slice())?;
-    let name = word(found, "IMAGE");
-    files
-        .write(name, image.as_slice())
-        .map_err(|fault| Refusal::of_file(name, fault))?;
-    writeln!(out, "built {} bytes", image.len()).map_err(|_| Refusal::Write)?;
-    out.flush().map_err(|_| Refusal::Write)
+    Ok(module::build(alloc, table.as_slice(), texts.as_slice())?)
 }
 
-fn run<'a, F: Files, O: Write>(
+fn run<F: Files, O: Write>(
     alloc: Global,
-    found: &ArgMatches<'a>,
+    found: &ArgMatches<'_>,
     files: &mut F,
     out: &mut O,
-) -> Result<(), Failure<'a>> {
+) -> Result<(), Failure>
+    ensures untouched { IfErr result (λ failure. IsUsage failure → O.contents out.new ≡ O.contents out.old) }
+    ensures usage { IfErr result IsNoHelp }
+{
     let ticks_word = word(found, "TICKS");
     let Some(ticks) = ticks_of(ticks_word) else {
         return Err(Failure::Usage(bad_ticks(alloc, ticks_word)?));
@@ -91,17 +136,17 @@ fn word<'a>(found: &ArgMatches<'a>, name: &str) -> &'a str {
     found.get_str(name).unwrap_or("")
 }
 
-fn read<'a, F: Files>(alloc: Global, name: &'a str, files: &mut F) -> Result<Vec<u8>, Refusal<'a>> {
+fn read<F: Files>(alloc: Global, name: &str, files: &mut F) -> Result<Vec<u8>, Refusal> {
     files
         .read(alloc, name)
-        .map_err(|fault| Refusal::of_file(name, fault))
+        .map_err(|fault| Refusal::of_file(alloc, name, fault))
 }
 
-fn read_all<'a, F: Files>(
+fn read_all<F: Files>(
     alloc: Global,
-    names: &[&'a str],
+    names: &[&str],
     files: &mut F,
-) -> Result<Vec<Vec<u8>>, Refusal<'a>> {
+) -> Result<Vec<Vec<u8>>, Refusal> {
     let mut texts = Vec::new(alloc);
     for name in names {
         texts.push(read(alloc, name, files)?)?;
@@ -110,10 +155,10 @@ fn read_all<'a, F: Files>(
 }
 
 /// The trace goes out by blocks.
-fn sink_of<'a, 'o, O: Write>(
+fn sink_of<'o, O: Write>(
     alloc: Global,
     out: &'o mut O,
-) -> Result<WriterSink<BufWriter<&'o mut O>>, Refusal<'a>>
+) -> Result<WriterSink<BufWriter<&'o mut O>>, Refusal>
     ensures { IfOk result (λ sink. sink.failures ≡ 0) }
 {
     match BufWriter::new(alloc, out) {
@@ -123,10 +168,10 @@ fn sink_of<'a, 'o, O: Write>(
 }
 
 /// Writes what is left of a whole trace. After a failure nothing more is written.
-fn finish<'a, O: Write>(
+fn finish<O: Write>(
     mut writer: BufWriter<&mut O>,
-    outcome: Result<(), Refusal<'a>>,
-) -> Result<(), Refusal<'a>> {
+    outcome: Result<(), Refusal>,
+) -> Result<(), Refusal> {
     let outcome = match outcome {
         Ok(()) => writer.flush().map_err(|_| Refusal::Write),
         Err(refusal) => Err(refusal),

@@ -1,20 +1,40 @@
 //! The words that the program takes.
 
+ghost use Rattle.std.specs.Prelude.{◌≡◌, IfOk, false};
+ghost use Rattle.clap.specs.Values.{kind_of};
+ghost use Rattle.clap.specs.Walk.{rule_of};
+ghost use Rattle.clap.specs.declared.error.kind.ErrorKind.TheVariants.{ValueValidation};
+ghost use Rattle.command_line.specs.Words.{IsCommand, word_rule, sources_rule, check_app, build_app, run_app, mb_app};
+
 use clap::error::ErrorKind;
 use clap::{Arg, ArgAction, Command, Error};
 use std::alloc::{AllocError, Global};
 
 /// The commands and their arguments.
-pub fn grammar<'a>(alloc: Global) -> Result<Command<'a>, AllocError> {
+pub fn grammar<'a>(alloc: Global) -> Result<Command<'a>, AllocError>
+    ensures { IfOk result (λ command. IsCommand command mb_app) }
+{
     Command::new(alloc, "mb")
         .about(
             "Builds ARINC 653 modules and runs them; without a command, runs a stored first module",
         )
+        .subcommand(check(alloc)?)?
         .subcommand(build(alloc)?)?
         .subcommand(run(alloc)?)
 }
 
-fn build<'a>(alloc: Global) -> Result<Command<'a>, AllocError> {
+fn check<'a>(alloc: Global) -> Result<Command<'a>, AllocError>
+    ensures { IfOk result (λ command. IsCommand command check_app) }
+{
+    Command::new(alloc, "check")
+        .about("Builds a module table and one source a partition, and writes no image")
+        .arg(file(alloc, "TABLE"))?
+        .arg(sources(alloc))
+}
+
+fn build<'a>(alloc: Global) -> Result<Command<'a>, AllocError>
+    ensures { IfOk result (λ command. IsCommand command build_app) }
+{
     Command::new(alloc, "build")
         .about("Builds an image of a module table and one source a partition, in their order")
         .arg(file(alloc, "TABLE"))?
@@ -22,7 +42,9 @@ fn build<'a>(alloc: Global) -> Result<Command<'a>, AllocError> {
         .arg(sources(alloc))
 }
 
-fn run<'a>(alloc: Global) -> Result<Command<'a>, AllocError> {
+fn run<'a>(alloc: Global) -> Result<Command<'a>, AllocError>
+    ensures { IfOk result (λ command. IsCommand command run_app) }
+{
     Command::new(alloc, "run")
         .about("Runs an image for so many ticks and writes its trace")
         .arg(file(alloc, "IMAGE"))?
@@ -30,11 +52,17 @@ fn run<'a>(alloc: Global) -> Result<Command<'a>, AllocError> {
         .arg(file(alloc, "TICKS"))
 }
 
-fn file<'a>(alloc: Global, name: &'a str) -> Arg<'a> {
+fn file<'a>(alloc: Global, name: &'a str) -> Arg<'a>
+    ensures rule { rule_of result ≡ word_rule name.entry.now }
+    ensures local { result.global ≡ false }
+{
     Arg::new(alloc, name).required(true).action(ArgAction::Set)
 }
 
-fn sources<'a>(alloc: Global) -> Arg<'a> {
+fn sources<'a>(alloc: Global) -> Arg<'a>
+    ensures rule { rule_of result ≡ sources_rule }
+    ensures local { result.global ≡ false }
+{
     Arg::new(alloc, "SOURCE")
         .required(true)
         .num_args(1..)
@@ -51,7 +79,9 @@ pub fn ticks_of(word: &str) -> Option<u64> {
 }
 
 /// The usage error of a word that is no number of ticks.
-pub fn bad_ticks(alloc: Global, word: &str) -> Result<Error, AllocError> {
+pub fn bad_ticks(alloc: Global, word: &str) -> Result<Error, AllocError>
+    ensures { IfOk result (λ error. kind_of error ≡ ValueValidation) }
+{
     let message = format!(in alloc; "invalid value '{word}' for '<TICKS>'")?;
     grammar(alloc)?.error(ErrorKind::ValueValidation, message.as_str())
 }

@@ -1,7 +1,14 @@
 //! The command line of `mb`.
 #![tactic(auto)]
 
-ghost use Rattle.std.specs.Prelude.{◌≤◌};
+ghost use Rattle.std.specs.Prelude.{◌≡◌, ◌≤◌, ◌++◌, ◌∷◌, [], map, true, OnOk, IsOk};
+ghost use Rattle.std.specs.Io.KnownBytes.{Appends};
+ghost use Rattle.clap.specs.Simple.{subcommand_of};
+ghost use Rattle.clap.specs.Takes.{takes};
+ghost use Rattle.command_line.specs.Done.{IsDone};
+ghost use Rattle.command_line.specs.Lines.{line_of};
+ghost use Rattle.command_line.specs.Status.{IsStatusOf, IsStatusOfUsage};
+ghost use Rattle.command_line.specs.Words.{mb_app};
 
 mod commands;
 mod files;
@@ -24,48 +31,71 @@ use std::io::{self, Write};
 ///
 /// Faults are met in this order: the words, the files read in the order of the words, the build
 /// or the run, the file written, the line printed. An image is written only if it was built.
-pub fn command<'a, S: AsStr, F: Files, O: Write, E: Write>(
+pub fn command<S: AsStr, F: Files, O: Write, E: Write>(
     alloc: Global,
-    words: &'a [S],
+    words: &[S],
     files: &mut F,
     out: &mut O,
     err: &mut E,
 ) -> u8
-    ensures { result ≤ 2 }
+    ensures range { result ≤ 2 }
+    ensures quiet { result ≡ 0 → E.contents err.new ≡ E.contents err.old }
+    ensures mistake { result ≡ 2 → O.contents out.new ≡ O.contents out.old }
+    ensures done { takes mb_app (map S.text words.now) ≡ true → result ≡ 0
+        → IsDone (subcommand_of mb_app (map S.text words.now)) (O.contents out.old) (O.contents out.new) }
 {
-    match perform(alloc, words, files, out) {
+    let outcome = perform(alloc, words, files, out);
+    tell(outcome, out, err)
+}
+
+/// Tells what a command came to, and answers its status.
+fn tell<O: Write, E: Write>(outcome: Result<(), Failure>, out: &mut O, err: &mut E) -> u8
+    ensures range { result ≤ 2 }
+    ensures status { IsStatusOf outcome result }
+    ensures done { IsOk outcome → O.contents out.new ≡ O.contents out.old }
+    ensures quiet { result ≡ 0 → E.contents err.new ≡ E.contents err.old }
+    ensures mistake { result ≡ 2 → O.contents out.new ≡ O.contents out.old }
+{
+    match outcome {
         Ok(()) => 0,
-        Err(Failure::Refused(refusal)) => refused(refusal, err),
-        Err(Failure::Usage(error)) => usage(alloc, &error, out, err),
+        Err(Failure::Refused(refusal)) => {
+            // A refusal that cannot be shown is told by the status alone.
+            let _ = show_refusal(refusal, err);
+            1
+        }
+        Err(Failure::Usage(error)) => usage(&error, out, err),
     }
 }
 
-fn refused<E: Write>(refusal: Refusal, err: &mut E) -> u8
-    ensures { result ≤ 2 }
+fn usage<O: Write, E: Write>(error: &clap::Error, out: &mut O, err: &mut E) -> u8
+    ensures range { result ≤ 2 }
+    ensures status { IsStatusOfUsage error.now result }
+    ensures quiet { result ≡ 0 → E.contents err.new ≡ E.contents err.old }
+    ensures mistake { result ≡ 2 → O.contents out.new ≡ O.contents out.old }
 {
-    // A refusal that cannot be shown is told by the status alone.
-    let _ = writeln!(err, "{refusal}");
-    1
-}
-
-fn usage<O: Write, E: Write>(alloc: Global, error: &clap::Error, out: &mut O, err: &mut E) -> u8
-    ensures { result ≤ 2 }
-{
-    let Ok(text) = error.to_string(alloc) else {
-        return refused(Refusal::Memory, err);
-    };
     if error.use_stderr() {
-        // As in `refused`.
-        let _ = err.write_all(text.as_bytes());
+        // As in `tell`.
+        let _ = write!(err, "{error}");
         return 2;
     }
-    match show(text.as_str(), out) {
+    match show_help(error, out) {
         Ok(()) => 0,
-        Err(_) => refused(Refusal::Write, err),
+        Err(_) => {
+            // As in `tell`.
+            let _ = show_refusal(Refusal::Write, err);
+            1
+        }
     }
 }
 
-fn show<O: Write>(text: &str, out: &mut O) -> io::Result<()> {
-    out.write_all(text.as_bytes())?;
+/// The line of a refusal.
+fn show_refusal<E: Write>(refusal: Refusal, err: &mut E) -> io::Result<()>
+    ensures { OnOk result (Appends (E.contents err.old) (E.contents err.new) (line_of refusal ++ 10 ∷ [])) }
+{
+    writeln!(err, "{refusal}")
+}
+
+fn show_help<O: Write>(error: &clap::Error, out: &mut O) -> io::Result<()> {
+    write!(out, "{error}")?;
     out.flush()
 }

@@ -2,15 +2,21 @@ ghost use Rattle.std.specs.Prelude.{◌≡◌};
 
 use crate::command;
 use crate::files::{FileFault, Files};
+use crate::first_run::{SOURCE, TABLE};
+use crate::refusal::Refusal;
+use apex_types::Name;
+use module::{BuildFault, RunFault};
+use pal_base::fault::{PalFault, Refusal as SourceRefusal};
 use std::alloc::Global;
 use std::io::{self, Write};
 use std::process::Abort;
 use std::test::Fail;
+use window_table::TableFault;
 
 const USAGE: &str = "(usage)";
 
-/// Three files that are there, with their names as their bytes, and one that takes no writing.
-/// It counts what is written.
+/// Three files that are there, with their names as their bytes, the first module's two, and one
+/// that takes no writing. It counts what is written.
 #[derive(Drop)]
 struct Shelf {
     writes: u64,
@@ -18,13 +24,16 @@ struct Shelf {
 
 impl Files for Shelf {
     fn read(&mut self, alloc: Global, name: &str) -> Result<Vec<u8>, FileFault> {
-        match name {
-            "table" | "source" | "image" => match Vec::from_slice(alloc, name.as_bytes()) {
-                Ok(bytes) => Ok(bytes),
-                Err(_) => Err(FileFault::Memory),
-            },
-            "devices" => Ok(Vec::new(alloc)),
-            _ => Err(FileFault::Unavailable),
+        let text = match name {
+            "table" | "source" | "image" => name,
+            "first table" => TABLE,
+            "first source" => SOURCE,
+            "devices" => "",
+            _ => return Err(FileFault::Unavailable),
+        };
+        match Vec::from_slice(alloc, text.as_bytes()) {
+            Ok(bytes) => Ok(bytes),
+            Err(_) => Err(FileFault::Memory),
         }
     }
 
@@ -53,7 +62,15 @@ impl Write for FullWriter {
 
 /// The words after the program's name, the status, and the line on standard error (for a usage
 /// any text).
-static REFUSALS: [(&[&str], u8, &str); 14] = [
+static REFUSALS: [(&[&str], u8, &str); 18] = [
+    (&["mb", "check", "first table"], 2, USAGE),
+    (&["mb", "check"], 2, USAGE),
+    (&["mb", "check", "gone", "lost"], 1, "mb: file gone\n"),
+    (
+        &["mb", "check", "first table", "first source", "lost"],
+        1,
+        "mb: file lost\n",
+    ),
     (&["mb", "build", "table", "new"], 2, USAGE),
     (&["mb", "build", "table"], 2, USAGE),
     (&["mb", "run", "image", "devices"], 2, USAGE),
@@ -136,5 +153,79 @@ fn a_trace_that_is_not_taken(rt: HostRuntime) -> Result<(), Fail> {
     let status = command(rt.alloc(), &words, &mut files, &mut FullWriter, &mut err);
     assert_eq!(rt; status, 1);
     assert_eq!(rt; err.as_slice(), b"mb: write\n".as_slice());
+    Ok(())
+}
+
+#[test]
+fn what_is_checked_is_accepted(rt: HostRuntime) -> Result<(), Fail> {
+    let mut files = Shelf { writes: 0 };
+    let mut out = Vec::new(rt.alloc());
+    let mut err = Vec::new(rt.alloc());
+    let words = ["mb", "check", "first table", "first source"];
+    let status = command(rt.alloc(), &words, &mut files, &mut out, &mut err);
+    assert_eq!(rt; status, 0);
+    assert_eq!(rt; out.as_slice(), b"accepted\n".as_slice());
+    assert!(rt; err.is_empty());
+    assert_eq!(rt; files.writes, 0);
+    Ok(())
+}
+
+#[test]
+fn an_answer_that_is_not_taken(rt: HostRuntime) -> Result<(), Fail> {
+    let mut files = Shelf { writes: 0 };
+    let mut err = Vec::new(rt.alloc());
+    let words = ["mb", "check", "first table", "first source"];
+    let status = command(rt.alloc(), &words, &mut files, &mut FullWriter, &mut err);
+    assert_eq!(rt; status, 1);
+    assert_eq!(rt; err.as_slice(), b"mb: write\n".as_slice());
+    Ok(())
+}
+
+#[test]
+fn lines_of_refusals(rt: HostRuntime) -> Result<(), Fail> {
+    let partition = Name::new(b"engine_1".as_slice()).ok_or("engine_1 is a name")?;
+    let fault = PalFault {
+        refusal: SourceRefusal::Name,
+        line: 1_048_577,
+    };
+    let short = PalFault::MEMORY;
+    let lines = [
+        (
+            Refusal::Build(BuildFault::Table(TableFault::Document)),
+            "mb: table 1",
+        ),
+        (
+            Refusal::Build(BuildFault::Table(TableFault::Health)),
+            "mb: table 10",
+        ),
+        (
+            Refusal::Build(BuildFault::Table(TableFault::Memory)),
+            "mb: memory",
+        ),
+        (Refusal::Build(BuildFault::Sources), "mb: sources"),
+        (
+            Refusal::Build(BuildFault::Pal { partition, fault }),
+            "mb: pal engine_1 3 line 1048577",
+        ),
+        (
+            Refusal::Build(BuildFault::Pal {
+                partition,
+                fault: short,
+            }),
+            "mb: memory",
+        ),
+        (Refusal::Build(BuildFault::NotYet), "mb: not yet"),
+        (Refusal::Build(BuildFault::Memory), "mb: memory"),
+        (Refusal::Run(RunFault::Ticks), "mb: ticks"),
+        (Refusal::Run(RunFault::NotYet), "mb: not yet"),
+        (Refusal::Run(RunFault::Memory), "mb: memory"),
+        (Refusal::Run(RunFault::Write), "mb: write"),
+        (Refusal::Memory, "mb: memory"),
+        (Refusal::Write, "mb: write"),
+    ];
+    for (refusal, line) in &lines {
+        let shown = format!(in rt.alloc(); "{refusal}")?;
+        assert_eq!(rt; shown.as_str(), *line);
+    }
     Ok(())
 }

@@ -1,0 +1,5 @@
+pub mod Done
+pub mod Lines
+pub mod Refusals
+pub mod Status
+pub mod Words

@@ -1,0 +1,34 @@
+-- The commands and their arguments, as the library of command lines reads them.
+use Rattle.std.specs.Prelude.{◌≡◌, ℕ, List, Some, true, false, codes}
+use Rattle.clap.specs.Lexer.{usize_max}
+use Rattle.clap.specs.Simple.{App, app_of, Shape, new_app, new_rule, with_rule, with_subcommand}
+use Rattle.clap.specs.Walk.{Rule}
+use Rattle.clap.specs.declared.builder.action.ArgAction.TheVariants.{Set, Append}
+use Rattle.clap.specs.declared.builder.range.ValueRange.{ValueRange}
+use Rattle.clap.specs.declared.builder.command.Command.{Command}
+use Rattle.clap.specs.declared.builder.command.Command.TheViews.{out-Command}
+
+-- one word that has to be there
+abbrev pub word_rule : List ℕ → Rule
+word_rule name = record (new_rule name) { required = true; action = Some Set }
+
+-- one word or more
+abbrev pub sources_rule : Rule
+sources_rule = record (new_rule (codes "SOURCE")) { required = true; range = Some (record { start_inclusive = 1; end_inclusive = usize_max }); action = Some Append }
+
+abbrev pub check_app : App
+check_app = with_rule (with_rule (new_app (codes "check")) (word_rule (codes "TABLE"))) sources_rule
+
+abbrev pub build_app : App
+build_app = with_rule (with_rule (with_rule (new_app (codes "build")) (word_rule (codes "TABLE"))) (word_rule (codes "IMAGE"))) sources_rule
+
+abbrev pub run_app : App
+run_app = with_rule (with_rule (with_rule (new_app (codes "run")) (word_rule (codes "IMAGE"))) (word_rule (codes "DEVICES"))) (word_rule (codes "TICKS"))
+
+abbrev pub mb_app : App
+mb_app = with_subcommand (with_subcommand (with_subcommand (new_app (codes "mb")) check_app.top) build_app.top) run_app.top
+
+-- a command with these arguments and no other, none of them for its own commands
+pub record IsCommand (command : Command) (app : App) : Type 0 where
+  pub reads : app_of command ≡ app
+  pub local : (out-Command command).has_globals ≡ false
