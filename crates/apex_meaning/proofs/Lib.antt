@@ -28,6 +28,7 @@ pub mod WellFormedSection
 pub mod AcceptedTable
 pub mod AcceptedImage
 pub mod Spelled
+pub mod Choosing
 pub mod Computing
 pub mod Shaped
 pub mod Longer

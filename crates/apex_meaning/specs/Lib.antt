@@ -12,6 +12,7 @@ pub mod Partition
 pub mod Windows
 pub mod Instructions
 pub mod MachineControl
+pub mod Choice
 pub mod Cost
 pub mod SourceControl
 pub mod Module

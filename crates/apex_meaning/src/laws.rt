@@ -1,6 +1,7 @@
 //! Laws over the definitions: each is the contract of a function with an empty body.
 
 pub mod checking;
+pub mod choice;
 pub mod grammar;
 pub mod image;
 pub mod tables;
