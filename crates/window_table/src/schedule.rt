@@ -56,7 +56,6 @@ pub fn next_release(
     tick: Ticks,
     origin: Ticks,
 ) -> Ticks
-    requires frame { 0 < table.now.frame }
     requires past { origin.0 ≤ tick.0 }
     requires tick_limit { tick.0 ≤ 2 ^ 40 }
     ensures { result.0 ≡ next_release table.now.frame table.now.windows.items partition.0 origin.0 tick.0 }

@@ -1,5 +1,7 @@
 //! An accepted module table as a record of its rows.
 
+ghost use Rattle.std.specs.Prelude.{◌<◌};
+
 use apex_types::{ChannelEnd, HealthTable, ModuleAction, Name, PortRow, WindowRow};
 
 /// A partition: in each of its periods of the major frame its windows offer at least `duration`
@@ -30,4 +32,5 @@ pub struct ModuleTable {
     pub partitions: Vec<PartitionRow>,
     pub windows: Vec<WindowRow>,
     pub channels: Vec<ChannelRow>,
+    ghost frame_there: { 0 < frame },
 }
