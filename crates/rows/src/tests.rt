@@ -6,6 +6,7 @@ mod images;
 mod largest;
 mod many;
 mod memory;
+mod pages;
 mod processes;
 mod random;
 mod refusals;
