@@ -90,8 +90,8 @@ pub next_accepted : (rows : List PartitionRow) (texts : List (List ℕ)) (i : �
     → AreBefore rows texts i given → AreBefore rows texts (i + 1) next
 next_accepted rows texts i given next row source a rows_are texts_are pushed one before more rest =
     let here : AreSources (map partition_of (drop i rows)) (drop i texts) (a ∷ more) =
-      subst (λ (rs : List PartitionRow). AreSources (map partition_of rs) (drop i texts) (a ∷ more)) (sym rows_are)
-      (subst (λ (ts : List (List ℕ)). AreSources (map partition_of (row ∷ drop (i + 1) rows)) ts (a ∷ more)) (sym texts_are) (one, rest)) in
+    subst (λ (rs : List PartitionRow). AreSources (map partition_of rs) (drop i texts) (a ∷ more)) (sym rows_are)
+    (subst (λ (ts : List (List ℕ)). AreSources (map partition_of (row ∷ drop (i + 1) rows)) ts (a ∷ more)) (sym texts_are) (one, rest)) in
     let one_by_one : given ++ a ∷ more ≡ next ++ more = sym (append_assoc given (a ∷ []) more) ∙ ap (λ l. l ++ more) (sym pushed) in
     subst (AreSources (map partition_of rows) texts) one_by_one (before (a ∷ more) here)
 
