@@ -1,6 +1,8 @@
 //! The programs of the page on Pal, with their traces.
 
-use super::{ONE, TABLE, Texts, expect_done, expect_trace};
+use super::super::shelf::{expect_accepted, expect_trace};
+use super::super::texts::TABLE;
+use std::test::Fail;
 
 /// Each with its trace.
 static PROGRAMS: [(&str, &str); 2] = [
@@ -171,23 +173,18 @@ init stack 16 { x := x + 1; }
 ",
 ];
 
-static BUILD: [&str; 5] = ["mb", "build", "table", "image", "first"];
-
 #[test]
-fn programs_and_their_traces(rt: HostRuntime) {
+fn programs_and_their_traces(rt: HostRuntime) -> Result<(), Fail> {
     for (source, trace) in &PROGRAMS {
-        let shown = [*source];
-        let mut texts = Texts::new(TABLE, &shown);
-        expect_done(&rt, rt.alloc(), &mut texts, &ONE, "accepted\n");
-        expect_trace(&rt, rt.alloc(), &mut texts, &BUILD, "200", trace);
+        expect_accepted(&rt, rt.alloc(), TABLE.as_bytes(), &[source.as_bytes()])?;
+        expect_trace(&rt, rt.alloc(), TABLE, &[source], "200", trace)?;
     }
+    Ok(())
 }
 
 #[test]
-fn a_sum_outside_the_range(rt: HostRuntime) {
+fn a_sum_outside_the_range(rt: HostRuntime) -> Result<(), Fail> {
     let [source, trace] = ERROR;
-    let shown = [source];
-    let mut texts = Texts::new(TABLE, &shown);
-    expect_done(&rt, rt.alloc(), &mut texts, &ONE, "accepted\n");
-    expect_trace(&rt, rt.alloc(), &mut texts, &BUILD, "200", trace);
+    expect_accepted(&rt, rt.alloc(), TABLE.as_bytes(), &[source.as_bytes()])?;
+    expect_trace(&rt, rt.alloc(), TABLE, &[source], "200", trace)
 }

@@ -1,22 +1,17 @@
 //! The refused and the accepted sources of the page on Pal.
 
-use super::{ONE, TABLE, Texts, expect_done, expect_refused};
-use std::alloc::{AllocError, Global};
+use super::super::shelf::{expect_accepted, expect_refused};
+use super::super::texts::TABLE;
+use std::alloc::Global;
 use std::process::Abort;
 use std::test::Fail;
 
 /// Expects that each of these sources of one line is refused with this number.
-fn expect_number(
-    rt: &impl Abort,
-    alloc: Global,
-    number: u8,
-    sources: &[&str],
-) -> Result<(), AllocError> {
+fn expect_number(rt: &impl Abort, alloc: Global, number: u8, sources: &[&str]) -> Result<(), Fail> {
     let line = format!(in alloc; "mb: pal a {number} line 1\n")?;
+    let table = TABLE.as_bytes();
     for source in sources {
-        let shown = [*source];
-        let mut texts = Texts::new(TABLE, &shown);
-        expect_refused(rt, alloc, &mut texts, &ONE, line.as_str());
+        expect_refused(rt, alloc, table, &[source.as_bytes()], line.as_str())?;
     }
     Ok(())
 }
@@ -218,11 +213,10 @@ init stack 16 {
 
 #[test]
 fn lines_of_refusals(rt: HostRuntime) -> Result<(), Fail> {
+    let table = TABLE.as_bytes();
     for (source, refusal) in &LINES {
-        let shown = [*source];
-        let mut texts = Texts::new(TABLE, &shown);
         let line = format!(in rt.alloc(); "{refusal}\n")?;
-        expect_refused(&rt, rt.alloc(), &mut texts, &ONE, line.as_str());
+        expect_refused(&rt, rt.alloc(), table, &[source.as_bytes()], line.as_str())?;
     }
     Ok(())
 }
@@ -236,10 +230,9 @@ static ACCEPTED: [&str; 5] = [
 ];
 
 #[test]
-fn accepted_sources(rt: HostRuntime) {
+fn accepted_sources(rt: HostRuntime) -> Result<(), Fail> {
     for source in &ACCEPTED {
-        let shown = [*source];
-        let mut texts = Texts::new(TABLE, &shown);
-        expect_done(&rt, rt.alloc(), &mut texts, &ONE, "accepted\n");
+        expect_accepted(&rt, rt.alloc(), TABLE.as_bytes(), &[source.as_bytes()])?;
     }
+    Ok(())
 }

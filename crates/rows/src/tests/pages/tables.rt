@@ -1,6 +1,7 @@
 //! The tables of the page on the module table, and those that are refused.
 
-use super::{SMALLEST, TWO, Texts, expect_done, expect_refused, expect_trace};
+use super::super::shelf::{NOT_YET, expect_accepted, expect_refused, expect_trace};
+use super::super::texts::SMALLEST;
 use std::alloc::{AllocError, Global};
 use std::test::Fail;
 
@@ -71,12 +72,17 @@ static WINDOWS_TRACE: &str = "\
 ";
 
 #[test]
-fn two_partitions_in_three_windows(rt: HostRuntime) {
-    let shown = [SMALLEST, SMALLEST];
-    let mut texts = Texts::new(WINDOWS, &shown);
-    expect_done(&rt, rt.alloc(), &mut texts, &TWO, "accepted\n");
-    let build = ["mb", "build", "table", "image", "first", "second"];
-    expect_trace(&rt, rt.alloc(), &mut texts, &build, "20", WINDOWS_TRACE);
+fn two_partitions_in_three_windows(rt: HostRuntime) -> Result<(), Fail> {
+    let sources = [SMALLEST.as_bytes(), SMALLEST.as_bytes()];
+    expect_accepted(&rt, rt.alloc(), WINDOWS.as_bytes(), &sources)?;
+    expect_trace(
+        &rt,
+        rt.alloc(),
+        WINDOWS,
+        &[SMALLEST, SMALLEST],
+        "20",
+        WINDOWS_TRACE,
+    )
 }
 
 /// The same windows, with ports and channels.
@@ -256,14 +262,12 @@ fn changed(alloc: Global, old: &str, new: &str) -> Result<String, AllocError> {
 
 #[test]
 fn a_table_with_ports_and_its_changes(rt: HostRuntime) -> Result<(), Fail> {
-    let shown = [SMALLEST, SMALLEST];
-    let mut texts = Texts::new(PORTS, &shown);
-    expect_refused(&rt, rt.alloc(), &mut texts, &TWO, "mb: not yet\n");
+    let sources = [SMALLEST.as_bytes(), SMALLEST.as_bytes()];
+    expect_refused(&rt, rt.alloc(), PORTS.as_bytes(), &sources, NOT_YET)?;
     for (number, old, new) in &CHANGES {
         let table = changed(rt.alloc(), old, new)?;
         let line = format!(in rt.alloc(); "mb: table {number}\n")?;
-        let mut texts = Texts::new(table.as_str(), &shown);
-        expect_refused(&rt, rt.alloc(), &mut texts, &TWO, line.as_str());
+        expect_refused(&rt, rt.alloc(), table.as_bytes(), &sources, line.as_str())?;
     }
     Ok(())
 }
