@@ -13,10 +13,9 @@ use Rattle.apex_types.specs.declared.instruction.UnaryOperator.{UnaryOperator}
 use Rattle.apex_types.specs.declared.place.Place.{Place}
 use Rattle.apex_types.specs.declared.place.Place.TheVariants.{Data, Slot}
 use Rattle.apex_types.specs.declared.service.Service.{Service}
-use Rattle.apex_types.specs.declared.service.Service.TheVariants as service
 use Rattle.apex_types.specs.declared.row.RoutineRow.{RoutineRow}
 use Rattle.apex_meaning.specs.Program.{Program, Procedure, Body, Expr, Exprs, Stmt, Block, While}
-use Rattle.apex_meaning.specs.ServiceTable.{number_of, argument_words, answer_words, call_of, array_of, has_array_within, service_of, cost_of_service}
+use Rattle.apex_meaning.specs.ServiceTable.{number_of, argument_words, answer_words, call_of, array_of, has_array_within, cost_of_service}
 use Rattle.apex_meaning.specs.Operators.{apply_binary, apply_unary, is_zero, element_at}
 use Rattle.apex_meaning.specs.Cost.{size_of_block, size_of_stmt, operands_of_block, frame_of_procedure}
 use Rattle.apex_meaning.specs.Instructions.{cost_of, is_work, cost_of_work}
@@ -28,12 +27,9 @@ use Rattle.apex_meaning.specs.SourceControl.{SourceControl, OpenCall, Part, Eval
 use Rattle.apex_meaning.specs.MachineControl as machine
 use Rattle.apex_meaning.specs.MachineControl.{MachineControl, Effect, asks_only, refuses, word, top, below_top, with_operands, pushes, pushes_or, element_word, stored, stored_element, changes_data, changes_stack, put_words, enters_at, enters, code_limit, saved_within, pushed, popped, arguments, requests, executes, spends, fetched, machine_tick, machine_reply}
 use Rattle.apex_meaning.specs.Related.{Code, Fetches, HasAt, Limits, ExprAt, StmtAt, BlockAt, GoesBack, Goes, Laid, calls_of, onto, saved, below, HasCaller, InProgress, Waiting, Keeps}
+use Rattle.apex_types.proofs.Numbers.{service_of_number}
 use Rattle.apex_meaning.proofs.Front.{unfolded, moved, block_goes, front_goes}
 use Rattle.apex_meaning.proofs.Stack.{onto_length, onto_split, onto_parts, word_at_top, set_at_top, get_within, set_within, put_over, pushed_onto, popped_values, onto_reverse, base, base_length, below_length}
-
-service_number : (s : Service) → service_of (number_of s) ≡ Some s
-service_number service.GetPartitionStatus = refl
-service_number _ = refl
 
 work_allowed : (t : ℕ) → IsWork t → (nat_le 1 t && nat_le t 1000000) ≡ true
 work_allowed t h = ap (λ b. b && nat_le t 1000000) (le-leb 1 t h.0) ∙ le-leb t 1000000 h.1
@@ -440,7 +436,7 @@ module _ (code : Code) (program : Program) (rs : List RoutineRow) (c : SourceCon
       let b = has_array_within (length words) (array_of (call_of s ws)) in
       let new : Ticked MachineControl = record { control = record { pc = m.pc + 1; fp = m.fp; sp = m.sp - a; stack = m.stack; spent = 0; awaits = answer_words s }; words = words; asks = Calls (call_of s ws) } in
       by_machine code program _ _ (if b then new else refuses error.MemoryViolation m words)
-      (ap (λ o. requests o m words) (service_number s) ∙ there a vs (machine.calls s) e handed ∙ ap (λ l. asked s l) args ∙ ap (λ t. if b then (if t then refuses error.StackOverflow m words else new) else refuses error.MemoryViolation m words) (le-ltb (length m.stack) (m.sp - a + answer_words s) fits_stack))
+      (ap (λ o. requests o m words) (service_of_number s) ∙ there a vs (machine.calls s) e handed ∙ ap (λ l. asked s l) args ∙ ap (λ t. if b then (if t then refuses error.StackOverflow m words else new) else refuses error.MemoryViolation m words) (le-ltb (length m.stack) (m.sp - a + answer_words s) fits_stack))
       (asks_same s ws rest (drop a vs) (onto (take a vs) k.junk) (n - a + answer_words s) b count g.3 place split fits)
 
   -- a call: the test of both is of one number
@@ -684,7 +680,7 @@ module _ (code : Code) (program : Program) (rs : List RoutineRow) (c : SourceCon
   does placed (GoBack test block) rest n en g = by_instr (GoBack test block) rest (instr.Jump g.0.0) g.0.1 refl (does_go_back test block rest n c.values refl en g)
   does placed (Spend ticks) rest n en g = by_instr (Spend ticks) rest (instr.Work (pos ticks)) g.0 (ap (λ b. if b then ticks else 1) (work_allowed ticks g.1)) (does_spend ticks rest n c.values refl en g)
   does placed GiveBack rest n en g = by_instr GiveBack rest (instr.GiveBack k.limits.slots) g.0 refl (does_return rest n c.values refl en g)
-  does placed (Ask s) rest n en g = by_instr (Ask s) rest (instr.Request (number_of s)) g.0 (ap (λ o. Rattle.apex_meaning.specs.Instructions.cost_of_request o) (service_number s)) (does_ask s rest n c.values refl en g)
+  does placed (Ask s) rest n en g = by_instr (Ask s) rest (instr.Request (number_of s)) g.0 (ap (λ o. Rattle.apex_meaning.specs.Instructions.cost_of_request o) (service_of_number s)) (does_ask s rest n c.values refl en g)
   does placed EndBody rest n en g = by_instr EndBody rest instr.End g refl (stays_same Ends)
 
   ticks : Placed code program rs → Same code program (tick_at program (front_of c.parts) c words) (fetched rs (slice_get code m.pc) m words)

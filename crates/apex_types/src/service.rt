@@ -65,12 +65,13 @@ pub enum Service {
 }
 
 impl Service {
-    ghost use Rattle.apex_types.specs.ServiceNumbers.{service_number, service_of};
+    ghost use Rattle.apex_types.specs.ServiceNumbers.{number_of, service_of};
+    ghost use Rattle.apex_types.specs.ServiceShape.{argument_words, answer_words};
     ghost use Rattle.apex_types.specs.ServiceWords.{service_word};
 
     /// The number of this service, 1 to 57.
     pub fn number(self) -> u32
-        ensures { result ≡ service_number self }
+        ensures { result ≡ number_of self }
     {
         self as u32
     }
@@ -79,7 +80,7 @@ impl Service {
     #[tactic(auto, using(crate::proofs::Numbers::service_of_above))]
     pub fn from_number(number: u32) -> Option<Service>
         ensures service { result ≡ service_of number }
-        ensures number { IfSome result (λ s. service_number s ≡ number) }
+        ensures number { IfSome result (λ s. number_of s ≡ number) }
         ensures none { IsNone result ↔ (number ≡ 0) ⊎ (57 < number) }
     {
         match number {
@@ -208,6 +209,75 @@ impl Service {
             Service::CreateErrorHandler => "CREATE_ERROR_HANDLER",
             Service::GetErrorStatus => "GET_ERROR_STATUS",
             Service::RaiseApplicationError => "RAISE_APPLICATION_ERROR",
+        }
+    }
+
+    /// The words of this service's arguments: an array argument is two, its place and its size.
+    pub fn argument_words(self) -> u32
+        ensures { result ≡ argument_words self }
+    {
+        match self {
+            Service::GetPartitionStatus
+            | Service::StopSelf
+            | Service::LockPreemption
+            | Service::UnlockPreemption
+            | Service::GetMyId
+            | Service::PeriodicWait
+            | Service::GetTime
+            | Service::CreateErrorHandler => 0,
+            Service::SetPriority
+            | Service::DelayedStart
+            | Service::WaitSemaphore
+            | Service::WaitEvent
+            | Service::GetErrorStatus => 2,
+            Service::ReadSamplingMessage | Service::ReportApplicationMessage => 3,
+            Service::ReceiveBuffer
+            | Service::DisplayBlackboard
+            | Service::ReadBlackboard
+            | Service::WriteSamplingMessage
+            | Service::ReceiveQueuingMessage
+            | Service::RaiseApplicationError => 4,
+            Service::SendBuffer | Service::SendQueuingMessage => 5,
+            _ => 1,
+        }
+    }
+
+    /// The words of this service's answer: the code and the outputs; STOP_SELF has none.
+    pub fn answer_words(self) -> u8
+        ensures { result ≡ answer_words self }
+    {
+        match self {
+            Service::StopSelf => 0,
+            Service::GetProcessId
+            | Service::CreateProcess
+            | Service::LockPreemption
+            | Service::UnlockPreemption
+            | Service::GetMyId
+            | Service::GetTime
+            | Service::CreateBuffer
+            | Service::ReceiveBuffer
+            | Service::GetBufferId
+            | Service::CreateBlackboard
+            | Service::ReadBlackboard
+            | Service::GetBlackboardId
+            | Service::CreateSemaphore
+            | Service::GetSemaphoreId
+            | Service::CreateEvent
+            | Service::GetEventId
+            | Service::CreateSamplingPort
+            | Service::GetSamplingPortId
+            | Service::CreateQueuingPort
+            | Service::ReceiveQueuingMessage
+            | Service::GetQueuingPortId => 2,
+            Service::GetEventStatus | Service::ReadSamplingMessage => 3,
+            Service::GetProcessStatus
+            | Service::GetBlackboardStatus
+            | Service::GetSemaphoreStatus
+            | Service::GetErrorStatus => 4,
+            Service::GetBufferStatus | Service::GetSamplingPortStatus => 5,
+            Service::GetQueuingPortStatus => 6,
+            Service::GetPartitionStatus => 7,
+            _ => 1,
         }
     }
 }

@@ -107,13 +107,6 @@ fn emit_test(code: &mut Vec<Instr>, test: &Expr) -> Result<u32, AllocError>
     Ok(code.len() as u32)
 }
 
-/// The number of a service.
-fn number_of(service: Service) -> u32
-    ensures { result ≡ number_of service }
-{
-    service as u32
-}
-
 /// A request of a service: its arguments, the request, and what takes its answer.
 fn emit_request(
     code: &mut Vec<Instr>,
@@ -124,7 +117,7 @@ fn emit_request(
     ensures { OnOk result (code.new.items ≡ code.old.items ++ (code_of.exprs_code (exprs_of arguments.now) ++ (Instr.Request (number_of service) ∷ map code_of.store targets.now))) }
 {
     emit_exprs(code, arguments)?;
-    put(code, Instr::Request(number_of(service)))?;
+    put(code, Instr::Request(service.number()))?;
     emit_targets(code, targets)
 }
 

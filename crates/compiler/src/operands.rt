@@ -6,7 +6,6 @@ ghost use Rattle.apex_meaning.specs.Cost as cost;
 ghost use Rattle.pal_base.specs.ProgramView.{expr_of, exprs_of, links_of, stmt_of, block_of};
 
 use pal_base::program::{Expr, Link, Stmt};
-use processor::answer_words;
 
 /// The operands of an expression.
 #[cycle(operands_of_expr)]
@@ -65,7 +64,7 @@ fn operands_of_stmt(stmt: &Stmt) -> u32
             .max(operands_of_block(other)),
         Stmt::Work(_) => 0,
         Stmt::Request(service, arguments, _) => {
-            u32::from(answer_words(*service)).max(operands_of_exprs(arguments))
+            u32::from(service.answer_words()).max(operands_of_exprs(arguments))
         }
     }
 }

@@ -1,8 +1,7 @@
-//! The arguments and the targets of the services.
+//! The arguments of the services.
 
 ghost use Rattle.std.specs.Prelude.{◌≡◌};
 ghost use Rattle.apex_meaning.specs.Resolve as resolve;
-ghost use Rattle.apex_meaning.specs.ServiceTable as table;
 
 use apex_types::{ArgumentKind, ObjectKind, Service};
 
@@ -55,44 +54,5 @@ pub fn arguments_of(service: Service) -> &'static [ArgumentKind]
         | Service::GetTime
         | Service::CreateErrorHandler => &[],
         _ => &[WORD],
-    }
-}
-
-/// How many words a service answers: its code, then its outputs; STOP_SELF has none.
-pub fn answer_words(service: Service) -> usize
-    ensures { result ≡ table.answer_words service }
-{
-    match service {
-        Service::StopSelf => 0,
-        Service::GetPartitionStatus => 7,
-        Service::GetQueuingPortStatus => 6,
-        Service::GetBufferStatus | Service::GetSamplingPortStatus => 5,
-        Service::GetProcessStatus
-        | Service::GetBlackboardStatus
-        | Service::GetSemaphoreStatus
-        | Service::GetErrorStatus => 4,
-        Service::GetEventStatus | Service::ReadSamplingMessage => 3,
-        Service::GetProcessId
-        | Service::CreateProcess
-        | Service::LockPreemption
-        | Service::UnlockPreemption
-        | Service::GetMyId
-        | Service::GetTime
-        | Service::CreateBuffer
-        | Service::ReceiveBuffer
-        | Service::GetBufferId
-        | Service::CreateBlackboard
-        | Service::ReadBlackboard
-        | Service::GetBlackboardId
-        | Service::CreateSemaphore
-        | Service::GetSemaphoreId
-        | Service::CreateEvent
-        | Service::GetEventId
-        | Service::CreateSamplingPort
-        | Service::GetSamplingPortId
-        | Service::CreateQueuingPort
-        | Service::ReceiveQueuingMessage
-        | Service::GetQueuingPortId => 2,
-        _ => 1,
     }
 }

@@ -3,14 +3,13 @@
 
 ghost use Rattle.std.specs.Prelude.{◌≡◌, ◌&&◌, [], List, ℕ, length, nat_eq, map, is_none, false, option_map, IfOk};
 ghost use Rattle.std.specs.List.{list_all};
-ghost use Rattle.apex_meaning.specs.ServiceTable.{answer_words as words_answered};
 ghost use Rattle.apex_meaning.specs.WellFormed.{is_scalar, fits_argument, fits_arguments, fits_expr, fits_links, fits_exprs, fits_stmt, fits_block, kinds_hold_in_body, holds_of_bodies, holds_of_handler, holds_of_procedure};
 ghost use Rattle.pal_base.specs.View as view;
 ghost use Rattle.pal_base.specs.View.{texts, name_of, expr_of, exprs_of, links_of, stmt_of, block_of, body_of, program_of};
 ghost use Rattle.pal.specs.Tables.{entries_of};
 ghost use Rattle.pal.specs.Scopes.{names_of, sees};
 
-use crate::arguments::{answer_words, arguments_of};
+use crate::arguments::arguments_of;
 use crate::lines::{earlier, unless};
 use crate::scope::{Scope, enter_body};
 use crate::table::NameTable;
@@ -167,7 +166,7 @@ fn statement_fault(scope: &Scope, returns: bool, line: u32, statement: &StmtKind
         StmtKind::Request(service, arguments, targets) => earlier(
             arguments_fault(scope, line, arguments_of(*service), arguments),
             earlier(
-                unless(targets.len() == answer_words(*service), line),
+                unless(targets.len() == usize::from(service.answer_words()), line),
                 targets_fault(scope, targets),
             ),
         ),

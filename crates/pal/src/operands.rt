@@ -5,7 +5,6 @@ ghost use Rattle.std.specs.Prelude.{◌≡◌, ◌+◌, min, max};
 ghost use Rattle.apex_meaning.specs.Cost as cost;
 ghost use Rattle.pal_base.specs.ProgramView.{expr_of, exprs_of, links_of, stmt_of, block_of};
 
-use crate::arguments::answer_words;
 use pal_base::program::{Expr, Link, Stmt};
 
 /// The operands of an expression.
@@ -65,7 +64,7 @@ fn operands_of_stmt(stmt: &Stmt) -> u64
             .max(operands_of_block(other)),
         Stmt::Work(_) => 0,
         Stmt::Request(service, arguments, _) => {
-            (answer_words(*service) as u64).max(operands_of_exprs(arguments))
+            u64::from(service.answer_words()).max(operands_of_exprs(arguments))
         }
     }
 }

@@ -8,7 +8,7 @@ use crate::code::Code;
 use crate::context::Context;
 use crate::data::Data;
 use crate::outcome::Outcome;
-use crate::service_table::{answer_words, argument_words, array_of, call_of, service_of};
+use crate::service_table::{array_of, call_of};
 use apex_types::{Call, ErrorKind, RoutineRow, Service};
 
 /// Sets the words of the stack from one place up to another to 0.
@@ -122,7 +122,7 @@ impl Context {
         requires { self.now.fp + argument_words service ≤ self.now.sp }
         ensures { result ≡ call_of service (arguments service (control_of self.now)) }
     {
-        let first = self.sp - argument_words(service);
+        let first = self.sp - service.argument_words();
         call_of(service, &self.stack[first as usize..self.sp as usize])
     }
 
@@ -137,8 +137,8 @@ impl Context {
         if !memory.holds(array_of(call)) {
             return Outcome::Fault(ErrorKind::MemoryViolation);
         }
-        let sp = self.sp - argument_words(service);
-        let awaits = answer_words(service);
+        let sp = self.sp - service.argument_words();
+        let awaits = service.answer_words();
         if self.stack.len() < sp as usize + usize::from(awaits) {
             return Outcome::Fault(ErrorKind::StackOverflow);
         }
@@ -155,9 +155,9 @@ impl Context {
         ensures control { control_of self.new ≡ (executes [] (Instr.Request x) (control_of self.old) memory.now.words.items).control }
         ensures outcome { result ≡ outcome_of (executes [] (Instr.Request x) (control_of self.old) memory.now.words.items).asks }
     {
-        match service_of(x) {
+        match Service::from_number(x) {
             Some(service) => {
-                if self.operands() < argument_words(service) {
+                if self.operands() < service.argument_words() {
                     return Outcome::Fault(ErrorKind::IllegalRequest);
                 }
                 self.call_service(memory, service)

@@ -11,8 +11,8 @@ use crate::code::Code;
 use crate::context::Context;
 use crate::data::Data;
 use crate::outcome::Outcome;
-use crate::service_table::{cost_of_service, service_of};
-use apex_types::{BinaryOperator, ErrorKind, Instr, UnaryOperator};
+use crate::service_table::cost_of_service;
+use apex_types::{BinaryOperator, ErrorKind, Instr, Service, UnaryOperator};
 
 /// Whether WORK takes so many ticks.
 fn is_work(v: i64) -> bool
@@ -33,7 +33,7 @@ fn cost_of_work(v: i64) -> u32
 fn cost_of_request(x: u32) -> u32
     ensures { result ≡ cost_of_request (service_of x) }
 {
-    match service_of(x) {
+    match Service::from_number(x) {
         Some(service) => cost_of_service(service),
         None => 1,
     }

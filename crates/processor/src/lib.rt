@@ -21,4 +21,4 @@ pub use context::Context;
 pub use data::Data;
 pub use execute::step;
 pub use outcome::Outcome;
-pub use service_table::{answer_words, services_are_numbered};
+pub use service_table::services_are_numbered;

@@ -223,4 +223,6 @@ fn names_and_service_numbers(rt: HostRuntime) {
     );
     assert_eq!(rt; Service::from_number(58), None);
     assert_eq!(rt; Service::TimedWait.word(), "TIMED_WAIT");
+    assert_eq!(rt; Service::SendBuffer.argument_words(), 5);
+    assert_eq!(rt; Service::GetPartitionStatus.answer_words(), 7);
 }
