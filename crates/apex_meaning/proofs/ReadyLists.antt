@@ -4,7 +4,7 @@ use Rattle.std.specs.Prelude.{nat_eq, nat_lt, if◌then◌else◌}
 use Rattle.std.proofs.lemmas.Bool.Decides.{nat_tests}
 use Rattle.std.proofs.lemmas.Bool.{cases_lt, cases_eq}
 use Rattle.apex_types.specs.declared.process.Entry.{Entry}
-use Rattle.apex_meaning.specs.Kernel.{is_entry_of, without, behind_equals}
+use Rattle.apex_meaning.specs.Processes.{is_entry_of, without, behind_equals}
 use Rattle.apex_meaning.specs.Ready.{times_listed, AreBelow, IsListed}
 
 abbrev all_times : ℕ → List Entry → ℕ

@@ -5,7 +5,8 @@ use Rattle.std.proofs.Math.Seq.{set-append_seam, get_or-append_seam}
 use Rattle.std.proofs.lemmas.List.{length-set, length-drop}
 use Rattle.apex_meaning.specs.SourceControl.{OpenCall, taken}
 use Rattle.apex_meaning.specs.Related.{Laid, calls_of, onto, saved, below}
-use Rattle.apex_meaning.specs.MachineControl.{word, put_words, pushed, popped}
+use Rattle.apex_meaning.specs.Words.{put_words}
+use Rattle.apex_meaning.specs.MachineControl.{word, pushed, popped}
 
 pub onto_length : (ws r : List ℤ) → length (onto ws r) ≡ length ws + length r
 onto_length [] r = omega arith

@@ -12,7 +12,8 @@ use Rattle.apex_meaning.specs.Engine.{Asks, Nothing, Ends, Ticked}
 use Rattle.apex_meaning.specs.Instructions.{cost_of, is_work}
 use Rattle.apex_meaning.specs.Operators.{apply_binary, apply_unary, is_zero, element_at}
 use Rattle.apex_meaning.specs.ServiceTable.{service_of, argument_words, answer_words, call_of, array_of, has_array_within}
-use Rattle.apex_meaning.specs.MachineControl.{MachineControl, Effect, asks_only, refuses, counts, goes_on, top, below_top, with_operands, pushes, pushes_or, word_at, element_word, stored, stored_at, stored_element, changes_data, changes_stack, put_words, enters_at, enters, code_limit, saved_within, gives_back, arguments, calls, requests, loads_region, stores_region, with_region, executes, spends, fetched, machine_tick, pushed, machine_reply}
+use Rattle.apex_meaning.specs.Words.{put_words}
+use Rattle.apex_meaning.specs.MachineControl.{MachineControl, Effect, asks_only, refuses, counts, goes_on, top, below_top, with_operands, pushes, pushes_or, word_at, element_word, stored, stored_at, stored_element, changes_data, changes_stack, enters_at, enters, code_limit, saved_within, gives_back, arguments, calls, requests, loads_region, stores_region, with_region, executes, spends, fetched, machine_tick, pushed, machine_reply}
 
 -- the lengths of the stack and of the data after a tick
 pub record KeepsLengths (m : MachineControl) (data_words : List ℤ) (t : Ticked MachineControl) : Type 0 where

@@ -10,6 +10,8 @@ use Rattle.apex_types.specs.declared.instruction.Instr.TheVariants as instr
 use Rattle.apex_types.specs.declared.row.RoutineRow.{RoutineRow}
 use Rattle.apex_types.specs.declared.row.BodyRow.{BodyRow}
 use Rattle.apex_types.specs.declared.row.ProcessRow.{ProcessRow}
+use Rattle.apex_types.specs.declared.identity.Runner.{Runner}
+use Rattle.apex_types.specs.declared.identity.Runner.TheVariants as runner
 use Rattle.apex_meaning.specs.Program.{Program, Procedure, Body, Process, Block}
 use Rattle.apex_meaning.specs.Cost.{size_of, size_of_block, size_of_body, size_of_handler, size_of_process, size_of_procedure, operands_of_block, frame_of_procedure, frame_of_body}
 use Rattle.apex_meaning.specs.Fits.{Fits, FitsBody, FitsHandler, FitsProcedure}
@@ -125,16 +127,12 @@ parts code p has =
       procedures = subst (λ a. HasAt code a rs) at_rs (has_back code 0 (procedures_place p) ((init ++ h) ++ ps) rs three has);
     }
 
-starts_by : (code : Code) (program : Program) → Fits program → Parts code program → (p : ℕ) → Keeps code program.procedures (source_start (source_body program p)) (machine_start (body_row_at (section_of program) p))
-starts_by code program fits has zero = body_starts code program.procedures program.init 0 fits.init has.init
-starts_by code program fits has (suc n) = either (nat_eq n 31)
-  where
-    first : Keeps code program.procedures (source_start program.init) (machine_start (body_row 0 program.init))
-    first = body_starts code program.procedures program.init 0 fits.init has.init
-
-    either : (b : Bool) → Keeps code program.procedures (source_start (if b then or_init program.init program.handler else get_or (map body_of_process program.processes) n program.init)) (machine_start (if b then or_init (body_row 0 program.init) (option_map (body_row (handler_place program)) program.handler) else get_or (map row_of_process (process_rows (processes_place program) program.processes)) n (body_row 0 program.init)))
-    either true = handler_starts code program.procedures program.init (body_row 0 program.init) program.handler (handler_place program) fits.handler has.handler first
-    either false = process_starts code program.procedures program.init (body_row 0 program.init) program.processes (processes_place program) n fits.processes has.processes first
+starts_by : (code : Code) (program : Program) → Fits program → Parts code program → (p : Runner) → Keeps code program.procedures (source_start (source_body program p)) (machine_start (body_row_at (section_of program) p))
+starts_by code program fits has runner.Init = body_starts code program.procedures program.init 0 fits.init has.init
+starts_by code program fits has runner.Handler =
+    handler_starts code program.procedures program.init (body_row 0 program.init) program.handler (handler_place program) fits.handler has.handler (body_starts code program.procedures program.init 0 fits.init has.init)
+starts_by code program fits has (runner.Process p) =
+    process_starts code program.procedures program.init (body_row 0 program.init) program.processes (processes_place program) p.0 fits.processes has.processes (body_starts code program.procedures program.init 0 fits.init has.init)
 
 append_nothing : (xs : Code) → xs ++ [] ≡ xs
 append_nothing [] = refl

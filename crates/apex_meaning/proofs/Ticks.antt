@@ -25,7 +25,8 @@ use Rattle.apex_meaning.specs.CompiledCode.{load, store, slots_of}
 use Rattle.apex_meaning.specs.SourceControl as source
 use Rattle.apex_meaning.specs.SourceControl.{SourceControl, OpenCall, Part, Evaluate, Execute, Do, Simple, Value, ReadScalar, ReadElement, OperateOne, OperateTwo, Open, WriteScalar, WriteElement, Choose, ChooseElse, Repeat, Leave, GoBack, Spend, GiveBack, Ask, EndBody, Front, front, front_of, cost_of_simple, taken, moves, stays, value_or, writes, writes_slot, write_at, effect, tick_at, tick_awaiting, source_tick, source_reply, opens, parts_of_procedure, block_then, asks_service}
 use Rattle.apex_meaning.specs.MachineControl as machine
-use Rattle.apex_meaning.specs.MachineControl.{MachineControl, Effect, asks_only, refuses, word, top, below_top, with_operands, pushes, pushes_or, element_word, stored, stored_element, changes_data, changes_stack, put_words, enters_at, enters, code_limit, saved_within, pushed, popped, arguments, requests, executes, spends, fetched, machine_tick, machine_reply}
+use Rattle.apex_meaning.specs.Words.{put_words}
+use Rattle.apex_meaning.specs.MachineControl.{MachineControl, Effect, asks_only, refuses, word, top, below_top, with_operands, pushes, pushes_or, element_word, stored, stored_element, changes_data, changes_stack, enters_at, enters, code_limit, saved_within, pushed, popped, arguments, requests, executes, spends, fetched, machine_tick, machine_reply}
 use Rattle.apex_meaning.specs.Related.{Code, Fetches, HasAt, Limits, ExprAt, StmtAt, BlockAt, GoesBack, Goes, Laid, calls_of, onto, saved, below, HasCaller, InProgress, Waiting, Keeps}
 use Rattle.apex_types.proofs.Numbers.{service_of_number}
 use Rattle.apex_meaning.proofs.Front.{unfolded, moved, block_goes, front_goes}

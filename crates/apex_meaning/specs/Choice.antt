@@ -2,12 +2,16 @@
 -- and greater number; of those that are ready the one of the highest priority is chosen, among equals
 -- the one with the least number. The state of a partition stores no number: its list of the ready ones
 -- has their order.
-use Rattle.std.specs.Prelude.{◌≡◌, ◌⊎◌, ◌<◌, ℕ, ◌==◌, List, [], ◌∷◌, if◌then◌else◌}
+use Rattle.std.specs.Prelude.{◌≡◌, ◌⊎◌, ◌<◌, ℕ, ◌==◌, Bool, true, false, List, [], ◌∷◌, if◌then◌else◌}
 use Rattle.apex_types.specs.declared.codes.Mode.{Mode}
 use Rattle.apex_types.specs.declared.codes.Mode.TheVariants as mode
-use Rattle.apex_types.specs.declared.identity.ProcessId.{ProcessId}
+use Rattle.apex_types.specs.declared.identity.Runner.{Runner}
+use Rattle.apex_types.specs.declared.identity.Runner.TheVariants as runner
 use Rattle.apex_types.specs.declared.process.Entry.{Entry}
-use Rattle.apex_meaning.specs.Kernel.{id_of}
+use Rattle.apex_types.specs.declared.process.Lock.{Lock}
+use Rattle.apex_types.specs.declared.process.Lock.TheVariants as lock
+use Rattle.apex_meaning.specs.Processes.{Processes, row_of}
+use Rattle.apex_meaning.specs.Partition.{is_ready}
 
 -- one of those that are ready
 abbrev pub IsAmong : Entry → List Entry → Type 0
@@ -18,12 +22,25 @@ IsAmong e (x ∷ xs) = (e ≡ x) ⊎ IsAmong e xs
 abbrev pub IsBefore : (ℕ → ℕ) → Entry → Entry → Type 0
 IsBefore number e f = (f.priority.0 < e.priority.0) ⊎ ((e.priority.0 ≡ f.priority.0) × (number e.process.0 < number f.process.0))
 
--- Who may run: INIT before the normal start; in normal mode one that is ready and that no other ready
--- one is before; in idle mode none.
-abbrev pub Picks : (ℕ → ℕ) → Mode → List Entry → ProcessId → Type 0
-Picks number mode.Idle ready p = ⊥
-Picks number mode.Normal ready p = (e : Entry) × IsAmong e ready × (e.process ≡ p) × ((f : Entry) → IsAmong f ready → IsBefore number f e → ⊥)
-Picks number _ ready p = p ≡ id_of 0
+-- one that is ready and that no other ready one is before
+abbrev pub IsFirst : (ℕ → ℕ) → List Entry → Runner → Type 0
+IsFirst number ready p = (e : Entry) × IsAmong e ready × (runner.Process e.process ≡ p) × ((f : Entry) → IsAmong f ready → IsBefore number f e → ⊥)
+
+-- in normal mode without a ready handler: the one that holds the lock, else one that is first
+abbrev pub PicksUnlessHeld : (ℕ → ℕ) → Lock → List Entry → Runner → Type 0
+PicksUnlessHeld number lock.Free ready p = IsFirst number ready p
+PicksUnlessHeld number (lock.Held level holder) ready p = p ≡ runner.Process holder
+
+abbrev pub PicksInNormal : (ℕ → ℕ) → Bool → Lock → List Entry → Runner → Type 0
+PicksInNormal number true held ready p = p ≡ runner.Handler
+PicksInNormal number false held ready p = PicksUnlessHeld number held ready p
+
+-- Who may run: INIT before the normal start; in normal mode the handler if it is ready, then the
+-- one that holds the lock, then the first of those that are ready; in idle mode none.
+abbrev pub Picks : (ℕ → ℕ) → Mode → Processes → Runner → Type 0
+Picks number mode.Idle s p = ⊥
+Picks number mode.Normal s p = PicksInNormal number (is_ready (row_of s runner.Handler)) s.lock s.ready p
+Picks number _ s p = p ≡ runner.Init
 
 -- ---- a list that has the order of its numbers
 

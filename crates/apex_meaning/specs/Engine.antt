@@ -2,6 +2,7 @@
 -- an answer does. The kernel is the same over every engine.
 use Rattle.std.specs.Prelude.{◌≡◌, ℕ, ℤ, List}
 use Rattle.apex_types.specs.declared.codes.ErrorKind.{ErrorKind}
+use Rattle.apex_types.specs.declared.identity.Runner.{Runner}
 use Rattle.apex_types.specs.declared.service.Call.{Call}
 
 -- what a tick of a process asks of the kernel
@@ -20,7 +21,7 @@ pub record Ticked (Control : Type 0) : Type 0 where
 -- The start of a body, one tick of a control over the partition's data, and an answer of so many
 -- words, the code first.
 pub record Engine (Control : Type 0) : Type 0 where
-  pub start : ℕ → Control
+  pub start : Runner → Control
   pub tick : Control → List ℤ → Ticked Control
   pub reply : Control → List ℤ → Control
 
@@ -33,6 +34,6 @@ pub record SameTick {C D : Type 0} (R : C → D → Type 0) (a : Ticked C) (b : 
 -- Two engines whose controls stay related: at the start of each body, by each tick over the same
 -- data, and by each answer.
 pub record Simulates {C D : Type 0} (R : C → D → Type 0) (c : Engine C) (d : Engine D) : Type 0 where
-  pub start : (p : ℕ) → R (c.start p) (d.start p)
+  pub start : (p : Runner) → R (c.start p) (d.start p)
   pub tick : (x : C) (y : D) (words : List ℤ) → R x y → SameTick R (c.tick x words) (d.tick y words)
   pub reply : (x : C) (y : D) (answer : List ℤ) → R x y → R (c.reply x answer) (d.reply y answer)

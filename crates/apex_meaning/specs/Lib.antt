@@ -2,7 +2,11 @@ pub mod Program
 pub mod Operators
 pub mod ServiceTable
 pub mod Image
+pub mod Words
 pub mod Engine
+pub mod Step
+pub mod Processes
+pub mod Due
 pub mod Kernel
 pub mod PartitionServices
 pub mod ProcessServices

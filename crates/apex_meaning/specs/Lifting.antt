@@ -3,8 +3,8 @@ use Rattle.std.specs.Prelude.{◌≡◌, ℕ, ℤ, List, [], ◌∷◌, Option, 
 use Rattle.apex_types.specs.declared.event.Event.{Event}
 use Rattle.apex_meaning.specs.Engine.{Engine, Simulates}
 use Rattle.apex_meaning.specs.Kernel.{Kernel}
-use Rattle.apex_meaning.specs.Partition.{World, Moved}
-use Rattle.apex_meaning.specs.Module.{Member, Advanced}
+use Rattle.apex_meaning.specs.Partition.{World, Moved, Member}
+use Rattle.apex_meaning.specs.Module.{Advanced}
 
 abbrev pub SameControl : {C D : Type 0} → (C → D → Type 0) → Option C → Option D → Type 0
 SameControl R None None = Unit {0}

@@ -1,20 +1,11 @@
 -- The module: its partitions, each in its windows, tick by tick; its trace.
 use Rattle.std.specs.Prelude.{ℕ, zero, suc, ◌+◌, ℤ, List, [], ◌∷◌, ◌++◌, Option, Some, None, map, slice_get, slice_set}
 use Rattle.std.specs.List.{flat_map}
-use Rattle.apex_types.specs.declared.codes.Mode.TheVariants as mode
-use Rattle.apex_types.specs.declared.codes.StartCondition.TheVariants as condition
 use Rattle.apex_types.specs.declared.event.Event.{Event}
+use Rattle.apex_types.specs.declared.identity.At.{At}
 use Rattle.apex_types.specs.declared.row.WindowRow.{WindowRow}
-use Rattle.apex_meaning.specs.Engine.{Engine}
-use Rattle.apex_meaning.specs.Kernel.{Kernel}
-use Rattle.apex_meaning.specs.PartitionServices.{clears}
-use Rattle.apex_meaning.specs.Partition.{World, Moved, moved, tick}
+use Rattle.apex_meaning.specs.Partition.{Member, with_world, started, ticked_member, tick_lines}
 use Rattle.apex_meaning.specs.Windows.{owner}
-
--- a partition with the engine that its processes run on
-pub record Member (Control : Type 0) : Type 0 where
-  pub engine : Engine Control
-  pub world : World Control
 
 -- the partitions in their order, and the windows of the major frame
 pub record Module (Control : Type 0) : Type 0 where
@@ -30,20 +21,17 @@ pub record Advanced (Control : Type 0) : Type 0 where
 abbrev pub still : {C : Type 0} → List (Member C) → Advanced C
 still members = record { members = members; lines = [] }
 
-abbrev pub with_world : {C : Type 0} → Member C → World C → Member C
-with_world x w = record { engine = x.engine; world = w }
-
 -- ---- the start
 
--- Clear to a cold start; a partition's first
-abbrev pub started : {C : Type 0} → Member C → Moved C
-started x = moved x.engine (clears x.world.kernel 0 mode.ColdStart condition.NormalStart) x.world
+-- the first tick of a run
+abbrev pub first_tick : At
+first_tick = record { now = record { 0 = 0 }; origin = record { 0 = 0 } }
 
 abbrev pub started_member : {C : Type 0} → Member C → Member C
-started_member x = with_world x (started x).world
+started_member x = with_world x (started first_tick x).world
 
 abbrev pub start_lines : {C : Type 0} → Member C → List Event
-start_lines x = (started x).lines
+start_lines x = (started first_tick x).lines
 
 -- each partition in order
 abbrev pub starts : {C : Type 0} → List (Member C) → Advanced C
@@ -51,38 +39,36 @@ starts members = record { members = map started_member members; lines = flat_map
 
 -- ---- one tick
 
-abbrev pub ticked_member : {C : Type 0} → ℕ → Member C → Member C
-ticked_member t x = with_world x (tick x.engine t x.world).world
-
-abbrev pub tick_lines : {C : Type 0} → ℕ → Member C → List Event
-tick_lines t x = (tick x.engine t x.world).lines
-
 -- the tick of one partition, the others stay as they are
-abbrev pub ticks_member : {C : Type 0} → ℕ → List (Member C) → ℕ → Option (Member C) → Advanced C
-ticks_member t members place None = still members
-ticks_member t members place (Some x) = record { members = slice_set members place (ticked_member t x); lines = tick_lines t x }
+abbrev pub ticks_member : {C : Type 0} → At → List (Member C) → ℕ → Option (Member C) → Advanced C
+ticks_member at members place None = still members
+ticks_member at members place (Some x) = record { members = slice_set members place (ticked_member at x); lines = tick_lines at x }
 
 -- partitions are numbered from 1
-abbrev pub ticks_owner : {C : Type 0} → ℕ → List (Member C) → Option ℕ → Advanced C
-ticks_owner t members None = still members
-ticks_owner t members (Some zero) = still members
-ticks_owner t members (Some (suc place)) = ticks_member t members place (slice_get members place)
+abbrev pub ticks_owner : {C : Type 0} → At → List (Member C) → Option ℕ → Advanced C
+ticks_owner at members None = still members
+ticks_owner at members (Some zero) = still members
+ticks_owner at members (Some (suc place)) = ticks_member at members place (slice_get members place)
 
 -- In a tick the owner of the tick's window goes on; without an owner nothing happens.
-abbrev pub module_tick : {C : Type 0} → ℕ → List WindowRow → ℕ → List (Member C) → Advanced C
-module_tick frame windows t members = ticks_owner t members (owner frame windows 0 t)
+abbrev pub module_tick : {C : Type 0} → ℕ → List WindowRow → At → List (Member C) → Advanced C
+module_tick frame windows at members = ticks_owner at members (owner frame windows at.origin.0 at.now.0)
 
 -- ---- the trace
 
--- the lines of so many ticks from tick t on
-abbrev pub trace_from : {C : Type 0} → ℕ → List WindowRow → ℕ → ℕ → List (Member C) → List Event
-trace_from frame windows zero t members = []
-trace_from frame windows (suc n) t members =
-    let r = module_tick frame windows t members in
-    r.lines ++ trace_from frame windows n (t + 1) r.members
+-- the next tick
+abbrev pub next_tick : At → At
+next_tick at = record at { now = record { 0 = at.now.0 + 1 } }
+
+-- the lines of so many ticks from a tick on
+abbrev pub trace_from : {C : Type 0} → ℕ → List WindowRow → ℕ → At → List (Member C) → List Event
+trace_from frame windows zero at members = []
+trace_from frame windows (suc n) at members =
+    let r = module_tick frame windows at members in
+    r.lines ++ trace_from frame windows n (next_tick at) r.members
 
 -- The trace of n ticks: the start of each partition before tick 0, then the ticks. Of no tick it
 -- is empty.
 abbrev pub trace : {C : Type 0} → Module C → ℕ → List Event
 trace m zero = []
-trace m (suc n) = let s = starts m.members in s.lines ++ trace_from m.frame m.windows (suc n) 0 s.members
+trace m (suc n) = let s = starts m.members in s.lines ++ trace_from m.frame m.windows (suc n) first_tick s.members

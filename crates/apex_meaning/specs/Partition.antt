@@ -1,65 +1,108 @@
--- One tick of a partition: what is due, the choice of the process, and the tick that it spends.
-use Rattle.std.specs.Prelude.{◌≡◌, ℕ, zero, suc, ◌+◌, ℤ, pos, negsuc, ◌==◌, Bool, true, false, not, nat_le, List, [], ◌∷◌, ◌++◌, length, take, drop, Option, Some, None, slice_get, slice_set, map, if◌then◌else◌}
+-- One tick of a partition: what is due, the choice of who runs, and the tick that this one spends.
+use Rattle.std.specs.Prelude.{ℕ, ◌+◌, min, ℤ, pos, negsuc, Bool, true, false, List, [], ◌∷◌, ◌++◌, length, take, drop, Option, Some, None, slice_get, slice_set, map, if◌then◌else◌}
+use Rattle.apex_types.specs.Runners.{place_of}
+use Rattle.apex_types.specs.declared.codes.ErrorKind.TheVariants.{DeadlineMissed}
 use Rattle.apex_types.specs.declared.codes.Mode.{Mode}
 use Rattle.apex_types.specs.declared.codes.Mode.TheVariants as mode
+use Rattle.apex_types.specs.declared.codes.ProcessState.{ProcessState}
 use Rattle.apex_types.specs.declared.codes.ProcessState.TheVariants.{Ready, Running}
 use Rattle.apex_types.specs.declared.codes.StartCondition.TheVariants as condition
 use Rattle.apex_types.specs.declared.event.Event.{Event}
-use Rattle.apex_types.specs.declared.identity.ProcessId.{ProcessId}
+use Rattle.apex_types.specs.declared.event.EventKind.{EventKind}
+use Rattle.apex_types.specs.declared.event.EventKind.TheVariants as event
+use Rattle.apex_types.specs.declared.identity.At.{At}
+use Rattle.apex_types.specs.declared.identity.Runner.{Runner}
+use Rattle.apex_types.specs.declared.identity.Runner.TheVariants as runner
 use Rattle.apex_types.specs.declared.process.Action.{Action}
 use Rattle.apex_types.specs.declared.process.Action.TheVariants as action
 use Rattle.apex_types.specs.declared.process.Entry.{Entry}
+use Rattle.apex_types.specs.declared.process.Lock.{Lock}
+use Rattle.apex_types.specs.declared.process.Lock.TheVariants as lock
 use Rattle.apex_types.specs.declared.process.ProcessStatus.{ProcessStatus}
 use Rattle.apex_types.specs.declared.service.ArrayPlace.{ArrayPlace}
 use Rattle.apex_types.specs.declared.service.Call.{Call}
 use Rattle.apex_types.specs.declared.service.Call.TheVariants as call
+use Rattle.apex_meaning.specs.Due.{Treated, due}
 use Rattle.apex_meaning.specs.Engine.{Engine, Ticked, Asks, Nothing, Calls, Faults, Ends}
-use Rattle.apex_meaning.specs.Kernel.{Kernel, Step, id_of, nothing, after, state_line, put_row, rests}
-use Rattle.apex_meaning.specs.PartitionServices.{clears, set_partition_mode}
+use Rattle.apex_meaning.specs.HealthServices.{action_of, faults, report}
+use Rattle.apex_meaning.specs.Kernel.{Kernel, of_processes}
+use Rattle.apex_meaning.specs.PartitionServices.{clears, ends_body, set_partition_mode}
+use Rattle.apex_meaning.specs.Processes.{Processes, row_of, put_row, is_same}
 use Rattle.apex_meaning.specs.ProcessServices.{create_process, start}
-use Rattle.apex_meaning.specs.TimeServices.{due, get_time, timed_wait}
-use Rattle.apex_meaning.specs.HealthServices.{faults, report, is_message_length}
+use Rattle.apex_meaning.specs.ServiceTable.{array_of}
+use Rattle.apex_meaning.specs.Step.{Step, nothing, after}
+use Rattle.apex_meaning.specs.TimeServices.{get_time, timed_wait}
+use Rattle.apex_meaning.specs.Words.{put_words}
 
 -- ---- the choice
 
-abbrev pub first_ready : List Entry → Option ProcessId
+abbrev pub first_ready : List Entry → Option Runner
 first_ready [] = None
-first_ready (e ∷ es) = Some e.process
+first_ready (e ∷ es) = Some (runner.Process e.process)
 
--- INIT before the normal start, then the first of those that are ready; in idle mode none
-abbrev pub pick : Mode → List Entry → Option ProcessId
-pick mode.Idle ready = None
-pick mode.Normal ready = first_ready ready
-pick _ ready = Some (id_of 0)
+-- the lock's holder, else the first of those that are ready
+abbrev pub unless_held : Lock → List Entry → Option Runner
+unless_held lock.Free ready = first_ready ready
+unless_held (lock.Held level holder) ready = Some (runner.Process holder)
+
+abbrev pub is_ready_state : ProcessState → Bool
+is_ready_state Ready = true
+is_ready_state Running = true
+is_ready_state _ = false
+
+abbrev pub is_ready : Option ProcessStatus → Bool
+is_ready None = false
+is_ready (Some r) = is_ready_state r.state
+
+-- INIT before the normal start; then the handler if it is ready, the lock's holder, or the first of
+-- those that are ready; in idle mode none
+abbrev pub pick : Mode → Processes → Option Runner
+pick mode.Idle s = None
+pick mode.Normal s = if is_ready (row_of s runner.Handler) then Some runner.Handler else unless_held s.lock s.ready
+pick _ s = Some runner.Init
 
 -- the one that was running is ready, and keeps its place
-abbrev pub preempts : Kernel → ℕ → ℕ → Option ProcessStatus → Step
-preempts k t p None = nothing k
-preempts k t p (Some r) = record { kernel = record (put_row k p (record r { state = Ready })) { running = None }; lines = state_line k t p Ready ∷ []; actions = [] }
+abbrev pub preempts : Processes → Runner → Option ProcessStatus → Step Processes
+preempts s p None = nothing s
+preempts s p (Some r) = record { part = record (put_row s p (record r { state = Ready })) { running = None }; lines = event.State r.who Ready ∷ []; actions = [] }
 
-abbrev pub runs : Kernel → ℕ → ℕ → Option ProcessStatus → Step
-runs k t p None = nothing k
-runs k t p (Some r) = record { kernel = record (put_row k p (record r { state = Running })) { running = Some (id_of p) }; lines = state_line k t p Running ∷ []; actions = [] }
+abbrev pub runs : Processes → Runner → Option ProcessStatus → Step Processes
+runs s p None = nothing s
+runs s p (Some r) = record { part = record (put_row s p (record r { state = Running })) { running = Some p }; lines = event.State r.who Running ∷ []; actions = [] }
 
-abbrev pub leaves_processor : Kernel → ℕ → Option ProcessId → Step
-leaves_processor k t None = nothing k
-leaves_processor k t (Some p) = preempts k t p.0 (slice_get k.rows p.0)
+abbrev pub leaves_processor : Processes → Option Runner → Step Processes
+leaves_processor s None = nothing s
+leaves_processor s (Some p) = preempts s p (row_of s p)
 
-abbrev pub takes_processor : Kernel → ℕ → Option ProcessId → Step
-takes_processor k t None = nothing k
-takes_processor k t (Some p) = runs k t p.0 (slice_get k.rows p.0)
+abbrev pub takes_processor : Processes → Option Runner → Step Processes
+takes_processor s None = nothing s
+takes_processor s (Some p) = runs s p (row_of s p)
 
-abbrev pub is_same : Option ProcessId → Option ProcessId → Bool
-is_same None None = true
-is_same None (Some q) = false
-is_same (Some p) None = false
-is_same (Some p) (Some q) = p.0 == q.0
+abbrev pub are_same : Option Runner → Option Runner → Bool
+are_same None None = true
+are_same None (Some q) = false
+are_same (Some p) None = false
+are_same (Some p) (Some q) = is_same p q
 
--- a change of the chosen process writes that the old one is ready and that the new one runs
-abbrev pub chooses : Kernel → ℕ → Step
-chooses k t =
-    if is_same k.running (pick k.mode k.ready) then nothing k
-    else let s = leaves_processor k t k.running in after s (takes_processor s.kernel t (pick k.mode k.ready))
+-- a change of the chosen one writes that the old one is ready and that the new one runs
+abbrev pub chooses : Mode → Processes → Step Processes
+chooses m s =
+    if are_same s.running (pick m s) then nothing s
+    else let l = leaves_processor s s.running in after l (takes_processor l.part (pick m s))
+
+-- ---- what is due
+
+-- a Clear that a missed deadline leads to
+abbrev pub then_clears : Kernel → Option Mode → Step Kernel
+then_clears k None = nothing k
+then_clears k (Some m) = clears k m condition.HmPartitionRestart
+
+abbrev pub ends_due : Kernel → Treated → Step Kernel
+ends_due k d = let s = of_processes k d.step in after s (then_clears s.part d.clears)
+
+-- without an error handler no error waits
+abbrev pub treats_due : At → Kernel → Step Kernel
+treats_due at k = ends_due k (due at 0 (action_of k.fixed.health DeadlineMissed) k.processes)
 
 -- ---- what a process asks for
 
@@ -68,59 +111,58 @@ abbrev pub message_from : ℤ → ℕ → List ℤ → List ℤ
 message_from (pos place) count words = take count (drop place words)
 message_from (negsuc n) count words = []
 
-abbrev pub words_from : ℤ → ℤ → List ℤ → List ℤ
-words_from place (pos count) words = message_from place count words
-words_from place (negsuc n) words = []
+-- the words of an array, at most 16
+abbrev pub most_words : ℤ → ℕ
+most_words (pos size) = min size 16
+most_words (negsuc n) = 0
 
--- the words that a call hands in, where its length is good
-abbrev pub handed : ArrayPlace → ℤ → List ℤ → List ℤ
-handed array length words = if is_message_length array.size length then words_from array.base length words else []
+abbrev pub handed : Option ArrayPlace → List ℤ → List ℤ
+handed None words = []
+handed (Some array) words = message_from array.base (most_words array.size) words
 
+-- the words of the array that a call hands in, if it has one
 abbrev pub given : Call → List ℤ → List ℤ
-given (call.ReportApplicationMessage array length) words = handed array length words
-given _ words = []
-
--- The end of a body: a process becomes dormant; INIT that ends before the normal start leaves the
--- partition idle.
-abbrev pub ends_body : Kernel → ℕ → ℕ → Option ProcessStatus → Step
-ends_body k t zero row = clears k t mode.Idle condition.PartitionRestart
-ends_body k t (suc p) None = nothing k
-ends_body k t (suc p) (Some r) = rests k t (suc p) r
+given c words = handed (array_of c) words
 
 -- a service that the kernel does not serve leaves its caller without an answer
-abbrev pub serves : Kernel → ℕ → ℕ → Call → List ℤ → Step
-serves k t p (call.SetPartitionMode m) words = set_partition_mode k t p m
-serves k t p (call.CreateProcess name) words = create_process k t p name
-serves k t p call.StopSelf words = ends_body k t p (slice_get k.rows p)
-serves k t p (call.Start id) words = start k t p id
-serves k t p (call.TimedWait delay) words = timed_wait k t p delay
-serves k t p call.GetTime words = get_time k t p
-serves k t p (call.ReportApplicationMessage array length) words = report k t p array length words
-serves k t p _ words = nothing k
+abbrev pub serves : At → Kernel → Runner → Call → List ℤ → Step Kernel
+serves at k p (call.SetPartitionMode m) words = set_partition_mode at k p m
+serves at k p (call.CreateProcess name) words = of_processes k (create_process k.mode k.processes p name)
+serves at k p call.StopSelf words = ends_body k p
+serves at k p (call.Start id) words = of_processes k (start k.mode at k.processes p id)
+serves at k p (call.TimedWait delay) words = of_processes k (timed_wait at k.processes p delay)
+serves at k p call.GetTime words = of_processes k (get_time at k.processes p)
+serves at k p (call.ReportApplicationMessage array length) words = of_processes k (report k.processes p array length words)
+serves at k p _ words = nothing k
 
-abbrev pub treats_asked : Kernel → ℕ → ℕ → Asks → List ℤ → Step
-treats_asked k t p Nothing words = nothing k
-treats_asked k t p (Calls c) words = serves k t p c (given c words)
-treats_asked k t p (Faults e) words = faults k t p e
-treats_asked k t p Ends words = ends_body k t p (slice_get k.rows p)
+abbrev pub treats_asked : At → Kernel → Runner → Asks → List ℤ → Step Kernel
+treats_asked at k p Nothing words = nothing k
+treats_asked at k p (Calls c) words = serves at k p c (given c words)
+treats_asked at k p (Faults e) words = faults k p e
+treats_asked at k p Ends words = ends_body k p
 
 -- ---- a partition on an engine
 
--- The state, the control of each process that has something left to do, by its number, the data,
--- and the initial data.
+-- The state; the control of INIT, of the handler and of each process that has something left to do,
+-- in this order; the data, and the initial data.
 pub record World (Control : Type 0) : Type 0 where
   pub kernel : Kernel
   pub controls : List (Option Control)
   pub words : List ℤ
   pub initial : List ℤ
 
+-- a partition with the engine that its processes run on
+pub record Member (Control : Type 0) : Type 0 where
+  pub engine : Engine Control
+  pub world : World Control
+
 abbrev pub there : {C : Type 0} → Option (Option C) → Option C
 there None = None
 there (Some c) = c
 
--- the control of a process, where it has something left to do
+-- the control at a place, where there is something left to do
 abbrev pub control_at : {C : Type 0} → List (Option C) → ℕ → Option C
-control_at controls p = there (slice_get controls p)
+control_at controls place = there (slice_get controls place)
 
 abbrev pub replied : {C : Type 0} → Engine C → Option C → List ℤ → Option C
 replied e None answer = None
@@ -129,28 +171,43 @@ replied e (Some c) answer = Some (e.reply c answer)
 abbrev pub no_control : {C : Type 0} → Option C → Option C
 no_control c = None
 
--- what the kernel asks is done
+-- the data with an array's words put into it
+abbrev pub written : ℤ → List ℤ → List ℤ → List ℤ
+written (pos place) array words = put_words words place array
+written (negsuc n) array words = words
+
+-- What the kernel asks is done. No error waits yet.
 abbrev pub act : {C : Type 0} → Engine C → Action → World C → World C
-act e (action.Begin p) w = record w { controls = slice_set w.controls p.0 (Some (e.start p.0)) }
-act e (action.Stop p) w = record w { controls = slice_set w.controls p.0 None }
+act e (action.Begin p) w = record w { controls = slice_set w.controls (place_of p) (Some (e.start p)) }
+act e (action.Stop p) w = record w { controls = slice_set w.controls (place_of p) None }
 act e action.StopAll w = record w { controls = map no_control w.controls }
-act e (action.Reply p answer) w = record w { controls = slice_set w.controls p.0 (replied e (control_at w.controls p.0) answer.items) }
+act e (action.Reply p answer) w = record w { controls = slice_set w.controls (place_of p) (replied e (control_at w.controls (place_of p)) answer.items) }
 act e action.Restore w = record w { words = w.initial }
+act e (action.Write place array) w = record w { words = written place array.items w.words }
+act e (action.Queue error p words) w = w
 
 abbrev pub act_all : {C : Type 0} → Engine C → List Action → World C → World C
 act_all e [] w = w
 act_all e (a ∷ rest) w = act_all e rest (act e a w)
 
-abbrev pub does : {C : Type 0} → Engine C → Step → World C → World C
-does e s w = act_all e s.actions (record w { kernel = s.kernel })
+abbrev pub does : {C : Type 0} → Engine C → Step Kernel → World C → World C
+does e s w = act_all e s.actions (record w { kernel = s.part })
+
+-- a line of the partition in a tick
+abbrev pub line : List ℕ → At → EventKind → Event
+line name at kind = record { tick = at.now; partition = Some name; kind = kind }
+
+-- what happens in a tick, as lines of the partition
+abbrev pub told : List ℕ → At → List EventKind → List Event
+told name at kinds = map (line name at) kinds
 
 -- the world after a step, and the step's lines
 pub record Moved (Control : Type 0) : Type 0 where
   pub world : World Control
   pub lines : List Event
 
-abbrev pub moved : {C : Type 0} → Engine C → Step → World C → Moved C
-moved e s w = record { world = does e s w; lines = s.lines }
+abbrev pub moved : {C : Type 0} → At → Engine C → Step Kernel → World C → Moved C
+moved at e s w = record { world = does e s w; lines = told w.kernel.fixed.name at s.lines }
 
 -- one step, then another from where it led
 abbrev pub followed_by : {C : Type 0} → Moved C → (World C → Moved C) → Moved C
@@ -164,27 +221,42 @@ ticked e None words = record { control = None; words = words; asks = Nothing }
 ticked e (Some c) words = ticked_some (e.tick c words)
 
 -- the tick that p spends, and what it asks for
-abbrev pub spends : {C : Type 0} → Engine C → ℕ → ℕ → World C → Moved C
-spends e t p w =
-    let r = ticked e (control_at w.controls p) w.words in
-    moved e (treats_asked w.kernel t p r.asks r.words) (record w { controls = slice_set w.controls p r.control; words = r.words })
+abbrev pub spends : {C : Type 0} → Engine C → At → Runner → World C → Moved C
+spends e at p w =
+    let r = ticked e (control_at w.controls (place_of p)) w.words in
+    moved at e (treats_asked at w.kernel p r.asks r.words) (record w { controls = slice_set w.controls (place_of p) r.control; words = r.words })
 
-abbrev pub spends_chosen : {C : Type 0} → Engine C → ℕ → Option ProcessId → World C → Moved C
-spends_chosen e t None w = record { world = w; lines = [] }
-spends_chosen e t (Some p) w = spends e t p.0 w
+abbrev pub spends_chosen : {C : Type 0} → Engine C → At → Option Runner → World C → Moved C
+spends_chosen e at None w = record { world = w; lines = [] }
+spends_chosen e at (Some p) w = spends e at p w
 
-abbrev pub treats_due : {C : Type 0} → Engine C → ℕ → World C → Moved C
-treats_due e t w = moved e (due w.kernel t) w
+abbrev pub due_phase : {C : Type 0} → Engine C → At → World C → Moved C
+due_phase e at w = moved at e (treats_due at w.kernel) w
 
-abbrev pub chooses_process : {C : Type 0} → Engine C → ℕ → World C → Moved C
-chooses_process e t w = moved e (chooses w.kernel t) w
+abbrev pub choice_phase : {C : Type 0} → Engine C → At → World C → Moved C
+choice_phase e at w = moved at e (of_processes w.kernel (chooses w.kernel.mode w.kernel.processes)) w
 
-abbrev pub spends_running : {C : Type 0} → Engine C → ℕ → World C → Moved C
-spends_running e t w = spends_chosen e t w.kernel.running w
+abbrev pub spending_phase : {C : Type 0} → Engine C → At → World C → Moved C
+spending_phase e at w = spends_chosen e at w.kernel.processes.running w
 
-abbrev pub prepares : {C : Type 0} → Engine C → ℕ → World C → Moved C
-prepares e t w = followed_by (treats_due e t w) (chooses_process e t)
+abbrev pub prepares : {C : Type 0} → Engine C → At → World C → Moved C
+prepares e at w = followed_by (due_phase e at w) (choice_phase e at)
 
--- what is due, then the choice, then the tick of the chosen process
-abbrev pub tick : {C : Type 0} → Engine C → ℕ → World C → Moved C
-tick e t w = followed_by (prepares e t w) (spends_running e t)
+-- what is due, then the choice, then the tick of the chosen one
+abbrev pub tick : {C : Type 0} → Engine C → At → World C → Moved C
+tick e at w = followed_by (prepares e at w) (spending_phase e at)
+
+-- ---- a partition with its engine
+
+abbrev pub with_world : {C : Type 0} → Member C → World C → Member C
+with_world x w = record { engine = x.engine; world = w }
+
+-- Clear to a cold start, for a reason
+abbrev pub started : {C : Type 0} → At → Member C → Moved C
+started at x = moved at x.engine (clears x.world.kernel mode.ColdStart condition.NormalStart) x.world
+
+abbrev pub ticked_member : {C : Type 0} → At → Member C → Member C
+ticked_member at x = with_world x (tick x.engine at x.world).world
+
+abbrev pub tick_lines : {C : Type 0} → At → Member C → List Event
+tick_lines at x = (tick x.engine at x.world).lines

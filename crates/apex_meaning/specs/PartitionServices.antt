@@ -1,30 +1,33 @@
--- Clear, the normal start, and the services on the partition's mode.
-use Rattle.std.specs.Prelude.{ℕ, zero, suc, ◌+◌, ◌-◌, ℤ, pos, negsuc, Bool, true, false, ◌&&◌, not, List, [], ◌∷◌, ◌++◌, length, Option, Some, None, map, slice_get, slice_set, is_some, if◌then◌else◌}
+-- Clear, the normal start, the services on the partition's mode, and the end of a body.
+use Rattle.std.specs.Prelude.{ℕ, zero, suc, ℤ, pos, negsuc, Bool, true, false, ◌&&◌, not, List, [], ◌∷◌, Option, Some, None, map, slice_get, slice_set, is_some}
 use Rattle.apex_types.specs.declared.codes.Mode.{Mode}
 use Rattle.apex_types.specs.declared.codes.Mode.TheVariants as mode
 use Rattle.apex_types.specs.declared.codes.ProcessState.TheVariants.{Dormant, Ready}
 use Rattle.apex_types.specs.declared.codes.ReturnCode.TheVariants as code
 use Rattle.apex_types.specs.declared.codes.StartCondition.{StartCondition}
 use Rattle.apex_types.specs.declared.codes.StartCondition.TheVariants as condition
-use Rattle.apex_types.specs.declared.event.Event.{Event}
+use Rattle.apex_types.specs.declared.event.EventKind.{EventKind}
 use Rattle.apex_types.specs.declared.event.EventKind.TheVariants as event
+use Rattle.apex_types.specs.declared.event.Subject.TheVariants.{Init}
+use Rattle.apex_types.specs.declared.identity.At.{At}
+use Rattle.apex_types.specs.declared.identity.Runner.{Runner}
+use Rattle.apex_types.specs.declared.identity.Runner.TheVariants as runner
 use Rattle.apex_types.specs.declared.process.Action.{Action}
 use Rattle.apex_types.specs.declared.process.Action.TheVariants as action
+use Rattle.apex_types.specs.declared.process.Lock.TheVariants as lock
 use Rattle.apex_types.specs.declared.process.ProcessStatus.{ProcessStatus}
-use Rattle.apex_types.specs.declared.process.Wait.{Wait}
 use Rattle.apex_types.specs.declared.process.Wait.TheVariants as wait
 use Rattle.apex_types.specs.declared.service.Service.TheVariants as service
-use Rattle.apex_meaning.specs.Kernel.{Kernel, Step, nothing, after, line, state_line, id_of, wakes, rests, answers, refuses, row, is_normal}
+use Rattle.apex_meaning.specs.Kernel.{Kernel, of_processes}
+use Rattle.apex_meaning.specs.Processes.{Processes, row_of, rests, answers, refuses, is_normal}
+use Rattle.apex_meaning.specs.ProcessServices.{start_all_waiting}
+use Rattle.apex_meaning.specs.Step.{Step, nothing, after, row}
 
 -- ---- Clear
 
--- the record of a process that is no longer created
+-- the record of one that is no longer created
 abbrev pub forgotten : ProcessStatus → ProcessStatus
-forgotten r = record r { created = false; state = Dormant; current_priority = r.base_priority; wait = wait.Nothing; due = None }
-
-abbrev pub is_idle : Mode → Bool
-is_idle mode.Idle = true
-is_idle _ = false
+forgotten r = record r { created = false; state = Dormant; current_priority = r.base_priority; suspended = false; wait = wait.Nothing; due = None; release = record { 0 = 0 }; deadline = None }
 
 abbrev pub is_cold : Mode → Bool
 is_cold mode.ColdStart = true
@@ -39,51 +42,42 @@ abbrev pub started_rows : Mode → List ProcessStatus → List ProcessStatus
 started_rows mode.Idle rows = rows
 started_rows _ rows = ready_init (slice_get rows 0) rows
 
+-- no process is created, and no one runs or holds the lock
+abbrev pub cleared_processes : Mode → Processes → Processes
+cleared_processes m s = record { rows = started_rows m (map forgotten s.rows); ready = []; running = None; lock = lock.Free }
+
 abbrev pub cleared : Kernel → Mode → StartCondition → Kernel
-cleared k m c = record k { mode = m; condition = c; rows = started_rows m (map forgotten k.rows); ready = []; running = None }
+cleared k m c = record k { mode = m; condition = c; processes = cleared_processes m k.processes }
 
 abbrev pub clear_actions : Mode → List Action
 clear_actions mode.Idle = action.StopAll ∷ []
-clear_actions mode.ColdStart = action.StopAll ∷ action.Restore ∷ action.Begin (id_of 0) ∷ []
-clear_actions _ = action.StopAll ∷ action.Begin (id_of 0) ∷ []
+clear_actions mode.ColdStart = action.StopAll ∷ action.Restore ∷ action.Begin runner.Init ∷ []
+clear_actions _ = action.StopAll ∷ action.Begin runner.Init ∷ []
 
-abbrev pub clear_lines : Kernel → ℕ → Mode → List Event
-clear_lines k t mode.Idle = line k t (event.Mode mode.Idle) ∷ []
-clear_lines k t m = line k t (event.Mode m) ∷ state_line k t 0 Ready ∷ []
+abbrev pub clear_lines : Mode → List EventKind
+clear_lines mode.Idle = event.Mode mode.Idle ∷ []
+clear_lines m = event.Mode m ∷ event.State Init Ready ∷ []
 
--- All processes go. A cold start restores the initial data. Unless the partition is idle, INIT
--- starts.
-abbrev pub clears : Kernel → ℕ → Mode → StartCondition → Step
-clears k t m c = record { kernel = cleared k m c; lines = clear_lines k t m; actions = clear_actions m }
+-- All processes and objects go. A cold start restores the initial data. Unless the partition is idle,
+-- INIT starts.
+abbrev pub clears : Kernel → Mode → StartCondition → Step Kernel
+clears k m c = record { part = cleared k m c; lines = clear_lines m; actions = clear_actions m }
 
 -- ---- the normal start
 
-abbrev pub waits_for_start : Wait → Bool
-waits_for_start wait.NormalStart = true
-waits_for_start _ = false
+abbrev pub enters_normal : Kernel → Step Kernel
+enters_normal k = record { part = record k { mode = mode.Normal }; lines = event.Mode mode.Normal ∷ []; actions = [] }
 
-abbrev pub starts_waiting : Kernel → ℕ → ℕ → Option ProcessStatus → Step
-starts_waiting k t p None = nothing k
-starts_waiting k t p (Some r) = if waits_for_start r.wait then wakes k t p r else nothing k
-
--- each of so many processes from p on that waits for the normal start is released
-abbrev pub start_from : ℕ → ℕ → ℕ → Kernel → Step
-start_from t zero p k = nothing k
-start_from t (suc n) p k = let s = starts_waiting k t p (slice_get k.rows p) in after s (start_from t n (p + 1) s.kernel)
-
-abbrev pub enters_normal : Kernel → ℕ → Step
-enters_normal k t = record { kernel = record k { mode = mode.Normal }; lines = line k t (event.Mode mode.Normal) ∷ []; actions = [] }
-
-abbrev pub init_rests : Kernel → ℕ → Option ProcessStatus → Step
-init_rests k t None = nothing k
-init_rests k t (Some r) = rests k t 0 r
+abbrev pub rests_found : Processes → Runner → Option ProcessStatus → Step Processes
+rests_found s p None = nothing s
+rests_found s p (Some r) = rests s p r
 
 -- INIT becomes dormant, the mode normal, then those that wait for it start in number order
-abbrev pub starts_normally : Kernel → ℕ → Step
-starts_normally k t =
-    let i = init_rests k t (slice_get k.rows 0) in
-    let n = enters_normal i.kernel t in
-    after i (after n (start_from t (length k.rows - 1) 1 n.kernel))
+abbrev pub starts_normally : At → Kernel → Step Kernel
+starts_normally at k =
+    let i = of_processes k (rests_found k.processes runner.Init (row_of k.processes runner.Init)) in
+    let n = enters_normal i.part in
+    after i (after n (of_processes n.part (start_all_waiting at n.part.processes)))
 
 -- ---- SET_PARTITION_MODE
 
@@ -103,16 +97,24 @@ abbrev pub wants : (Mode → Bool) → Option Mode → Bool
 wants test None = false
 wants test (Some m) = test m
 
-abbrev pub enters_mode : Kernel → ℕ → Option Mode → Step
-enters_mode k t None = nothing k
-enters_mode k t (Some mode.Normal) = starts_normally k t
-enters_mode k t (Some m) = clears k t m condition.PartitionRestart
+abbrev pub enters_mode : At → Kernel → Option Mode → Step Kernel
+enters_mode at k None = nothing k
+enters_mode at k (Some mode.Normal) = starts_normally at k
+enters_mode at k (Some m) = clears k m condition.PartitionRestart
 
-abbrev pub set_partition_mode : Kernel → ℕ → ℕ → ℤ → Step
-set_partition_mode k t p m =
-    row (refuses k t p service.SetPartitionMode)
+abbrev pub set_partition_mode : At → Kernel → Runner → ℤ → Step Kernel
+set_partition_mode at k p m =
+    row (λ c. of_processes k (refuses k.processes p service.SetPartitionMode c))
     ((not (is_some (mode_of m)), code.InvalidParam)
     ∷ (wants is_normal (mode_of m) && is_normal k.mode, code.NoAction)
     ∷ (wants is_warm (mode_of m) && is_cold k.mode, code.InvalidMode)
     ∷ [])
-    (after (answers k t p service.SetPartitionMode code.NoError []) (enters_mode k t (mode_of m)))
+    (after (of_processes k (answers k.processes p service.SetPartitionMode code.NoError [])) (enters_mode at k (mode_of m)))
+
+-- ---- STOP_SELF, and the end of a body
+
+-- A process or the handler becomes dormant; INIT that ends before the normal start leaves the
+-- partition idle.
+abbrev pub ends_body : Kernel → Runner → Step Kernel
+ends_body k runner.Init = clears k mode.Idle condition.PartitionRestart
+ends_body k p = of_processes k (rests_found k.processes p (row_of k.processes p))

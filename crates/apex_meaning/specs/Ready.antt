@@ -1,7 +1,7 @@
 -- A list of those that are ready has each process at most once.
 use Rattle.std.specs.Prelude.{◌≡◌, ℕ, ◌+◌, ◌<◌, ◌≤◌, List, [], ◌∷◌, if◌then◌else◌}
 use Rattle.apex_types.specs.declared.process.Entry.{Entry}
-use Rattle.apex_meaning.specs.Kernel.{is_entry_of}
+use Rattle.apex_meaning.specs.Processes.{is_entry_of}
 
 abbrev pub times_listed : ℕ → List Entry → ℕ
 times_listed p [] = 0

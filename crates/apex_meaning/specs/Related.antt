@@ -5,6 +5,7 @@
 use Rattle.std.specs.Prelude.{◌≡◌, ℕ, ◌+◌, ◌-◌, ◌≤◌, ◌<◌, ℤ, pos, Bool, true, false, List, [], ◌∷◌, ◌++◌, Option, Some, None, map, length, slice_get}
 use Rattle.apex_types.specs.declared.instruction.Instr.{Instr}
 use Rattle.apex_types.specs.declared.instruction.Instr.TheVariants as instr
+use Rattle.apex_types.specs.declared.identity.Runner.{Runner}
 use Rattle.apex_types.specs.declared.place.Place.{Place}
 use Rattle.apex_types.specs.declared.place.Place.TheVariants.{Data, Slot}
 use Rattle.apex_meaning.specs.Program.{Program, Procedure, Body, Expr, Links, Exprs, Stmt, Block, While}
@@ -153,7 +154,7 @@ pub record Keeps (code : Code) (procedures : List Procedure) (c : SourceControl)
 abbrev pub row_of_process : ProcessRow → BodyRow
 row_of_process p = p.body
 
-abbrev pub body_row_at : Section → ℕ → BodyRow
+abbrev pub body_row_at : Section → Runner → BodyRow
 body_row_at s p = body_at s.init s.handler (map row_of_process s.processes) p
 
 -- Compilation is correct: where each instruction is what its bytes read as, the processor over the

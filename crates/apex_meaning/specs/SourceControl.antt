@@ -6,6 +6,8 @@ use Rattle.apex_types.specs.declared.codes.ErrorKind.{ErrorKind}
 use Rattle.apex_types.specs.declared.codes.ErrorKind.TheVariants as error
 use Rattle.apex_types.specs.declared.instruction.BinaryOperator.{BinaryOperator}
 use Rattle.apex_types.specs.declared.instruction.UnaryOperator.{UnaryOperator}
+use Rattle.apex_types.specs.declared.identity.Runner.{Runner}
+use Rattle.apex_types.specs.declared.identity.Runner.TheVariants as runner
 use Rattle.apex_types.specs.declared.place.Place.{Place}
 use Rattle.apex_types.specs.declared.place.Place.TheVariants.{Data, Slot}
 use Rattle.apex_types.specs.declared.service.Service.{Service}
@@ -258,19 +260,20 @@ source_tick program c words = tick_awaiting program c.awaits c words
 abbrev pub source_reply : SourceControl → List ℤ → SourceControl
 source_reply c answer = if nat_eq (length answer) c.awaits then record { parts = c.parts; values = answer ++ c.values; slots = c.slots; callers = c.callers; spent = c.spent; awaits = 0; stack = c.stack } else c
 
--- The body of a number: 0 is INIT, from 1 on the processes, 32 the handler; INIT where there is none.
+-- The body of INIT, of the handler or of a process; INIT's where there is none.
 abbrev pub or_init : {B : Type 0} → B → Option B → B
 or_init init None = init
 or_init init (Some b) = b
 
-abbrev pub body_at : {B : Type 0} → B → Option B → List B → ℕ → B
-body_at init handler bodies zero = init
-body_at init handler bodies (suc n) = if nat_eq n 31 then or_init init handler else get_or bodies n init
+abbrev pub body_at : {B : Type 0} → B → Option B → List B → Runner → B
+body_at init handler bodies runner.Init = init
+body_at init handler bodies runner.Handler = or_init init handler
+body_at init handler bodies (runner.Process p) = get_or bodies p.0 init
 
 abbrev pub body_of_process : Process → Body
 body_of_process p = p.body
 
-abbrev pub source_body : Program → ℕ → Body
+abbrev pub source_body : Program → Runner → Body
 source_body program p = body_at program.init program.handler (map body_of_process program.processes) p
 
 -- what is to do in the body of INIT, of the handler or of a process: its block, then its end

@@ -1,60 +1,43 @@
--- The services on time, and what is due.
-use Rattle.std.specs.Prelude.{ℕ, zero, suc, ◌+◌, ◌-◌, ◌^◌, ℤ, pos, negsuc, Bool, true, false, not, ◌==◌, nat_le, List, [], ◌∷◌, length, Option, Some, None, slice_get, if◌then◌else◌}
+-- The services on time.
+use Rattle.std.specs.Prelude.{ℕ, zero, suc, ◌+◌, ◌^◌, ℤ, pos, negsuc, Bool, false, not, nat_le, List, [], ◌∷◌, Option, Some, None}
 use Rattle.apex_types.specs.declared.codes.ReturnCode.TheVariants as code
+use Rattle.apex_types.specs.declared.identity.At.{At}
+use Rattle.apex_types.specs.declared.identity.Runner.{Runner}
+use Rattle.apex_types.specs.declared.process.Due.TheVariants as due_time
 use Rattle.apex_types.specs.declared.process.ProcessStatus.{ProcessStatus}
 use Rattle.apex_types.specs.declared.process.Wait.TheVariants as wait
 use Rattle.apex_types.specs.declared.service.Service.TheVariants as service
-use Rattle.apex_meaning.specs.Kernel.{Kernel, Step, nothing, after, put_ready, wakes, waits, answers, refuses, row}
+use Rattle.apex_meaning.specs.Processes.{Processes, row_of, put_ready, waits, answers, refuses, is_busy}
+use Rattle.apex_meaning.specs.Step.{Step, nothing, after, row}
 
-abbrev pub get_time : Kernel → ℕ → ℕ → Step
-get_time k t p = answers k t p service.GetTime code.NoError (pos t ∷ [])
+abbrev pub get_time : At → Processes → Runner → Step Processes
+get_time at s p = answers s p service.GetTime code.NoError (pos at.now.0 ∷ [])
 
 -- ---- TIMED_WAIT
-
--- INIT may not wait
-abbrev pub is_busy : ℕ → Bool
-is_busy p = p == 0
 
 -- a delay is 0 to 2^40 ticks
 abbrev pub is_delay : ℤ → Bool
 is_delay (negsuc n) = false
 is_delay (pos n) = nat_le n (2 ^ 40)
 
-abbrev pub goes_last : Kernel → ℕ → Option ProcessStatus → Step
-goes_last k p None = nothing k
-goes_last k p (Some r) = nothing (put_ready k p r)
+abbrev pub yields : Processes → Runner → Option ProcessStatus → Step Processes
+yields s p None = nothing s
+yields s p (Some r) = nothing (put_ready s p r)
 
-abbrev pub waits_until : Kernel → ℕ → ℕ → Option ProcessStatus → ℕ → Step
-waits_until k t p None due = nothing k
-waits_until k t p (Some r) due = waits k t p r wait.Time (Some due)
+abbrev pub waits_until : Processes → Runner → Option ProcessStatus → ℕ → Step Processes
+waits_until s p None tick = nothing s
+waits_until s p (Some r) tick = waits s p r (wait.Service service.TimedWait) (Some (due_time.Delay (record { 0 = tick })))
 
 -- without a delay the caller goes last; else it waits for its due time
-abbrev pub delays : Kernel → ℕ → ℕ → ℤ → Step
-delays k t p (negsuc n) = nothing k
-delays k t p (pos zero) = after (answers k t p service.TimedWait code.NoError []) (goes_last k p (slice_get k.rows p))
-delays k t p (pos (suc n)) = waits_until k t p (slice_get k.rows p) (t + suc n)
+abbrev pub delays : At → Processes → Runner → ℤ → Step Processes
+delays at s p (negsuc n) = nothing s
+delays at s p (pos zero) = after (answers s p service.TimedWait code.NoError []) (yields s p (row_of s p))
+delays at s p (pos (suc n)) = waits_until s p (row_of s p) (at.now.0 + suc n)
 
-abbrev pub timed_wait : Kernel → ℕ → ℕ → ℤ → Step
-timed_wait k t p delay =
-    row (refuses k t p service.TimedWait)
-    ((is_busy p, code.InvalidMode) ∷ (not (is_delay delay), code.InvalidParam) ∷ [])
-    (delays k t p delay)
-
--- ---- what is due
-
-abbrev pub is_due : ℕ → Option ℕ → Bool
-is_due t None = false
-is_due t (Some due) = nat_le due t
-
-abbrev pub treats : Kernel → ℕ → ℕ → Option ProcessStatus → Step
-treats k t p None = nothing k
-treats k t p (Some r) = if is_due t r.due then after (answers k t p service.TimedWait code.NoError []) (wakes k t p r) else nothing k
-
--- so many processes from p on, in number order
-abbrev pub due_from : ℕ → ℕ → ℕ → Kernel → Step
-due_from t zero p k = nothing k
-due_from t (suc n) p k = let s = treats k t p (slice_get k.rows p) in after s (due_from t n (p + 1) s.kernel)
-
--- each process whose due time is at most t
-abbrev pub due : Kernel → ℕ → Step
-due k t = due_from t (length k.rows - 1) 1 k
+abbrev pub timed_wait : At → Processes → Runner → ℤ → Step Processes
+timed_wait at s p delay =
+    row (refuses s p service.TimedWait)
+    ((is_busy s p, code.InvalidMode)
+    ∷ (not (is_delay delay), code.InvalidParam)
+    ∷ [])
+    (delays at s p delay)

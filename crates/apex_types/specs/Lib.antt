@@ -1,6 +1,8 @@
 pub mod CodeWords
 pub mod Line
 pub mod NameText
+pub mod Room
+pub mod Runners
 pub mod ServiceNumbers
 pub mod ServiceShape
 pub mod ServiceWords

@@ -53,12 +53,18 @@ pub struct Event {
     pub kind: EventKind,
 }
 
+impl Default for EventKind {
+    fn default() -> EventKind {
+        EventKind::Mode(Mode::Idle)
+    }
+}
+
 impl Default for Event {
     fn default() -> Event {
         Event {
             tick: Ticks(0),
             partition: None,
-            kind: EventKind::Mode(Mode::Idle),
+            kind: EventKind::default(),
         }
     }
 }

@@ -1,5 +1,7 @@
 //! Numbers with a meaning of their own.
 
+ghost use Rattle.std.specs.Prelude.{◌≡◌};
+
 /// A count of processor ticks, or the tick of that number. Ticks of a run are below 2^40.
 #[derive(Clone, Copy, Debug, PartialEq, Eq, PartialOrd, Ord)]
 pub struct Ticks(pub u64);
@@ -12,10 +14,44 @@ pub struct PartitionId(pub u8);
 #[derive(Clone, Copy, Debug, PartialEq, Eq)]
 pub struct PortId(pub u8);
 
-/// Who runs in a partition, by a number: 0 is INIT, 1 to 31 are the processes in the order of
-/// the source text, 32 is the error handler.
+/// A tick of the run, and the tick of the module's last start.
+#[derive(Clone, Copy, Debug, PartialEq, Eq)]
+pub struct At {
+    pub now: Ticks,
+    pub origin: Ticks,
+}
+
+/// The most processes of a partition, beside INIT and the error handler.
+pub const MOST_PROCESSES: u8 = 31;
+
+/// A process by its place in its partition's source text, from 0. The number that programs use is
+/// one more.
 #[derive(Clone, Copy, Debug, Default, PartialEq, Eq)]
-pub struct ProcessId(pub u8);
+pub struct ProcessIndex(pub u8);
+
+/// Who runs in a partition: its initialisation, its error handler, or a process.
+#[derive(Clone, Copy, Debug, PartialEq, Eq)]
+pub enum Runner {
+    Init,
+    Handler,
+    Process(ProcessIndex),
+}
+
+impl Runner {
+    ghost use Rattle.apex_types.specs.Runners.{place_of};
+
+    /// The place of this one in the lists of a partition, which have INIT first, then the handler,
+    /// then the processes.
+    pub fn place(self) -> usize
+        ensures { result ≡ place_of self }
+    {
+        match self {
+            Runner::Init => 0,
+            Runner::Handler => 1,
+            Runner::Process(process) => usize::from(process.0) + 2,
+        }
+    }
+}
 
 /// A process priority, 1 to 239; a higher number goes first.
 #[derive(Clone, Copy, Debug, Default, PartialEq, Eq, PartialOrd, Ord)]

@@ -9,6 +9,7 @@ pub mod identity;
 pub mod instruction;
 pub mod meaning;
 pub mod name;
+pub mod out;
 pub mod place;
 pub mod process;
 pub mod row;
@@ -21,12 +22,15 @@ pub use codes::{
     ReturnCode, StartCondition,
 };
 pub use event::{Event, EventKind, Events, Subject, Words};
-pub use identity::{PartitionId, PortId, Priority, ProcessId, Ticks};
+pub use identity::{
+    At, MOST_PROCESSES, PartitionId, PortId, Priority, ProcessIndex, Runner, Ticks,
+};
 pub use instruction::{BinaryOperator, Instr, UnaryOperator};
 pub use meaning::{ArgumentKind, Meaning, ObjectKind};
 pub use name::Name;
+pub use out::{Actions, Happenings, Out};
 pub use place::Place;
-pub use process::{Action, Entry, ProcessStatus, Wait};
+pub use process::{Action, Due, Entry, Lock, ProcessStatus, Wait};
 pub use row::{
     BlackboardRow, BodyRow, BufferRow, ChannelEnd, HealthTable, PortDirection, PortKind, PortRow,
     ProcessRow, RoutineRow, Section, SemaphoreRow, WindowRow,

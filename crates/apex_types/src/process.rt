@@ -1,52 +1,96 @@
 //! What the kernel keeps of a process, and what it asks of the processor that runs one.
 
-use crate::codes::ProcessState;
+use crate::codes::{ErrorKind, ProcessState};
 use crate::event::{Subject, Words};
-use crate::identity::{Priority, ProcessId};
+use crate::identity::{Priority, ProcessIndex, Runner, Ticks};
+use crate::meaning::ObjectKind;
+use crate::service::{ArrayPlace, Service};
 
 /// What a waiting process waits for.
 #[derive(Clone, Copy, Debug, PartialEq, Eq)]
 pub enum Wait {
-    /// It does not wait.
+    /// It does not wait; if it is in the state WAITING, it is suspended.
     Nothing,
-    /// It was started before the partition's normal start.
-    NormalStart,
-    /// TIMED_WAIT: for its due time.
-    Time,
+    /// It was started before normal mode, and starts there with this delay.
+    NormalStart(Ticks),
+    /// It is started, and its due time is its first release.
+    FirstRelease,
+    /// A service on time or a suspension of its own, which answers at its due time or before it.
+    Service(Service),
+    /// A service on an object or a port: it is in the waiting list of the object with this number,
+    /// and a receiver has this array.
+    Object {
+        service: Service,
+        kind: ObjectKind,
+        number: u8,
+        array: Option<ArrayPlace>,
+    },
 }
 
-/// The kernel's record of INIT or of a process.
+/// What happens at the due time of a process.
+#[derive(Clone, Copy, Debug, PartialEq, Eq)]
+pub enum Due {
+    /// A release point: its deadline counts from here.
+    Release(Ticks),
+    /// The end of a delay.
+    Delay(Ticks),
+    /// The end of a wait that was in vain.
+    TimeOut(Ticks),
+}
+
+/// The kernel's record of INIT, of the error handler or of a process.
 #[derive(Clone, Copy, Debug, PartialEq, Eq)]
 pub struct ProcessStatus {
     pub who: Subject,
     pub base_priority: Priority,
+    /// Ticks from one release to the next; an aperiodic process has none.
+    pub period: Option<Ticks>,
+    /// Ticks from a release to its deadline; none is without limit.
+    pub capacity: Option<Ticks>,
     pub created: bool,
     pub state: ProcessState,
     pub current_priority: Priority,
+    pub suspended: bool,
     pub wait: Wait,
-    /// The tick at which the wait ends by itself.
-    pub due: Option<u64>,
+    pub due: Option<Due>,
+    /// The last release point.
+    pub release: Ticks,
+    pub deadline: Option<Ticks>,
 }
 
 /// A process that is ready, with its priority then.
 #[derive(Clone, Copy, Debug, Default, PartialEq, Eq)]
 pub struct Entry {
-    pub process: ProcessId,
+    pub process: ProcessIndex,
     pub priority: Priority,
 }
 
-/// What a step of the kernel asks of the processor and of the partition's data.
+/// The preemption lock of a partition.
+#[derive(Clone, Copy, Debug, PartialEq, Eq)]
+pub enum Lock {
+    /// Its level is 0, and nobody holds it.
+    Free,
+    /// Its level is above 0.
+    Held { level: u8, holder: ProcessIndex },
+}
+
+/// What a step of the kernel asks of the processor, of the partition's data and of its error
+/// queue.
 #[derive(Debug, Default, PartialEq, Eq, Drop)]
 pub enum Action {
     /// The process begins its body afresh.
-    Begin(ProcessId),
+    Begin(Runner),
     /// The process has nothing left to do.
-    Stop(ProcessId),
+    Stop(Runner),
     /// No process has anything left to do.
     #[default]
     StopAll,
     /// The answer to a service call: the code, then the outputs.
-    Reply(ProcessId, Words),
+    Reply(Runner, Words),
     /// The data becomes the initial data.
     Restore,
+    /// The words go into the data, from this place on.
+    Write(i64, Words),
+    /// The error waits for the error handler: the process that it is of, and its message.
+    Queue(ErrorKind, ProcessIndex, Words),
 }

@@ -1,0 +1,129 @@
+-- What is due in a tick of a partition: for each process in number order its due time, then its
+-- deadline.
+use Rattle.std.specs.Prelude.{ℕ, zero, suc, ◌+◌, ◌-◌, Bool, true, false, nat_le, List, [], ◌∷◌, length, Option, Some, None, is_some, if◌then◌else◌}
+use Rattle.apex_types.specs.declared.codes.ErrorKind.TheVariants.{DeadlineMissed}
+use Rattle.apex_types.specs.declared.codes.Mode.{Mode}
+use Rattle.apex_types.specs.declared.codes.Mode.TheVariants as mode
+use Rattle.apex_types.specs.declared.codes.PartitionAction.{PartitionAction}
+use Rattle.apex_types.specs.declared.codes.PartitionAction.TheVariants as response
+use Rattle.apex_types.specs.declared.codes.Response.TheVariants as level
+use Rattle.apex_types.specs.declared.codes.ReturnCode.{ReturnCode}
+use Rattle.apex_types.specs.declared.codes.ReturnCode.TheVariants as code
+use Rattle.apex_types.specs.declared.event.EventKind.TheVariants as event
+use Rattle.apex_types.specs.declared.identity.At.{At}
+use Rattle.apex_types.specs.declared.identity.ProcessIndex.{ProcessIndex}
+use Rattle.apex_types.specs.declared.identity.Runner.{Runner}
+use Rattle.apex_types.specs.declared.identity.Runner.TheVariants as runner
+use Rattle.apex_types.specs.declared.identity.Ticks.{Ticks}
+use Rattle.apex_types.specs.declared.process.Action.TheVariants as asks
+use Rattle.apex_types.specs.declared.process.Due.{Due}
+use Rattle.apex_types.specs.declared.process.Due.TheVariants as due_time
+use Rattle.apex_types.specs.declared.process.ProcessStatus.{ProcessStatus}
+use Rattle.apex_types.specs.declared.process.Wait.{Wait}
+use Rattle.apex_types.specs.declared.process.Wait.TheVariants as wait
+use Rattle.apex_meaning.specs.Processes.{Processes, row_of, index, put_row, wakes}
+use Rattle.apex_meaning.specs.Step.{Step, nothing, after, message, answered}
+
+-- ---- the end of a wait
+
+-- The RET line and the answer of the service in which a process waits, if it waits in one.
+abbrev pub answers_wait : Processes → Runner → ProcessStatus → ReturnCode → Wait → Step Processes
+answers_wait s p r c (wait.Service service) = answered s p r.who service c []
+answers_wait s p r c _ = nothing s
+
+-- its service answers, and it is ready
+abbrev pub released : Processes → Runner → ProcessStatus → ReturnCode → Step Processes
+released s p r c = after (answers_wait s p r c r.wait) (wakes s p r)
+
+-- A release point is kept, a delay is over, or a wait was in vain.
+abbrev pub ends_wait : Processes → Runner → ProcessStatus → Due → Step Processes
+ends_wait s p r (due_time.Release tick) = released s p (record r { release = tick }) code.NoError
+ends_wait s p r (due_time.Delay tick) = released s p r code.NoError
+ends_wait s p r (due_time.TimeOut tick) = released s p (record r { suspended = false }) code.TimedOut
+
+abbrev pub tick_of : Due → ℕ
+tick_of (due_time.Release tick) = tick.0
+tick_of (due_time.Delay tick) = tick.0
+tick_of (due_time.TimeOut tick) = tick.0
+
+abbrev pub treats_due : At → Processes → Runner → ProcessStatus → Option Due → Step Processes
+treats_due at s p r None = nothing s
+treats_due at s p r (Some due) = if nat_le (tick_of due) at.now.0 then ends_wait s p r due else nothing s
+
+-- ---- a missed deadline
+
+-- After a process is treated: the step, how many more errors wait for the handler, and the mode of
+-- the Clear that ends the treatment of the others.
+pub record Treated : Type 0 where
+  pub step : Step Processes
+  pub free : ℕ
+  pub clears : Option Mode
+
+abbrev pub goes_on : ℕ → Step Processes → Treated
+goes_on free s = record { step = s; free = free; clears = None }
+
+-- the mode that an action of a partition leads to
+abbrev pub mode_of_action : PartitionAction → Option Mode
+mode_of_action response.Ignore = None
+mode_of_action response.Idle = Some mode.Idle
+mode_of_action response.WarmStart = Some mode.WarmStart
+mode_of_action response.ColdStart = Some mode.ColdStart
+
+-- The error waits for the handler where there is room; else it is the partition's, with this action.
+-- The deadline is gone.
+abbrev pub misses : ℕ → PartitionAction → Processes → ProcessIndex → ProcessStatus → Treated
+misses (suc free) action s p r = record {
+  step = record {
+    part = put_row s (runner.Process p) (record r { deadline = None });
+    lines = event.Error DeadlineMissed (Some r.who) level.Handler ∷ [];
+    actions = asks.Queue DeadlineMissed p (message []) ∷ [];
+  };
+  free = free;
+  clears = None;
+}
+misses zero action s p r = record {
+  step = record {
+    part = put_row s (runner.Process p) (record r { deadline = None });
+    lines = event.Error DeadlineMissed (Some r.who) (level.Partition action) ∷ [];
+    actions = [];
+  };
+  free = 0;
+  clears = mode_of_action action;
+}
+
+abbrev pub is_past : ℕ → Option Ticks → Bool
+is_past now None = false
+is_past now (Some tick) = nat_le tick.0 now
+
+abbrev pub treats_deadline : At → ℕ → PartitionAction → Processes → ProcessIndex → Option ProcessStatus → Treated
+treats_deadline at free action s p None = goes_on free (nothing s)
+treats_deadline at free action s p (Some r) = if is_past at.now.0 r.deadline then misses free action s p r else goes_on free (nothing s)
+
+-- ---- each process
+
+abbrev pub treated_after : Step Processes → Treated → Treated
+treated_after s t = record { step = after s t.step; free = t.free; clears = t.clears }
+
+-- one process: its due time, then its deadline
+abbrev pub treats : At → ℕ → PartitionAction → Processes → ProcessIndex → Option ProcessStatus → Treated
+treats at free action s p None = goes_on free (nothing s)
+treats at free action s p (Some r) =
+    let d = treats_due at s (runner.Process p) r r.due in
+    treated_after d (treats_deadline at free action d.part p (row_of d.part (runner.Process p)))
+
+-- the others are treated, unless there is a Clear
+abbrev pub then_others : Treated → Treated → Treated
+then_others t others = if is_some t.clears then t else treated_after t.step others
+
+-- so many processes from a place on, in number order
+abbrev pub due_from : At → PartitionAction → ℕ → ℕ → ℕ → Processes → Treated
+due_from at action zero place free s = goes_on free (nothing s)
+due_from at action (suc n) place free s =
+    let t = treats at free action s (index place) (row_of s (runner.Process (index place))) in
+    then_others t (due_from at action n (place + 1) t.free t.step.part)
+
+-- Each process in number order: its due time if it is at most now, then its deadline if it is at
+-- most now. `free` more errors may wait for the handler; `action` is the partition's for a missed
+-- deadline.
+abbrev pub due : At → ℕ → PartitionAction → Processes → Treated
+due at free action s = due_from at action (length s.rows - 2) 0 free s

@@ -1,0 +1,15 @@
+-- The room that a step has for its lines and actions.
+use Rattle.std.specs.Prelude.{◌≡◌, ℕ, ◌+◌, ◌≤◌, [], length}
+use Rattle.apex_types.specs.declared.out.Out.{Out}
+
+-- room for so many lines and so many actions more
+abbrev pub HasRoom : ℕ → Out → Type 0
+HasRoom n out = (length out.lines.items + n ≤ 256) × (length out.actions.items + n ≤ 128)
+
+-- no line and no action yet
+abbrev pub IsEmpty : Out → Type 0
+IsEmpty out = (out.lines.items ≡ []) × (out.actions.items ≡ [])
+
+-- at most so many lines and so many actions more
+abbrev pub Grows : ℕ → Out → Out → Type 0
+Grows n before after = (length after.lines.items ≤ length before.lines.items + n) × (length after.actions.items ≤ length before.actions.items + n)
