@@ -119,9 +119,10 @@ put_dormant s p r = record s { rows = slice_set s.rows (place_of p) r; ready = l
 
 -- ---- changes of one process, each with its line
 
-abbrev pub is_waiting : ProcessState → Bool
-is_waiting Waiting = true
-is_waiting _ = false
+-- the line of one that begins to wait; there is none where it waited before
+abbrev pub waiting_lines : Subject → ProcessState → List EventKind
+waiting_lines who Waiting = []
+waiting_lines who _ = event.State who Waiting ∷ []
 
 -- It becomes ready and goes last. One that is suspended waits on until it is resumed.
 abbrev pub wakes : Processes → Runner → ProcessStatus → Step Processes
@@ -133,11 +134,11 @@ wakes s p r =
       actions = [];
     }
 
--- It waits, until its due time if it has one. There is no line where it waited before.
+-- It waits, until its due time if it has one.
 abbrev pub waits : Processes → Runner → ProcessStatus → Wait → Option Due → Step Processes
 waits s p r reason due = record {
   part = put_unready s p (record r { state = Waiting; wait = reason; due = due });
-  lines = if is_waiting r.state then [] else event.State r.who Waiting ∷ [];
+  lines = waiting_lines r.who r.state;
   actions = [];
 }
 

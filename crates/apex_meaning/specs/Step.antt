@@ -1,6 +1,6 @@
 -- What a step of the kernel gives, and how steps are put together. A service is a step over the part
 -- of a partition's state that it reads and changes.
-use Rattle.std.specs.Prelude.{ℕ, ◌-◌, ℤ, pos, replicate, Bool, List, [], ◌∷◌, ◌++◌, if◌then◌else◌}
+use Rattle.std.specs.Prelude.{◌≡◌, ℕ, ◌-◌, ℤ, pos, replicate, Bool, List, [], ◌∷◌, ◌++◌, if◌then◌else◌}
 use Rattle.arrayvec.specs.ArrayVec.{ArrayVec}
 use Rattle.apex_types.specs.declared.codes.ReturnCode.{ReturnCode}
 use Rattle.apex_types.specs.declared.codes.ReturnCode.TheVariants as code
@@ -8,6 +8,7 @@ use Rattle.apex_types.specs.declared.event.EventKind.{EventKind}
 use Rattle.apex_types.specs.declared.event.EventKind.TheVariants as event
 use Rattle.apex_types.specs.declared.event.Subject.{Subject}
 use Rattle.apex_types.specs.declared.identity.Runner.{Runner}
+use Rattle.apex_types.specs.declared.out.Out.{Out}
 use Rattle.apex_types.specs.declared.process.Action.{Action}
 use Rattle.apex_types.specs.declared.process.Action.TheVariants as action
 use Rattle.apex_types.specs.declared.service.Service.{Service}
@@ -61,3 +62,14 @@ answered part p who service c outputs = record {
 -- the outputs of a refused service, which are 0
 abbrev pub zeros : Service → List ℤ
 zeros service = replicate (answer_words service - 1) (pos 0)
+
+-- ---- a step that the code makes
+
+-- The step is made: the part is the one after it, and its lines and actions come behind those that
+-- were there.
+abbrev pub IsMade : {P : Type 0} → Step P → P → Out → Out → Type 0
+IsMade s part before after = (part ≡ s.part) × (after.lines.items ≡ before.lines.items ++ s.lines) × (after.actions.items ≡ before.actions.items ++ s.actions)
+
+-- the same of a step that leaves its part as it was
+abbrev pub IsTold : {P : Type 0} → Step P → Out → Out → Type 0
+IsTold s before after = (after.lines.items ≡ before.lines.items ++ s.lines) × (after.actions.items ≡ before.actions.items ++ s.actions)

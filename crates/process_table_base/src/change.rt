@@ -1,0 +1,175 @@
+//! Changes of one process, each with its line, and the answers of services.
+
+ghost use Rattle.std.specs.Prelude.{◌≡◌, ◌<◌, ◌≤◌, ◌+◌, ◌++◌, [], ◌∷◌, pos, length};
+ghost use Rattle.apex_types.specs.Room.{HasRoom, Grows};
+ghost use Rattle.apex_types.specs.Runners.{place_of};
+ghost use Rattle.apex_meaning.specs.Processes as meaning;
+ghost use Rattle.apex_meaning.specs.Step.{IsMade, IsTold, code_number, message};
+ghost use Rattle.apex_meaning.specs.Step as step;
+
+use crate::table::ProcessTable;
+use apex_types::{
+    Action, Due, EventKind, Out, ProcessState, ProcessStatus, ReturnCode, Runner, Service, Subject,
+    Wait, Words,
+};
+
+/// A service ends with a code and its outputs: its line, then the answer to the process.
+pub fn answer(
+    runner: Runner,
+    who: Subject,
+    service: Service,
+    code: ReturnCode,
+    outputs: &[i64],
+    out: &mut Out,
+)
+    requires outputs { length outputs.now ≤ 6 }
+    requires room { HasRoom 1 out.old }
+    ensures lines { out.new.lines.items ≡ out.old.lines.items ++ EventKind.Return who service code ∷ [] }
+    ensures actions { out.new.actions.items ≡ out.old.actions.items ++ Action.Reply runner (message (pos (code_number code) ∷ outputs.now)) ∷ [] }
+{
+    out.lines.push(EventKind::Return(who, service, code));
+    out.actions
+        .push(Action::Reply(runner, answer_of(code, outputs)));
+}
+
+/// The words of an answer: the code, then the outputs.
+fn answer_of(code: ReturnCode, outputs: &[i64]) -> Words
+    requires { length outputs.now ≤ 6 }
+    ensures { result ≡ message (pos (code_number code) ∷ outputs.now) }
+{
+    let mut words = Words::new();
+    words.push(code as i64);
+    words.try_extend_from_slice(outputs).unwrap();
+    words
+}
+
+/// The line of one that begins to wait; there is none where it waited before.
+fn tell_waiting(row: &ProcessStatus, out: &mut Out)
+    requires { HasRoom 1 out.old }
+    ensures lines { out.new.lines.items ≡ out.old.lines.items ++ meaning.waiting_lines row.now.who row.now.state }
+    ensures actions { out.new.actions.items ≡ out.old.actions.items }
+    ensures grows { Grows 1 out.old out.new }
+{
+    match row.state {
+        ProcessState::Waiting => {}
+        _ => out
+            .lines
+            .push(EventKind::State(row.who, ProcessState::Waiting)),
+    }
+}
+
+impl ProcessTable {
+    /// Who the lines of this one name.
+    pub fn subject(&self, runner: Runner) -> Subject
+        ensures { result ≡ meaning.subject self.now runner }
+    {
+        match self.row(runner) {
+            Some(row) => row.who,
+            None => Subject::Init,
+        }
+    }
+
+    /// It becomes ready and goes last. One that is suspended waits on until it is resumed.
+    pub fn wake(&mut self, runner: Runner, row: ProcessStatus, out: &mut Out)
+        requires runner { place_of runner < 33 }
+        requires room { HasRoom 1 out.old }
+        ensures step { IsMade (meaning.wakes self.old runner row) self.new out.old out.new }
+        ensures grows { Grows 1 out.old out.new }
+    {
+        let awake = ProcessStatus {
+            wait: Wait::Nothing,
+            due: None,
+            ..row
+        };
+        if row.suspended {
+            self.put_unready(runner, awake);
+            return;
+        }
+        out.lines
+            .push(EventKind::State(row.who, ProcessState::Ready));
+        let ready = ProcessStatus {
+            state: ProcessState::Ready,
+            ..awake
+        };
+        self.put_ready(runner, ready);
+    }
+
+    /// It waits, until its due time if it has one. There is no line where it waited before.
+    pub fn wait(
+        &mut self,
+        runner: Runner,
+        row: ProcessStatus,
+        reason: Wait,
+        due: Option<Due>,
+        out: &mut Out,
+    )
+        requires { HasRoom 1 out.old }
+        ensures step { IsMade (meaning.waits self.old runner row reason due) self.new out.old out.new }
+        ensures grows { Grows 1 out.old out.new }
+    {
+        tell_waiting(&row, out);
+        let waiting = ProcessStatus {
+            state: ProcessState::Waiting,
+            wait: reason,
+            due,
+            ..row
+        };
+        self.put_unready(runner, waiting);
+    }
+
+    /// It becomes dormant: it is in no list, has no due time, no deadline and nothing left to do, and
+    /// the lock is free if it held it.
+    pub fn rest(&mut self, runner: Runner, row: ProcessStatus, out: &mut Out)
+        requires { HasRoom 1 out.old }
+        ensures step { IsMade (meaning.rests self.old runner row) self.new out.old out.new }
+        ensures grows { Grows 1 out.old out.new }
+    {
+        out.lines
+            .push(EventKind::State(row.who, ProcessState::Dormant));
+        let dormant = ProcessStatus {
+            state: ProcessState::Dormant,
+            suspended: false,
+            wait: Wait::Nothing,
+            due: None,
+            deadline: None,
+            ..row
+        };
+        self.put_dormant(runner, dormant);
+        out.actions.push(Action::Stop(runner));
+    }
+
+    /// A service of a process ends with a code and its outputs.
+    pub fn answer(
+        &self,
+        runner: Runner,
+        service: Service,
+        code: ReturnCode,
+        outputs: &[i64],
+        out: &mut Out,
+    )
+        requires outputs { length outputs.now ≤ 6 }
+        requires room { HasRoom 1 out.old }
+        ensures step { IsTold (meaning.answers self.now runner service code outputs.now) out.old out.new }
+        ensures grows { Grows 1 out.old out.new }
+    {
+        answer(runner, self.subject(runner), service, code, outputs, out);
+    }
+
+    /// A refused service changes nothing; `zeros` are its outputs.
+    pub fn refuse(
+        &self,
+        runner: Runner,
+        service: Service,
+        code: ReturnCode,
+        zeros: &[i64],
+        out: &mut Out,
+    )
+        requires outputs { zeros.now ≡ step.zeros service }
+        requires few { length zeros.now ≤ 6 }
+        requires room { HasRoom 1 out.old }
+        ensures step { IsTold (meaning.refuses self.now runner service code) out.old out.new }
+        ensures grows { Grows 1 out.old out.new }
+    {
+        self.answer(runner, service, code, zeros, out);
+    }
+}

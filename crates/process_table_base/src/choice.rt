@@ -1,0 +1,119 @@
+//! The choice of who runs.
+
+ghost use Rattle.std.specs.Prelude.{◌≡◌, ◌≤◌, ◌+◌, length};
+ghost use Rattle.apex_types.specs.Room.{HasRoom, Grows};
+ghost use Rattle.apex_meaning.specs.Partition as meaning;
+ghost use Rattle.apex_meaning.specs.Step.{IsMade};
+
+use crate::table::{ProcessTable, is_same};
+use apex_types::{EventKind, Lock, Mode, Out, ProcessState, ProcessStatus, Runner};
+
+impl ProcessTable {
+    /// Who is to run: before the normal start INIT; then the handler if it is ready, the one that
+    /// holds the lock, or the first of those that are ready.
+    pub fn pick(&self, mode: Mode) -> Option<Runner>
+        ensures { result ≡ meaning.pick mode self.now }
+    {
+        match mode {
+            Mode::Idle => None,
+            Mode::Normal => {
+                if is_ready(self.row(Runner::Handler)) {
+                    Some(Runner::Handler)
+                } else {
+                    self.pick_unless_held()
+                }
+            }
+            _ => Some(Runner::Init),
+        }
+    }
+
+    fn pick_unless_held(&self) -> Option<Runner>
+        ensures { result ≡ meaning.unless_held self.now.lock self.now.ready }
+    {
+        match self.lock() {
+            Lock::Free => self.first_ready(),
+            Lock::Held { holder, .. } => Some(Runner::Process(holder)),
+        }
+    }
+
+    /// The one that was running is ready, and keeps its place.
+    fn leave_processor(&mut self, running: Option<Runner>, out: &mut Out)
+        requires { HasRoom 1 out.old }
+        ensures step { IsMade (meaning.leaves_processor self.old running) self.new out.old out.new }
+        ensures grows { Grows 1 out.old out.new }
+    {
+        if let Some(runner) = running {
+            if let Some(row) = self.row(runner) {
+                out.lines
+                    .push(EventKind::State(row.who, ProcessState::Ready));
+                self.put_row(
+                    runner,
+                    ProcessStatus {
+                        state: ProcessState::Ready,
+                        ..row
+                    },
+                );
+                self.set_running(None);
+            }
+        }
+    }
+
+    /// This one runs.
+    fn take_processor(&mut self, chosen: Option<Runner>, out: &mut Out)
+        requires { HasRoom 1 out.old }
+        ensures step { IsMade (meaning.takes_processor self.old chosen) self.new out.old out.new }
+        ensures grows { Grows 1 out.old out.new }
+    {
+        if let Some(runner) = chosen {
+            if let Some(row) = self.row(runner) {
+                out.lines
+                    .push(EventKind::State(row.who, ProcessState::Running));
+                self.put_row(
+                    runner,
+                    ProcessStatus {
+                        state: ProcessState::Running,
+                        ..row
+                    },
+                );
+                self.set_running(Some(runner));
+            }
+        }
+    }
+
+    /// A change of the chosen one writes that the old one is ready and that the new one runs.
+    pub fn choose(&mut self, mode: Mode, out: &mut Out)
+        requires { HasRoom 2 out.old }
+        ensures step { IsMade (meaning.chooses mode self.old) self.new out.old out.new }
+        ensures grows { Grows 2 out.old out.new }
+    {
+        let running = self.running();
+        let chosen = self.pick(mode);
+        if are_same(running, chosen) {
+            return;
+        }
+        self.leave_processor(running, out);
+        self.take_processor(chosen, out);
+    }
+}
+
+fn is_ready(row: Option<ProcessStatus>) -> bool
+    ensures { result ≡ meaning.is_ready row }
+{
+    match row {
+        Some(row) => match row.state {
+            ProcessState::Ready | ProcessState::Running => true,
+            _ => false,
+        },
+        None => false,
+    }
+}
+
+fn are_same(one: Option<Runner>, other: Option<Runner>) -> bool
+    ensures { result ≡ meaning.are_same one other }
+{
+    match (one, other) {
+        (None, None) => true,
+        (Some(one), Some(other)) => is_same(one, other),
+        _ => false,
+    }
+}

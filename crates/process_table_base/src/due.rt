@@ -1,0 +1,229 @@
+//! What is due in a tick: for each process in number order its due time, then its deadline.
+
+ghost use Rattle.std.specs.Prelude.{◌≡◌, ◌<◌, ◌≤◌, ◌+◌, ◌-◌, ◌*◌, length};
+ghost use Rattle.apex_types.specs.Room.{HasRoom, Grows};
+ghost use Rattle.apex_types.specs.Runners.{place_of};
+ghost use Rattle.apex_meaning.specs.Due as meaning;
+ghost use Rattle.apex_meaning.specs.Processes.{row_of};
+ghost use Rattle.apex_meaning.specs.Step.{IsMade, IsTold};
+ghost use Rattle.process_table_base.specs.Treating.{IsTreated};
+
+use crate::change::answer;
+use crate::table::ProcessTable;
+use apex_types::{
+    Action, At, Due, ErrorKind, EventKind, Mode, Out, PartitionAction, ProcessIndex, ProcessStatus,
+    Response, ReturnCode, Runner, Ticks, Wait, Words,
+};
+
+/// What the treatment of processes comes to beside its lines: how many more errors may wait for the
+/// error handler, and the mode of the Clear that ended it, if one did.
+#[derive(Clone, Copy, Debug, PartialEq, Eq)]
+pub struct Treated {
+    pub free: u8,
+    pub clears: Option<Mode>,
+}
+
+impl ProcessTable {
+    /// The service in which a process waits answers, if it waits in one.
+    fn answer_wait(
+        &self,
+        runner: Runner,
+        row: &ProcessStatus,
+        code: ReturnCode,
+        wait: Wait,
+        out: &mut Out,
+    )
+        requires { HasRoom 1 out.old }
+        ensures step { IsTold (meaning.answers_wait self.now runner row.now code wait) out.old out.new }
+        ensures grows { Grows 1 out.old out.new }
+    {
+        match wait {
+            Wait::Service(service) => answer(runner, row.who, service, code, &[], out),
+            _ => {}
+        }
+    }
+
+    /// The service in which a process waits answers, if it waits in one; then it is ready.
+    pub fn release(&mut self, runner: Runner, row: ProcessStatus, code: ReturnCode, out: &mut Out)
+        requires runner { place_of runner < 33 }
+        requires room { HasRoom 2 out.old }
+        ensures step { IsMade (meaning.released self.old runner row code) self.new out.old out.new }
+        ensures grows { Grows 2 out.old out.new }
+    {
+        self.answer_wait(runner, &row, code, row.wait, out);
+        self.wake(runner, row, out);
+    }
+
+    /// A release point is kept, a delay is over, or a wait was in vain.
+    fn end_wait(&mut self, runner: Runner, row: ProcessStatus, due: Due, out: &mut Out)
+        requires runner { place_of runner < 33 }
+        requires room { HasRoom 2 out.old }
+        ensures step { IsMade (meaning.ends_wait self.old runner row due) self.new out.old out.new }
+        ensures grows { Grows 2 out.old out.new }
+    {
+        match due {
+            Due::Release(tick) => {
+                let released = ProcessStatus {
+                    release: tick,
+                    ..row
+                };
+                self.release(runner, released, ReturnCode::NoError, out);
+            }
+            Due::Delay(_) => self.release(runner, row, ReturnCode::NoError, out),
+            Due::TimeOut(_) => {
+                let resumed = ProcessStatus {
+                    suspended: false,
+                    ..row
+                };
+                self.release(runner, resumed, ReturnCode::TimedOut, out);
+            }
+        }
+    }
+
+    fn treat_due(&mut self, at: At, runner: Runner, row: ProcessStatus, out: &mut Out)
+        requires runner { place_of runner < 33 }
+        requires room { HasRoom 2 out.old }
+        ensures step { IsMade (meaning.treats_due at self.old runner row row.due) self.new out.old out.new }
+        ensures grows { Grows 2 out.old out.new }
+    {
+        if let Some(due) = row.due {
+            if tick_of(due).0 <= at.now.0 {
+                self.end_wait(runner, row, due, out);
+            }
+        }
+    }
+
+    /// A missed deadline waits for the handler where there is room; else it is the partition's.
+    fn miss(
+        &mut self,
+        free: u8,
+        action: PartitionAction,
+        process: ProcessIndex,
+        row: ProcessStatus,
+        out: &mut Out,
+    ) -> Treated
+        requires { HasRoom 1 out.old }
+        ensures treated { IsTreated (meaning.misses free action self.old process row) self.new out.old out.new result }
+        ensures grows { Grows 1 out.old out.new }
+    {
+        let row_now = ProcessStatus {
+            deadline: None,
+            ..row
+        };
+        self.put_row(Runner::Process(process), row_now);
+        let error = ErrorKind::DeadlineMissed;
+        if free > 0 {
+            out.lines
+                .push(EventKind::Error(error, Some(row.who), Response::Handler));
+            out.actions
+                .push(Action::Queue(error, process, Words::new()));
+            Treated {
+                free: free - 1,
+                clears: None,
+            }
+        } else {
+            out.lines.push(EventKind::Error(
+                error,
+                Some(row.who),
+                Response::Partition(action),
+            ));
+            Treated {
+                free: 0,
+                clears: mode_of_action(action),
+            }
+        }
+    }
+
+    fn treat_deadline(
+        &mut self,
+        at: At,
+        free: u8,
+        action: PartitionAction,
+        process: ProcessIndex,
+        out: &mut Out,
+    ) -> Treated
+        requires { HasRoom 1 out.old }
+        ensures treated { IsTreated (meaning.treats_deadline at free action self.old process (row_of self.old (Runner.Process process))) self.new out.old out.new result }
+        ensures grows { Grows 1 out.old out.new }
+    {
+        if let Some(row) = self.row(Runner::Process(process)) {
+            if is_past(at.now, row.deadline) {
+                return self.miss(free, action, process, row, out);
+            }
+        }
+        Treated { free, clears: None }
+    }
+
+    /// One process: its due time, then its deadline.
+    fn treat(
+        &mut self,
+        at: At,
+        free: u8,
+        action: PartitionAction,
+        process: ProcessIndex,
+        out: &mut Out,
+    ) -> Treated
+        requires { HasRoom 3 out.old }
+        ensures treated { IsTreated (meaning.treats at free action self.old process (row_of self.old (Runner.Process process))) self.new out.old out.new result }
+        ensures grows { Grows 3 out.old out.new }
+    {
+        let runner = Runner::Process(process);
+        let Some(row) = self.row(runner) else {
+            return Treated { free, clears: None };
+        };
+        self.treat_due(at, runner, row, out);
+        self.treat_deadline(at, free, action, process, out)
+    }
+
+    /// Each process in number order: its due time if it is at most now, then its deadline if it is
+    /// at most now. `free` more errors may wait for the error handler, and `action` is the
+    /// partition's for a missed deadline: an action that leads to a Clear ends the treatment.
+    pub fn due(&mut self, at: At, free: u8, action: PartitionAction, out: &mut Out) -> Treated
+        requires { HasRoom 93 out.old }
+        ensures treated { IsTreated (meaning.due at free action self.old) self.new out.old out.new result }
+        ensures grows { Grows 93 out.old out.new }
+    {
+        let mut left = self.count().saturating_sub(2);
+        let mut place = 0u8;
+        let mut free = free;
+        while left > 0 {
+            let treated = self.treat(at, free, action, ProcessIndex(place), out);
+            if treated.clears.is_some() {
+                return treated;
+            }
+            free = treated.free;
+            left -= 1;
+            place += 1;
+        }
+        Treated { free, clears: None }
+    }
+}
+
+fn tick_of(due: Due) -> Ticks
+    ensures { result.0 ≡ meaning.tick_of due }
+{
+    match due {
+        Due::Release(tick) | Due::Delay(tick) | Due::TimeOut(tick) => tick,
+    }
+}
+
+fn is_past(now: Ticks, tick: Option<Ticks>) -> bool
+    ensures { result ≡ meaning.is_past now.0 tick }
+{
+    match tick {
+        Some(tick) => tick.0 <= now.0,
+        None => false,
+    }
+}
+
+/// The mode that an action of a partition leads to.
+pub fn mode_of_action(action: PartitionAction) -> Option<Mode>
+    ensures { result ≡ meaning.mode_of_action action }
+{
+    match action {
+        PartitionAction::Ignore => None,
+        PartitionAction::Idle => Some(Mode::Idle),
+        PartitionAction::WarmStart => Some(Mode::WarmStart),
+        PartitionAction::ColdStart => Some(Mode::ColdStart),
+    }
+}

@@ -1,0 +1,70 @@
+//! Processes by the numbers that programs give.
+
+ghost use Rattle.std.specs.Prelude.{◌≡◌, ◌<◌, IfSome, true};
+ghost use Rattle.apex_types.specs.Runners.{place_of};
+ghost use Rattle.apex_meaning.specs.Processes as meaning;
+
+use crate::table::ProcessTable;
+use apex_types::{Lock, ProcessIndex, ProcessState, ProcessStatus, Runner};
+
+impl ProcessTable {
+    /// The process with a number, with its record.
+    #[tactic(auto, using(apex_meaning::proofs::Numbers::numbers))]
+    pub fn process_at(&self, id: i64) -> Option<(Runner, ProcessStatus)>
+        ensures found { result ≡ meaning.process_at self.now id }
+        ensures within { IfSome result (λ found. place_of found.0 < 33) }
+    {
+        if id < 1 || id > i64::from(self.count()) {
+            return None;
+        }
+        let runner = Runner::Process(ProcessIndex(id as u8 - 1));
+        match self.row(runner) {
+            Some(row) => Some((runner, row)),
+            None => None,
+        }
+    }
+
+    /// The caller may not wait: it is INIT or the handler, or preemption is locked.
+    pub fn is_busy(&self, caller: Runner) -> bool
+        ensures { result ≡ meaning.is_busy self.now caller }
+    {
+        match caller {
+            Runner::Process(_) => match self.lock() {
+                Lock::Free => false,
+                Lock::Held { .. } => true,
+            },
+            _ => true,
+        }
+    }
+
+    /// A process is created in its record.
+    pub fn create(&mut self, process: Runner, row: ProcessStatus)
+        ensures { self.new ≡ meaning.put_row self.old process (record row { created = true }) }
+    {
+        self.put_row(
+            process,
+            ProcessStatus {
+                created: true,
+                ..row
+            },
+        );
+    }
+
+    /// A ready process goes behind its equals.
+    pub fn go_last(&mut self, runner: Runner, row: ProcessStatus)
+        requires { place_of runner < 33 }
+        ensures { self.new ≡ meaning.put_ready self.old runner row }
+    {
+        self.put_ready(runner, row);
+    }
+}
+
+/// Whether a process is dormant.
+pub fn is_dormant(row: &ProcessStatus) -> bool
+    ensures { result ≡ meaning.is_dormant row.now }
+{
+    match row.state {
+        ProcessState::Dormant => true,
+        _ => false,
+    }
+}

@@ -1,0 +1,16 @@
+//! The processes of a partition: their records, the choice of who runs, what is due, and the changes
+//! of one process that services are made of.
+#![tactic(auto)]
+
+mod change;
+mod choice;
+mod due;
+mod find;
+mod order;
+mod start;
+mod table;
+
+pub use change::answer;
+pub use due::{Treated, mode_of_action};
+pub use find::is_dormant;
+pub use table::ProcessTable;

@@ -1,0 +1,269 @@
+//! The records of a partition's processes, and the few ways in which they change.
+
+ghost use Rattle.std.specs.Prelude.{◌≡◌, ◌<◌, ◌≤◌, [], ◌∷◌, length, map, slice_get, slice_set, IfOk, IfSome, None, option_map};
+ghost use Rattle.apex_types.specs.Runners.{place_of};
+ghost use Rattle.apex_types.specs.declared.process.Lock.TheVariants as free;
+ghost use Rattle.apex_meaning.specs.PartitionServices.{cleared_processes, forgotten, ready_init};
+ghost use Rattle.apex_meaning.specs.Partition.{first_ready};
+ghost use Rattle.apex_meaning.specs.Processes as meaning;
+ghost use Rattle.apex_meaning.specs.TwoMeanings.{fresh_row, fresh_processes, init_row, handler_row, machine_row, ticks};
+
+use crate::order::{self, Order};
+use apex_types::{
+    Lock, Mode, Priority, ProcessRow, ProcessState, ProcessStatus, Runner, Subject, Ticks, Wait,
+};
+use std::alloc::{AllocError, Global};
+use std::marker::Model;
+
+/// The processes of a partition: the records of INIT, of the error handler and of each process; those
+/// that are ready; the one that runs; and the preemption lock. A contract sees it as the processes of
+/// the definitions.
+#[derive(Drop)]
+pub struct ProcessTable {
+    rows: Vec<ProcessStatus>,
+    ready: Order,
+    running: Option<Runner>,
+    lock: Lock,
+}
+
+impl Model for ProcessTable {
+    ghost use Rattle.apex_meaning.specs.Processes as meaning;
+
+    ghost Value = { meaning.Processes };
+
+    ghost use Rattle.process_table_base.specs.View.{processes_of, IsSound};
+
+    ghost view = { processes_of };
+
+    ghost invariant = { IsSound };
+}
+
+/// A count of ticks, where there is one.
+fn ticks(count: Option<u64>) -> Option<Ticks>
+    ensures { result ≡ option_map ticks count }
+{
+    match count {
+        Some(count) => Some(Ticks(count)),
+        None => None,
+    }
+}
+
+/// The record of one with a priority, before it is created.
+fn fresh_row(
+    who: Subject,
+    priority: Priority,
+    period: Option<u64>,
+    capacity: Option<u64>,
+) -> ProcessStatus
+    ensures { result ≡ fresh_row who priority period capacity }
+{
+    ProcessStatus {
+        who,
+        base_priority: priority,
+        period: ticks(period),
+        capacity: ticks(capacity),
+        created: false,
+        state: ProcessState::Dormant,
+        current_priority: priority,
+        suspended: false,
+        wait: Wait::Nothing,
+        due: None,
+        release: Ticks(0),
+        deadline: None,
+    }
+}
+
+/// INIT, the handler and the processes, none of them created.
+fn fresh_rows(alloc: Global, processes: &[ProcessRow]) -> Result<Vec<ProcessStatus>, AllocError>
+    ensures { IfOk result (λ rows. rows.items ≡ init_row ∷ handler_row ∷ map machine_row processes.now) }
+{
+    let mut rows = Vec::with_capacity(alloc, processes.len())?;
+    rows.push(fresh_row(Subject::Init, Priority(0), None, None))?;
+    rows.push(fresh_row(Subject::Handler, Priority(0), None, None))?;
+    for process in processes {
+        let who = Subject::Process(process.name);
+        rows.push(fresh_row(
+            who,
+            process.priority,
+            process.period,
+            process.capacity,
+        ))?;
+    }
+    Ok(rows)
+}
+
+impl ProcessTable {
+    /// No process is created, and none runs. An error is one of memory.
+    pub fn new(alloc: Global, processes: &[ProcessRow]) -> Result<ProcessTable, AllocError>
+        requires { length processes.now ≤ 31 }
+        ensures { IfOk result (λ table. table ≡ fresh_processes (map machine_row processes.now)) }
+    {
+        Ok(ProcessTable {
+            rows: fresh_rows(alloc, processes)?,
+            ready: Order::new(),
+            running: None,
+            lock: Lock::Free,
+        })
+    }
+
+    /// The record of INIT, of the handler or of a process, where there is such a process.
+    pub fn row(&self, runner: Runner) -> Option<ProcessStatus>
+        ensures row { result ≡ meaning.row_of self.now runner }
+        ensures within { IfSome result (λ row. place_of runner < 33) }
+    {
+        self.rows.get(runner.place()).copied()
+    }
+
+    /// How many records there are.
+    pub(crate) fn count(&self) -> u8
+        ensures count { result ≡ length self.now.rows }
+        ensures few { result ≤ 33 }
+    {
+        self.rows.len() as u8
+    }
+
+    /// The one that is running, which is the one chosen last.
+    pub fn running(&self) -> Option<Runner>
+        ensures { result ≡ self.now.running }
+    {
+        self.running
+    }
+
+    pub(crate) fn set_running(&mut self, running: Option<Runner>)
+        ensures { self.new ≡ record self.old { running = running } }
+    {
+        self.running = running;
+    }
+
+    /// The preemption lock.
+    pub(crate) fn lock(&self) -> Lock
+        ensures { result ≡ self.now.lock }
+    {
+        self.lock
+    }
+
+    /// No process is created, and no one runs or holds the lock. Unless the mode is idle, INIT is
+    /// ready.
+    pub fn clear(&mut self, mode: Mode)
+        ensures { self.new ≡ cleared_processes mode self.old }
+    {
+        forget_all(&mut self.rows);
+        if mode != Mode::Idle {
+            ready_init(&mut self.rows);
+        }
+        self.ready.clear();
+        self.running = None;
+        self.lock = Lock::Free;
+    }
+
+    /// The first of those that are ready.
+    pub(crate) fn first_ready(&self) -> Option<Runner>
+        ensures { result ≡ first_ready self.now.ready }
+    {
+        match self.ready.first() {
+            Some(entry) => Some(Runner::Process(entry.process)),
+            None => None,
+        }
+    }
+
+    pub(crate) fn put_row(&mut self, runner: Runner, row: ProcessStatus)
+        ensures { self.new ≡ meaning.put_row self.old runner row }
+    {
+        put_at(&mut self.rows, runner, row);
+    }
+
+    pub(crate) fn put_ready(&mut self, runner: Runner, row: ProcessStatus)
+        requires { place_of runner < 33 }
+        ensures { self.new ≡ meaning.put_ready self.old runner row }
+    {
+        let priority = row.current_priority;
+        put_at(&mut self.rows, runner, row);
+        order::enter_ready(&mut self.ready, runner, priority);
+    }
+
+    pub(crate) fn put_unready(&mut self, runner: Runner, row: ProcessStatus)
+        ensures { self.new ≡ meaning.put_unready self.old runner row }
+    {
+        put_at(&mut self.rows, runner, row);
+        order::leave_ready(&mut self.ready, runner);
+        self.running = not_running(runner, self.running);
+    }
+
+    pub(crate) fn put_dormant(&mut self, runner: Runner, row: ProcessStatus)
+        ensures { self.new ≡ meaning.put_dormant self.old runner row }
+    {
+        self.put_unready(runner, row);
+        self.lock = without_holder(runner, self.lock);
+    }
+}
+
+/// The record of one that is no longer created.
+fn forgotten(row: &ProcessStatus) -> ProcessStatus
+    ensures { result ≡ forgotten row.now }
+{
+    ProcessStatus {
+        created: false,
+        state: ProcessState::Dormant,
+        current_priority: row.base_priority,
+        suspended: false,
+        wait: Wait::Nothing,
+        due: None,
+        release: Ticks(0),
+        deadline: None,
+        ..*row
+    }
+}
+
+fn forget_all(rows: &mut Vec<ProcessStatus>)
+    ensures { rows.new.items ≡ map forgotten rows.old.items }
+{
+    for row in rows.iter_mut() {
+        *row = forgotten(row);
+    }
+}
+
+fn ready_init(rows: &mut Vec<ProcessStatus>)
+    ensures { rows.new.items ≡ ready_init (slice_get rows.old.items 0) rows.old.items }
+{
+    if let Some(row) = rows.get_mut(0) {
+        row.state = ProcessState::Ready;
+    }
+}
+
+/// Puts a record in its place, where there is one.
+fn put_at(rows: &mut Vec<ProcessStatus>, runner: Runner, row: ProcessStatus)
+    ensures { rows.new.items ≡ slice_set rows.old.items (place_of runner) row }
+{
+    if let Some(place) = rows.get_mut(runner.place()) {
+        *place = row;
+    }
+}
+
+pub(crate) fn is_same(runner: Runner, other: Runner) -> bool
+    ensures { result ≡ meaning.is_same runner other }
+{
+    match (runner, other) {
+        (Runner::Init, Runner::Init) => true,
+        (Runner::Handler, Runner::Handler) => true,
+        (Runner::Process(one), Runner::Process(two)) => one.0 == two.0,
+        _ => false,
+    }
+}
+
+fn not_running(runner: Runner, running: Option<Runner>) -> Option<Runner>
+    ensures { result ≡ meaning.not_running runner running }
+{
+    match running {
+        Some(other) if is_same(runner, other) => None,
+        other => other,
+    }
+}
+
+fn without_holder(runner: Runner, lock: Lock) -> Lock
+    ensures { result ≡ meaning.without_holder runner lock }
+{
+    match lock {
+        Lock::Held { holder, .. } if is_same(runner, Runner::Process(holder)) => Lock::Free,
+        other => other,
+    }
+}
