@@ -1,15 +1,17 @@
 -- The list of those that are ready has the order of their numbers.
-use Rattle.std.proofs.Common.{◌≡◌, ◌⊎◌, ◌↔◌, inl, inr, ℕ, ◌+◌, ◌<◌, ◌≤◌, nat_eq, nat_lt, cond, Bool, true, false, not, List, [], ◌∷◌, Option, Some, None, refl, sym, ap, subst, ◌∙◌, arith}
-use Rattle.std.specs.Prelude.{◌==◌}
+use Rattle.std.proofs.Common.{◌≡◌, ◌↔◌, inl, inr, ℕ, ◌+◌, ◌<◌, ◌≤◌, nat_eq, nat_lt, cond, Bool, true, false, not, List, [], ◌∷◌, Some, refl, sym, ap, subst, ◌∙◌, arith}
 use Rattle.std.proofs.lemmas.Bool.{ltb-true, ltb-false, eq-eqb}
 use Rattle.std.proofs.lemmas.Option.{none-some, same_Some}
 use Rattle.apex_types.specs.declared.codes.Mode.{Mode}
 use Rattle.apex_types.specs.declared.codes.Mode.TheVariants as mode
-use Rattle.apex_types.specs.declared.identity.ProcessId.{ProcessId}
+use Rattle.apex_types.specs.declared.identity.Runner.{Runner}
+use Rattle.apex_types.specs.declared.identity.Runner.TheVariants as runner
 use Rattle.apex_types.specs.declared.process.Entry.{Entry}
-use Rattle.apex_meaning.specs.Choice.{IsAmong, IsBefore, IsBeforeEach, IsOrdered, AreNumbersBelow, IsNumbered, Picks, takes}
-use Rattle.apex_meaning.specs.Kernel.{id_of, without, behind_equals}
-use Rattle.apex_meaning.specs.Partition.{pick}
+use Rattle.apex_types.specs.declared.process.Lock.{Lock}
+use Rattle.apex_types.specs.declared.process.Lock.TheVariants as lock
+use Rattle.apex_meaning.specs.Choice.{IsAmong, IsBefore, IsFirst, PicksUnlessHeld, PicksInNormal, IsBeforeEach, IsOrdered, AreNumbersBelow, IsNumbered, Picks, takes}
+use Rattle.apex_meaning.specs.Processes.{Processes, row_of, without, behind_equals}
+use Rattle.apex_meaning.specs.Partition.{pick, is_ready, unless_held}
 
 -- ---- one leaves
 
@@ -155,20 +157,32 @@ before_one number e f [] h a = absurd a
 before_one number e f (x ∷ xs) h (inl same) = subst (IsBefore number e) (sym same) h.0
 before_one number e f (x ∷ xs) h (inr later) = before_one number e f xs h.1 later
 
-first_is_picked : (number : ℕ → ℕ) (e : Entry) (es : List Entry) (p : ProcessId) → IsOrdered number (e ∷ es) → e.process ≡ p → Picks number mode.Normal (e ∷ es) p
-first_is_picked number e es p h is = (e, inl refl, is, none_before)
+head_is_first : (number : ℕ → ℕ) (e : Entry) (es : List Entry) (p : Runner) → IsOrdered number (e ∷ es) → runner.Process e.process ≡ p → IsFirst number (e ∷ es) p
+head_is_first number e es p h is = (e, inl refl, is, none_before)
   where
     none_before : (f : Entry) → IsAmong f (e ∷ es) → IsBefore number f e → ⊥
     none_before f (inl same) k = not_both number f e k (subst (λ (x : Entry). IsBefore number e x) (sym same) (subst (λ (x : Entry). IsBefore number x e) same k))
     none_before f (inr later) k = not_both number e f (before_one number e f es h.0 later) k
 
-picked_is_first : (number : ℕ → ℕ) (x : Entry) (xs : List Entry) (p : ProcessId) → IsOrdered number (x ∷ xs) → Picks number mode.Normal (x ∷ xs) p → x.process ≡ p
-picked_is_first number x xs p h (e, inl same, is, first) = ap (λ (y : Entry). y.process) (sym same) ∙ is
-picked_is_first number x xs p h (e, inr later, is, first) = absurd (first x (inl refl) (before_one number x e xs h.0 later))
+first_is_head : (number : ℕ → ℕ) (x : Entry) (xs : List Entry) (p : Runner) → IsOrdered number (x ∷ xs) → IsFirst number (x ∷ xs) p → runner.Process x.process ≡ p
+first_is_head number x xs p h (e, inl same, is, first) = ap (λ (y : Entry). runner.Process y.process) (sym same) ∙ is
+first_is_head number x xs p h (e, inr later, is, first) = absurd (first x (inl refl) (before_one number x e xs h.0 later))
 
-pub chosen : (number : ℕ → ℕ) (next : ℕ) (m : Mode) (ready : List Entry) (p : ProcessId) → IsNumbered number next ready → (pick m ready ≡ Some p ↔ Picks number m ready p)
-chosen number next mode.Idle ready p h = ((λ e. absurd (none-some p e)), (λ k. absurd k))
-chosen number next mode.ColdStart ready p h = ((λ e. sym (same_Some (id_of 0) p e)), (λ k. ap Some (sym k)))
-chosen number next mode.WarmStart ready p h = ((λ e. sym (same_Some (id_of 0) p e)), (λ k. ap Some (sym k)))
-chosen number next mode.Normal [] p h = ((λ e. absurd (none-some p e)), (λ k. absurd k.1))
-chosen number next mode.Normal (x ∷ xs) p h = ((λ e. first_is_picked number x xs p h.ordered (same_Some x.process p e)), (λ k. ap Some (picked_is_first number x xs p h.ordered k)))
+-- where one alone may be chosen
+only : (q p : Runner) → (Some q ≡ Some p ↔ (p ≡ q))
+only q p = ((λ e. sym (same_Some q p e)), (λ k. ap Some (sym k)))
+
+chosen_unless_held : (number : ℕ → ℕ) (held : Lock) (ready : List Entry) (p : Runner) → IsOrdered number ready → (unless_held held ready ≡ Some p ↔ PicksUnlessHeld number held ready p)
+chosen_unless_held number (lock.Held level holder) ready p h = only (runner.Process holder) p
+chosen_unless_held number lock.Free [] p h = ((λ e. absurd (none-some p e)), (λ k. absurd k.1))
+chosen_unless_held number lock.Free (x ∷ xs) p h = ((λ e. head_is_first number x xs p h (same_Some (runner.Process x.process) p e)), (λ k. ap Some (first_is_head number x xs p h k)))
+
+chosen_in_normal : (number : ℕ → ℕ) (handles : Bool) (held : Lock) (ready : List Entry) (p : Runner) → IsOrdered number ready → (cond handles (Some runner.Handler) (unless_held held ready) ≡ Some p ↔ PicksInNormal number handles held ready p)
+chosen_in_normal number true held ready p h = only runner.Handler p
+chosen_in_normal number false held ready p h = chosen_unless_held number held ready p h
+
+pub chosen : (number : ℕ → ℕ) (next : ℕ) (m : Mode) (s : Processes) (p : Runner) → IsNumbered number next s.ready → (pick m s ≡ Some p ↔ Picks number m s p)
+chosen number next mode.Idle s p h = ((λ e. absurd (none-some p e)), (λ k. absurd k))
+chosen number next mode.ColdStart s p h = only runner.Init p
+chosen number next mode.WarmStart s p h = only runner.Init p
+chosen number next mode.Normal s p h = chosen_in_normal number (is_ready (row_of s runner.Handler)) s.lock s.ready p h.ordered

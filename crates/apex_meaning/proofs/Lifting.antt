@@ -1,21 +1,23 @@
 -- Engines that cannot be told apart give equal traces. Nothing here looks into a service.
-use Rattle.std.proofs.Common.{◌≡◌, ℕ, zero, suc, ◌+◌, ℤ, List, [], ◌∷◌, ◌++◌, Option, Some, None, map, refl, sym, ap, subst, ◌∙◌}
+use Rattle.std.proofs.Common.{◌≡◌, ℕ, zero, suc, ℤ, List, [], ◌∷◌, ◌++◌, Option, Some, None, map, refl, sym, ap, subst, ◌∙◌}
 use Rattle.std.specs.Prelude.{slice_get, slice_set}
 use Rattle.std.specs.List.{flat_map}
+use Rattle.apex_types.specs.Runners.{place_of}
 use Rattle.apex_types.specs.declared.event.Event.{Event}
 use Rattle.apex_types.specs.declared.codes.Mode.TheVariants as mode
 use Rattle.apex_types.specs.declared.codes.StartCondition.TheVariants as condition
-use Rattle.apex_types.specs.declared.identity.ProcessId.{ProcessId}
+use Rattle.apex_types.specs.declared.identity.At.{At}
+use Rattle.apex_types.specs.declared.identity.Runner.{Runner}
 use Rattle.apex_types.specs.declared.process.Action.{Action}
 use Rattle.apex_types.specs.declared.process.Action.TheVariants as action
 use Rattle.apex_types.specs.declared.row.WindowRow.{WindowRow}
-use Rattle.apex_meaning.specs.Engine.{Engine, Ticked, Asks, Nothing, Simulates, SameTick}
-use Rattle.apex_meaning.specs.Kernel.{Kernel, Step}
-use Rattle.apex_meaning.specs.TimeServices.{due}
+use Rattle.apex_meaning.specs.Engine.{Engine, Ticked, Asks, Simulates}
+use Rattle.apex_meaning.specs.Kernel.{Kernel, of_processes}
 use Rattle.apex_meaning.specs.PartitionServices.{clears}
-use Rattle.apex_meaning.specs.Partition.{World, Moved, control_at, replied, no_control, act, act_all, does, moved, followed_by, ticked, ticked_some, chooses, spends, spends_chosen, spends_running, treats_asked, treats_due, chooses_process, prepares, tick}
+use Rattle.apex_meaning.specs.Partition.{World, Member, Moved, control_at, replied, no_control, written, act, act_all, moved, followed_by, ticked, chooses, spends, spends_chosen, spending_phase, treats_asked, treats_due, due_phase, choice_phase, prepares, tick, started}
+use Rattle.apex_meaning.specs.Step.{Step}
 use Rattle.apex_meaning.specs.Windows.{owner}
-use Rattle.apex_meaning.specs.Module.{Member, Advanced, with_world, started, started_member, start_lines, starts, still, ticks_member, ticks_owner, module_tick, trace_from, trace}
+use Rattle.apex_meaning.specs.Module.{Advanced, first_tick, next_tick, start_lines, starts, ticks_member, ticks_owner, module_tick, trace_from, trace}
 use Rattle.apex_meaning.specs.Lifting.{SameControl, SameControls, SameWorld, SameMoved, SameMember, SameMembers, SameAdvanced}
 
 abbrev world : {C : Type 0} → Kernel → List (Option C) → List ℤ → List ℤ → World C
@@ -64,19 +66,21 @@ module _ {C D : Type 0} (R : C → D → Type 0) where
     same_replied (Some x) (Some y) answer h = s.reply x y answer h
 
     same_act : (a : Action) (k : Kernel) (f : List (Option C)) (g : List (Option D)) (ws i : List ℤ) → SameControls R f g → SameWorld R (act c a (world k f ws i)) (act d a (world k g ws i))
-    same_act (action.Begin p) k f g ws i h = same_world k _ _ ws i (same_set f g p.0 (Some (c.start p.0)) (Some (d.start p.0)) h (s.start p.0))
-    same_act (action.Stop p) k f g ws i h = same_world k _ _ ws i (same_set f g p.0 None None h tt)
+    same_act (action.Begin p) k f g ws i h = same_world k _ _ ws i (same_set f g (place_of p) (Some (c.start p)) (Some (d.start p)) h (s.start p))
+    same_act (action.Stop p) k f g ws i h = same_world k _ _ ws i (same_set f g (place_of p) None None h tt)
     same_act action.StopAll k f g ws i h = same_world k _ _ ws i (same_none f g h)
-    same_act (action.Reply p answer) k f g ws i h = same_world k _ _ ws i (same_set f g p.0 (replied c (control_at f p.0) answer.items) (replied d (control_at g p.0) answer.items) h (same_replied (control_at f p.0) (control_at g p.0) answer.items (same_get f g p.0 h)))
+    same_act (action.Reply p answer) k f g ws i h = same_world k _ _ ws i (same_set f g (place_of p) (replied c (control_at f (place_of p)) answer.items) (replied d (control_at g (place_of p)) answer.items) h (same_replied (control_at f (place_of p)) (control_at g (place_of p)) answer.items (same_get f g (place_of p) h)))
     same_act action.Restore k f g ws i h = same_world k f g i i h
+    same_act (action.Write place array) k f g ws i h = same_world k f g (written place array.items ws) i h
+    same_act (action.Queue error p words) k f g ws i h = same_world k f g ws i h
 
     same_act_all : (actions : List Action) (v : World C) (w : World D) → SameWorld R v w → SameWorld R (act_all c actions v) (act_all d actions w)
     same_act_all [] v w h = h
     same_act_all (a ∷ rest) v w h = same_act_all rest (act c a v) (act d a w) (shared (λ v w. SameWorld R (act c a v) (act d a w)) v w (same_act a) h)
 
     -- the same step of the kernel
-    same_step : (step : Step) (k : Kernel) (f : List (Option C)) (g : List (Option D)) (ws i : List ℤ) → SameControls R f g → SameMoved R (moved c step (world k f ws i)) (moved d step (world k g ws i))
-    same_step step k f g ws i h = record { world = same_act_all step.actions (world step.kernel f ws i) (world step.kernel g ws i) (same_world step.kernel f g ws i h); lines = refl }
+    same_step : (at : At) (step : Step Kernel) (k : Kernel) (f : List (Option C)) (g : List (Option D)) (ws i : List ℤ) → SameControls R f g → SameMoved R (moved at c step (world k f ws i)) (moved at d step (world k g ws i))
+    same_step at step k f g ws i h = record { world = same_act_all step.actions (world step.part f ws i) (world step.part g ws i) (same_world step.part f g ws i h); lines = refl }
 
     same_followed : (m : Moved C) (n : Moved D) (p : World C → Moved C) (q : World D → Moved D)
         → SameMoved R m n
@@ -86,11 +90,11 @@ module _ {C D : Type 0} (R : C → D → Type 0) where
         let then_same : SameMoved R (p m.world) (q n.world) = shared (λ v w. SameMoved R (p v) (q w)) m.world n.world rest h.world in
         record { world = then_same.world; lines = ap (λ (xs : List Event). xs ++ (p m.world).lines) h.lines ∙ ap (λ (xs : List Event). n.lines ++ xs) then_same.lines }
 
-    same_due : (t : ℕ) (k : Kernel) (f : List (Option C)) (g : List (Option D)) (ws i : List ℤ) → SameControls R f g → SameMoved R (treats_due c t (world k f ws i)) (treats_due d t (world k g ws i))
-    same_due t k f g ws i h = same_step (due k t) k f g ws i h
+    same_due : (at : At) (k : Kernel) (f : List (Option C)) (g : List (Option D)) (ws i : List ℤ) → SameControls R f g → SameMoved R (due_phase c at (world k f ws i)) (due_phase d at (world k g ws i))
+    same_due at k f g ws i h = same_step at (treats_due at k) k f g ws i h
 
-    same_choice : (t : ℕ) (k : Kernel) (f : List (Option C)) (g : List (Option D)) (ws i : List ℤ) → SameControls R f g → SameMoved R (chooses_process c t (world k f ws i)) (chooses_process d t (world k g ws i))
-    same_choice t k f g ws i h = same_step (chooses k t) k f g ws i h
+    same_choice : (at : At) (k : Kernel) (f : List (Option C)) (g : List (Option D)) (ws i : List ℤ) → SameControls R f g → SameMoved R (choice_phase c at (world k f ws i)) (choice_phase d at (world k g ws i))
+    same_choice at k f g ws i h = same_step at (of_processes k (chooses k.mode k.processes)) k f g ws i h
 
     pub record SameTicked (a : Ticked (Option C)) (b : Ticked (Option D)) : Type 0 where
       pub control : SameControl R a.control b.control
@@ -104,49 +108,49 @@ module _ {C D : Type 0} (R : C → D → Type 0) where
     same_ticked (Some x) (Some y) ws h = let t = s.tick x y ws h in record { control = t.control; words = t.words; asks = t.asks }
 
     -- what is asked, over the data after the tick
-    same_asked : (t p : ℕ) (k : Kernel) (f : List (Option C)) (g : List (Option D)) (i : List ℤ) (ws vs : List ℤ) (a b : Asks)
+    same_asked : (at : At) (p : Runner) (k : Kernel) (f : List (Option C)) (g : List (Option D)) (i : List ℤ) (ws vs : List ℤ) (a b : Asks)
         → SameControls R f g → ws ≡ vs → a ≡ b
-        → SameMoved R (moved c (treats_asked k t p a ws) (world k f ws i)) (moved d (treats_asked k t p b vs) (world k g vs i))
-    same_asked t p k f g i ws vs a b h words asks =
-        subst (λ (v : List ℤ). SameMoved R (moved c (treats_asked k t p a ws) (world k f ws i)) (moved d (treats_asked k t p b v) (world k g v i))) words
-        (subst (λ (q : Asks). SameMoved R (moved c (treats_asked k t p a ws) (world k f ws i)) (moved d (treats_asked k t p q ws) (world k g ws i))) asks
-        (same_step (treats_asked k t p a ws) k f g ws i h))
+        → SameMoved R (moved at c (treats_asked at k p a ws) (world k f ws i)) (moved at d (treats_asked at k p b vs) (world k g vs i))
+    same_asked at p k f g i ws vs a b h words asks =
+        subst (λ (v : List ℤ). SameMoved R (moved at c (treats_asked at k p a ws) (world k f ws i)) (moved at d (treats_asked at k p b v) (world k g v i))) words
+        (subst (λ (q : Asks). SameMoved R (moved at c (treats_asked at k p a ws) (world k f ws i)) (moved at d (treats_asked at k p q ws) (world k g ws i))) asks
+        (same_step at (treats_asked at k p a ws) k f g ws i h))
 
-    same_spends : (t p : ℕ) (k : Kernel) (f : List (Option C)) (g : List (Option D)) (ws i : List ℤ) → SameControls R f g → SameMoved R (spends c t p (world k f ws i)) (spends d t p (world k g ws i))
-    same_spends t p k f g ws i h =
-        let r = same_ticked (control_at f p) (control_at g p) ws (same_get f g p h) in
-        same_asked t p k _ _ i _ _ _ _ (same_set f g p (ticked c (control_at f p) ws).control (ticked d (control_at g p) ws).control h r.control) r.words r.asks
+    same_spends : (at : At) (p : Runner) (k : Kernel) (f : List (Option C)) (g : List (Option D)) (ws i : List ℤ) → SameControls R f g → SameMoved R (spends c at p (world k f ws i)) (spends d at p (world k g ws i))
+    same_spends at p k f g ws i h =
+        let r = same_ticked (control_at f (place_of p)) (control_at g (place_of p)) ws (same_get f g (place_of p) h) in
+        same_asked at p k _ _ i _ _ _ _ (same_set f g (place_of p) (ticked c (control_at f (place_of p)) ws).control (ticked d (control_at g (place_of p)) ws).control h r.control) r.words r.asks
 
-    same_chosen : (t : ℕ) (o : Option ProcessId) (k : Kernel) (f : List (Option C)) (g : List (Option D)) (ws i : List ℤ) → SameControls R f g → SameMoved R (spends_chosen c t o (world k f ws i)) (spends_chosen d t o (world k g ws i))
-    same_chosen t None k f g ws i h = record { world = same_world k f g ws i h; lines = refl }
-    same_chosen t (Some p) k f g ws i h = same_spends t p.0 k f g ws i h
+    same_chosen : (at : At) (o : Option Runner) (k : Kernel) (f : List (Option C)) (g : List (Option D)) (ws i : List ℤ) → SameControls R f g → SameMoved R (spends_chosen c at o (world k f ws i)) (spends_chosen d at o (world k g ws i))
+    same_chosen at None k f g ws i h = record { world = same_world k f g ws i h; lines = refl }
+    same_chosen at (Some p) k f g ws i h = same_spends at p k f g ws i h
 
-    same_running : (t : ℕ) (k : Kernel) (f : List (Option C)) (g : List (Option D)) (ws i : List ℤ) → SameControls R f g → SameMoved R (spends_running c t (world k f ws i)) (spends_running d t (world k g ws i))
-    same_running t k f g ws i h = same_chosen t k.running k f g ws i h
+    same_spending : (at : At) (k : Kernel) (f : List (Option C)) (g : List (Option D)) (ws i : List ℤ) → SameControls R f g → SameMoved R (spending_phase c at (world k f ws i)) (spending_phase d at (world k g ws i))
+    same_spending at k f g ws i h = same_chosen at k.processes.running k f g ws i h
 
-    same_prepares : (t : ℕ) (k : Kernel) (f : List (Option C)) (g : List (Option D)) (ws i : List ℤ) → SameControls R f g → SameMoved R (prepares c t (world k f ws i)) (prepares d t (world k g ws i))
-    same_prepares t k f g ws i h = same_followed _ _ (chooses_process c t) (chooses_process d t) (same_due t k f g ws i h) (same_choice t)
+    same_prepares : (at : At) (k : Kernel) (f : List (Option C)) (g : List (Option D)) (ws i : List ℤ) → SameControls R f g → SameMoved R (prepares c at (world k f ws i)) (prepares d at (world k g ws i))
+    same_prepares at k f g ws i h = same_followed _ _ (choice_phase c at) (choice_phase d at) (same_due at k f g ws i h) (same_choice at)
 
-    same_tick : (t : ℕ) (k : Kernel) (f : List (Option C)) (g : List (Option D)) (ws i : List ℤ) → SameControls R f g → SameMoved R (tick c t (world k f ws i)) (tick d t (world k g ws i))
-    same_tick t k f g ws i h = same_followed _ _ (spends_running c t) (spends_running d t) (same_prepares t k f g ws i h) (same_running t)
+    same_tick : (at : At) (k : Kernel) (f : List (Option C)) (g : List (Option D)) (ws i : List ℤ) → SameControls R f g → SameMoved R (tick c at (world k f ws i)) (tick d at (world k g ws i))
+    same_tick at k f g ws i h = same_followed _ _ (spending_phase c at) (spending_phase d at) (same_prepares at k f g ws i h) (same_spending at)
 
-    pub tick_same : (t : ℕ) (v : World C) (w : World D) → SameWorld R v w → SameMoved R (tick c t v) (tick d t w)
-    tick_same t v w h = shared (λ v w. SameMoved R (tick c t v) (tick d t w)) v w (same_tick t) h
+    pub tick_same : (at : At) (v : World C) (w : World D) → SameWorld R v w → SameMoved R (tick c at v) (tick d at w)
+    tick_same at v w h = shared (λ v w. SameMoved R (tick c at v) (tick d at w)) v w (same_tick at) h
 
-    same_start : (k : Kernel) (f : List (Option C)) (g : List (Option D)) (ws i : List ℤ) → SameControls R f g → SameMoved R (moved c (clears k 0 mode.ColdStart condition.NormalStart) (world k f ws i)) (moved d (clears k 0 mode.ColdStart condition.NormalStart) (world k g ws i))
-    same_start k f g ws i h = same_step (clears k 0 mode.ColdStart condition.NormalStart) k f g ws i h
+    same_start : (at : At) (k : Kernel) (f : List (Option C)) (g : List (Option D)) (ws i : List ℤ) → SameControls R f g → SameMoved R (moved at c (clears k mode.ColdStart condition.NormalStart) (world k f ws i)) (moved at d (clears k mode.ColdStart condition.NormalStart) (world k g ws i))
+    same_start at k f g ws i h = same_step at (clears k mode.ColdStart condition.NormalStart) k f g ws i h
 
 -- ---- the module
 
 module _ {I C D : Type 0} (R : I → C → D → Type 0) where
-  started_same : (i : I) (x : Member C) (y : Member D) → SameMember (R i) x y → SameMoved (R i) (started x) (started y)
-  started_same i x y h =
-      shared (R i) (λ v w. SameMoved (R i) (moved x.engine (clears v.kernel 0 mode.ColdStart condition.NormalStart) v) (moved y.engine (clears w.kernel 0 mode.ColdStart condition.NormalStart) w)) x.world y.world (same_start (R i) x.engine y.engine h.engine) h.world
+  started_same : (at : At) (i : I) (x : Member C) (y : Member D) → SameMember (R i) x y → SameMoved (R i) (started at x) (started at y)
+  started_same at i x y h =
+      shared (R i) (λ v w. SameMoved (R i) (moved at x.engine (clears v.kernel mode.ColdStart condition.NormalStart) v) (moved at y.engine (clears w.kernel mode.ColdStart condition.NormalStart) w)) x.world y.world (same_start (R i) x.engine y.engine h.engine at) h.world
 
   starts_same : (is : List I) (xs : List (Member C)) (ys : List (Member D)) → SameMembers R is xs ys → SameAdvanced R is (starts xs) (starts ys)
   starts_same [] [] [] h = record { members = tt; lines = refl }
   starts_same (i ∷ is) (x ∷ xs) (y ∷ ys) h =
-      let one = started_same i x y h.0 in
+      let one = started_same first_tick i x y h.0 in
       let rest = starts_same is xs ys h.1 in
       record {
         members = (record { engine = h.0.engine; world = one.world }, rest.members);
@@ -158,42 +162,42 @@ module _ {I C D : Type 0} (R : I → C → D → Type 0) where
   starts_same (i ∷ is) (x ∷ xs) [] h = absurd h
 
   -- a tick of one behind the first one
-  behind_first : {E : Type 0} (t p : ℕ) (x : Member E) (xs : List (Member E)) (o : Option (Member E)) → ticks_member t (x ∷ xs) (suc p) o ≡ record { members = x ∷ (ticks_member t xs p o).members; lines = (ticks_member t xs p o).lines }
-  behind_first t p x xs None = refl
-  behind_first t p x xs (Some y) = refl
+  behind_first : {E : Type 0} (at : At) (p : ℕ) (x : Member E) (xs : List (Member E)) (o : Option (Member E)) → ticks_member at (x ∷ xs) (suc p) o ≡ record { members = x ∷ (ticks_member at xs p o).members; lines = (ticks_member at xs p o).lines }
+  behind_first at p x xs None = refl
+  behind_first at p x xs (Some y) = refl
 
-  member_same : (t : ℕ) (is : List I) (xs : List (Member C)) (ys : List (Member D)) (p : ℕ) → SameMembers R is xs ys → SameAdvanced R is (ticks_member t xs p (slice_get xs p)) (ticks_member t ys p (slice_get ys p))
-  member_same t [] [] [] p h = record { members = tt; lines = refl }
-  member_same t (i ∷ is) (x ∷ xs) (y ∷ ys) zero h =
-      let one = tick_same (R i) x.engine y.engine h.0.engine t x.world y.world h.0.world in
+  member_same : (at : At) (is : List I) (xs : List (Member C)) (ys : List (Member D)) (p : ℕ) → SameMembers R is xs ys → SameAdvanced R is (ticks_member at xs p (slice_get xs p)) (ticks_member at ys p (slice_get ys p))
+  member_same at [] [] [] p h = record { members = tt; lines = refl }
+  member_same at (i ∷ is) (x ∷ xs) (y ∷ ys) zero h =
+      let one = tick_same (R i) x.engine y.engine h.0.engine at x.world y.world h.0.world in
       record { members = (record { engine = h.0.engine; world = one.world }, h.1); lines = one.lines }
-  member_same t (i ∷ is) (x ∷ xs) (y ∷ ys) (suc p) h =
-      let rest = member_same t is xs ys p h.1 in
-      let step : SameAdvanced R (i ∷ is) (record { members = x ∷ (ticks_member t xs p (slice_get xs p)).members; lines = (ticks_member t xs p (slice_get xs p)).lines }) (record { members = y ∷ (ticks_member t ys p (slice_get ys p)).members; lines = (ticks_member t ys p (slice_get ys p)).lines }) =
+  member_same at (i ∷ is) (x ∷ xs) (y ∷ ys) (suc p) h =
+      let rest = member_same at is xs ys p h.1 in
+      let step : SameAdvanced R (i ∷ is) (record { members = x ∷ (ticks_member at xs p (slice_get xs p)).members; lines = (ticks_member at xs p (slice_get xs p)).lines }) (record { members = y ∷ (ticks_member at ys p (slice_get ys p)).members; lines = (ticks_member at ys p (slice_get ys p)).lines }) =
       record { members = (h.0, rest.members); lines = rest.lines } in
-      subst (λ (a : Advanced C). SameAdvanced R (i ∷ is) a (ticks_member t (y ∷ ys) (suc p) (slice_get ys p))) (sym (behind_first t p x xs (slice_get xs p)))
-      (subst (λ (b : Advanced D). SameAdvanced R (i ∷ is) (record { members = x ∷ (ticks_member t xs p (slice_get xs p)).members; lines = (ticks_member t xs p (slice_get xs p)).lines }) b) (sym (behind_first t p y ys (slice_get ys p))) step)
-  member_same t [] [] (y ∷ ys) p h = absurd h
-  member_same t [] (x ∷ xs) ys p h = absurd h
-  member_same t (i ∷ is) [] ys p h = absurd h
-  member_same t (i ∷ is) (x ∷ xs) [] p h = absurd h
+      subst (λ (a : Advanced C). SameAdvanced R (i ∷ is) a (ticks_member at (y ∷ ys) (suc p) (slice_get ys p))) (sym (behind_first at p x xs (slice_get xs p)))
+      (subst (λ (b : Advanced D). SameAdvanced R (i ∷ is) (record { members = x ∷ (ticks_member at xs p (slice_get xs p)).members; lines = (ticks_member at xs p (slice_get xs p)).lines }) b) (sym (behind_first at p y ys (slice_get ys p))) step)
+  member_same at [] [] (y ∷ ys) p h = absurd h
+  member_same at [] (x ∷ xs) ys p h = absurd h
+  member_same at (i ∷ is) [] ys p h = absurd h
+  member_same at (i ∷ is) (x ∷ xs) [] p h = absurd h
 
-  owner_same : (t : ℕ) (is : List I) (xs : List (Member C)) (ys : List (Member D)) (o : Option ℕ) → SameMembers R is xs ys → SameAdvanced R is (ticks_owner t xs o) (ticks_owner t ys o)
-  owner_same t is xs ys None h = record { members = h; lines = refl }
-  owner_same t is xs ys (Some zero) h = record { members = h; lines = refl }
-  owner_same t is xs ys (Some (suc p)) h = member_same t is xs ys p h
+  owner_same : (at : At) (is : List I) (xs : List (Member C)) (ys : List (Member D)) (o : Option ℕ) → SameMembers R is xs ys → SameAdvanced R is (ticks_owner at xs o) (ticks_owner at ys o)
+  owner_same at is xs ys None h = record { members = h; lines = refl }
+  owner_same at is xs ys (Some zero) h = record { members = h; lines = refl }
+  owner_same at is xs ys (Some (suc p)) h = member_same at is xs ys p h
 
-  from_same : (frame : ℕ) (windows : List WindowRow) (n t : ℕ) (is : List I) (xs : List (Member C)) (ys : List (Member D)) → SameMembers R is xs ys → trace_from frame windows n t xs ≡ trace_from frame windows n t ys
-  from_same frame windows zero t is xs ys h = refl
-  from_same frame windows (suc n) t is xs ys h =
-      let one = owner_same t is xs ys (owner frame windows 0 t) h in
-      ap (λ (es : List Event). es ++ trace_from frame windows n (t + 1) (module_tick frame windows t xs).members) one.lines
-      ∙ ap (λ (es : List Event). (module_tick frame windows t ys).lines ++ es) (from_same frame windows n (t + 1) is _ _ one.members)
+  from_same : (frame : ℕ) (windows : List WindowRow) (n : ℕ) (at : At) (is : List I) (xs : List (Member C)) (ys : List (Member D)) → SameMembers R is xs ys → trace_from frame windows n at xs ≡ trace_from frame windows n at ys
+  from_same frame windows zero at is xs ys h = refl
+  from_same frame windows (suc n) at is xs ys h =
+      let one = owner_same at is xs ys (owner frame windows at.origin.0 at.now.0) h in
+      ap (λ (es : List Event). es ++ trace_from frame windows n (next_tick at) (module_tick frame windows at xs).members) one.lines
+      ∙ ap (λ (es : List Event). (module_tick frame windows at ys).lines ++ es) (from_same frame windows n (next_tick at) is _ _ one.members)
 
   -- modules on engines that cannot be told apart have the same trace
   pub trace_same : (frame : ℕ) (windows : List WindowRow) (n : ℕ) (is : List I) (xs : List (Member C)) (ys : List (Member D)) → SameMembers R is xs ys → trace (record { frame = frame; windows = windows; members = xs }) n ≡ trace (record { frame = frame; windows = windows; members = ys }) n
   trace_same frame windows zero is xs ys h = refl
   trace_same frame windows (suc n) is xs ys h =
       let s = starts_same is xs ys h in
-      ap (λ (es : List Event). es ++ trace_from frame windows (suc n) 0 (starts xs).members) s.lines
-      ∙ ap (λ (es : List Event). (starts ys).lines ++ es) (from_same frame windows (suc n) 0 is _ _ s.members)
+      ap (λ (es : List Event). es ++ trace_from frame windows (suc n) first_tick (starts xs).members) s.lines
+      ∙ ap (λ (es : List Event). (starts ys).lines ++ es) (from_same frame windows (suc n) first_tick is _ _ s.members)

@@ -1,7 +1,7 @@
 //! Routines and services: CALL, RET and SVC.
 
 ghost use Rattle.std.specs.Prelude.{◌≡◌, ◌-◌, ◌+◌, ◌≤◌, ◌++◌, ◌∷◌, [], length, pos, replicate};
-ghost use Rattle.apex_meaning.specs.MachineControl.{put_words};
+ghost use Rattle.apex_meaning.specs.Words.{put_words};
 ghost use Rattle.processor.specs.Fitting.{IsFittingRoutine};
 
 use crate::code::Code;
@@ -39,7 +39,7 @@ fn save(stack: &mut Vec<i64>, frame: u32, routine: &RoutineRow, next: u32, calle
 
 impl Context {
     ghost use Rattle.std.specs.Prelude.{◌≡◌, ◌+◌, ◌-◌, ◌<◌, ◌≤◌, ◌^◌, [], length, slice_get, ℕ, Option};
-    ghost use Rattle.apex_meaning.specs.MachineControl.{executes, put_words, enters_at, enters, saved_within, gives_back, popped, arguments, calls, requests, with_operands, code_limit};
+    ghost use Rattle.apex_meaning.specs.MachineControl.{executes, enters_at, enters, saved_within, gives_back, popped, arguments, calls, requests, with_operands, code_limit};
     ghost use Rattle.processor.specs.Views.{control_of, outcome_of};
     ghost use Rattle.apex_types.specs.declared.instruction.Instr.{Instr};
     ghost use Rattle.apex_meaning.specs.ServiceTable.{argument_words, answer_words, call_of};

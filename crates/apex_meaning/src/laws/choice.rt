@@ -2,11 +2,11 @@
 
 ghost use Rattle.std.specs.Prelude.{◌≡◌, ◌↔◌, ◌+◌, ℕ, List, Some};
 ghost use Rattle.apex_types.specs.declared.codes.Mode.{Mode};
-ghost use Rattle.apex_types.specs.declared.identity.ProcessId.{ProcessId};
+ghost use Rattle.apex_types.specs.declared.identity.Runner.{Runner};
 ghost use Rattle.apex_types.specs.declared.process.Entry.{Entry};
 ghost use Rattle.apex_meaning.specs.Choice.{IsNumbered, Picks, takes};
-ghost use Rattle.apex_meaning.specs.Kernel.{without, behind_equals};
 ghost use Rattle.apex_meaning.specs.Partition.{pick};
+ghost use Rattle.apex_meaning.specs.Processes.{Processes, without, behind_equals};
 
 /// Where one is no longer ready, the others keep their order by their numbers.
 pub fn one_leaves()
@@ -20,5 +20,5 @@ pub fn one_goes_last()
 
 /// The one that is chosen is the one that may run, and there is no other.
 pub fn chosen_is_the_one()
-    ensures { (number : ℕ → ℕ) (next : ℕ) (mode : Mode) (ready : List Entry) (p : ProcessId) → IsNumbered number next ready → (pick mode ready ≡ Some p ↔ Picks number mode ready p) }
+    ensures { (number : ℕ → ℕ) (next : ℕ) (mode : Mode) (s : Processes) (p : Runner) → IsNumbered number next s.ready → (pick mode s ≡ Some p ↔ Picks number mode s p) }
 {}
