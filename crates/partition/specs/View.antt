@@ -1,15 +1,12 @@
--- How the kernel's fields are seen, and what always holds of them.
-use Rattle.std.specs.Prelude.{◌≡◌, ℕ, ◌+◌, ◌<◌, ◌≤◌, List, length}
-use Rattle.std.specs.List.{count_by}
-use Rattle.apex_types.specs.declared.process.Entry.{Entry}
-use Rattle.apex_meaning.specs.Kernel.{Kernel}
+-- How the state of a partition in the code is seen.
+use Rattle.std.specs.Prelude.{List}
+use Rattle.apex_meaning.specs.Kernel as meaning
+use Rattle.partition.specs.declared.fixed.Fixed.{Fixed}
 use Rattle.partition.specs.declared.kernel.Kernel.TheInside.{Inside}
-use Rattle.apex_meaning.specs.Ready.{IsListed}
 
-abbrev pub kernel_of : Inside → Kernel
-kernel_of k = record { name = k.name; health = k.health; mode = k.mode; condition = k.condition; rows = k.rows.items; ready = k.ready.items; running = k.running }
+abbrev pub fixed_of : Fixed → meaning.Fixed
+fixed_of f = record { name = f.name; number = f.number.0; period = f.period; duration = f.duration; frame = f.frame; windows = f.windows.items; health = f.health }
 
--- INIT and at most 31 processes, each of them ready at most once
-pub record IsSound (k : Inside) : Type 0 where
-  pub few : length k.rows.items ≤ 32
-  pub listed : IsListed 32 k.ready.items
+-- objects, ports and an error handler are to come
+abbrev pub kernel_of : Inside → meaning.Kernel
+kernel_of k = record { fixed = fixed_of k.fixed; mode = k.mode; condition = k.condition; processes = k.processes; objects = record { }; ports = record { }; errors = record { } }
