@@ -1,11 +1,14 @@
 //! One partition: its kernel, over any executor.
 #![tactic(auto)]
 
+mod acting;
 mod errors;
 mod fixed;
 mod kernel;
 mod modes;
+mod partition;
 mod services;
 
 pub use fixed::Fixed;
 pub use kernel::Kernel;
+pub use partition::Partition;

@@ -1,0 +1,32 @@
+-- A partition with the data that its processes share, as the member of the definitions.
+use Rattle.std.specs.Prelude.{◌≡◌, List, ◌++◌, length}
+use Rattle.apex_types.specs.declared.event.Event.{Event}
+use Rattle.apex_types.specs.declared.process.Action.{Action}
+use Rattle.apex_meaning.specs.Kernel.{Kernel}
+use Rattle.apex_meaning.specs.Partition.{Member, Moved, with_world, act, act_all}
+use Rattle.partition_base.specs.declared.executor.Executor.{Ghosts}
+use Rattle.partition.specs.declared.partition.Partition.{Partition}
+
+-- a kernel over an executor, with the data
+abbrev pub member_at : {E X : Type 0} → (g : Ghosts E X) → Kernel → E → X → Member g.Control
+member_at g kernel executor mem = record {
+  engine = g.engine executor;
+  world = record { kernel = kernel; controls = g.controls executor; words = g.words mem; initial = g.initial executor };
+}
+
+abbrev pub member_of : {E X : Type 0} → (g : Ghosts E X) → Partition E X g → X → Member g.Control
+member_of g p mem = member_at g p.kernel p.executor mem
+
+-- the data are as many words as the initial data
+abbrev pub IsWhole : {C : Type 0} → Member C → Type 0
+IsWhole x = length x.world.words ≡ length x.world.initial
+
+abbrev pub acts : {C : Type 0} → Action → Member C → Member C
+acts action x = with_world x (act x.engine action x.world)
+
+abbrev pub acts_all : {C : Type 0} → List Action → Member C → Member C
+acts_all actions x = with_world x (act_all x.engine actions x.world)
+
+-- A member moved: this is the one after it, and its lines come behind those that were there.
+abbrev pub IsMoved : {C : Type 0} → Moved C → Member C → Member C → List Event → List Event → Type 0
+IsMoved m before after old new = (after ≡ with_world before m.world) × (new ≡ old ++ m.lines)

@@ -1,0 +1,57 @@
+//! What the kernel asks for is done, and what happened is told.
+
+ghost use Rattle.std.specs.Prelude.{◌≡◌, ◌≤◌, ◌+◌, ◌++◌, length};
+ghost use Rattle.apex_meaning.specs.Partition.{line, told};
+ghost use Rattle.partition.specs.Members.{member_at, IsWhole, acts, acts_all};
+
+use crate::kernel::Kernel;
+use apex_types::{Action, At, Event, EventKind, Events, Happenings, Name};
+use partition_base::Executor;
+
+/// Does what the kernel asks of the processor and the data. No error waits for a handler yet.
+fn act<E: Executor>(kernel: &mut Kernel, executor: &mut E, mem: &mut E::Mem, action: &Action)
+    requires { IsWhole (member_at E.Executor kernel.old executor.old mem.old) }
+    ensures whole { IsWhole (member_at E.Executor kernel.new executor.new mem.new) }
+    ensures member { member_at E.Executor kernel.new executor.new mem.new ≡ acts action.now (member_at E.Executor kernel.old executor.old mem.old) }
+{
+    match action {
+        Action::Begin(runner) => executor.begin(*runner),
+        Action::Stop(runner) => executor.stop(*runner),
+        Action::StopAll => executor.stop_all(),
+        Action::Reply(runner, answer) => executor.reply(*runner, answer),
+        Action::Restore => executor.restore(mem),
+        Action::Write(place, words) => executor.write(mem, *place, words),
+        Action::Queue(..) => {}
+    }
+}
+
+/// Does all that is asked, in order.
+pub(crate) fn act_all<E: Executor>(
+    kernel: &mut Kernel,
+    executor: &mut E,
+    mem: &mut E::Mem,
+    actions: &[Action],
+)
+    requires { IsWhole (member_at E.Executor kernel.old executor.old mem.old) }
+    ensures whole { IsWhole (member_at E.Executor kernel.new executor.new mem.new) }
+    ensures member { member_at E.Executor kernel.new executor.new mem.new ≡ acts_all actions.now (member_at E.Executor kernel.old executor.old mem.old) }
+{
+    for action in actions {
+        act(kernel, executor, mem, action);
+    }
+}
+
+/// What happened in a tick becomes lines of the partition.
+pub(crate) fn tell(name: Name, at: At, lines: &mut Happenings, events: &mut Events)
+    requires { length events.old.items + length lines.old.items ≤ 256 }
+    ensures events { events.new.items ≡ events.old.items ++ told name at lines.old.items }
+    ensures lines { lines.new.items ≡ [] }
+{
+    for kind in lines.drain(..) {
+        events.push(Event {
+            tick: at.now,
+            partition: Some(name),
+            kind,
+        });
+    }
+}
