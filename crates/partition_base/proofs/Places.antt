@@ -30,10 +30,10 @@ without_control : (rows : List ProcessRow) → map unbegun (map body_of_row rows
 without_control [] = refl
 without_control (row ∷ rows) = ap (λ l. None ∷ l) (without_control rows)
 
--- neither INIT nor a process of a section is begun
-pub all_unbegun : (init : BodyRow) (rows : List ProcessRow) → map unbegun (init ∷ map body_of_row rows) ≡ replicate (1 + length rows) None
-all_unbegun init rows =
-    let count : suc (length rows) ≡ 1 + length rows = omega arith in
-    ap (λ l. None ∷ l) (without_control rows) ∙ ap (λ n. replicate n None) count
+-- neither INIT nor the handler nor a process of a section is begun
+pub all_unbegun : (init handler : BodyRow) (rows : List ProcessRow) → map unbegun (init ∷ handler ∷ map body_of_row rows) ≡ replicate (2 + length rows) None
+all_unbegun init handler rows =
+    let count : suc (suc (length rows)) ≡ 2 + length rows = omega arith in
+    ap (λ l. None ∷ None ∷ l) (without_control rows) ∙ ap (λ n. replicate n None) count
 
 pub ruleset views = (map-set, map-set_same, set_past, slice_get-map, slice_get_past, slice_get-get_or)

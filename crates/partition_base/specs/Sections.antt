@@ -1,11 +1,12 @@
 -- What the processor of a partition counts on in a loaded section, and how it is seen.
 use Rattle.std.specs.Prelude.{◌≤◌, List, map, length}
+use Rattle.apex_types.specs.declared.identity.TheConstants.{MOST_PROCESSES}
 use Rattle.apex_types.specs.declared.row.BodyRow.{BodyRow}
 use Rattle.apex_types.specs.declared.row.Section.{Section}
 use Rattle.apex_meaning.specs.Engine.{Engine}
 use Rattle.apex_meaning.specs.Instructions.{reading}
 use Rattle.apex_meaning.specs.MachineControl.{MachineControl, machine_engine}
-use Rattle.apex_meaning.specs.SourceControl.{body_at}
+use Rattle.apex_meaning.specs.SourceControl.{body_at, or_init}
 use Rattle.apex_meaning.specs.TwoMeanings.{body_of_row}
 use Rattle.processor.specs.Fitting.{IsFittingBody, AreFitting}
 use Rattle.partition_base.specs.Slots.{AreFittingBodies}
@@ -18,11 +19,12 @@ bodies_of s = map body_of_row s.processes.items
 abbrev pub engine_of_section : Section → Engine MachineControl
 engine_of_section s = machine_engine (map reading s.code.items) s.routines.items (body_at s.init s.handler (bodies_of s))
 
--- At most 65,536 instructions and 31 processes; each routine and each body has room for its slots
+-- No more instructions and processes than may be; each routine and each body has room for its slots
 -- and two saved words.
 pub record IsFittingSection (s : Section) : Type 0 where
   pub code : length s.code.items ≤ 65_536
-  pub processes : length s.processes.items ≤ 31
+  pub processes : length s.processes.items ≤ MOST_PROCESSES
   pub routines : AreFitting s.routines.items
   pub init : IsFittingBody s.init
+  pub handler : IsFittingBody (or_init s.init s.handler)
   pub bodies : AreFittingBodies (bodies_of s)

@@ -1,4 +1,4 @@
--- The slots of a partition's processes as the definitions see them.
+-- The slots of a partition as the definitions see them.
 use Rattle.std.specs.Prelude.{◌≡◌, ℕ, Bool, true, false, List, Option, Some, None, length, slice_get}
 use Rattle.apex_types.specs.declared.row.BodyRow.{BodyRow}
 use Rattle.apex_meaning.specs.MachineControl.{MachineControl}

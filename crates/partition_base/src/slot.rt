@@ -1,6 +1,7 @@
-//! The slots of a partition's processes.
+//! The slots of a partition: those of INIT, of its error handler and of its processes.
 
-ghost use Rattle.std.specs.Prelude.{◌≡◌, ℕ, ◌<◌, List, length, map, slice_get, slice_set, Some, None, IfOk};
+ghost use Rattle.std.specs.Prelude.{◌≡◌, ◌<◌, List, length, map, slice_get, slice_set, Some, None, IfOk};
+ghost use Rattle.apex_types.specs.declared.identity.Runner.{Runner};
 ghost use Rattle.apex_types.specs.declared.row.BodyRow.{BodyRow};
 ghost use Rattle.apex_meaning.specs.MachineControl.{machine_engine, machine_start};
 ghost use Rattle.apex_meaning.specs.Partition.{control_at, no_control, replied, ticked};
@@ -12,7 +13,7 @@ use apex_types::BodyRow;
 use processor::{Code, Context, Data, Outcome, step};
 use std::alloc::{AllocError, Global};
 
-/// A process on the processor: its context, and whether it has something left to do.
+/// INIT, the handler or a process on the processor: its context, and whether it has something left to do.
 #[derive(Drop)]
 pub(crate) struct Slot {
     pub(crate) context: Context,
@@ -53,10 +54,10 @@ impl Slot {
 
     /// One tick, where something is left to do.
     fn tick(&mut self, memory: &mut Data, code: &Code) -> Outcome
-        ensures control { (bodies : ℕ → BodyRow) → control_of_slot self.new ≡ (ticked (machine_engine code.now.instructions.items code.now.routines.items bodies) (control_of_slot self.old) memory.old.words.items).control }
+        ensures control { (bodies : Runner → BodyRow) → control_of_slot self.new ≡ (ticked (machine_engine code.now.instructions.items code.now.routines.items bodies) (control_of_slot self.old) memory.old.words.items).control }
         ensures stack { stack_of_slot self.new ≡ stack_of_slot self.old }
-        ensures words { (bodies : ℕ → BodyRow) → memory.new.words.items ≡ (ticked (machine_engine code.now.instructions.items code.now.routines.items bodies) (control_of_slot self.old) memory.old.words.items).words }
-        ensures asks { (bodies : ℕ → BodyRow) → asks_of result ≡ (ticked (machine_engine code.now.instructions.items code.now.routines.items bodies) (control_of_slot self.old) memory.old.words.items).asks }
+        ensures words { (bodies : Runner → BodyRow) → memory.new.words.items ≡ (ticked (machine_engine code.now.instructions.items code.now.routines.items bodies) (control_of_slot self.old) memory.old.words.items).words }
+        ensures asks { (bodies : Runner → BodyRow) → asks_of result ≡ (ticked (machine_engine code.now.instructions.items code.now.routines.items bodies) (control_of_slot self.old) memory.old.words.items).asks }
         ensures length { length memory.new.words.items ≡ length memory.old.words.items }
     {
         if !self.is_active {
@@ -67,7 +68,7 @@ impl Slot {
 
     /// The answer to a service call, where something is left to do.
     fn reply(&mut self, answer: &[i64])
-        ensures control { (code : _) (routines : _) (bodies : ℕ → BodyRow) → control_of_slot self.new ≡ replied (machine_engine code routines bodies) (control_of_slot self.old) answer.now }
+        ensures control { (code : _) (routines : _) (bodies : Runner → BodyRow) → control_of_slot self.new ≡ replied (machine_engine code routines bodies) (control_of_slot self.old) answer.now }
         ensures stack { stack_of_slot self.new ≡ stack_of_slot self.old }
     {
         if self.is_active {
@@ -76,31 +77,31 @@ impl Slot {
     }
 }
 
-/// Begins the body of a number afresh; a number that is none changes nothing.
+/// Begins a body afresh in the slot of a place; a place that is none changes nothing.
 #[tactic(auto, using(crate::proofs::Places::views))]
-pub(crate) fn begin_at(slots: &mut Vec<Slot>, place: u8, body: &BodyRow)
+pub(crate) fn begin_at(slots: &mut Vec<Slot>, place: usize, body: &BodyRow)
     requires fits { place < length slots.old.items → IsFittingBody body.now }
     requires stack { place < length slots.old.items → slice_get (map stack_of_slot slots.old.items) place ≡ Some body.now.stack }
     ensures controls { map control_of_slot slots.new.items ≡ slice_set (map control_of_slot slots.old.items) place (Some (machine_start body.now)) }
     ensures stacks { map stack_of_slot slots.new.items ≡ map stack_of_slot slots.old.items }
 {
-    if let Some(slot) = slots.get_mut(usize::from(place)) {
+    if let Some(slot) = slots.get_mut(place) {
         slot.begin(body);
     }
 }
 
-/// The process of a number has nothing left to do.
+/// The one in the slot of a place has nothing left to do.
 #[tactic(auto, using(crate::proofs::Places::views))]
-pub(crate) fn stop_at(slots: &mut Vec<Slot>, place: u8)
+pub(crate) fn stop_at(slots: &mut Vec<Slot>, place: usize)
     ensures controls { map control_of_slot slots.new.items ≡ slice_set (map control_of_slot slots.old.items) place None }
     ensures stacks { map stack_of_slot slots.new.items ≡ map stack_of_slot slots.old.items }
 {
-    if let Some(slot) = slots.get_mut(usize::from(place)) {
+    if let Some(slot) = slots.get_mut(place) {
         slot.stop();
     }
 }
 
-/// No process has anything left to do.
+/// No one has anything left to do.
 #[tactic(auto, using(crate::proofs::Places::views))]
 pub(crate) fn stop_all(slots: &mut Vec<Slot>)
     ensures controls { map control_of_slot slots.new.items ≡ map no_control (map control_of_slot slots.old.items) }
@@ -111,28 +112,33 @@ pub(crate) fn stop_all(slots: &mut Vec<Slot>)
     }
 }
 
-/// One tick of the process of a number.
+/// One tick of the one in the slot of a place.
 #[tactic(auto, using(crate::proofs::Places::views))]
-pub(crate) fn tick_at(slots: &mut Vec<Slot>, place: u8, memory: &mut Data, code: &Code) -> Outcome
-    ensures controls { (bodies : ℕ → BodyRow) → map control_of_slot slots.new.items ≡ slice_set (map control_of_slot slots.old.items) place (ticked (machine_engine code.now.instructions.items code.now.routines.items bodies) (control_at (map control_of_slot slots.old.items) place) memory.old.words.items).control }
+pub(crate) fn tick_at(
+    slots: &mut Vec<Slot>,
+    place: usize,
+    memory: &mut Data,
+    code: &Code,
+) -> Outcome
+    ensures controls { (bodies : Runner → BodyRow) → map control_of_slot slots.new.items ≡ slice_set (map control_of_slot slots.old.items) place (ticked (machine_engine code.now.instructions.items code.now.routines.items bodies) (control_at (map control_of_slot slots.old.items) place) memory.old.words.items).control }
     ensures stacks { map stack_of_slot slots.new.items ≡ map stack_of_slot slots.old.items }
-    ensures words { (bodies : ℕ → BodyRow) → memory.new.words.items ≡ (ticked (machine_engine code.now.instructions.items code.now.routines.items bodies) (control_at (map control_of_slot slots.old.items) place) memory.old.words.items).words }
-    ensures asks { (bodies : ℕ → BodyRow) → asks_of result ≡ (ticked (machine_engine code.now.instructions.items code.now.routines.items bodies) (control_at (map control_of_slot slots.old.items) place) memory.old.words.items).asks }
+    ensures words { (bodies : Runner → BodyRow) → memory.new.words.items ≡ (ticked (machine_engine code.now.instructions.items code.now.routines.items bodies) (control_at (map control_of_slot slots.old.items) place) memory.old.words.items).words }
+    ensures asks { (bodies : Runner → BodyRow) → asks_of result ≡ (ticked (machine_engine code.now.instructions.items code.now.routines.items bodies) (control_at (map control_of_slot slots.old.items) place) memory.old.words.items).asks }
     ensures length { length memory.new.words.items ≡ length memory.old.words.items }
 {
-    match slots.get_mut(usize::from(place)) {
+    match slots.get_mut(place) {
         Some(slot) => slot.tick(memory, code),
         None => Outcome::Busy,
     }
 }
 
-/// The answer to the service call of the process of a number.
+/// The answer to the service call of the one in the slot of a place.
 #[tactic(auto, using(crate::proofs::Places::views))]
-pub(crate) fn reply_at(slots: &mut Vec<Slot>, place: u8, answer: &[i64])
-    ensures controls { (code : _) (routines : _) (bodies : ℕ → BodyRow) → map control_of_slot slots.new.items ≡ slice_set (map control_of_slot slots.old.items) place (replied (machine_engine code routines bodies) (control_at (map control_of_slot slots.old.items) place) answer.now) }
+pub(crate) fn reply_at(slots: &mut Vec<Slot>, place: usize, answer: &[i64])
+    ensures controls { (code : _) (routines : _) (bodies : Runner → BodyRow) → map control_of_slot slots.new.items ≡ slice_set (map control_of_slot slots.old.items) place (replied (machine_engine code routines bodies) (control_at (map control_of_slot slots.old.items) place) answer.now) }
     ensures stacks { map stack_of_slot slots.new.items ≡ map stack_of_slot slots.old.items }
 {
-    if let Some(slot) = slots.get_mut(usize::from(place)) {
+    if let Some(slot) = slots.get_mut(place) {
         slot.reply(answer);
     }
 }

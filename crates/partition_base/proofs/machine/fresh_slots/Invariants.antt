@@ -4,6 +4,6 @@ use Rattle.partition_base.proofs.machine.fresh_slots.Given as goal
 
 abbrev pub invariant-loop-body : goal.invariant-loop-body
 invariant-loop-body l = record {
-  controls : map control_of_slot l.slots.items ≡ map unbegun (l.init ∷ take l.body-index l.processes);
-  stacks : map stack_of_slot l.slots.items ≡ map stack_of_body (l.init ∷ take l.body-index l.processes);
+  controls : map control_of_slot l.slots.items ≡ map unbegun (l.init ∷ l.handler ∷ take l.body-index l.processes);
+  stacks : map stack_of_slot l.slots.items ≡ map stack_of_body (l.init ∷ l.handler ∷ take l.body-index l.processes);
 }

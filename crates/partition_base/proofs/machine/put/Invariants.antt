@@ -1,0 +1,9 @@
+use Rattle.std.proofs.Common.{◌≡◌, ◌+◌, drop}
+use Rattle.apex_meaning.specs.Words.{put_words}
+use Rattle.partition_base.proofs.machine.put.Given as goal
+
+abbrev pub invariant-loop-word : goal.invariant-loop-word
+invariant-loop-word l = record {
+  place : l.next ≡ l.fn.place + l.word-index;
+  rest : put_words l.words l.next (drop l.word-index l.array) ≡ put_words l.fn.words l.fn.place l.array;
+}
