@@ -5,6 +5,7 @@ use Rattle.std.specs.List.{flat_map}
 use Rattle.apex_types.specs.Runners.{place_of}
 use Rattle.apex_types.specs.declared.event.Event.{Event}
 use Rattle.apex_types.specs.declared.codes.Mode.TheVariants as mode
+use Rattle.apex_types.specs.declared.codes.StartCondition.{StartCondition}
 use Rattle.apex_types.specs.declared.codes.StartCondition.TheVariants as condition
 use Rattle.apex_types.specs.declared.identity.At.{At}
 use Rattle.apex_types.specs.declared.identity.Runner.{Runner}
@@ -14,7 +15,7 @@ use Rattle.apex_types.specs.declared.row.WindowRow.{WindowRow}
 use Rattle.apex_meaning.specs.Engine.{Engine, Ticked, Asks, Simulates}
 use Rattle.apex_meaning.specs.Kernel.{Kernel, of_processes}
 use Rattle.apex_meaning.specs.PartitionServices.{clears}
-use Rattle.apex_meaning.specs.Partition.{World, Member, Moved, control_at, replied, no_control, written, act, act_all, moved, followed_by, ticked, chooses, spends, spends_chosen, spending_phase, treats_asked, treats_due, due_phase, choice_phase, prepares, tick, started}
+use Rattle.apex_meaning.specs.Partition.{World, Member, Moved, control_at, replied, no_control, written, act, act_all, moved, followed_by, ticked, chooses, spends, spends_chosen, spending_phase, treats_asked, treats_due, due_phase, choice_phase, prepares, tick, cold_start}
 use Rattle.apex_meaning.specs.Step.{Step}
 use Rattle.apex_meaning.specs.Windows.{owner}
 use Rattle.apex_meaning.specs.Module.{Advanced, first_tick, next_tick, start_lines, starts, ticks_member, ticks_owner, module_tick, trace_from, trace}
@@ -137,20 +138,20 @@ module _ {C D : Type 0} (R : C → D → Type 0) where
     pub tick_same : (at : At) (v : World C) (w : World D) → SameWorld R v w → SameMoved R (tick c at v) (tick d at w)
     tick_same at v w h = shared (λ v w. SameMoved R (tick c at v) (tick d at w)) v w (same_tick at) h
 
-    same_start : (at : At) (k : Kernel) (f : List (Option C)) (g : List (Option D)) (ws i : List ℤ) → SameControls R f g → SameMoved R (moved at c (clears k mode.ColdStart condition.NormalStart) (world k f ws i)) (moved at d (clears k mode.ColdStart condition.NormalStart) (world k g ws i))
-    same_start at k f g ws i h = same_step at (clears k mode.ColdStart condition.NormalStart) k f g ws i h
+    same_start : (at : At) (why : StartCondition) (k : Kernel) (f : List (Option C)) (g : List (Option D)) (ws i : List ℤ) → SameControls R f g → SameMoved R (moved at c (clears k mode.ColdStart why) (world k f ws i)) (moved at d (clears k mode.ColdStart why) (world k g ws i))
+    same_start at why k f g ws i h = same_step at (clears k mode.ColdStart why) k f g ws i h
 
 -- ---- the module
 
 module _ {I C D : Type 0} (R : I → C → D → Type 0) where
-  started_same : (at : At) (i : I) (x : Member C) (y : Member D) → SameMember (R i) x y → SameMoved (R i) (started at x) (started at y)
-  started_same at i x y h =
-      shared (R i) (λ v w. SameMoved (R i) (moved at x.engine (clears v.kernel mode.ColdStart condition.NormalStart) v) (moved at y.engine (clears w.kernel mode.ColdStart condition.NormalStart) w)) x.world y.world (same_start (R i) x.engine y.engine h.engine at) h.world
+  started_same : (at : At) (c : StartCondition) (i : I) (x : Member C) (y : Member D) → SameMember (R i) x y → SameMoved (R i) (cold_start at c x) (cold_start at c y)
+  started_same at c i x y h =
+      shared (R i) (λ v w. SameMoved (R i) (moved at x.engine (clears v.kernel mode.ColdStart c) v) (moved at y.engine (clears w.kernel mode.ColdStart c) w)) x.world y.world (same_start (R i) x.engine y.engine h.engine at c) h.world
 
   starts_same : (is : List I) (xs : List (Member C)) (ys : List (Member D)) → SameMembers R is xs ys → SameAdvanced R is (starts xs) (starts ys)
   starts_same [] [] [] h = record { members = tt; lines = refl }
   starts_same (i ∷ is) (x ∷ xs) (y ∷ ys) h =
-      let one = started_same first_tick i x y h.0 in
+      let one = started_same first_tick condition.NormalStart i x y h.0 in
       let rest = starts_same is xs ys h.1 in
       record {
         members = (record { engine = h.0.engine; world = one.world }, rest.members);

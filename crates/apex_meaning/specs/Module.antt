@@ -1,10 +1,11 @@
 -- The module: its partitions, each in its windows, tick by tick; its trace.
 use Rattle.std.specs.Prelude.{ℕ, zero, suc, ◌+◌, ℤ, List, [], ◌∷◌, ◌++◌, Option, Some, None, map, slice_get, slice_set}
 use Rattle.std.specs.List.{flat_map}
+use Rattle.apex_types.specs.declared.codes.StartCondition.TheVariants as condition
 use Rattle.apex_types.specs.declared.event.Event.{Event}
 use Rattle.apex_types.specs.declared.identity.At.{At}
 use Rattle.apex_types.specs.declared.row.WindowRow.{WindowRow}
-use Rattle.apex_meaning.specs.Partition.{Member, with_world, started, ticked_member, tick_lines}
+use Rattle.apex_meaning.specs.Partition.{Member, with_world, cold_start, ticked_member, tick_lines}
 use Rattle.apex_meaning.specs.Windows.{owner}
 
 -- the partitions in their order, and the windows of the major frame
@@ -28,10 +29,10 @@ abbrev pub first_tick : At
 first_tick = record { now = record { 0 = 0 }; origin = record { 0 = 0 } }
 
 abbrev pub started_member : {C : Type 0} → Member C → Member C
-started_member x = with_world x (started first_tick x).world
+started_member x = with_world x (cold_start first_tick condition.NormalStart x).world
 
 abbrev pub start_lines : {C : Type 0} → Member C → List Event
-start_lines x = (started first_tick x).lines
+start_lines x = (cold_start first_tick condition.NormalStart x).lines
 
 -- each partition in order
 abbrev pub starts : {C : Type 0} → List (Member C) → Advanced C

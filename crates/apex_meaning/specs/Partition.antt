@@ -6,6 +6,7 @@ use Rattle.apex_types.specs.declared.codes.Mode.{Mode}
 use Rattle.apex_types.specs.declared.codes.Mode.TheVariants as mode
 use Rattle.apex_types.specs.declared.codes.ProcessState.{ProcessState}
 use Rattle.apex_types.specs.declared.codes.ProcessState.TheVariants.{Ready, Running}
+use Rattle.apex_types.specs.declared.codes.StartCondition.{StartCondition}
 use Rattle.apex_types.specs.declared.codes.StartCondition.TheVariants as condition
 use Rattle.apex_types.specs.declared.event.Event.{Event}
 use Rattle.apex_types.specs.declared.event.EventKind.{EventKind}
@@ -252,11 +253,15 @@ abbrev pub with_world : {C : Type 0} → Member C → World C → Member C
 with_world x w = record { engine = x.engine; world = w }
 
 -- Clear to a cold start, for a reason
-abbrev pub started : {C : Type 0} → At → Member C → Moved C
-started at x = moved at x.engine (clears x.world.kernel mode.ColdStart condition.NormalStart) x.world
+abbrev pub cold_start : {C : Type 0} → At → StartCondition → Member C → Moved C
+cold_start at c x = moved at x.engine (clears x.world.kernel mode.ColdStart c) x.world
+
+-- one tick of a partition on its engine
+abbrev pub advances : {C : Type 0} → At → Member C → Moved C
+advances at x = tick x.engine at x.world
 
 abbrev pub ticked_member : {C : Type 0} → At → Member C → Member C
-ticked_member at x = with_world x (tick x.engine at x.world).world
+ticked_member at x = with_world x (advances at x).world
 
 abbrev pub tick_lines : {C : Type 0} → At → Member C → List Event
-tick_lines at x = (tick x.engine at x.world).lines
+tick_lines at x = (advances at x).lines

@@ -29,4 +29,12 @@ impl Out {
             actions: Actions::new(),
         }
     }
+
+    /// Drops all that happened and all that is asked for.
+    pub fn clear(&mut self)
+        ensures { IsEmpty self.new }
+    {
+        self.lines.clear();
+        self.actions.clear();
+    }
 }

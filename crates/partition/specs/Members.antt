@@ -14,7 +14,7 @@ member_at g kernel executor mem = record {
   world = record { kernel = kernel; controls = g.controls executor; words = g.words mem; initial = g.initial executor };
 }
 
-abbrev pub member_of : {E X : Type 0} → (g : Ghosts E X) → Partition E X g → X → Member g.Control
+abbrev pub member_of : {E X : Type 0} → (g : Ghosts E X) → Partition E X → X → Member g.Control
 member_of g p mem = member_at g p.kernel p.executor mem
 
 -- the data are as many words as the initial data

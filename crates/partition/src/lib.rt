@@ -8,6 +8,7 @@ mod kernel;
 mod modes;
 mod partition;
 mod services;
+mod tick;
 
 pub use fixed::Fixed;
 pub use kernel::Kernel;
