@@ -70,7 +70,7 @@ fixed_of frame windows number p = record { name = p.name; number = number; perio
 
 -- a partition in idle mode with nothing created, of these processes
 abbrev pub fresh_kernel : Fixed → List ProcessStatus → Kernel
-fresh_kernel fixed rows = record { fixed = fixed; mode = mode.Idle; condition = condition.NormalStart; processes = fresh_processes rows; objects = record { }; ports = record { }; errors = record { } }
+fresh_kernel fixed rows = record { fixed = fixed; mode = mode.Idle; condition = condition.NormalStart; processes = fresh_processes rows; objects = record {}; ports = record {}; errors = record {} }
 
 abbrev pub no_control_for : {C : Type 0} → ProcessStatus → Option C
 no_control_for r = None

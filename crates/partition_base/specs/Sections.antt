@@ -19,8 +19,8 @@ bodies_of s = map body_of_row s.processes.items
 abbrev pub engine_of_section : Section → Engine MachineControl
 engine_of_section s = machine_engine (map reading s.code.items) s.routines.items (body_at s.init s.handler (bodies_of s))
 
--- No more instructions and processes than may be; each routine and each body has room for its slots
--- and two saved words.
+-- At most 65,536 instructions, and no more processes than a partition may have; each routine and each
+-- body has room for its slots and two saved words.
 pub record IsFittingSection (s : Section) : Type 0 where
   pub code : length s.code.items ≤ 65_536
   pub processes : length s.processes.items ≤ MOST_PROCESSES

@@ -9,8 +9,8 @@ ghost use Rattle.processor.specs.Views.{asks_of};
 use apex_types::{Runner, Words};
 use processor::Outcome;
 
-/// Runs INIT, the error handler and the processes of one partition. One without a control has
-/// nothing left to do; a process that there is not has never one. No call takes memory.
+/// Runs INIT, the error handler and the processes of one partition. A runner without a control has
+/// nothing left to do; a process that does not exist never has a control. No call takes memory.
 pub trait Executor {
     /// The partition's data, which is lent to each call that reaches it.
     type Mem;
@@ -25,25 +25,25 @@ pub trait Executor {
 
     ghost initial: { Self → List ℤ };
 
-    /// This one begins its body afresh.
+    /// The runner begins its body afresh.
     fn begin(&mut self, runner: Runner)
         ensures engine { engine self.new ≡ engine self.old }
         ensures initial { initial self.new ≡ initial self.old }
         ensures controls { controls self.new ≡ slice_set (controls self.old) (place_of runner) (Some ((engine self.old).start runner)) };
 
-    /// This one has nothing left to do.
+    /// The runner has nothing left to do.
     fn stop(&mut self, runner: Runner)
         ensures engine { engine self.new ≡ engine self.old }
         ensures initial { initial self.new ≡ initial self.old }
         ensures controls { controls self.new ≡ slice_set (controls self.old) (place_of runner) None };
 
-    /// No one has anything left to do.
+    /// No runner has anything left to do.
     fn stop_all(&mut self)
         ensures engine { engine self.new ≡ engine self.old }
         ensures initial { initial self.new ≡ initial self.old }
         ensures controls { controls self.new ≡ map no_control (controls self.old) };
 
-    /// One tick of this one.
+    /// One tick of the runner.
     fn tick(&mut self, mem: &mut Self::Mem, runner: Runner) -> Outcome
         ensures engine { engine self.new ≡ engine self.old }
         ensures initial { initial self.new ≡ initial self.old }
@@ -52,7 +52,7 @@ pub trait Executor {
         ensures asks { asks_of result ≡ (ticked (engine self.old) (control_at (controls self.old) (place_of runner)) (words mem.old)).asks }
         ensures length { length (words mem.new) ≡ length (words mem.old) };
 
-    /// The answer to the service call of this one: the code, then the outputs.
+    /// The answer to the runner's service call: the code, then the outputs.
     fn reply(&mut self, runner: Runner, answer: &Words)
         ensures engine { engine self.new ≡ engine self.old }
         ensures initial { initial self.new ≡ initial self.old }
@@ -63,8 +63,8 @@ pub trait Executor {
         requires { count ≤ 16 }
         ensures { result.items ≡ message_from place count (words mem.now) };
 
-    /// Words go into the data, one after the other from a place on. What would stand outside of
-    /// them is dropped.
+    /// Words go into the data, one after the other from a place on. A word whose place is outside
+    /// of the data is dropped.
     fn write(&self, mem: &mut Self::Mem, place: i64, array: &Words)
         ensures words { words mem.new ≡ written place array.now.items (words mem.old) }
         ensures length { length (words mem.new) ≡ length (words mem.old) };

@@ -56,7 +56,7 @@ fn fresh_slots(
     ensures controls { IfOk result (λ slots. map control_of_slot slots.items ≡ map unbegun (init.now ∷ handler.now ∷ processes.now)) }
     ensures stacks { IfOk result (λ slots. map stack_of_slot slots.items ≡ map stack_of_body (init.now ∷ handler.now ∷ processes.now)) }
 {
-    let mut slots = Vec::with_capacity(alloc, processes.len())?;
+    let mut slots = Vec::with_capacity(alloc, processes.len() + 2)?;
     slots.push(Slot::new(alloc, init)?)?;
     slots.push(Slot::new(alloc, handler)?)?;
     for body in processes {

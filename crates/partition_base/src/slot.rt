@@ -13,7 +13,7 @@ use apex_types::BodyRow;
 use processor::{Code, Context, Data, Outcome, step};
 use std::alloc::{AllocError, Global};
 
-/// INIT, the handler or a process on the processor: its context, and whether it has something left to do.
+/// A runner on the processor: its context, and whether it has something left to do.
 #[derive(Drop)]
 pub(crate) struct Slot {
     pub(crate) context: Context,
@@ -77,7 +77,7 @@ impl Slot {
     }
 }
 
-/// Begins a body afresh in the slot of a place; a place that is none changes nothing.
+/// The runner of a place begins a body afresh; where there is none, nothing changes.
 #[tactic(auto, using(crate::proofs::Places::views))]
 pub(crate) fn begin_at(slots: &mut Vec<Slot>, place: usize, body: &BodyRow)
     requires fits { place < length slots.old.items → IsFittingBody body.now }
@@ -90,7 +90,7 @@ pub(crate) fn begin_at(slots: &mut Vec<Slot>, place: usize, body: &BodyRow)
     }
 }
 
-/// The one in the slot of a place has nothing left to do.
+/// The runner of a place has nothing left to do.
 #[tactic(auto, using(crate::proofs::Places::views))]
 pub(crate) fn stop_at(slots: &mut Vec<Slot>, place: usize)
     ensures controls { map control_of_slot slots.new.items ≡ slice_set (map control_of_slot slots.old.items) place None }
@@ -101,7 +101,7 @@ pub(crate) fn stop_at(slots: &mut Vec<Slot>, place: usize)
     }
 }
 
-/// No one has anything left to do.
+/// No runner has anything left to do.
 #[tactic(auto, using(crate::proofs::Places::views))]
 pub(crate) fn stop_all(slots: &mut Vec<Slot>)
     ensures controls { map control_of_slot slots.new.items ≡ map no_control (map control_of_slot slots.old.items) }
@@ -112,7 +112,7 @@ pub(crate) fn stop_all(slots: &mut Vec<Slot>)
     }
 }
 
-/// One tick of the one in the slot of a place.
+/// One tick of the runner of a place.
 #[tactic(auto, using(crate::proofs::Places::views))]
 pub(crate) fn tick_at(
     slots: &mut Vec<Slot>,
@@ -132,7 +132,7 @@ pub(crate) fn tick_at(
     }
 }
 
-/// The answer to the service call of the one in the slot of a place.
+/// The answer to the service call of the runner of a place.
 #[tactic(auto, using(crate::proofs::Places::views))]
 pub(crate) fn reply_at(slots: &mut Vec<Slot>, place: usize, answer: &[i64])
     ensures controls { (code : _) (routines : _) (bodies : Runner → BodyRow) → map control_of_slot slots.new.items ≡ slice_set (map control_of_slot slots.old.items) place (replied (machine_engine code routines bodies) (control_at (map control_of_slot slots.old.items) place) answer.now) }
