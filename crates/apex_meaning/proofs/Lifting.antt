@@ -15,7 +15,7 @@ use Rattle.apex_types.specs.declared.row.WindowRow.{WindowRow}
 use Rattle.apex_meaning.specs.Engine.{Engine, Ticked, Asks, Simulates}
 use Rattle.apex_meaning.specs.Kernel.{Kernel, of_processes}
 use Rattle.apex_meaning.specs.PartitionServices.{clears}
-use Rattle.apex_meaning.specs.Partition.{World, Member, Moved, control_at, replied, no_control, written, act, act_all, moved, followed_by, ticked, chooses, spends, spends_chosen, spending_phase, treats_asked, treats_due, due_phase, choice_phase, prepares, tick, cold_start}
+use Rattle.apex_meaning.specs.Partition.{World, Member, Moved, control_at, replied, no_control, written, act, act_all, moved, followed_by, ticked, chooses, spends, spends_chosen, spending_phase, given, treats_asked, treats_due, due_phase, choice_phase, prepares, tick, cold_start}
 use Rattle.apex_meaning.specs.Step.{Step}
 use Rattle.apex_meaning.specs.Windows.{owner}
 use Rattle.apex_meaning.specs.Module.{Advanced, first_tick, next_tick, start_lines, starts, ticks_member, ticks_owner, module_tick, trace_from, trace}
@@ -111,11 +111,11 @@ module _ {C D : Type 0} (R : C → D → Type 0) where
     -- what is asked, over the data after the tick
     same_asked : (at : At) (p : Runner) (k : Kernel) (f : List (Option C)) (g : List (Option D)) (i : List ℤ) (ws vs : List ℤ) (a b : Asks)
         → SameControls R f g → ws ≡ vs → a ≡ b
-        → SameMoved R (moved at c (treats_asked at k p a ws) (world k f ws i)) (moved at d (treats_asked at k p b vs) (world k g vs i))
+        → SameMoved R (moved at c (treats_asked at k p a (given a ws)) (world k f ws i)) (moved at d (treats_asked at k p b (given b vs)) (world k g vs i))
     same_asked at p k f g i ws vs a b h words asks =
-        subst (λ (v : List ℤ). SameMoved R (moved at c (treats_asked at k p a ws) (world k f ws i)) (moved at d (treats_asked at k p b v) (world k g v i))) words
-        (subst (λ (q : Asks). SameMoved R (moved at c (treats_asked at k p a ws) (world k f ws i)) (moved at d (treats_asked at k p q ws) (world k g ws i))) asks
-        (same_step at (treats_asked at k p a ws) k f g ws i h))
+        subst (λ (v : List ℤ). SameMoved R (moved at c (treats_asked at k p a (given a ws)) (world k f ws i)) (moved at d (treats_asked at k p b (given b v)) (world k g v i))) words
+        (subst (λ (q : Asks). SameMoved R (moved at c (treats_asked at k p a (given a ws)) (world k f ws i)) (moved at d (treats_asked at k p q (given q ws)) (world k g ws i))) asks
+        (same_step at (treats_asked at k p a (given a ws)) k f g ws i h))
 
     same_spends : (at : At) (p : Runner) (k : Kernel) (f : List (Option C)) (g : List (Option D)) (ws i : List ℤ) → SameControls R f g → SameMoved R (spends c at p (world k f ws i)) (spends d at p (world k g ws i))
     same_spends at p k f g ws i h =

@@ -121,9 +121,10 @@ abbrev pub handed : Option ArrayPlace → List ℤ → List ℤ
 handed None words = []
 handed (Some array) words = message_from array.base (most_words array.size) words
 
--- the words of the array that a call hands in, if it has one
-abbrev pub given : Call → List ℤ → List ℤ
-given c words = handed (array_of c) words
+-- the words that a call hands in, which are those of its array, if it has one
+abbrev pub given : Asks → List ℤ → List ℤ
+given (Calls c) words = handed (array_of c) words
+given _ words = []
 
 -- a service that the kernel does not serve leaves its caller without an answer
 abbrev pub serves : At → Kernel → Runner → Call → List ℤ → Step Kernel
@@ -138,7 +139,7 @@ serves at k p _ words = nothing k
 
 abbrev pub treats_asked : At → Kernel → Runner → Asks → List ℤ → Step Kernel
 treats_asked at k p Nothing words = nothing k
-treats_asked at k p (Calls c) words = serves at k p c (given c words)
+treats_asked at k p (Calls c) words = serves at k p c words
 treats_asked at k p (Faults e) words = faults k p e
 treats_asked at k p Ends words = ends_body k p
 
@@ -225,7 +226,7 @@ ticked e (Some c) words = ticked_some (e.tick c words)
 abbrev pub spends : {C : Type 0} → Engine C → At → Runner → World C → Moved C
 spends e at p w =
     let r = ticked e (control_at w.controls (place_of p)) w.words in
-    moved at e (treats_asked at w.kernel p r.asks r.words) (record w { controls = slice_set w.controls (place_of p) r.control; words = r.words })
+    moved at e (treats_asked at w.kernel p r.asks (given r.asks r.words)) (record w { controls = slice_set w.controls (place_of p) r.control; words = r.words })
 
 abbrev pub spends_chosen : {C : Type 0} → Engine C → At → Option Runner → World C → Moved C
 spends_chosen e at None w = record { world = w; lines = [] }

@@ -5,10 +5,12 @@ ghost use Rattle.apex_types.specs.Room.{HasRoom, Grows};
 ghost use Rattle.apex_meaning.specs.HealthServices as health;
 ghost use Rattle.apex_meaning.specs.Partition as meaning;
 ghost use Rattle.apex_meaning.specs.Step.{IsMade, IsTold};
+ghost use Rattle.processor.specs.Views.{asks_of};
 
 use crate::kernel::Kernel;
 use apex_types::{ArrayPlace, At, Call, EventKind, Out, ReturnCode, Runner, Service, Words};
 use process_table::{create_process, get_time, start, timed_wait};
+use processor::Outcome;
 
 impl Kernel {
     /// REPORT_APPLICATION_MESSAGE (ARINC 653 Part 1, health monitoring): the first words of those
@@ -39,9 +41,31 @@ impl Kernel {
             .push(EventKind::Report(self.subject(caller), message));
     }
 
+    /// What a tick of this one came to; `words` are those that a call hands in.
+    pub(crate) fn treat(
+        &mut self,
+        at: At,
+        runner: Runner,
+        outcome: Outcome,
+        words: Words,
+        out: &mut Out,
+    )
+        requires now { at.now.0 ≤ 2 ^ 40 }
+        requires room { HasRoom 34 out.old }
+        ensures step { IsMade (meaning.treats_asked at self.old runner (asks_of outcome) words.items) self.new out.old out.new }
+        ensures grows { Grows 34 out.old out.new }
+    {
+        match outcome {
+            Outcome::Busy | Outcome::Local => {}
+            Outcome::Call(call) => self.serve(at, runner, call, words, out),
+            Outcome::Fault(error) => self.fault(runner, error, out),
+            Outcome::End => self.end_body(runner, out),
+        }
+    }
+
     /// Serves a call; `words` are those that it hands in. A service that is not served leaves its
     /// caller without an answer.
-    pub(crate) fn serve(&mut self, at: At, caller: Runner, call: Call, words: Words, out: &mut Out)
+    fn serve(&mut self, at: At, caller: Runner, call: Call, words: Words, out: &mut Out)
         requires now { at.now.0 ≤ 2 ^ 40 }
         requires room { HasRoom 34 out.old }
         ensures step { IsMade (meaning.serves at self.old caller call words.items) self.new out.old out.new }

@@ -12,8 +12,9 @@ ghost use Rattle.processor.specs.Views.{asks_of};
 use crate::acting::{act_all, tell};
 use crate::kernel::Kernel;
 use crate::partition::Partition;
-use apex_types::{At, Events, Mode, Name, Out, StartCondition};
+use apex_types::{At, Events, Mode, Name, Out, Runner, StartCondition, Words};
 use partition_base::Executor;
+use processor::{Outcome, array_of};
 
 impl<E: Executor> Partition<E> {
     /// A partition of a kernel over an executor.
@@ -66,4 +67,92 @@ impl<E: Executor> Partition<E> {
             .clear(Mode::ColdStart, condition, &mut self.out);
         self.finish(mem, name, at, events);
     }
+
+    /// What is due is treated.
+    fn treat_due(&mut self, mem: &mut E::Mem, at: At, events: &mut Events)
+        requires whole { IsWhole (member_of E.Executor self.old mem.old) }
+        requires idle { IsEmpty self.old.out }
+        requires room { length events.old.items + 96 ≤ 256 }
+        ensures whole { IsWhole (member_of E.Executor self.new mem.new) }
+        ensures idle { IsEmpty self.new.out }
+        ensures moved { let x = member_of E.Executor self.old mem.old in IsMoved (meaning.due_phase x.engine at x.world) x (member_of E.Executor self.new mem.new) events.old.items events.new.items }
+        ensures few { length events.new.items ≤ length events.old.items + 96 }
+    {
+        let name = self.kernel.name();
+        self.kernel.treat_due(at, &mut self.out);
+        self.finish(mem, name, at, events);
+    }
+
+    /// The choice of who runs.
+    fn choose(&mut self, mem: &mut E::Mem, at: At, events: &mut Events)
+        requires whole { IsWhole (member_of E.Executor self.old mem.old) }
+        requires idle { IsEmpty self.old.out }
+        requires room { length events.old.items + 2 ≤ 256 }
+        ensures whole { IsWhole (member_of E.Executor self.new mem.new) }
+        ensures idle { IsEmpty self.new.out }
+        ensures moved { let x = member_of E.Executor self.old mem.old in IsMoved (meaning.choice_phase x.engine at x.world) x (member_of E.Executor self.new mem.new) events.old.items events.new.items }
+        ensures few { length events.new.items ≤ length events.old.items + 2 }
+    {
+        let name = self.kernel.name();
+        self.kernel.choose(&mut self.out);
+        self.finish(mem, name, at, events);
+    }
+
+    /// This one spends a tick, and what it asks for is done.
+    fn spend(&mut self, mem: &mut E::Mem, at: At, runner: Runner, events: &mut Events)
+        requires now { at.now.0 ≤ 2 ^ 40 }
+        requires whole { IsWhole (member_of E.Executor self.old mem.old) }
+        requires idle { IsEmpty self.old.out }
+        requires room { length events.old.items + 34 ≤ 256 }
+        ensures whole { IsWhole (member_of E.Executor self.new mem.new) }
+        ensures idle { IsEmpty self.new.out }
+        ensures moved { let x = member_of E.Executor self.old mem.old in IsMoved (meaning.spends x.engine at runner x.world) x (member_of E.Executor self.new mem.new) events.old.items events.new.items }
+    {
+        let name = self.kernel.name();
+        let outcome = self.executor.tick(mem, runner);
+        let words = self.given(mem, &outcome);
+        self.kernel
+            .treat(at, runner, outcome, words, &mut self.out);
+        self.finish(mem, name, at, events);
+    }
+
+    /// The words that a call hands in: those of its array, at most 16.
+    #[tactic(auto, using(apex_meaning::proofs::Numbers::handed_words))]
+    fn given(&self, mem: &E::Mem, outcome: &Outcome) -> Words
+        ensures { result.items ≡ meaning.given (asks_of outcome.now) (E.words mem.now) }
+    {
+        match outcome {
+            Outcome::Call(call) => match array_of(*call) {
+                Some(array) => {
+                    self.executor.read(mem, array.base, most_words(array.size))
+                }
+                None => Words::new(),
+            },
+            _ => Words::new(),
+        }
+    }
+
+    /// One tick: what is due, then the choice, then the tick of the chosen one.
+    pub fn tick(&mut self, mem: &mut E::Mem, at: At, events: &mut Events)
+        requires now { at.now.0 ≤ 2 ^ 40 }
+        requires whole { IsWhole (member_of E.Executor self.old mem.old) }
+        requires empty { events.old.items ≡ [] }
+        ensures whole { IsWhole (member_of E.Executor self.new mem.new) }
+        ensures moved { let x = member_of E.Executor self.old mem.old in IsMoved (meaning.advances at x) x (member_of E.Executor self.new mem.new) events.old.items events.new.items }
+    {
+        self.out.clear();
+        self.treat_due(mem, at, events);
+        self.choose(mem, at, events);
+        if let Some(runner) = self.kernel.running() {
+            self.spend(mem, at, runner, events);
+        }
+    }
+}
+
+/// How many words of an array of a size a call hands in, at most 16.
+fn most_words(size: i64) -> u8
+    ensures words { result ≡ meaning.most_words size }
+    ensures most { result ≤ 16 }
+{
+    size.clamp(0, 16) as u8
 }

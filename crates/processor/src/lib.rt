@@ -21,4 +21,5 @@ pub use context::Context;
 pub use data::Data;
 pub use execute::step;
 pub use outcome::Outcome;
+pub use service_table::array_of;
 pub use service_table::services_are_numbered;
