@@ -32,10 +32,10 @@ pub record AcceptedTable (text : TableText) (t : Table) : Type 0 where
   pub names : has_same_names text ≡ false
   pub known : has_unknown_name text ≡ false
   pub apart : overlaps text ≡ false
-  pub periods : has_odd_period t ≡ false
-  pub durations : has_short_period t ≡ false
-  pub releases : lacks_release t ≡ false
-  pub ends : has_wrong_ends t ≡ false
+  pub periods : has_odd_period t.schedule.frame t.partitions ≡ false
+  pub durations : has_short_period t.schedule t.partitions ≡ false
+  pub releases : lacks_release t.schedule.windows t.partitions ≡ false
+  pub ends : has_wrong_ends t.partitions t.channels ≡ false
   pub is : numbered text ≡ t
 
 judged : (text : TableText) (t : Table) → judge_text text ≡ Ok t → AcceptedTable text t
@@ -46,10 +46,10 @@ judged text t h =
     let names = rule_held (has_same_names text || has_unknown_name text) _ _ t limits.1 in
     let both = or_parts (has_same_names text) (has_unknown_name text) names.0 in
     let apart = rule_held (overlaps text) _ _ t names.1 in
-    let periods = rule_held (has_odd_period n) _ _ t apart.1 in
-    let durations = rule_held (has_short_period n) _ _ t periods.1 in
-    let releases = rule_held (lacks_release n) _ _ t durations.1 in
-    let ends = rule_held (has_wrong_ends n) _ _ t releases.1 in
+    let periods = rule_held (has_odd_period n.schedule.frame n.partitions) _ _ t apart.1 in
+    let durations = rule_held (has_short_period n.schedule n.partitions) _ _ t periods.1 in
+    let releases = rule_held (lacks_release n.schedule.windows n.partitions) _ _ t durations.1 in
+    let ends = rule_held (has_wrong_ends n.partitions n.channels) _ _ t releases.1 in
     let actions = rule_held (has_unknown_action text) _ _ t ends.1 in
     let is : n ≡ t = cc in
     record {
@@ -57,10 +57,10 @@ judged text t h =
       names = both.0;
       known = both.1;
       apart = apart.0;
-      periods = subst (λ (x : Table). has_odd_period x ≡ false) is periods.0;
-      durations = subst (λ (x : Table). has_short_period x ≡ false) is durations.0;
-      releases = subst (λ (x : Table). lacks_release x ≡ false) is releases.0;
-      ends = subst (λ (x : Table). has_wrong_ends x ≡ false) is ends.0;
+      periods = subst (λ (x : Table). has_odd_period x.schedule.frame x.partitions ≡ false) is periods.0;
+      durations = subst (λ (x : Table). has_short_period x.schedule x.partitions ≡ false) is durations.0;
+      releases = subst (λ (x : Table). lacks_release x.schedule.windows x.partitions ≡ false) is releases.0;
+      ends = subst (λ (x : Table). has_wrong_ends x.partitions x.channels ≡ false) is ends.0;
       is = is;
     }
 
@@ -205,7 +205,7 @@ number_first true n m k o rest h = let e : n ≡ k = cc in (omega (arith, e), om
 number_first false n m k o rest h = let r = rest h in (omega (arith, r.0), omega (arith, r.1))
 
 -- the number of the first that is so
-number_small : {A : Type 0} (n : ℕ) (test : A → Bool) (xs : List A) (k : ℕ) → number_from n test xs ≡ Some k → (n ≤ k) × (k < n + length xs)
+pub number_small : {A : Type 0} (n : ℕ) (test : A → Bool) (xs : List A) (k : ℕ) → number_from n test xs ≡ Some k → (n ≤ k) × (k < n + length xs)
 unfolding number_from
 number_small n test [] k h = absurd cc
 number_small n test (x ∷ xs) k h = number_first (test x) n (length xs) k (number_from (n + 1) test xs) (λ e. number_small (n + 1) test xs k e) h
@@ -319,11 +319,11 @@ few_ports frame (p ∷ ps) h =
 
 -- the image of a table whose partitions have become items
 abbrev pub image_of : Table → List Item → Image
-image_of t items = record { frame = t.frame; fault = t.fault; items = items; windows = t.windows; channels = t.channels }
+image_of t items = record { schedule = t.schedule; fault = t.fault; items = items; channels = t.channels }
 
 -- each window ends within the frame
 abbrev pub HaveRoom : Table → Type 0
-HaveRoom t = AllByRecursion (λ (w : WindowRow). w.offset + w.length ≤ t.frame) t.windows
+HaveRoom t = AllByRecursion (λ (w : WindowRow). w.offset + w.length ≤ t.schedule.frame) t.schedule.windows
 
 text_limits : (text : TableText) (items : List Item) → exceeds_limits text ≡ false → has_same_names text ≡ false → overlaps text ≡ false → map (λ (it : Item). it.partition) items ≡ (numbered text).partitions → AllByRecursion (λ (it : Item). IsSection it.partition.period it.section) items
     → IsWithinLimits (image_of (numbered text) items) × HaveRoom (numbered text)
@@ -387,11 +387,11 @@ windows_known ps (w ∷ ws) h =
     let parts = or_parts (is_unknown_window ps w) (list_any (is_unknown_window ps) ws) h in
     (number_known ps (partition_number ps w.partition) (λ k e. number_small 1 _ ps k e) parts.0, windows_known ps ws parts.1)
 
-text_windows : (text : TableText) → has_unknown_name text ≡ false → AllByRecursion (λ (w : WindowRow). (1 ≤ w.partition.0) × (w.partition.0 ≤ length (numbered text).partitions)) (numbered text).windows
+text_windows : (text : TableText) → has_unknown_name text ≡ false → AllByRecursion (λ (w : WindowRow). (1 ≤ w.partition.0) × (w.partition.0 ≤ length (numbered text).partitions)) (numbered text).schedule.windows
 unfolding has_unknown_name numbered
 text_windows text h =
     let known = windows_known text.partitions text.windows (or_parts (list_any (is_unknown_window text.partitions) text.windows) (list_any (has_unknown_end text.partitions) text.channels) h).0 in
     subst (λ (n : ℕ). AllByRecursion (λ (w : WindowRow). (1 ≤ w.partition.0) × (w.partition.0 ≤ n)) (map (window_row text.partitions) text.windows)) (sym (length-map text.partitions partition_row)) known
 
-pub window_numbers : (text : TableText) (t : Table) → AcceptedTable text t → AllByRecursion (λ (w : WindowRow). (1 ≤ w.partition.0) × (w.partition.0 ≤ length t.partitions)) t.windows
-window_numbers text t a = subst (λ (x : Table). AllByRecursion (λ (w : WindowRow). (1 ≤ w.partition.0) × (w.partition.0 ≤ length x.partitions)) x.windows) a.is (text_windows text a.known)
+pub window_numbers : (text : TableText) (t : Table) → AcceptedTable text t → AllByRecursion (λ (w : WindowRow). (1 ≤ w.partition.0) × (w.partition.0 ≤ length t.partitions)) t.schedule.windows
+window_numbers text t a = subst (λ (x : Table). AllByRecursion (λ (w : WindowRow). (1 ≤ w.partition.0) × (w.partition.0 ≤ length x.partitions)) x.schedule.windows) a.is (text_windows text a.known)

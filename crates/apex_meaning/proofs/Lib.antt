@@ -26,6 +26,7 @@ pub mod WellFormedFits
 pub mod WellFormedObjects
 pub mod WellFormedSection
 pub mod AcceptedTable
+pub mod KnownPorts
 pub mod AcceptedImage
 pub mod Spelled
 pub mod Choosing

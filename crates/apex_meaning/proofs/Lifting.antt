@@ -8,13 +8,12 @@ use Rattle.apex_types.specs.declared.codes.StartCondition.TheVariants as conditi
 use Rattle.apex_types.specs.declared.identity.ProcessId.{ProcessId}
 use Rattle.apex_types.specs.declared.process.Action.{Action}
 use Rattle.apex_types.specs.declared.process.Action.TheVariants as action
-use Rattle.apex_types.specs.declared.row.WindowRow.{WindowRow}
 use Rattle.apex_meaning.specs.Engine.{Engine, Ticked, Asks, Nothing, Simulates, SameTick}
 use Rattle.apex_meaning.specs.Kernel.{Kernel, Step}
 use Rattle.apex_meaning.specs.TimeServices.{due}
 use Rattle.apex_meaning.specs.PartitionServices.{clears}
 use Rattle.apex_meaning.specs.Partition.{World, Moved, control_at, replied, no_control, act, act_all, does, moved, followed_by, ticked, ticked_some, chooses, spends, spends_chosen, spends_running, treats_asked, treats_due, chooses_process, prepares, tick}
-use Rattle.apex_meaning.specs.Windows.{owner}
+use Rattle.apex_meaning.specs.Windows.{Schedule, tick_from, owner}
 use Rattle.apex_meaning.specs.Module.{Member, Advanced, with_world, started, started_member, start_lines, starts, still, ticks_member, ticks_owner, module_tick, trace_from, trace}
 use Rattle.apex_meaning.specs.Lifting.{SameControl, SameControls, SameWorld, SameMoved, SameMember, SameMembers, SameAdvanced}
 
@@ -183,17 +182,17 @@ module _ {I C D : Type 0} (R : I → C → D → Type 0) where
   owner_same t is xs ys (Some zero) h = record { members = h; lines = refl }
   owner_same t is xs ys (Some (suc p)) h = member_same t is xs ys p h
 
-  from_same : (frame : ℕ) (windows : List WindowRow) (n t : ℕ) (is : List I) (xs : List (Member C)) (ys : List (Member D)) → SameMembers R is xs ys → trace_from frame windows n t xs ≡ trace_from frame windows n t ys
-  from_same frame windows zero t is xs ys h = refl
-  from_same frame windows (suc n) t is xs ys h =
-      let one = owner_same t is xs ys (owner frame windows 0 t) h in
-      ap (λ (es : List Event). es ++ trace_from frame windows n (t + 1) (module_tick frame windows t xs).members) one.lines
-      ∙ ap (λ (es : List Event). (module_tick frame windows t ys).lines ++ es) (from_same frame windows n (t + 1) is _ _ one.members)
+  from_same : (s : Schedule) (n t : ℕ) (is : List I) (xs : List (Member C)) (ys : List (Member D)) → SameMembers R is xs ys → trace_from s n t xs ≡ trace_from s n t ys
+  from_same s zero t is xs ys h = refl
+  from_same s (suc n) t is xs ys h =
+      let one = owner_same t is xs ys (owner s (tick_from 0 t)) h in
+      ap (λ (es : List Event). es ++ trace_from s n (t + 1) (module_tick s t xs).members) one.lines
+      ∙ ap (λ (es : List Event). (module_tick s t ys).lines ++ es) (from_same s n (t + 1) is _ _ one.members)
 
   -- modules on engines that cannot be told apart have the same trace
-  pub trace_same : (frame : ℕ) (windows : List WindowRow) (n : ℕ) (is : List I) (xs : List (Member C)) (ys : List (Member D)) → SameMembers R is xs ys → trace (record { frame = frame; windows = windows; members = xs }) n ≡ trace (record { frame = frame; windows = windows; members = ys }) n
-  trace_same frame windows zero is xs ys h = refl
-  trace_same frame windows (suc n) is xs ys h =
+  pub trace_same : (schedule : Schedule) (n : ℕ) (is : List I) (xs : List (Member C)) (ys : List (Member D)) → SameMembers R is xs ys → trace (record { schedule = schedule; members = xs }) n ≡ trace (record { schedule = schedule; members = ys }) n
+  trace_same schedule zero is xs ys h = refl
+  trace_same schedule (suc n) is xs ys h =
       let s = starts_same is xs ys h in
-      ap (λ (es : List Event). es ++ trace_from frame windows (suc n) 0 (starts xs).members) s.lines
-      ∙ ap (λ (es : List Event). (starts ys).lines ++ es) (from_same frame windows (suc n) 0 is _ _ s.members)
+      ap (λ (es : List Event). es ++ trace_from schedule (suc n) 0 (starts xs).members) s.lines
+      ∙ ap (λ (es : List Event). (starts ys).lines ++ es) (from_same schedule (suc n) 0 is _ _ s.members)

@@ -1,6 +1,7 @@
 pub mod Program
 pub mod Operators
 pub mod ServiceTable
+pub mod Windows
 pub mod Image
 pub mod Engine
 pub mod Kernel
@@ -9,7 +10,6 @@ pub mod ProcessServices
 pub mod TimeServices
 pub mod HealthServices
 pub mod Partition
-pub mod Windows
 pub mod Instructions
 pub mod MachineControl
 pub mod Choice

@@ -4,12 +4,11 @@ use Rattle.std.specs.List.{flat_map}
 use Rattle.apex_types.specs.declared.codes.Mode.TheVariants as mode
 use Rattle.apex_types.specs.declared.codes.StartCondition.TheVariants as condition
 use Rattle.apex_types.specs.declared.event.Event.{Event}
-use Rattle.apex_types.specs.declared.row.WindowRow.{WindowRow}
 use Rattle.apex_meaning.specs.Engine.{Engine}
 use Rattle.apex_meaning.specs.Kernel.{Kernel}
 use Rattle.apex_meaning.specs.PartitionServices.{clears}
 use Rattle.apex_meaning.specs.Partition.{World, Moved, moved, tick}
-use Rattle.apex_meaning.specs.Windows.{owner}
+use Rattle.apex_meaning.specs.Windows.{Schedule, tick_from, owner}
 
 -- a partition with the engine that its processes run on
 pub record Member (Control : Type 0) : Type 0 where
@@ -18,8 +17,7 @@ pub record Member (Control : Type 0) : Type 0 where
 
 -- the partitions in their order, and the windows of the major frame
 pub record Module (Control : Type 0) : Type 0 where
-  pub frame : ℕ
-  pub windows : List WindowRow
+  pub schedule : Schedule
   pub members : List (Member Control)
 
 -- the members after a tick, and its lines
@@ -69,20 +67,20 @@ ticks_owner t members (Some zero) = still members
 ticks_owner t members (Some (suc place)) = ticks_member t members place (slice_get members place)
 
 -- In a tick the owner of the tick's window goes on; without an owner nothing happens.
-abbrev pub module_tick : {C : Type 0} → ℕ → List WindowRow → ℕ → List (Member C) → Advanced C
-module_tick frame windows t members = ticks_owner t members (owner frame windows 0 t)
+abbrev pub module_tick : {C : Type 0} → Schedule → ℕ → List (Member C) → Advanced C
+module_tick schedule t members = ticks_owner t members (owner schedule (tick_from 0 t))
 
 -- ---- the trace
 
 -- the lines of so many ticks from tick t on
-abbrev pub trace_from : {C : Type 0} → ℕ → List WindowRow → ℕ → ℕ → List (Member C) → List Event
-trace_from frame windows zero t members = []
-trace_from frame windows (suc n) t members =
-    let r = module_tick frame windows t members in
-    r.lines ++ trace_from frame windows n (t + 1) r.members
+abbrev pub trace_from : {C : Type 0} → Schedule → ℕ → ℕ → List (Member C) → List Event
+trace_from schedule zero t members = []
+trace_from schedule (suc n) t members =
+    let r = module_tick schedule t members in
+    r.lines ++ trace_from schedule n (t + 1) r.members
 
 -- The trace of n ticks: the start of each partition before tick 0, then the ticks. Of no tick it
 -- is empty.
 abbrev pub trace : {C : Type 0} → Module C → ℕ → List Event
 trace m zero = []
-trace m (suc n) = let s = starts m.members in s.lines ++ trace_from m.frame m.windows (suc n) 0 s.members
+trace m (suc n) = let s = starts m.members in s.lines ++ trace_from m.schedule (suc n) 0 s.members

@@ -58,7 +58,7 @@ source_members (p ∷ ps) (s ∷ ss) = source_member p s ∷ source_members ps s
 
 -- what a table and the programs of its partitions mean
 abbrev pub source_module : Table → List program.Program → Module SourceControl
-source_module t sources = record { frame = t.frame; windows = t.windows; members = source_members t.partitions sources }
+source_module t sources = record { schedule = t.schedule; members = source_members t.partitions sources }
 
 -- the source meaning: the trace of n ticks
 abbrev pub source_trace : Table → List program.Program → ℕ → List Event
@@ -83,7 +83,7 @@ abbrev pub machine_member : Item → Member MachineControl
 machine_member i = record { engine = section_engine i.section; world = fresh_world (fresh_kernel i.partition (map machine_row i.section.processes)) i.section.initial }
 
 abbrev pub machine_module : Image → Module MachineControl
-machine_module i = record { frame = i.frame; windows = i.windows; members = map machine_member i.items }
+machine_module i = record { schedule = i.schedule; members = map machine_member i.items }
 
 -- the machine meaning: the trace of n ticks
 abbrev pub machine_trace : Image → ℕ → List Event

@@ -21,7 +21,7 @@ pub use codes::{
     ReturnCode, StartCondition,
 };
 pub use event::{Event, EventKind, Events, Subject, Words};
-pub use identity::{PartitionId, PortId, Priority, ProcessId, Ticks};
+pub use identity::{At, PartitionId, PortId, Priority, ProcessId, Ticks};
 pub use instruction::{BinaryOperator, Instr, UnaryOperator};
 pub use meaning::{ArgumentKind, Meaning, ObjectKind};
 pub use name::Name;
