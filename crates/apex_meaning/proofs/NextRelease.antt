@@ -105,13 +105,13 @@ module _ (s : Schedule) (p : ℕ) (at : At) (there : 0 < s.frame) (past : at.ori
       let far : u - at.origin.0 ≡ (at.now.0 + 1 - at.origin.0) + k = omega (arith, past) in
       ap (λ n. n % s.frame) far ∙ sym (mod-add-mod (at.now.0 + 1 - at.origin.0) s.frame k)
 
-  starts_then : (w : WindowRow) → w.offset < s.frame → phase s (at_tick at (at.now.0 + until_start s at w)) ≡ w.offset
+  starts_then : (w : WindowRow) → w.offset < s.frame → phase s (at_tick at (at.now.0 + until_start s w at)) ≡ w.offset
   unfolding place
   starts_then w within =
       let g = (w.offset + s.frame - place) % s.frame in
-      later_place (at.now.0 + until_start s at w) g (omega arith) ∙ reached s.frame place w.offset small within
+      later_place (at.now.0 + until_start s w at) g (omega arith) ∙ reached s.frame place w.offset small within
 
-  not_before : (w : WindowRow) (u : ℕ) → w.offset < s.frame → at.now.0 < u → w.offset ≡ phase s (at_tick at u) → at.now.0 + until_start s at w ≤ u
+  not_before : (w : WindowRow) (u : ℕ) → w.offset < s.frame → at.now.0 < u → w.offset ≡ phase s (at_tick at u) → at.now.0 + until_start s w at ≤ u
   unfolding place
   not_before w u within later is =
       let k = u - (at.now.0 + 1) in
@@ -124,29 +124,29 @@ module _ (s : Schedule) (p : ℕ) (at : At) (there : 0 < s.frame) (past : at.ori
 
   until_one : (ws : List WindowRow) → 1 ≤ until_one_of s p at ws
   until_one [] = there
-  until_one (w ∷ ws) = chosen_some (releases p w) (until_start s at w) (until_one_of s p at ws) (omega arith) (until_one ws)
+  until_one (w ∷ ws) = chosen_some (releases p w) (until_start s w at) (until_one_of s p at ws) (omega arith) (until_one ws)
 
   none_chosen : (ws : List WindowRow) → has_release ws p ≡ false → until_one_of s p at ws ≡ s.frame
   none_chosen [] h = refl
   none_chosen (w ∷ ws) h =
       let parts = or_parts (releases p w) (has_release ws p) h in
-      ap (λ b. chosen b (until_start s at w) (until_one_of s p at ws)) parts.0 ∙ none_chosen ws parts.1
+      ap (λ b. chosen b (until_start s w at) (until_one_of s p at ws)) parts.0 ∙ none_chosen ws parts.1
 
-  start_within : (w : WindowRow) → until_start s at w ≤ s.frame
+  start_within : (w : WindowRow) → until_start s w at ≤ s.frame
   start_within w = let h = mod_below (w.offset + s.frame - phase s (at_tick at (at.now.0 + 1))) s.frame there in omega (arith, h)
 
   -- a window of the partition starts then
   abbrev starts_at : List WindowRow → ℕ → Bool
   starts_at ws u = list_any (λ w. releases p w && (w.offset == phase s (at_tick at u))) ws
 
-  here : (w : WindowRow) (ws : List WindowRow) → w.offset < s.frame → releases p w ≡ true → starts_at (w ∷ ws) (at.now.0 + until_start s at w) ≡ true
+  here : (w : WindowRow) (ws : List WindowRow) → w.offset < s.frame → releases p w ≡ true → starts_at (w ∷ ws) (at.now.0 + until_start s w at) ≡ true
   here w ws within r = or_left _ _ (and_from (releases p w) _ r (eq-eqb w.offset _ (sym (starts_then w within))))
 
   there_starts : (ws : List WindowRow) → BeginWithin s.frame ws → has_release ws p ≡ true → starts_at ws (at.now.0 + until_one_of s p at ws) ≡ true
   there_starts [] h r = absurd (false≢true r)
   there_starts (w ∷ ws) h r =
       let parts = late_or w ws h in
-      pick (λ n. starts_at (w ∷ ws) (at.now.0 + n) ≡ true) (releases p w) (has_release ws p) (until_start s at w) (until_one_of s p at ws) s.frame (start_within w) (none_chosen ws) r
+      pick (λ n. starts_at (w ∷ ws) (at.now.0 + n) ≡ true) (releases p w) (has_release ws p) (until_start s w at) (until_one_of s p at ws) s.frame (start_within w) (none_chosen ws) r
       (λ e. here w ws parts.0 e) (λ e. or_right _ _ (there_starts ws parts.1 e))
 
   least_of : (ws : List WindowRow) → BeginWithin s.frame ws → (u : ℕ) → at.now.0 < u → starts_at ws u ≡ true → at.now.0 + until_one_of s p at ws ≤ u
@@ -156,11 +156,11 @@ module _ (s : Schedule) (p : ℕ) (at : At) (there : 0 < s.frame) (past : at.ori
       elim (or_cases (releases p w && (w.offset == phase s (at_tick at u))) (starts_at ws u) e) [
         | inl one ↦
             let both = and_parts (releases p w) (w.offset == phase s (at_tick at u)) one in
-            let first = chosen_first (releases p w) (until_start s at w) (until_one_of s p at ws) both.0 in
+            let first = chosen_first (releases p w) (until_start s w at) (until_one_of s p at ws) both.0 in
             let bound = not_before w u parts.0 later (eqb-true w.offset _ both.1) in
             omega (arith, first, bound)
         | inr rest ↦
-            let second = chosen_rest (releases p w) (until_start s at w) (until_one_of s p at ws) in
+            let second = chosen_rest (releases p w) (until_start s w at) (until_one_of s p at ws) in
             let bound = least_of ws parts.1 u later rest in
             omega (arith, second, bound)
       ]

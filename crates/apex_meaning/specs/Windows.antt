@@ -59,14 +59,14 @@ pub record IsNextRelease (s : Schedule) (partition : ℕ) (at : At) (next : ℕ)
   pub least : (u : ℕ) → at.now.0 < u → IsTrue (is_release s partition (at_tick at u)) → next ≤ u
 
 -- how many ticks after a tick, at least one and at most a frame, a window starts next
-abbrev pub until_start : Schedule → At → WindowRow → ℕ
-until_start s at w = 1 + (w.offset + s.frame - phase s (at_tick at (at.now.0 + 1))) % s.frame
+abbrev pub until_start : Schedule → WindowRow → At → ℕ
+until_start s w at = 1 + (w.offset + s.frame - phase s (at_tick at (at.now.0 + 1))) % s.frame
 
 -- the least number of ticks, at most a frame, until one of these windows of the schedule starts that
 -- is a release window of the partition
 abbrev pub until_one_of : Schedule → (partition : ℕ) → At → List WindowRow → ℕ
 until_one_of s partition at [] = s.frame
-until_one_of s partition at (w ∷ ws) = if releases partition w then min (until_start s at w) (until_one_of s partition at ws) else until_one_of s partition at ws
+until_one_of s partition at (w ∷ ws) = if releases partition w then min (until_start s w at) (until_one_of s partition at ws) else until_one_of s partition at ws
 
 -- The same tick computed, where each window begins within the frame. It is the next release of each
 -- partition that has a release window, and of one that has none a frame later.
