@@ -17,15 +17,11 @@ no_wrong_window frame count [] room known = refl
 no_wrong_window frame count (w ∷ ws) room known =
     or_from (is_wrong_window frame count w) _ (or_from _ _ (or_from _ _ (le-ltb w.partition.0 1 known.0.0) (le-ltb count w.partition.0 known.0.1)) (le-ltb frame (w.offset + w.length) room.0)) (no_wrong_window frame count ws room.1 known.1)
 
--- the same table with these partitions
-abbrev with_partitions : Table → List Partition → Table
-with_partitions t ps = record { schedule = t.schedule; fault = t.fault; partitions = ps; channels = t.channels }
-
 text_ports : (text : TableText) → has_unknown_port (numbered text).partitions (numbered text).channels ≡ false
 unfolding numbered
 text_ports text = ports_known text.partitions text.channels
 
-table_keeps : (text : TableText) (t : Table) → AcceptedTable text t → AllByRecursion (λ (w : WindowRow). w.offset + w.length ≤ t.schedule.frame) t.schedule.windows → keeps_rules t ≡ true
+table_keeps : (text : TableText) (t : Table) → AcceptedTable text t → AllByRecursion (λ (w : WindowRow). w.offset + w.length ≤ t.schedule.frame) t.schedule.windows → keeps_rules t.schedule t.partitions t.channels ≡ true
 table_keeps text t a room =
     let ports = subst (λ (x : Table). has_unknown_port x.partitions x.channels ≡ false) a.is (text_ports text) in
     and_from _ _ (and_from _ _ (and_from _ _ (and_from _ _ (and_from _ _
@@ -42,4 +38,4 @@ pub accepted_image : (ms : Members) (t : Table) (items : List Item) → verdict 
 accepted_image ms t items h rows sections =
     let a = accepted_table ms t h in
     let limits = table_limits a.0 t items a.1 rows (each_at _ items sections) in
-    record { limits = limits.0; rules = subst (λ (ps : List Partition). keeps_rules (with_partitions t ps) ≡ true) (sym rows) (table_keeps a.0 t a.1 limits.1) }
+    record { limits = limits.0; rules = subst (λ (ps : List Partition). keeps_rules t.schedule ps t.channels ≡ true) (sym rows) (table_keeps a.0 t a.1 limits.1) }

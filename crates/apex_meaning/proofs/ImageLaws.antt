@@ -7,8 +7,7 @@ use Rattle.std.proofs.lemmas.List.{append-nil, nil_from_length}
 use Rattle.std.proofs.lemmas.Slice.Eq.{bytes_eq-Decides}
 use Rattle.apex_meaning.specs.Image.{Image}
 use Rattle.apex_meaning.specs.ImageSpelling.{u8, u16, u32, list, module_action, magic, version, item, window, channel, head, spelling}
-use Rattle.apex_meaning.specs.ImageReading.{Fault, Foreign, Limit, Trailing, Read, ◌>>=◌, number_at, limited_at, bytes_at, choice_at, module_action_of, list_at, item_at, window_at, channel_at, magic_at, version_at, fields_at, table_in, image_at}
-use Rattle.apex_meaning.specs.TableRules.{keeps_rules}
+use Rattle.apex_meaning.specs.ImageReading.{Fault, Foreign, Limit, Trailing, Read, ◌>>=◌, number_at, limited_at, bytes_at, choice_at, module_action_of, list_at, item_at, window_at, channel_at, magic_at, version_at, fields_at, keeps_table_rules, image_at}
 use Rattle.apex_meaning.specs.ImageLimits.{IsFrom, IsItem, IsWindow, IsChannel, IsWithinLimits, IsLawful}
 use Rattle.apex_meaning.proofs.ImageFields.{IsBytes, bind_ok, ok_is, Takes, Takes-then, Reads, said, first, last, assoc3}
 use Rattle.apex_meaning.proofs.ImageNumbers.{wide16, wide32, number_reads, limited_reads}
@@ -81,8 +80,8 @@ ended false b x y e = absurd cc
 pub read_is_spelled : (bytes : List ℕ) (image : Image) → IsBytes bytes → image_at bytes ≡ Ok image → IsLawful image × (bytes ≡ spelling image)
 unfolding image_at
 read_is_spelled bytes image fits e =
-    let a = bind_ok (fields_at bytes) (λ x. cond (eqb (length x.1) 0) (cond (keeps_rules (table_in x.0)) (Ok x.0) (Err Limit)) (Err Trailing)) image e in
-    let g = ended (eqb (length a.0.1) 0) (keeps_rules (table_in a.0.0)) a.0.0 image a.2 in
+    let a = bind_ok (fields_at bytes) (λ x. cond (eqb (length x.1) 0) (cond (keeps_table_rules x.0) (Ok x.0) (Err Limit)) (Err Trailing)) image e in
+    let g = ended (eqb (length a.0.1) 0) (keeps_table_rules a.0.0) a.0.0 image a.2 in
     let p = fields_reads.takes bytes a.0 fits a.1 in
     let whole : bytes ≡ spelling a.0.0 = p.0.parts ∙ ap (λ (r : List ℕ). spelling a.0.0 ++ r) (nil_from_length a.0.1 (eqb-true _ _ g.0)) ∙ append-nil (spelling a.0.0) in
     subst (λ (v : Image). IsLawful v × (bytes ≡ spelling v)) g.2 (record { limits = p.1; rules = g.1 }, whole)
@@ -92,7 +91,7 @@ pub spelled_is_read : (image : Image) → IsLawful image → image_at (spelling 
 unfolding image_at
 spelled_is_read image good =
     ap image_at (sym (append-nil (spelling image)))
-    ∙ ap (λ (y : Read Image). y >>= λ x. cond (eqb (length x.1) 0) (cond (keeps_rules (table_in x.0)) (Ok x.0) (Err Limit)) (Err Trailing)) (fields_reads.again image [] good.limits)
+    ∙ ap (λ (y : Read Image). y >>= λ x. cond (eqb (length x.1) 0) (cond (keeps_table_rules x.0) (Ok x.0) (Err Limit)) (Err Trailing)) (fields_reads.again image [] good.limits)
     ∙ ap (λ (b : Bool). cond b (Ok image) (Err Limit)) good.rules
 
 abbrev ok_read : Image × List ℕ → Read Image

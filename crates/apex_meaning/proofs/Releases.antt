@@ -8,7 +8,7 @@ use Rattle.apex_types.specs.declared.identity.At.{At}
 use Rattle.apex_types.specs.declared.row.WindowRow.{WindowRow}
 use Rattle.toml.specs.Data.{Members}
 use Rattle.apex_meaning.specs.Image.{Table, Partition, Item, Image}
-use Rattle.apex_meaning.specs.ImageReading.{table_in}
+use Rattle.apex_meaning.specs.ImageReading.{partitions_in}
 use Rattle.apex_meaning.specs.ImageLimits.{EachBeside, IsWindow, IsLawful}
 use Rattle.apex_meaning.specs.TableRules.{is_wrong_window, has_wrong_window, has_odd_period, has_short_period, lacks_release_from, lacks_release, has_unknown_port, has_wrong_ends, verdict}
 use Rattle.apex_meaning.specs.Windows.{Schedule, has_release, IsNextRelease, next_release, begins_late, BeginWithin}
@@ -64,15 +64,15 @@ kept_rows a b c d e f h =
     let one = and_parts (not a) (not b) two.0 in
     (not-true a one.0, not-true d three.1)
 
-pub kept_in : (image : Image) → IsLawful image → (has_wrong_window image.schedule (length (table_in image).partitions) ≡ false) × (lacks_release image.schedule.windows (table_in image).partitions ≡ false)
+pub kept_in : (image : Image) → IsLawful image → (has_wrong_window image.schedule (length (partitions_in image)) ≡ false) × (lacks_release image.schedule.windows (partitions_in image) ≡ false)
 kept_in image h =
-    let t = table_in image in
-    kept_rows (has_wrong_window t.schedule (length t.partitions)) (has_odd_period t.schedule.frame t.partitions) (has_short_period t.schedule t.partitions) (lacks_release t.schedule.windows t.partitions) (has_unknown_port t.partitions t.channels) (has_wrong_ends t.partitions t.channels) h.rules
+    let ps = partitions_in image in
+    kept_rows (has_wrong_window image.schedule (length ps)) (has_odd_period image.schedule.frame ps) (has_short_period image.schedule ps) (lacks_release image.schedule.windows ps) (has_unknown_port ps image.channels) (has_wrong_ends ps image.channels) h.rules
 
 pub lawful_begins : (image : Image) → IsLawful image → BeginWithin image.schedule.frame image.schedule.windows
-lawful_begins image h = windows_begin_within image.schedule.frame (length (table_in image).partitions) image.schedule.windows h.limits.windows (kept_in image h).0
+lawful_begins image h = windows_begin_within image.schedule.frame (length (partitions_in image)) image.schedule.windows h.limits.windows (kept_in image h).0
 
 pub lawful_releases : (image : Image) (p : ℕ) (at : At) → IsLawful image → 1 ≤ p → p ≤ length image.items → at.origin.0 ≤ at.now.0 → IsNextRelease image.schedule p at (next_release image.schedule p at)
 lawful_releases image p at h least most past =
     let same = length-map image.items (λ (it : Item). it.partition) in
-    is_next_release image.schedule p at h.limits.frame.least past (lawful_begins image h) (released 1 image.schedule.windows (table_in image).partitions p (kept_in image h).1 least (omega (arith, same)))
+    is_next_release image.schedule p at h.limits.frame.least past (lawful_begins image h) (released 1 image.schedule.windows (partitions_in image) p (kept_in image h).1 least (omega (arith, same)))

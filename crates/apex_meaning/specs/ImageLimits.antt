@@ -16,8 +16,7 @@ use Rattle.apex_types.specs.declared.row.ChannelEnd.TheVariants.{Device, Port}
 use Rattle.apex_types.specs.declared.row.PortKind.{PortKind}
 use Rattle.apex_types.specs.declared.row.PortKind.TheVariants.{Sampling, Queuing}
 use Rattle.apex_types.specs.NameText.{is_name}
-use Rattle.apex_meaning.specs.ImageReading.{is_process, is_multiple, enter_within, is_port, is_partition, is_channel, last_end, table_in}
-use Rattle.apex_meaning.specs.TableRules.{keeps_rules}
+use Rattle.apex_meaning.specs.ImageReading.{is_process, is_multiple, enter_within, is_port, is_partition, is_channel, last_end, keeps_table_rules}
 use Rattle.apex_meaning.specs.ImageSpelling.{Objects, Bodies, objects_in, bodies_in}
 use Rattle.apex_meaning.specs.Image.{Section, Partition, Channel, Item, Image}
 
@@ -174,4 +173,4 @@ pub record IsWithinLimits (image : Image) : Type 0 where
 -- the images that have a spelling which is read again
 pub record IsLawful (image : Image) : Type 0 where
   pub limits : IsWithinLimits image
-  pub rules : keeps_rules (table_in image) ≡ true
+  pub rules : keeps_table_rules image ≡ true

@@ -27,7 +27,7 @@ use Rattle.apex_types.specs.declared.row.BlackboardRow.{BlackboardRow}
 use Rattle.apex_types.specs.declared.row.RoutineRow.{RoutineRow}
 use Rattle.apex_types.specs.declared.row.ProcessRow.{ProcessRow}
 use Rattle.apex_types.specs.declared.row.BodyRow.{BodyRow}
-use Rattle.apex_meaning.specs.Image.{Section, Partition, Channel, Item, Table, Image}
+use Rattle.apex_meaning.specs.Image.{Section, Partition, Channel, Item, Image}
 use Rattle.apex_meaning.specs.ImageSpelling.{magic, version, Objects, Bodies}
 
 -- Truncated: a field is not all there. Foreign: another magic or version. Limit: a value outside its
@@ -383,13 +383,16 @@ fields_at bytes = do
   channels ← list_at 0 64 channel_at windows.1
   Ok (record { schedule = record { frame = frame.0; windows = windows.0 }; fault = fault.0; items = items.0; channels = channels.0 }, channels.1)
 
--- the module table that an image carries
-abbrev pub table_in : Image → Table
-table_in image = record { schedule = image.schedule; fault = image.fault; partitions = map (λ it. it.partition) image.items; channels = image.channels }
+abbrev pub partitions_in : Image → List Partition
+partitions_in image = map (λ it. it.partition) image.items
+
+-- the rules of the module table
+abbrev pub keeps_table_rules : Image → Bool
+keeps_table_rules image = keeps_rules image.schedule (partitions_in image) image.channels
 
 -- The image's verdict: nothing stands behind the last field, and the rules of the module table are
 -- kept.
 unfoldable pub image_at : List ℕ → Result Image Fault
 image_at bytes = do
   image ← fields_at bytes
-  if length image.1 == 0 then (if keeps_rules (table_in image.0) then Ok image.0 else Err Limit) else Err Trailing
+  if length image.1 == 0 then (if keeps_table_rules image.0 then Ok image.0 else Err Limit) else Err Trailing

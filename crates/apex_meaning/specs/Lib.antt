@@ -21,6 +21,7 @@ pub mod Ready
 pub mod ImageSpelling
 pub mod ImageReading
 pub mod ImageLimits
+pub mod LawfulFact
 pub mod CompiledCode
 pub mod Fits
 pub mod Related

@@ -287,10 +287,10 @@ abbrev pub has_wrong_ends : List Partition → List Channel → Bool
 has_wrong_ends ps cs = has_twice is_same_port (flat_map ends_of cs) || list_any (is_wrong ps) cs
 
 -- All these rules are kept, and each number of a partition and of a port stands for one.
-abbrev pub keeps_rules : Table → Bool
-keeps_rules t =
-    not (has_wrong_window t.schedule (length t.partitions)) && not (has_odd_period t.schedule.frame t.partitions) && not (has_short_period t.schedule t.partitions)
-    && not (lacks_release t.schedule.windows t.partitions) && not (has_unknown_port t.partitions t.channels) && not (has_wrong_ends t.partitions t.channels)
+abbrev pub keeps_rules : Schedule → List Partition → List Channel → Bool
+keeps_rules s ps cs =
+    not (has_wrong_window s (length ps)) && not (has_odd_period s.frame ps) && not (has_short_period s ps) && not (lacks_release s.windows ps)
+    && not (has_unknown_port ps cs) && not (has_wrong_ends ps cs)
 
 -- Health: a health table without exactly the seven errors, or an unknown action.
 abbrev pub has_unknown_action : TableText → Bool
