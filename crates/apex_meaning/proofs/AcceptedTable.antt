@@ -1,8 +1,8 @@
 -- An accepted module table is within the limits of an image.
 use Rattle.std.proofs.Common.{◌≡◌, ℕ, suc, ◌+◌, ◌-◌, ◌≤◌, ◌<◌, ◌^◌, ℤ, pos, negsuc, nat_abs, Bool, true, false, not, cond, List, [], ◌∷◌, ◌++◌, length, map, Option, Some, None, Result, Ok, Err, refl, sym, ap, ◌∙◌, subst, arith, length-append}
-use Rattle.std.specs.Prelude.{◌||◌, ◌==◌, ◌+ℤ◌, slice_get, nat_lt, int_lt, bytes_eq, is_none, codes, unwrap_or}
+use Rattle.std.specs.Prelude.{◌||◌, ◌==◌, ◌+ℤ◌, slice_get, nat_le, nat_lt, int_lt, bytes_eq, is_none, codes, unwrap_or}
 use Rattle.std.specs.List.{list_any, AllByRecursion, All}
-use Rattle.std.proofs.lemmas.Bool.{not-false, ltb-false, or_parts, or_from, and_left, ne_eqb}
+use Rattle.std.proofs.lemmas.Bool.{not-false, ltb-false, lt-leb, or_parts, or_from, and_left, ne_eqb}
 use Rattle.std.proofs.lemmas.List.{length-map}
 use Rattle.std.proofs.lemmas.List.Folds.{list_any-append}
 use Rattle.apex_types.specs.NameText.{is_name}
@@ -14,6 +14,7 @@ use Rattle.toml.specs.Data.{Members}
 use Rattle.apex_meaning.specs.Image.{Table, Partition, Channel, Item, Image}
 use Rattle.apex_meaning.specs.TableText.{same, KindText, Sampling, Queuing, PortText, PartitionText, WindowText, ChannelText, TableText, table_text_of}
 use Rattle.apex_meaning.specs.TableRules.{Refusal, Shape, is_outside, is_count_outside, exceeds_kind, exceeds_port, exceeds_times, has_many_ports, exceeds_partition, exceeds_window, exceeds_channel, exceeds_counts, exceeds_rows, exceeds_limits, has_twice, is_unknown_window, has_unknown_end, has_same_names, number_from, partition_number, port_number, port_from, end_of, has_unknown_name, window_row, channel_row, kind_row, port_row, partition_row, numbered, overlaps_after, overlaps, has_odd_period, has_short_period, lacks_release, has_wrong_ends, has_unknown_action, judge_table, judge_text, verdict}
+use Rattle.apex_meaning.specs.Windows.{begins_late, BeginWithin}
 use Rattle.apex_meaning.specs.ImageReading.{last_end, end_of as image_end}
 use Rattle.apex_meaning.specs.ImageLimits.{IsFrom, EachBeside, IsPortKind, IsPort, IsSection, IsItem, IsWindow, IsEnd, IsChannel, IsWithinLimits}
 use Rattle.apex_meaning.proofs.WellFormedFits.{at_seam}
@@ -32,10 +33,10 @@ pub record AcceptedTable (text : TableText) (t : Table) : Type 0 where
   pub names : has_same_names text ≡ false
   pub known : has_unknown_name text ≡ false
   pub apart : overlaps text ≡ false
-  pub periods : has_odd_period t ≡ false
-  pub durations : has_short_period t ≡ false
-  pub releases : lacks_release t ≡ false
-  pub ends : has_wrong_ends t ≡ false
+  pub periods : has_odd_period t.schedule.frame t.partitions ≡ false
+  pub durations : has_short_period t.schedule t.partitions ≡ false
+  pub releases : lacks_release t.schedule.windows t.partitions ≡ false
+  pub ends : has_wrong_ends t.partitions t.channels ≡ false
   pub is : numbered text ≡ t
 
 judged : (text : TableText) (t : Table) → judge_text text ≡ Ok t → AcceptedTable text t
@@ -46,10 +47,10 @@ judged text t h =
     let names = rule_held (has_same_names text || has_unknown_name text) _ _ t limits.1 in
     let both = or_parts (has_same_names text) (has_unknown_name text) names.0 in
     let apart = rule_held (overlaps text) _ _ t names.1 in
-    let periods = rule_held (has_odd_period n) _ _ t apart.1 in
-    let durations = rule_held (has_short_period n) _ _ t periods.1 in
-    let releases = rule_held (lacks_release n) _ _ t durations.1 in
-    let ends = rule_held (has_wrong_ends n) _ _ t releases.1 in
+    let periods = rule_held (has_odd_period n.schedule.frame n.partitions) _ _ t apart.1 in
+    let durations = rule_held (has_short_period n.schedule n.partitions) _ _ t periods.1 in
+    let releases = rule_held (lacks_release n.schedule.windows n.partitions) _ _ t durations.1 in
+    let ends = rule_held (has_wrong_ends n.partitions n.channels) _ _ t releases.1 in
     let actions = rule_held (has_unknown_action text) _ _ t ends.1 in
     let is : n ≡ t = cc in
     record {
@@ -57,10 +58,10 @@ judged text t h =
       names = both.0;
       known = both.1;
       apart = apart.0;
-      periods = subst (λ (x : Table). has_odd_period x ≡ false) is periods.0;
-      durations = subst (λ (x : Table). has_short_period x ≡ false) is durations.0;
-      releases = subst (λ (x : Table). lacks_release x ≡ false) is releases.0;
-      ends = subst (λ (x : Table). has_wrong_ends x ≡ false) is ends.0;
+      periods = subst (λ (x : Table). has_odd_period x.schedule.frame x.partitions ≡ false) is periods.0;
+      durations = subst (λ (x : Table). has_short_period x.schedule x.partitions ≡ false) is durations.0;
+      releases = subst (λ (x : Table). lacks_release x.schedule.windows x.partitions ≡ false) is releases.0;
+      ends = subst (λ (x : Table). has_wrong_ends x.partitions x.channels ≡ false) is ends.0;
       is = is;
     }
 
@@ -205,7 +206,7 @@ number_first true n m k o rest h = let e : n ≡ k = cc in (omega (arith, e), om
 number_first false n m k o rest h = let r = rest h in (omega (arith, r.0), omega (arith, r.1))
 
 -- the number of the first that is so
-number_small : {A : Type 0} (n : ℕ) (test : A → Bool) (xs : List A) (k : ℕ) → number_from n test xs ≡ Some k → (n ≤ k) × (k < n + length xs)
+pub number_small : {A : Type 0} (n : ℕ) (test : A → Bool) (xs : List A) (k : ℕ) → number_from n test xs ≡ Some k → (n ≤ k) × (k < n + length xs)
 unfolding number_from
 number_small n test [] k h = absurd cc
 number_small n test (x ∷ xs) k h = number_first (test x) n (length xs) k (number_from (n + 1) test xs) (λ e. number_small (n + 1) test xs k e) h
@@ -251,6 +252,21 @@ windows_are ps frame end before (w ∷ ws) few small at apart limits =
       ),
       (k.room, rest.1),
     )
+
+-- a window that has room, and is not empty, begins within the frame
+begins_within : (frame o n : ℕ) → 1 ≤ n → o + n ≤ frame → nat_le frame o ≡ false
+begins_within frame o n some room = lt-leb frame o (omega arith)
+
+pub windows_begin : (ps : List PartitionText) (frame end : ℕ) (ws : List WindowText) → overlaps_after (pos frame) (pos end) ws ≡ false → list_any exceeds_window ws ≡ false → BeginWithin frame (map (window_row ps) ws)
+unfolding overlaps_after exceeds_window
+windows_begin ps frame end [] apart limits = refl
+windows_begin ps frame end (w ∷ ws) apart limits =
+    let a = or_parts _ (overlaps_after (pos frame) (w.offset +ℤ w.length) ws) apart in
+    let b = or_parts (int_lt w.offset (pos end)) (int_lt (pos frame) (w.offset +ℤ w.length)) a.0 in
+    let l = or_parts (exceeds_window w) (list_any exceeds_window ws) limits in
+    let k = window_keeps frame end w.offset w.length l.0 b.0 b.1 in
+    let next : overlaps_after (pos frame) (pos (nat_abs w.offset + nat_abs w.length)) ws ≡ false = subst (λ (z : ℤ). overlaps_after (pos frame) z ws ≡ false) k.next a.1 in
+    or_from (begins_late frame (window_row ps w)) _ (begins_within frame (nat_abs w.offset) (nat_abs w.length) k.some k.room) (windows_begin ps frame (nat_abs w.offset + nat_abs w.length) ws next l.1)
 
 -- ---- channels
 
@@ -319,11 +335,11 @@ few_ports frame (p ∷ ps) h =
 
 -- the image of a table whose partitions have become items
 abbrev pub image_of : Table → List Item → Image
-image_of t items = record { frame = t.frame; fault = t.fault; items = items; windows = t.windows; channels = t.channels }
+image_of t items = record { schedule = t.schedule; fault = t.fault; items = items; channels = t.channels }
 
 -- each window ends within the frame
 abbrev pub HaveRoom : Table → Type 0
-HaveRoom t = AllByRecursion (λ (w : WindowRow). w.offset + w.length ≤ t.frame) t.windows
+HaveRoom t = AllByRecursion (λ (w : WindowRow). w.offset + w.length ≤ t.schedule.frame) t.schedule.windows
 
 text_limits : (text : TableText) (items : List Item) → exceeds_limits text ≡ false → has_same_names text ≡ false → overlaps text ≡ false → map (λ (it : Item). it.partition) items ≡ (numbered text).partitions → AllByRecursion (λ (it : Item). IsSection it.partition.period it.section) items
     → IsWithinLimits (image_of (numbered text) items) × HaveRoom (numbered text)
@@ -387,11 +403,31 @@ windows_known ps (w ∷ ws) h =
     let parts = or_parts (is_unknown_window ps w) (list_any (is_unknown_window ps) ws) h in
     (number_known ps (partition_number ps w.partition) (λ k e. number_small 1 _ ps k e) parts.0, windows_known ps ws parts.1)
 
-text_windows : (text : TableText) → has_unknown_name text ≡ false → AllByRecursion (λ (w : WindowRow). (1 ≤ w.partition.0) × (w.partition.0 ≤ length (numbered text).partitions)) (numbered text).windows
+text_windows : (text : TableText) → has_unknown_name text ≡ false → AllByRecursion (λ (w : WindowRow). (1 ≤ w.partition.0) × (w.partition.0 ≤ length (numbered text).partitions)) (numbered text).schedule.windows
 unfolding has_unknown_name numbered
 text_windows text h =
     let known = windows_known text.partitions text.windows (or_parts (list_any (is_unknown_window text.partitions) text.windows) (list_any (has_unknown_end text.partitions) text.channels) h).0 in
     subst (λ (n : ℕ). AllByRecursion (λ (w : WindowRow). (1 ≤ w.partition.0) × (w.partition.0 ≤ n)) (map (window_row text.partitions) text.windows)) (sym (length-map text.partitions partition_row)) known
 
-pub window_numbers : (text : TableText) (t : Table) → AcceptedTable text t → AllByRecursion (λ (w : WindowRow). (1 ≤ w.partition.0) × (w.partition.0 ≤ length t.partitions)) t.windows
-window_numbers text t a = subst (λ (x : Table). AllByRecursion (λ (w : WindowRow). (1 ≤ w.partition.0) × (w.partition.0 ≤ length x.partitions)) x.windows) a.is (text_windows text a.known)
+pub window_numbers : (text : TableText) (t : Table) → AcceptedTable text t → AllByRecursion (λ (w : WindowRow). (1 ≤ w.partition.0) × (w.partition.0 ≤ length t.partitions)) t.schedule.windows
+window_numbers text t a = subst (λ (x : Table). AllByRecursion (λ (w : WindowRow). (1 ≤ w.partition.0) × (w.partition.0 ≤ length x.partitions)) x.schedule.windows) a.is (text_windows text a.known)
+
+-- ---- where windows begin
+
+text_begins : (text : TableText) → exceeds_limits text ≡ false → overlaps text ≡ false → (1 ≤ (numbered text).schedule.frame) × BeginWithin (numbered text).schedule.frame (numbered text).schedule.windows
+unfolding numbered exceeds_counts exceeds_rows
+text_begins text limits apart =
+    let ps = text.partitions in
+    let l1 = or_parts _ (list_any (exceeds_partition text.frame) ps) limits in
+    let l2 = or_parts (exceeds_counts text) (exceeds_rows text) l1.0 in
+    let c1 = or_parts _ (is_count_outside 0 64 text.channels) l2.0 in
+    let c2 = or_parts _ (is_count_outside 1 64 text.windows) c1.0 in
+    let c3 = or_parts (is_outside 1 (pos 16777216) text.frame) (is_count_outside 1 16 ps) c2.0 in
+    let rows = or_parts (list_any exceeds_window text.windows) (list_any exceeds_channel text.channels) l2.1 in
+    let frame = inside 1 (pos 16777216) text.frame c3.0 in
+    let frame_is = not_negative 1 16777216 text.frame c3.0 in
+    let follow : overlaps_after (pos (nat_abs text.frame)) (pos 0) text.windows ≡ false = subst (λ (z : ℤ). overlaps_after z (pos 0) text.windows ≡ false) frame_is apart in
+    (frame.least, windows_begin ps (nat_abs text.frame) 0 text.windows follow rows.0)
+
+pub table_begins : (text : TableText) (t : Table) → AcceptedTable text t → (1 ≤ t.schedule.frame) × BeginWithin t.schedule.frame t.schedule.windows
+table_begins text t a = subst (λ (x : Table). (1 ≤ x.schedule.frame) × BeginWithin x.schedule.frame x.schedule.windows) a.is (text_begins text a.limits a.apart)

@@ -7,7 +7,7 @@ use Rattle.std.proofs.lemmas.List.{append-nil, nil_from_length}
 use Rattle.std.proofs.lemmas.Slice.Eq.{bytes_eq-Decides}
 use Rattle.apex_meaning.specs.Image.{Image}
 use Rattle.apex_meaning.specs.ImageSpelling.{u8, u16, u32, list, module_action, magic, version, item, window, channel, head, spelling}
-use Rattle.apex_meaning.specs.ImageReading.{Fault, Foreign, Limit, Trailing, Read, ◌>>=◌, number_at, limited_at, bytes_at, choice_at, module_action_of, list_at, item_at, window_at, channel_at, magic_at, version_at, fields_at, keeps_rules, image_at}
+use Rattle.apex_meaning.specs.ImageReading.{Fault, Foreign, Limit, Trailing, Read, ◌>>=◌, number_at, limited_at, bytes_at, choice_at, module_action_of, list_at, item_at, window_at, channel_at, magic_at, version_at, fields_at, keeps_table_rules, image_at}
 use Rattle.apex_meaning.specs.ImageLimits.{IsFrom, IsItem, IsWindow, IsChannel, IsWithinLimits, IsLawful}
 use Rattle.apex_meaning.proofs.ImageFields.{IsBytes, bind_ok, ok_is, Takes, Takes-then, Reads, said, first, last, assoc3}
 use Rattle.apex_meaning.proofs.ImageNumbers.{wide16, wide32, number_reads, limited_reads}
@@ -44,24 +44,24 @@ version_reads = record {
 pub fields_reads : Reads fields_at spelling IsWithinLimits
 unfolding fields_at spelling head
 fields_reads = said fields_at _ spelling _ IsWithinLimits
-    (first version_at _ (λ (image : Image). version) (λ _. magic ++ u16 version) (λ image. u32 image.frame ++ (u8 (module_action image.fault) ++ (list item image.items ++ (list window image.windows ++ list channel image.channels)))) _ _
+    (first version_at _ (λ (image : Image). version) (λ _. magic ++ u16 version) (λ image. u32 image.schedule.frame ++ (u8 (module_action image.fault) ++ (list item image.items ++ (list window image.schedule.windows ++ list channel image.channels)))) _ _
     version_reads
-    (λ number o. first (limited_at w32 1 (2 ^ 24)) _ (λ (image : Image). image.frame) u32 (λ image. u8 (module_action image.fault) ++ (list item image.items ++ (list window image.windows ++ list channel image.channels))) (IsFrom 1 (2 ^ 24)) _
+    (λ number o. first (limited_at w32 1 (2 ^ 24)) _ (λ (image : Image). image.schedule.frame) u32 (λ image. u8 (module_action image.fault) ++ (list item image.items ++ (list window image.schedule.windows ++ list channel image.channels))) (IsFrom 1 (2 ^ 24)) _
     (limited_reads w32 (2 ^ 32) wide32 1 (2 ^ 24) (lit< tt))
-    (λ frame p. first (choice_at module_action_of) _ (λ (image : Image). image.fault) (λ a. u8 (module_action a)) (λ image. list item image.items ++ (list window image.windows ++ list channel image.channels)) _ _
+    (λ frame p. first (choice_at module_action_of) _ (λ (image : Image). image.fault) (λ a. u8 (module_action a)) (λ image. list item image.items ++ (list window image.schedule.windows ++ list channel image.channels)) _ _
     module_action_reads
-    (λ fault q. first (list_at 1 16 (item_at frame)) _ (λ (image : Image). image.items) (list item) (λ image. list window image.windows ++ list channel image.channels) _ _
+    (λ fault q. first (list_at 1 16 (item_at frame)) _ (λ (image : Image). image.items) (list item) (λ image. list window image.schedule.windows ++ list channel image.channels) _ _
     (list_reads (item_at frame) item (IsItem frame) 1 16 (lit< tt) (item_reads frame (omega (arith, p.most))))
-    (λ items r. first (list_at 1 64 window_at) _ (λ (image : Image). image.windows) (list window) (λ image. list channel image.channels) _ _
+    (λ items r. first (list_at 1 64 window_at) _ (λ (image : Image). image.schedule.windows) (list window) (λ image. list channel image.channels) _ _
     (list_reads window_at window IsWindow 1 64 (lit< tt) window_reads)
-    (λ windows s. last (list_at 0 64 channel_at) (λ channels. record { frame = frame; fault = fault; items = items; windows = windows; channels = channels }) (λ (image : Image). image.channels) (list channel) _
+    (λ windows s. last (list_at 0 64 channel_at) (λ channels. record { schedule = record { frame = frame; windows = windows }; fault = fault; items = items; channels = channels }) (λ (image : Image). image.channels) (list channel) _
     (list_reads channel_at channel IsChannel 0 64 (lit< tt) channel_reads) (λ a. refl))
-    (λ windows image s g. ap (λ (image : Image). image.windows) g.1))
+    (λ windows image s g. ap (λ (image : Image). image.schedule.windows) g.1))
     (λ items image r g. ap (λ (image : Image). image.items) g.1.1))
     (λ fault image q g. ap (λ (image : Image). image.fault) g.1.1.1))
-    (λ frame image p g. ap (λ (image : Image). image.frame) g.1.1.1.1))
+    (λ frame image p g. ap (λ (image : Image). image.schedule.frame) g.1.1.1.1))
     (λ number image o g. sym o))
-    (λ image. ap (λ (t : List ℕ). head image ++ t) (assoc3 (list item image.items) (list window image.windows) (list channel image.channels)))
+    (λ image. ap (λ (t : List ℕ). head image ++ t) (assoc3 (list item image.items) (list window image.schedule.windows) (list channel image.channels)))
     (λ image g. record { frame = g.1.0; item_count = g.1.1.1.0.0; items = g.1.1.1.0.1; window_count = g.1.1.1.1.0.0; windows = g.1.1.1.1.0.1; channel_count = g.1.1.1.1.1.0.0; channels = g.1.1.1.1.1.0.1 })
     (λ image g. (refl, (g.frame, (tt, ((g.item_count, g.items), ((g.window_count, g.windows), ((g.channel_count, g.channels), refl)))))))
 
@@ -80,8 +80,8 @@ ended false b x y e = absurd cc
 pub read_is_spelled : (bytes : List ℕ) (image : Image) → IsBytes bytes → image_at bytes ≡ Ok image → IsLawful image × (bytes ≡ spelling image)
 unfolding image_at
 read_is_spelled bytes image fits e =
-    let a = bind_ok (fields_at bytes) (λ x. cond (eqb (length x.1) 0) (cond (keeps_rules x.0) (Ok x.0) (Err Limit)) (Err Trailing)) image e in
-    let g = ended (eqb (length a.0.1) 0) (keeps_rules a.0.0) a.0.0 image a.2 in
+    let a = bind_ok (fields_at bytes) (λ x. cond (eqb (length x.1) 0) (cond (keeps_table_rules x.0) (Ok x.0) (Err Limit)) (Err Trailing)) image e in
+    let g = ended (eqb (length a.0.1) 0) (keeps_table_rules a.0.0) a.0.0 image a.2 in
     let p = fields_reads.takes bytes a.0 fits a.1 in
     let whole : bytes ≡ spelling a.0.0 = p.0.parts ∙ ap (λ (r : List ℕ). spelling a.0.0 ++ r) (nil_from_length a.0.1 (eqb-true _ _ g.0)) ∙ append-nil (spelling a.0.0) in
     subst (λ (v : Image). IsLawful v × (bytes ≡ spelling v)) g.2 (record { limits = p.1; rules = g.1 }, whole)
@@ -91,7 +91,7 @@ pub spelled_is_read : (image : Image) → IsLawful image → image_at (spelling 
 unfolding image_at
 spelled_is_read image good =
     ap image_at (sym (append-nil (spelling image)))
-    ∙ ap (λ (y : Read Image). y >>= λ x. cond (eqb (length x.1) 0) (cond (keeps_rules x.0) (Ok x.0) (Err Limit)) (Err Trailing)) (fields_reads.again image [] good.limits)
+    ∙ ap (λ (y : Read Image). y >>= λ x. cond (eqb (length x.1) 0) (cond (keeps_table_rules x.0) (Ok x.0) (Err Limit)) (Err Trailing)) (fields_reads.again image [] good.limits)
     ∙ ap (λ (b : Bool). cond b (Ok image) (Err Limit)) good.rules
 
 abbrev ok_read : Image × List ℕ → Read Image

@@ -26,7 +26,10 @@ pub mod WellFormedFits
 pub mod WellFormedObjects
 pub mod WellFormedSection
 pub mod AcceptedTable
+pub mod KnownPorts
 pub mod AcceptedImage
+pub mod NextRelease
+pub mod Releases
 pub mod Spelled
 pub mod Choosing
 pub mod Computing

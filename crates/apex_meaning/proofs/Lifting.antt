@@ -11,13 +11,12 @@ use Rattle.apex_types.specs.declared.identity.At.{At}
 use Rattle.apex_types.specs.declared.identity.Runner.{Runner}
 use Rattle.apex_types.specs.declared.process.Action.{Action}
 use Rattle.apex_types.specs.declared.process.Action.TheVariants as action
-use Rattle.apex_types.specs.declared.row.WindowRow.{WindowRow}
 use Rattle.apex_meaning.specs.Engine.{Engine, Ticked, Asks, Simulates}
 use Rattle.apex_meaning.specs.Kernel.{Kernel, of_processes}
 use Rattle.apex_meaning.specs.PartitionServices.{clears}
 use Rattle.apex_meaning.specs.Partition.{World, Member, Moved, control_at, replied, no_control, written, act, act_all, moved, followed_by, ticked, chooses, spends, spends_chosen, spending_phase, given, treats_asked, treats_due, due_phase, choice_phase, prepares, tick, cold_start}
 use Rattle.apex_meaning.specs.Step.{Step}
-use Rattle.apex_meaning.specs.Windows.{owner}
+use Rattle.apex_meaning.specs.Windows.{Schedule, owner}
 use Rattle.apex_meaning.specs.Module.{Advanced, first_tick, next_tick, start_lines, starts, ticks_member, ticks_owner, module_tick, trace_from, trace}
 use Rattle.apex_meaning.specs.Lifting.{SameControl, SameControls, SameWorld, SameMoved, SameMember, SameMembers, SameAdvanced}
 
@@ -188,17 +187,17 @@ module _ {I C D : Type 0} (R : I → C → D → Type 0) where
   owner_same at is xs ys (Some zero) h = record { members = h; lines = refl }
   owner_same at is xs ys (Some (suc p)) h = member_same at is xs ys p h
 
-  from_same : (frame : ℕ) (windows : List WindowRow) (n : ℕ) (at : At) (is : List I) (xs : List (Member C)) (ys : List (Member D)) → SameMembers R is xs ys → trace_from frame windows n at xs ≡ trace_from frame windows n at ys
-  from_same frame windows zero at is xs ys h = refl
-  from_same frame windows (suc n) at is xs ys h =
-      let one = owner_same at is xs ys (owner frame windows at.origin.0 at.now.0) h in
-      ap (λ (es : List Event). es ++ trace_from frame windows n (next_tick at) (module_tick frame windows at xs).members) one.lines
-      ∙ ap (λ (es : List Event). (module_tick frame windows at ys).lines ++ es) (from_same frame windows n (next_tick at) is _ _ one.members)
+  from_same : (schedule : Schedule) (n : ℕ) (at : At) (is : List I) (xs : List (Member C)) (ys : List (Member D)) → SameMembers R is xs ys → trace_from schedule n at xs ≡ trace_from schedule n at ys
+  from_same schedule zero at is xs ys h = refl
+  from_same schedule (suc n) at is xs ys h =
+      let one = owner_same at is xs ys (owner schedule at) h in
+      ap (λ (es : List Event). es ++ trace_from schedule n (next_tick at) (module_tick schedule at xs).members) one.lines
+      ∙ ap (λ (es : List Event). (module_tick schedule at ys).lines ++ es) (from_same schedule n (next_tick at) is _ _ one.members)
 
   -- modules on engines that cannot be told apart have the same trace
-  pub trace_same : (frame : ℕ) (windows : List WindowRow) (n : ℕ) (is : List I) (xs : List (Member C)) (ys : List (Member D)) → SameMembers R is xs ys → trace (record { frame = frame; windows = windows; members = xs }) n ≡ trace (record { frame = frame; windows = windows; members = ys }) n
-  trace_same frame windows zero is xs ys h = refl
-  trace_same frame windows (suc n) is xs ys h =
+  pub trace_same : (schedule : Schedule) (n : ℕ) (is : List I) (xs : List (Member C)) (ys : List (Member D)) → SameMembers R is xs ys → trace (record { schedule = schedule; members = xs }) n ≡ trace (record { schedule = schedule; members = ys }) n
+  trace_same schedule zero is xs ys h = refl
+  trace_same schedule (suc n) is xs ys h =
       let s = starts_same is xs ys h in
-      ap (λ (es : List Event). es ++ trace_from frame windows (suc n) first_tick (starts xs).members) s.lines
-      ∙ ap (λ (es : List Event). (starts ys).lines ++ es) (from_same frame windows (suc n) first_tick is _ _ s.members)
+      ap (λ (es : List Event). es ++ trace_from schedule (suc n) first_tick (starts xs).members) s.lines
+      ∙ ap (λ (es : List Event). (starts ys).lines ++ es) (from_same schedule (suc n) first_tick is _ _ s.members)

@@ -3,7 +3,6 @@ use Rattle.std.specs.Prelude.{ℕ, ℤ, List, Option}
 use Rattle.apex_types.specs.declared.codes.ModuleAction.{ModuleAction}
 use Rattle.apex_types.specs.declared.row.HealthTable.{HealthTable}
 use Rattle.apex_types.specs.declared.row.PortRow.{PortRow}
-use Rattle.apex_types.specs.declared.row.WindowRow.{WindowRow}
 use Rattle.apex_types.specs.declared.row.ChannelEnd.{ChannelEnd}
 use Rattle.apex_types.specs.declared.row.SemaphoreRow.{SemaphoreRow}
 use Rattle.apex_types.specs.declared.row.BufferRow.{BufferRow}
@@ -11,6 +10,7 @@ use Rattle.apex_types.specs.declared.row.BlackboardRow.{BlackboardRow}
 use Rattle.apex_types.specs.declared.row.RoutineRow.{RoutineRow}
 use Rattle.apex_types.specs.declared.row.ProcessRow.{ProcessRow}
 use Rattle.apex_types.specs.declared.row.BodyRow.{BodyRow}
+use Rattle.apex_meaning.specs.Windows.{Schedule}
 
 -- what a partition's source becomes; an instruction is sixteen bytes
 pub record Section : Type 0 where
@@ -40,10 +40,9 @@ pub record Channel : Type 0 where
 
 -- a module table
 pub record Table : Type 0 where
-  pub frame : ℕ
+  pub schedule : Schedule
   pub fault : ModuleAction
   pub partitions : List Partition
-  pub windows : List WindowRow
   pub channels : List Channel
 
 -- a partition's row with what its source became
@@ -52,8 +51,7 @@ pub record Item : Type 0 where
   pub section : Section
 
 pub record Image : Type 0 where
-  pub frame : ℕ
+  pub schedule : Schedule
   pub fault : ModuleAction
   pub items : List Item
-  pub windows : List WindowRow
   pub channels : List Channel

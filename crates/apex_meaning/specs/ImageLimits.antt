@@ -16,7 +16,7 @@ use Rattle.apex_types.specs.declared.row.ChannelEnd.TheVariants.{Device, Port}
 use Rattle.apex_types.specs.declared.row.PortKind.{PortKind}
 use Rattle.apex_types.specs.declared.row.PortKind.TheVariants.{Sampling, Queuing}
 use Rattle.apex_types.specs.NameText.{is_name}
-use Rattle.apex_meaning.specs.ImageReading.{is_process, is_multiple, enter_within, is_port, is_partition, is_channel, last_end, keeps_rules}
+use Rattle.apex_meaning.specs.ImageReading.{is_process, is_multiple, enter_within, is_port, is_partition, is_channel, last_end, keeps_table_rules}
 use Rattle.apex_meaning.specs.ImageSpelling.{Objects, Bodies, objects_in, bodies_in}
 use Rattle.apex_meaning.specs.Image.{Section, Partition, Channel, Item, Image}
 
@@ -162,15 +162,15 @@ pub record IsChannel (before : List Channel) (row : Channel) : Type 0 where
 
 -- all fields within their limits
 pub record IsWithinLimits (image : Image) : Type 0 where
-  pub frame : IsFrom 1 (2 ^ 24) image.frame
+  pub frame : IsFrom 1 (2 ^ 24) image.schedule.frame
   pub item_count : IsFrom 1 16 (length image.items)
-  pub items : EachBeside (IsItem image.frame) [] image.items
-  pub window_count : IsFrom 1 64 (length image.windows)
-  pub windows : EachBeside IsWindow [] image.windows
+  pub items : EachBeside (IsItem image.schedule.frame) [] image.items
+  pub window_count : IsFrom 1 64 (length image.schedule.windows)
+  pub windows : EachBeside IsWindow [] image.schedule.windows
   pub channel_count : IsFrom 0 64 (length image.channels)
   pub channels : EachBeside IsChannel [] image.channels
 
 -- the images that have a spelling which is read again
 pub record IsLawful (image : Image) : Type 0 where
   pub limits : IsWithinLimits image
-  pub rules : keeps_rules image ≡ true
+  pub rules : keeps_table_rules image ≡ true

@@ -5,7 +5,7 @@ use Rattle.std.specs.List.{list_all, list_any}
 use Rattle.std.specs.Str.{bytes_eq}
 use Rattle.std.specs.Int.{Width, w16, w32, w64, byte_len, from_le_bytes, cast_signed}
 use Rattle.apex_types.specs.NameText.{is_name}
-use Rattle.apex_meaning.specs.TableRules.{has_odd_period, has_short_period, lacks_release}
+use Rattle.apex_meaning.specs.TableRules.{keeps_rules}
 use Rattle.apex_types.specs.declared.codes.Discipline.{Discipline}
 use Rattle.apex_types.specs.declared.codes.Discipline.TheVariants.{Fifo, Priority}
 use Rattle.apex_types.specs.declared.codes.ModuleAction.{ModuleAction}
@@ -27,7 +27,7 @@ use Rattle.apex_types.specs.declared.row.BlackboardRow.{BlackboardRow}
 use Rattle.apex_types.specs.declared.row.RoutineRow.{RoutineRow}
 use Rattle.apex_types.specs.declared.row.ProcessRow.{ProcessRow}
 use Rattle.apex_types.specs.declared.row.BodyRow.{BodyRow}
-use Rattle.apex_meaning.specs.Image.{Section, Partition, Channel, Item, Table, Image}
+use Rattle.apex_meaning.specs.Image.{Section, Partition, Channel, Item, Image}
 use Rattle.apex_meaning.specs.ImageSpelling.{magic, version, Objects, Bodies}
 
 -- Truncated: a field is not all there. Foreign: another magic or version. Limit: a value outside its
@@ -381,30 +381,18 @@ fields_at bytes = do
   items ← list_at 1 16 (item_at frame.0) fault.1
   windows ← list_at 1 64 window_at items.1
   channels ← list_at 0 64 channel_at windows.1
-  Ok (record { frame = frame.0; fault = fault.0; items = items.0; windows = windows.0; channels = channels.0 }, channels.1)
+  Ok (record { schedule = record { frame = frame.0; windows = windows.0 }; fault = fault.0; items = items.0; channels = channels.0 }, channels.1)
 
--- the module table that an image carries
-abbrev pub table_in : Image → Table
-table_in image = record { frame = image.frame; fault = image.fault; partitions = map (λ it. it.partition) image.items; windows = image.windows; channels = image.channels }
+abbrev pub partitions_in : Image → List Partition
+partitions_in image = map (λ it. it.partition) image.items
 
--- a window of a partition that is none of so many, or that ends past the frame
-abbrev pub is_wrong_window : ℕ → ℕ → WindowRow → Bool
-is_wrong_window frame count row = nat_lt row.partition.0 1 || nat_lt count row.partition.0 || nat_lt frame (row.offset + row.length)
-
-abbrev pub has_wrong_window : Table → Bool
-has_wrong_window t = list_any (is_wrong_window t.frame (length t.partitions)) t.windows
-
--- The rules of the module table, which are judged when all fields are read: windows are of
--- partitions and within the frame, each partition's period divides the frame, its windows offer its
--- duration in each of its periods, and it has a release window; no channel so far.
-abbrev pub keeps_rules : Image → Bool
-keeps_rules image =
-    let t = table_in image in
-    not (has_wrong_window t) && not (has_odd_period t) && not (has_short_period t) && not (lacks_release t) && (length t.channels == 0)
+-- the rules of the module table
+abbrev pub keeps_table_rules : Image → Bool
+keeps_table_rules image = keeps_rules image.schedule (partitions_in image) image.channels
 
 -- The image's verdict: nothing stands behind the last field, and the rules of the module table are
 -- kept.
 unfoldable pub image_at : List ℕ → Result Image Fault
 image_at bytes = do
   image ← fields_at bytes
-  if length image.1 == 0 then (if keeps_rules image.0 then Ok image.0 else Err Limit) else Err Trailing
+  if length image.1 == 0 then (if keeps_table_rules image.0 then Ok image.0 else Err Limit) else Err Trailing

@@ -191,7 +191,7 @@ unfoldable pub item : Item → List ℕ
 item it = partition it.partition ++ section it.section
 
 unfoldable pub head : Image → List ℕ
-head image = magic ++ u16 version ++ u32 image.frame ++ u8 (module_action image.fault)
+head image = magic ++ u16 version ++ u32 image.schedule.frame ++ u8 (module_action image.fault)
 
 unfoldable pub spelling : Image → List ℕ
-spelling image = head image ++ list item image.items ++ list window image.windows ++ list channel image.channels
+spelling image = head image ++ list item image.items ++ list window image.schedule.windows ++ list channel image.channels

@@ -3,19 +3,18 @@ use Rattle.std.specs.Prelude.{ℕ, List}
 use Rattle.apex_types.specs.declared.codes.Mode.{Mode}
 use Rattle.apex_types.specs.declared.codes.StartCondition.{StartCondition}
 use Rattle.apex_types.specs.declared.row.HealthTable.{HealthTable}
-use Rattle.apex_types.specs.declared.row.WindowRow.{WindowRow}
 use Rattle.apex_meaning.specs.Processes.{Processes}
 use Rattle.apex_meaning.specs.Step.{Step, lifted}
+use Rattle.apex_meaning.specs.Windows.{Schedule}
 
--- what no tick changes: the partition's row of the module table, its number, and its own windows of
--- the major frame
+-- what no tick changes: the partition's row of the module table, its number, and the major
+-- frame with its own windows
 pub record Fixed : Type 0 where
   pub name : List ℕ
   pub number : ℕ
   pub period : ℕ
   pub duration : ℕ
-  pub frame : ℕ
-  pub windows : List WindowRow
+  pub schedule : Schedule
   pub health : HealthTable
 
 -- buffers, blackboards, semaphores and events; there are none yet

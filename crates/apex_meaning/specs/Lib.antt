@@ -1,6 +1,7 @@
 pub mod Program
 pub mod Operators
 pub mod ServiceTable
+pub mod Windows
 pub mod Image
 pub mod Words
 pub mod Engine
@@ -13,7 +14,6 @@ pub mod ProcessServices
 pub mod TimeServices
 pub mod HealthServices
 pub mod Partition
-pub mod Windows
 pub mod Instructions
 pub mod MachineControl
 pub mod Choice
@@ -25,6 +25,7 @@ pub mod Ready
 pub mod ImageSpelling
 pub mod ImageReading
 pub mod ImageLimits
+pub mod LawfulFact
 pub mod CompiledCode
 pub mod Fits
 pub mod Related

@@ -9,6 +9,7 @@ use Rattle.apex_types.specs.declared.codes.PartitionAction.TheVariants.{Ignore}
 use Rattle.apex_types.specs.declared.event.Event.{Event}
 use Rattle.apex_types.specs.declared.event.EventKind.{EventKind}
 use Rattle.apex_types.specs.declared.event.EventKind.TheVariants as event
+use Rattle.apex_types.specs.declared.identity.At.{At}
 use Rattle.apex_types.specs.declared.row.HealthTable.{HealthTable}
 use Rattle.apex_types.specs.declared.row.RoutineRow.{RoutineRow}
 use Rattle.apex_types.specs.declared.row.WindowRow.{WindowRow}
@@ -23,6 +24,7 @@ use Rattle.apex_meaning.specs.Program.{Program, Body, Procedure}
 use Rattle.apex_meaning.specs.TableRules.{Refusal}
 use Rattle.apex_meaning.specs.TableRules as table_rules
 use Rattle.apex_meaning.specs.TwoMeanings.{source_trace, machine_trace}
+use Rattle.apex_meaning.specs.Windows.{Schedule, tick_from}
 use Rattle.apex_meaning.specs.WellFormed.{Refused, ByName, ByKind, ByLimit, ByPeriod, verdict}
 
 -- every error is ignored
@@ -47,20 +49,24 @@ release_window partition offset length = record { partition = record { 0 = parti
 
 -- a table without channels
 abbrev pub plain_table : ℕ → List Partition → List WindowRow → Table
-plain_table frame partitions windows = record { frame = frame; fault = of_module.Ignore; partitions = partitions; windows = windows; channels = [] }
+plain_table frame partitions windows = record { schedule = record { frame = frame; windows = windows }; fault = of_module.Ignore; partitions = partitions; channels = [] }
 
--- the major frame of two partitions of which the first has two windows, in the order of the windows
-abbrev pub split_windows : List WindowRow
-split_windows = release_window 1 0 4 ∷ release_window 2 4 8 ∷ release_window 1 12 4 ∷ []
+-- a major frame of 16 ticks of two partitions of which the first has two windows
+abbrev pub split_schedule : Schedule
+split_schedule = record { frame = 16; windows = release_window 1 0 4 ∷ release_window 2 4 8 ∷ release_window 1 12 4 ∷ [] }
 
--- a frame with ticks of nobody, and a window that is no release
-abbrev pub sparse_windows : List WindowRow
-sparse_windows = release_window 1 1 3 ∷ release_window 2 4 2 ∷ (record { partition = record { 0 = 1 }; offset = 7; length = 2; release = false }) ∷ []
+-- a frame of 10 ticks with ticks of nobody, and a window that is no release
+abbrev pub sparse_schedule : Schedule
+sparse_schedule = record { frame = 10; windows = release_window 1 1 3 ∷ release_window 2 4 2 ∷ (record { partition = record { 0 = 1 }; offset = 7; length = 2; release = false }) ∷ [] }
 
 -- so many ticks from one on
 abbrev pub ticks_from : ℕ → ℕ → List ℕ
 ticks_from t zero = []
 ticks_from t (suc n) = t ∷ ticks_from (t + 1) n
+
+-- so many ticks from an origin on
+abbrev pub at_ticks : ℕ → ℕ → List At
+at_ticks origin n = map (tick_from origin) (ticks_from origin n)
 
 -- one partition that has the whole of each frame
 abbrev pub single_table : List ℕ → ℕ → Table
@@ -148,7 +154,7 @@ items_of (p ∷ ps) [] = []
 items_of (p ∷ ps) (q ∷ qs) = record { partition = p; section = section_of q } ∷ items_of ps qs
 
 abbrev pub image_of : Table → List Program → Image
-image_of t programs = record { frame = t.frame; fault = t.fault; items = items_of t.partitions programs; windows = t.windows; channels = t.channels }
+image_of t programs = record { schedule = t.schedule; fault = t.fault; items = items_of t.partitions programs; channels = t.channels }
 
 -- the text of the trace of so many ticks of that image
 abbrev pub text_of_built : Table → List (List ℕ) → ℕ → Option (List ℕ)
@@ -175,7 +181,7 @@ coded opcode x v = u32 opcode ++ u32 x ++ i64 v
 -- INIT alone on a stack of 16 words, with these routines, this code and four words of data
 abbrev pub code_image : List RoutineRow → List (List ℕ) → Image
 code_image routines code = record {
-  frame = 128;
+  schedule = record { frame = 128; windows = release_window 1 0 128 ∷ [] };
   fault = of_module.Ignore;
   items = record {
     partition = plain_partition (codes "a") 128 128;
@@ -192,7 +198,6 @@ code_image routines code = record {
       code = code;
     };
   } ∷ [];
-  windows = release_window 1 0 128 ∷ [];
   channels = [];
 }
 

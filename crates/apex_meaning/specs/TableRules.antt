@@ -19,7 +19,7 @@ use Rattle.apex_types.specs.declared.row.ChannelEnd.TheVariants as ends
 use Rattle.toml.specs.Data.{Members}
 use Rattle.apex_meaning.specs.Image.{Table, Partition, Channel}
 use Rattle.apex_meaning.specs.TableText.{◌>>=◌, same, KindText, Sampling, Queuing, PortText, PartitionText, WindowText, ChannelText, TableText, table_text_of}
-use Rattle.apex_meaning.specs.Windows.{releases}
+use Rattle.apex_meaning.specs.Windows.{Schedule, has_release}
 
 -- The rule that is broken.
 pub data Refusal : Type 0 where
@@ -143,7 +143,7 @@ abbrev pub partition_row : PartitionText → Partition
 partition_row p = record { name = p.name; period = nat_abs p.period; duration = nat_abs p.duration; health = unwrap_or p.health all_ignored; ports = map port_row p.ports }
 
 unfoldable pub numbered : TableText → Table
-numbered t = record { frame = nat_abs t.frame; fault = unwrap_or t.fault module_action.Ignore; partitions = map partition_row t.partitions; windows = map (window_row t.partitions) t.windows; channels = map (channel_row t.partitions) t.channels }
+numbered t = record { schedule = record { frame = nat_abs t.frame; windows = map (window_row t.partitions) t.windows }; fault = unwrap_or t.fault module_action.Ignore; partitions = map partition_row t.partitions; channels = map (channel_row t.partitions) t.channels }
 
 -- Overlap: a window that begins before the end of the window before it in the text, or ends past
 -- the frame.
@@ -154,9 +154,18 @@ overlaps_after frame end (w ∷ ws) = let next = w.offset +ℤ w.length in int_l
 abbrev pub overlaps : TableText → Bool
 overlaps t = overlaps_after t.frame (pos 0) t.windows
 
+-- The rules on rows. Those of a table that is read and of an image that is loaded are the same.
+
+-- Windows: a window of a partition that is none of so many, or that ends past the frame.
+abbrev pub is_wrong_window : (frame count : ℕ) → WindowRow → Bool
+is_wrong_window frame count row = nat_lt row.partition.0 1 || nat_lt count row.partition.0 || nat_lt frame (row.offset + row.length)
+
+abbrev pub has_wrong_window : Schedule → ℕ → Bool
+has_wrong_window s count = list_any (is_wrong_window s.frame count) s.windows
+
 -- Period: the frame is no multiple of a partition's period.
-abbrev pub has_odd_period : Table → Bool
-has_odd_period t = list_any (λ p. not (t.frame % p.period == 0)) t.partitions
+abbrev pub has_odd_period : ℕ → List Partition → Bool
+has_odd_period frame ps = list_any (λ p. not (frame % p.period == 0)) ps
 
 -- Duration: in some period of the frame a partition's windows offer fewer ticks than its duration.
 
@@ -174,20 +183,20 @@ falls_short zero partition period duration windows = false
 falls_short (suc k) partition period duration windows = nat_lt (offered partition (k * period) ((k + 1) * period) windows) duration || falls_short k partition period duration windows
 
 -- whether that is so of one of the partitions, which are numbered from a number on
-unfoldable pub falls_short_from : ℕ → ℕ → List WindowRow → List Partition → Bool
-falls_short_from n frame windows [] = false
-falls_short_from n frame windows (p ∷ ps) = falls_short (frame / p.period) n p.period p.duration windows || falls_short_from (n + 1) frame windows ps
+unfoldable pub falls_short_from : ℕ → Schedule → List Partition → Bool
+falls_short_from n s [] = false
+falls_short_from n s (p ∷ ps) = falls_short (s.frame / p.period) n p.period p.duration s.windows || falls_short_from (n + 1) s ps
 
-abbrev pub has_short_period : Table → Bool
-has_short_period t = falls_short_from 1 t.frame t.windows t.partitions
+abbrev pub has_short_period : Schedule → List Partition → Bool
+has_short_period s ps = falls_short_from 1 s ps
 
 -- Release: a partition without a release window.
 unfoldable pub lacks_release_from : ℕ → List WindowRow → List Partition → Bool
 lacks_release_from n windows [] = false
-lacks_release_from n windows (p ∷ ps) = not (list_any (releases n) windows) || lacks_release_from (n + 1) windows ps
+lacks_release_from n windows (p ∷ ps) = not (has_release windows n) || lacks_release_from (n + 1) windows ps
 
-abbrev pub lacks_release : Table → Bool
-lacks_release t = lacks_release_from 1 t.windows t.partitions
+abbrev pub lacks_release : List WindowRow → List Partition → Bool
+lacks_release windows ps = lacks_release_from 1 windows ps
 
 -- Ends: what a channel connects.
 
@@ -198,6 +207,14 @@ ends_of c = c.source ∷ c.destinations
 abbrev pub port_at : List Partition → ChannelEnd → Option PortRow
 port_at ps ends.Device = None
 port_at ps (ends.Port p q) = slice_get ps (p.0 - 1) >>= λ row. slice_get row.ports (q.0 - 1)
+
+-- an end that is no port: a number of no partition, or of none of its ports
+abbrev pub is_unknown_port : List Partition → ChannelEnd → Bool
+is_unknown_port ps ends.Device = false
+is_unknown_port ps (ends.Port p q) = (p.0 == 0) || (q.0 == 0) || is_none (port_at ps (ends.Port p q))
+
+abbrev pub has_unknown_port : List Partition → List Channel → Bool
+has_unknown_port ps cs = list_any (λ c. list_any (is_unknown_port ps) (ends_of c)) cs
 
 abbrev pub is_device : ChannelEnd → Bool
 is_device ends.Device = true
@@ -266,8 +283,14 @@ unfoldable pub is_wrong : List Partition → Channel → Bool
 is_wrong ps c = has_wrong_direction ps c || has_mixed_ports ps (ends_of c) || sends_to_itself c || has_two_devices (ends_of c) || is_split_queue ps c
 
 -- a port at two ends, of one channel or of several, or a wrong channel
-abbrev pub has_wrong_ends : Table → Bool
-has_wrong_ends t = has_twice is_same_port (flat_map ends_of t.channels) || list_any (is_wrong t.partitions) t.channels
+abbrev pub has_wrong_ends : List Partition → List Channel → Bool
+has_wrong_ends ps cs = has_twice is_same_port (flat_map ends_of cs) || list_any (is_wrong ps) cs
+
+-- All these rules are kept, and each number of a partition and of a port stands for one.
+abbrev pub keeps_rules : Schedule → List Partition → List Channel → Bool
+keeps_rules s ps cs =
+    not (has_wrong_window s (length ps)) && not (has_odd_period s.frame ps) && not (has_short_period s ps) && not (lacks_release s.windows ps)
+    && not (has_unknown_port ps cs) && not (has_wrong_ends ps cs)
 
 -- Health: a health table without exactly the seven errors, or an unknown action.
 abbrev pub has_unknown_action : TableText → Bool
@@ -278,7 +301,7 @@ has_unknown_action t = is_none t.fault || list_any (λ p. is_none p.health) t.pa
 -- of a table whose text keeps its limits and names
 unfoldable pub judge_table : TableText → Table → Result Table Refusal
 judge_table text t =
-    if overlaps text then Err Overlap else (if has_odd_period t then Err Period else (if has_short_period t then Err Duration else (if lacks_release t then Err Release else (if has_wrong_ends t then Err Ends else (if has_unknown_action text then Err Health else Ok t)))))
+    if overlaps text then Err Overlap else (if has_odd_period t.schedule.frame t.partitions then Err Period else (if has_short_period t.schedule t.partitions then Err Duration else (if lacks_release t.schedule.windows t.partitions then Err Release else (if has_wrong_ends t.partitions t.channels then Err Ends else (if has_unknown_action text then Err Health else Ok t)))))
 
 unfoldable pub judge_text : TableText → Result Table Refusal
 judge_text text =

@@ -1,6 +1,6 @@
 -- The two meanings of a module: of its sources, and of its image. Kernel, windows and trace are
 -- the same in both; they differ in the engine on which processes run.
-use Rattle.std.specs.Prelude.{ℕ, ◌+◌, ◌==◌, ℤ, List, [], ◌∷◌, Option, Some, None, option_map, map, filter, false}
+use Rattle.std.specs.Prelude.{ℕ, ◌+◌, ℤ, List, [], ◌∷◌, Option, Some, None, option_map, map, false}
 use Rattle.apex_types.specs.declared.codes.Mode.TheVariants as mode
 use Rattle.apex_types.specs.declared.codes.ProcessState.TheVariants.{Dormant}
 use Rattle.apex_types.specs.declared.codes.StartCondition.TheVariants as condition
@@ -15,7 +15,6 @@ use Rattle.apex_types.specs.declared.process.ProcessStatus.{ProcessStatus}
 use Rattle.apex_types.specs.declared.process.Wait.TheVariants as wait
 use Rattle.apex_types.specs.declared.row.BodyRow.{BodyRow}
 use Rattle.apex_types.specs.declared.row.ProcessRow.{ProcessRow}
-use Rattle.apex_types.specs.declared.row.WindowRow.{WindowRow}
 use Rattle.apex_types.specs.declared.instruction.Instr.{Instr}
 use Rattle.apex_meaning.specs.Engine.{Engine}
 use Rattle.apex_meaning.specs.Image.{Partition, Table, Item, Section, Image}
@@ -26,6 +25,7 @@ use Rattle.apex_meaning.specs.Module.{Module, trace}
 use Rattle.apex_meaning.specs.Partition.{World, Member}
 use Rattle.apex_meaning.specs.Processes.{Processes}
 use Rattle.apex_meaning.specs.Program as program
+use Rattle.apex_meaning.specs.Windows.{Schedule, schedule_of_partition}
 use Rattle.apex_meaning.specs.SourceControl.{SourceControl, source_engine, body_at}
 
 -- ---- a partition before its first start
@@ -60,13 +60,9 @@ handler_row = fresh_row Handler (record { 0 = 0 }) None None
 abbrev pub fresh_processes : List ProcessStatus → Processes
 fresh_processes rows = record { rows = init_row ∷ handler_row ∷ rows; ready = []; running = None; lock = lock.Free }
 
--- the windows of one partition
-abbrev pub own_windows : ℕ → List WindowRow → List WindowRow
-own_windows number windows = filter (λ w. w.partition.0 == number) windows
-
 -- what is fixed of the partition with a number
-abbrev pub fixed_of : ℕ → List WindowRow → ℕ → Partition → Fixed
-fixed_of frame windows number p = record { name = p.name; number = number; period = p.period; duration = p.duration; frame = frame; windows = own_windows number windows; health = p.health }
+abbrev pub fixed_of : Schedule → ℕ → Partition → Fixed
+fixed_of schedule number p = record { name = p.name; number = number; period = p.period; duration = p.duration; schedule = schedule_of_partition number schedule; health = p.health }
 
 -- a partition in idle mode with nothing created, of these processes
 abbrev pub fresh_kernel : Fixed → List ProcessStatus → Kernel
@@ -87,14 +83,14 @@ abbrev pub source_member : Fixed → program.Program → Member SourceControl
 source_member fixed source = record { engine = source_engine source; world = fresh_world (fresh_kernel fixed (map source_row source.processes)) source.initial }
 
 -- each partition with its source, in order, with their numbers
-abbrev pub source_members : ℕ → List WindowRow → ℕ → List Partition → List program.Program → List (Member SourceControl)
-source_members frame windows number [] sources = []
-source_members frame windows number (p ∷ ps) [] = []
-source_members frame windows number (p ∷ ps) (s ∷ ss) = source_member (fixed_of frame windows number p) s ∷ source_members frame windows (number + 1) ps ss
+abbrev pub source_members : Schedule → ℕ → List Partition → List program.Program → List (Member SourceControl)
+source_members schedule number [] sources = []
+source_members schedule number (p ∷ ps) [] = []
+source_members schedule number (p ∷ ps) (s ∷ ss) = source_member (fixed_of schedule number p) s ∷ source_members schedule (number + 1) ps ss
 
 -- what a table and the programs of its partitions mean
 abbrev pub source_module : Table → List program.Program → Module SourceControl
-source_module t sources = record { frame = t.frame; windows = t.windows; members = source_members t.frame t.windows 1 t.partitions sources }
+source_module t sources = record { schedule = t.schedule; members = source_members t.schedule 1 t.partitions sources }
 
 -- the source meaning: the trace of n ticks
 abbrev pub source_trace : Table → List program.Program → ℕ → List Event
@@ -119,12 +115,12 @@ abbrev pub machine_member : Fixed → Section → Member MachineControl
 machine_member fixed s = record { engine = section_engine s; world = fresh_world (fresh_kernel fixed (map machine_row s.processes)) s.initial }
 
 -- each partition in order, with their numbers
-abbrev pub machine_members : ℕ → List WindowRow → ℕ → List Item → List (Member MachineControl)
-machine_members frame windows number [] = []
-machine_members frame windows number (i ∷ is) = machine_member (fixed_of frame windows number i.partition) i.section ∷ machine_members frame windows (number + 1) is
+abbrev pub machine_members : Schedule → ℕ → List Item → List (Member MachineControl)
+machine_members schedule number [] = []
+machine_members schedule number (i ∷ is) = machine_member (fixed_of schedule number i.partition) i.section ∷ machine_members schedule (number + 1) is
 
 abbrev pub machine_module : Image → Module MachineControl
-machine_module i = record { frame = i.frame; windows = i.windows; members = machine_members i.frame i.windows 1 i.items }
+machine_module i = record { schedule = i.schedule; members = machine_members i.schedule 1 i.items }
 
 -- the machine meaning: the trace of n ticks
 abbrev pub machine_trace : Image → ℕ → List Event

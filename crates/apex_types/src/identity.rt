@@ -6,6 +6,13 @@ ghost use Rattle.std.specs.Prelude.{◌≡◌};
 #[derive(Clone, Copy, Debug, PartialEq, Eq, PartialOrd, Ord)]
 pub struct Ticks(pub u64);
 
+/// A tick of the run, and the tick of the module's last start.
+#[derive(Clone, Copy, Debug, PartialEq, Eq)]
+pub struct At {
+    pub now: Ticks,
+    pub origin: Ticks,
+}
+
 /// A partition by its place in the module table, from 1.
 #[derive(Clone, Copy, Debug, PartialEq, Eq)]
 pub struct PartitionId(pub u8);

@@ -2,6 +2,7 @@
 #![tactic(auto)]
 
 mod fault;
+mod item;
 mod load;
 mod reading;
 mod rules;
@@ -12,6 +13,7 @@ mod write;
 mod writing;
 
 pub use fault::ImageFault;
+pub use item::PartitionItem;
 pub use load::load_image;
-pub use value::{Image, PartitionItem};
+pub use value::Image;
 pub use write::write_image;

@@ -1,22 +1,20 @@
 //! The values that an image spells.
 
-use apex_types::{ModuleAction, Section, WindowRow};
-use window_table::{ChannelRow, PartitionRow};
+ghost use Rattle.apex_meaning.specs.ImageLimits.{IsLawful};
+ghost use Rattle.apex_meaning.specs.LawfulFact.{lawful_prop};
+ghost use Rattle.image.specs.Items.{image_from};
 
-/// A partition's row of the module table with what its source became.
-#[derive(Drop)]
-pub struct PartitionItem {
-    pub row: PartitionRow,
-    pub section: Section,
-}
+use crate::item::PartitionItem;
+use apex_types::ModuleAction;
+use window_table::{ChannelRow, Schedule};
 
-/// An image: a module table with the section of each partition. The major frame has `frame`
-/// ticks; partitions, windows and channels stand in the order of the table.
+/// An image: a module table with the section of each partition, in the order of the table. Each
+/// value is within its limit, and the rules of the module table are kept.
 #[derive(Drop)]
 pub struct Image {
-    pub frame: u32,
+    pub schedule: Schedule,
     pub fault: ModuleAction,
     pub partitions: Vec<PartitionItem>,
-    pub windows: Vec<WindowRow>,
     pub channels: Vec<ChannelRow>,
+    ghost lawful: { IsLawful (image_from schedule fault partitions.items channels.items) } by { lawful_prop (image_from schedule fault partitions.items channels.items) },
 }

@@ -2,11 +2,13 @@
 
 ghost use Rattle.std.specs.Prelude.{◌≡◌, ◌++◌, IfOk, IfErr, OnOk};
 ghost use Rattle.apex_meaning.specs.ImageSpelling.{list, item, channel, head, spelling};
-ghost use Rattle.image.specs.Views.{items_of, channels_of, image_of};
+ghost use Rattle.image.specs.Items.{items_of, channels_of};
+ghost use Rattle.image.specs.Views.{image_of};
 ghost use Rattle.image.specs.declared.fault.ImageFault.TheVariants.{Memory};
 
 use crate::fault::ImageFault;
-use crate::value::{Image, PartitionItem};
+use crate::item::PartitionItem;
+use crate::value::Image;
 use crate::writing::numbers::number_of_module_action;
 use crate::writing::rows::put_list;
 use std::alloc::{AllocError, Global};
@@ -18,7 +20,7 @@ fn put_head(out: &mut Vec<u8>, image: &Image) -> Result<(), AllocError>
 {
     out.extend_from_slice(b"AP653IMG".as_slice())?;
     out.extend_from_slice(&1u16.to_le_bytes())?;
-    out.extend_from_slice(&image.frame.to_le_bytes())?;
+    out.extend_from_slice(&image.schedule.frame.to_le_bytes())?;
     out.push(number_of_module_action(image.fault))?;
     Ok(())
 }
@@ -43,7 +45,7 @@ fn put_image(out: &mut Vec<u8>, image: &Image) -> Result<(), AllocError>
 {
     put_head(out, image)?;
     put_items(out, &image.partitions)?;
-    put_list(out, &image.windows)?;
+    put_list(out, &image.schedule.windows)?;
     put_channels(out, &image.channels)
 }
 

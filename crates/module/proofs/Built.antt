@@ -7,8 +7,8 @@ use Rattle.apex_types.specs.declared.row.Section as code
 use Rattle.apex_meaning.specs.Cost.{size_of}
 use Rattle.apex_meaning.specs.Instructions.{reading}
 use Rattle.apex_meaning.proofs.WellFormedFits.{well_formed_fits}
-use Rattle.image.specs.declared.value.PartitionItem.{PartitionItem}
-use Rattle.image.specs.Views.{item_of, items_of, partition_of, section_of as view}
+use Rattle.image.specs.declared.item.PartitionItem.{PartitionItem}
+use Rattle.image.specs.Items.{item_of, items_of, partition_of, section_of as view}
 use Rattle.window_table.specs.declared.table.PartitionRow.{PartitionRow}
 use Rattle.apex_meaning.specs.CompiledCode.{code_of, section_of}
 use Rattle.apex_meaning.specs.Image.{Partition, Section, Item}

@@ -15,8 +15,9 @@ use Rattle.apex_meaning.specs.ImageLimits.{EachBeside, IsRoutine, IsBody, IsProc
 use Rattle.apex_meaning.specs.MachineControl.{MachineControl}
 use Rattle.apex_meaning.specs.TwoMeanings.{body_of_row, init_row, machine_row, no_control_for, section_engine, machine_member}
 use Rattle.image.specs.declared.value.Image.{Image}
-use Rattle.image.specs.declared.value.PartitionItem.{PartitionItem}
-use Rattle.image.specs.Views.{image_of, item_of, items_of, section_of}
+use Rattle.image.specs.declared.item.PartitionItem.{PartitionItem}
+use Rattle.image.specs.Items.{item_of, items_of, section_of}
+use Rattle.image.specs.Views.{image_of}
 use Rattle.apex_types.specs.declared.codes.Mode.TheVariants as mode
 use Rattle.apex_types.specs.declared.codes.StartCondition.TheVariants as condition
 use Rattle.partition_base.specs.Sections.{IsFittingSection, engine_of_section}

@@ -24,7 +24,7 @@ use Rattle.module.specs.Part.{is_program_of_part, is_table_of_part, is_built, de
 use Rattle.module.specs.Building.{IsNotAccepted, IsSourceRefused, IsFirstRefused, IsOffered, AreOffered, IsOutside, IsRefusedWith, IsRefusal, IsTableRefusal, IsSourceRefusal, AreSourceRefusals, IsLengthRefusal, IsProgramRefusal, is_too_long, unless_memory, refusal_of}
 use Rattle.module.specs.Sources.{programs_of, IsSource, AreSources, is_source_of_part}
 use Rattle.std.proofs.lemmas.List.{append_assoc}
-use Rattle.image.specs.Views.{partition_of}
+use Rattle.image.specs.Items.{partition_of}
 use Rattle.window_table.specs.declared.table.PartitionRow.{PartitionRow}
 use Rattle.module.specs.declared.accepting.AcceptedSource.{AcceptedSource}
 use Rattle.module.specs.declared.fault.BuildFault.{BuildFault}

@@ -1,6 +1,6 @@
 -- What the partitions of an image keep to, so that their processors have room for them.
 use Rattle.std.specs.Prelude.{◌≡◌, ℕ, List, Some, slice_get}
-use Rattle.image.specs.declared.value.PartitionItem.{PartitionItem}
+use Rattle.image.specs.declared.item.PartitionItem.{PartitionItem}
 use Rattle.partition_base.specs.Sections.{IsFittingSection}
 
 abbrev pub AreFittingItems : List PartitionItem → Type 0

@@ -2,7 +2,7 @@
 
 ghost use Rattle.std.specs.Prelude.{◌≡◌, length, map, IfOk, IfErr};
 ghost use Rattle.std.specs.List.{list_all};
-ghost use Rattle.image.specs.Views.{partition_of};
+ghost use Rattle.image.specs.Items.{partition_of};
 ghost use Rattle.pal_base.specs.View as written;
 ghost use Rattle.module.specs.Building.{IsNotAccepted, IsSourceRefusal, AreSourceRefusals, refusal_of};
 ghost use Rattle.module.specs.Sources.{IsSource, AreSources, is_source_of_part};

@@ -3,7 +3,8 @@
 ghost use Rattle.std.specs.Prelude.{◌≡◌, length, map, IfOk, IfErr, true};
 ghost use Rattle.apex_meaning.specs.CompiledCode as code_of;
 ghost use Rattle.apex_meaning.specs.ImageSpelling.{spelling};
-ghost use Rattle.image.specs.Views.{image_of, item_of, items_of, partition_of, section_of};
+ghost use Rattle.image.specs.Items.{item_of, items_of, partition_of, section_of};
+ghost use Rattle.image.specs.Views.{image_of};
 ghost use Rattle.pal_base.specs.ProgramView.{program_of};
 ghost use Rattle.window_table.specs.Views.{table_of};
 ghost use Rattle.module.specs.Accepted.{IsTable};

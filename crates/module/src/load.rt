@@ -3,7 +3,8 @@
 ghost use Rattle.std.specs.Prelude.{◌≡◌, ◌<◌, map, IfOk};
 ghost use Rattle.apex_meaning.specs.ImageLimits.{IsLawful};
 ghost use Rattle.apex_meaning.specs.TwoMeanings.{machine_member, machine_module};
-ghost use Rattle.image.specs.Views.{image_of, item_of, items_of};
+ghost use Rattle.image.specs.Items.{item_of, items_of};
+ghost use Rattle.image.specs.Views.{image_of};
 ghost use Rattle.partition_base.specs.contracts.machine.MachineExecutor.TheImpl.{ghosts as machine};
 ghost use Rattle.partition_base.specs.Sections.{IsFittingSection};
 ghost use Rattle.module.specs.Loading.{AreFittingItems};

@@ -2,20 +2,21 @@
 use Rattle.std.proofs.Common.{◌≡◌, ℕ, zero, suc, ◌+◌, ◌-◌, ◌*◌, ◌/◌, ◌%◌, ◌<◌, ◌≤◌, min, Bool, true, false, ◌||◌, cond, nat_lt, List, [], ◌∷◌, refl, sym, ap, ◌∙◌, arith, inl, inr}
 use Rattle.std.proofs.Common.{mul-le-mul_right, ◌⊎◌}
 use Rattle.std.proofs.lemmas.Bool.{false≢true, le-ltb}
+use Rattle.apex_types.specs.declared.identity.At.{At}
 use Rattle.apex_types.specs.declared.row.WindowRow.{WindowRow}
-use Rattle.apex_meaning.specs.Windows.{releases, until_start, until_release}
+use Rattle.apex_meaning.specs.Windows.{Schedule, releases, until_start, until_one_of}
 use Rattle.apex_meaning.specs.TableRules.{offered, falls_short}
 
 cond-at-most : (b : Bool) (x y frame : ℕ) → y ≤ frame → cond b (min x y) y ≤ frame
 cond-at-most true x y frame h = omega arith
 cond-at-most false x y frame h = h
 
-pub until_at_most : (frame : ℕ) (ws : List WindowRow) (p o t : ℕ) → until_release frame ws p o t ≤ frame
-until_at_most frame [] p o t = omega arith
-until_at_most frame (w ∷ ws) p o t = cond-at-most (releases p w) (until_start frame o t w) (until_release frame ws p o t) frame (until_at_most frame ws p o t)
+pub until_at_most : (s : Schedule) (p : ℕ) (at : At) (ws : List WindowRow) → until_one_of s p at ws ≤ s.frame
+until_at_most s p at [] = omega arith
+until_at_most s p at (w ∷ ws) = cond-at-most (releases p w) (until_start s w at) (until_one_of s p at ws) s.frame (until_at_most s p at ws)
 
-pub until_first : (frame : ℕ) (ws : List WindowRow) (p o t : ℕ) → until_release frame ws p o t ≡ min frame (until_release frame ws p o t)
-until_first frame ws p o t = let h = until_at_most frame ws p o t in omega arith
+pub until_first : (s : Schedule) (p : ℕ) (at : At) (ws : List WindowRow) → until_one_of s p at ws ≡ min s.frame (until_one_of s p at ws)
+until_first s p at ws = let h = until_at_most s p at ws in omega arith
 
 or-right : (a b : Bool) → b ≡ true → (a || b) ≡ true
 or-right true b h = refl

@@ -1,3 +1,4 @@
+pub mod Schedules
 pub mod Views
 pub mod Keys
 pub mod Answers

@@ -2,6 +2,7 @@
 use Rattle.std.specs.Prelude.{ℕ, List, map}
 use Rattle.apex_meaning.specs.Image.{Table, Partition, Channel}
 use Rattle.apex_meaning.specs.TableText.{KindText, Sampling, Queuing, PortText, PartitionText, WindowText, ChannelText, TableText}
+use Rattle.window_table.specs.Schedules.{schedule_of}
 use Rattle.window_table.specs.declared.table.ModuleTable.{ModuleTable}
 use Rattle.window_table.specs.declared.table.PartitionRow.{PartitionRow}
 use Rattle.window_table.specs.declared.table.ChannelRow.{ChannelRow}
@@ -43,4 +44,4 @@ abbrev pub channel_view : ChannelRow → Channel
 channel_view c = record { name = c.name; source = c.source; destinations = c.destinations.items }
 
 abbrev pub table_of : ModuleTable → Table
-table_of t = record { frame = t.frame; fault = t.fault; partitions = map partition_view t.partitions.items; windows = t.windows.items; channels = map channel_view t.channels.items }
+table_of t = record { schedule = schedule_of t.schedule; fault = t.fault; partitions = map partition_view t.partitions.items; channels = map channel_view t.channels.items }

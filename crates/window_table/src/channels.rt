@@ -1,24 +1,24 @@
 //! What channels connect.
 
-ghost use Rattle.std.specs.Prelude.{◌≡◌, map, flat_map, option_map, option_copied, IfOk, IfErr};
+ghost use Rattle.std.specs.Prelude.{◌≡◌, map, flat_map, option_map, option_copied, IfOk};
 ghost use Rattle.std.specs.List.{list_any};
-ghost use Rattle.apex_meaning.specs.TableRules.{port_at, is_device, is_same_port, is_in_same_partition, is_same_kind, is_source_port, is_destination_port, is_queuing_port, differ, ends_of, is_wrong, has_wrong_direction, has_mixed_ports, sends_to_itself, has_two_devices, has_twice, has_wrong_ends};
-ghost use Rattle.window_table.specs.Views.{partition_view, channel_view, table_of};
+ghost use Rattle.apex_meaning.specs.TableRules.{port_at, is_device, is_same_port, is_in_same_partition, is_same_kind, is_source_port, is_destination_port, is_queuing_port, is_unknown_port, has_unknown_port, differ, ends_of, is_wrong, has_wrong_direction, has_mixed_ports, sends_to_itself, has_two_devices, has_twice, has_wrong_ends};
+ghost use Rattle.window_table.specs.Views.{channel_view};
 
-use crate::fault::TableFault;
-use crate::table::{ChannelRow, ModuleTable, PartitionRow};
+use crate::row::HasRow;
+use crate::table::ChannelRow;
 use apex_types::{ChannelEnd, PortDirection, PortKind, PortRow};
-use std::alloc::Global;
+use std::alloc::{AllocError, Global};
 
 /// The port at an end, if there is one.
-fn port_at(partitions: &[PartitionRow], end: ChannelEnd) -> Option<&PortRow>
-    ensures { option_copied result ≡ port_at (map partition_view partitions.now) end }
+fn port_at<P: HasRow>(partitions: &[P], end: ChannelEnd) -> Option<&PortRow>
+    ensures { option_copied result ≡ port_at (map P.row_of partitions.now) end }
 {
     match end {
         ChannelEnd::Device => None,
         ChannelEnd::Port(partition, port) => {
             let row = partitions.get(usize::from(partition.0.saturating_sub(1)))?;
-            row.ports.get(usize::from(port.0.saturating_sub(1)))
+            row.row().ports.get(usize::from(port.0.saturating_sub(1)))
         }
     }
 }
@@ -62,8 +62,8 @@ fn is_same_kind(first: &PortKind, second: &PortKind) -> bool
     }
 }
 
-fn is_source_port(partitions: &[PartitionRow], end: ChannelEnd) -> bool
-    ensures { result ≡ is_source_port (map partition_view partitions.now) end }
+fn is_source_port<P: HasRow>(partitions: &[P], end: ChannelEnd) -> bool
+    ensures { result ≡ is_source_port (map P.row_of partitions.now) end }
 {
     match port_at(partitions, end) {
         Some(port) => port.direction == PortDirection::Source,
@@ -71,8 +71,8 @@ fn is_source_port(partitions: &[PartitionRow], end: ChannelEnd) -> bool
     }
 }
 
-fn is_destination_port(partitions: &[PartitionRow], end: ChannelEnd) -> bool
-    ensures { result ≡ is_destination_port (map partition_view partitions.now) end }
+fn is_destination_port<P: HasRow>(partitions: &[P], end: ChannelEnd) -> bool
+    ensures { result ≡ is_destination_port (map P.row_of partitions.now) end }
 {
     match port_at(partitions, end) {
         Some(port) => port.direction == PortDirection::Destination,
@@ -80,8 +80,8 @@ fn is_destination_port(partitions: &[PartitionRow], end: ChannelEnd) -> bool
     }
 }
 
-fn is_queuing_port(partitions: &[PartitionRow], end: ChannelEnd) -> bool
-    ensures { result ≡ is_queuing_port (map partition_view partitions.now) end }
+fn is_queuing_port<P: HasRow>(partitions: &[P], end: ChannelEnd) -> bool
+    ensures { result ≡ is_queuing_port (map P.row_of partitions.now) end }
 {
     match port_at(partitions, end) {
         Some(port) => match port.kind {
@@ -92,9 +92,47 @@ fn is_queuing_port(partitions: &[PartitionRow], end: ChannelEnd) -> bool
     }
 }
 
+/// Whether an end is no port: its number is that of no partition, or of none of its ports.
+fn is_unknown_port<P: HasRow>(partitions: &[P], end: ChannelEnd) -> bool
+    ensures { result ≡ is_unknown_port (map P.row_of partitions.now) end }
+{
+    match end {
+        ChannelEnd::Device => false,
+        ChannelEnd::Port(partition, port) => {
+            partition.0 == 0 || port.0 == 0 || port_at(partitions, end).is_none()
+        }
+    }
+}
+
+fn has_unknown<P: HasRow>(partitions: &[P], ends: &[ChannelEnd]) -> bool
+    ensures { result ≡ list_any (is_unknown_port (map P.row_of partitions.now)) ends.now }
+{
+    ends.iter().any(|end| is_unknown_port(partitions, *end))
+}
+
+fn has_unknown_end<P: HasRow>(partitions: &[P], channel: &ChannelRow) -> bool
+    ensures { result ≡ list_any (is_unknown_port (map P.row_of partitions.now)) (ends_of (channel_view channel.now)) }
+{
+    is_unknown_port(partitions, channel.source)
+        || has_unknown(partitions, channel.destinations.as_slice())
+}
+
+/// Whether an end of a channel is neither a port nor the device.
+#[tactic(auto, using(std::proofs::lemmas::List::drop_more))]
+pub fn has_unknown_port<P: HasRow>(partitions: &[P], channels: &[ChannelRow]) -> bool
+    ensures { result ≡ has_unknown_port (map P.row_of partitions.now) (map channel_view channels.now) }
+{
+    for channel in channels {
+        if has_unknown_end(partitions, channel) {
+            return true;
+        }
+    }
+    false
+}
+
 /// Whether there are ports of different kind or words at two ends.
-fn differ(partitions: &[PartitionRow], first: ChannelEnd, second: ChannelEnd) -> bool
-    ensures { result ≡ differ (map partition_view partitions.now) first second }
+fn differ<P: HasRow>(partitions: &[P], first: ChannelEnd, second: ChannelEnd) -> bool
+    ensures { result ≡ differ (map P.row_of partitions.now) first second }
 {
     match (port_at(partitions, first), port_at(partitions, second)) {
         (Some(a), Some(b)) => !is_same_kind(&a.kind, &b.kind) || a.words != b.words,
@@ -102,47 +140,39 @@ fn differ(partitions: &[PartitionRow], first: ChannelEnd, second: ChannelEnd) ->
     }
 }
 
-/// The ends of a channel, its source first.
-fn ends_of(alloc: Global, channel: &ChannelRow) -> Result<Vec<ChannelEnd>, TableFault>
-    ensures ok { IfOk result (λ v. v.items ≡ ends_of (channel_view channel.now)) }
-    ensures err { IfErr result (λ e. e ≡ TableFault.Memory) }
+/// The ends of a channel, its source first. An error is one of memory.
+fn ends_of(alloc: Global, channel: &ChannelRow) -> Result<Vec<ChannelEnd>, AllocError>
+    ensures { IfOk result (λ v. v.items ≡ ends_of (channel_view channel.now)) }
 {
     let mut ends = Vec::new(alloc);
-    if ends.push(channel.source).is_err() {
-        return Err(TableFault::Memory);
-    }
-    if ends
-        .extend_from_slice(channel.destinations.as_slice())
-        .is_err()
-    {
-        return Err(TableFault::Memory);
-    }
+    ends.push(channel.source)?;
+    ends.extend_from_slice(channel.destinations.as_slice())?;
     Ok(ends)
 }
 
-fn has_source(partitions: &[PartitionRow], ends: &[ChannelEnd]) -> bool
-    ensures { result ≡ list_any (is_source_port (map partition_view partitions.now)) ends.now }
+fn has_source<P: HasRow>(partitions: &[P], ends: &[ChannelEnd]) -> bool
+    ensures { result ≡ list_any (is_source_port (map P.row_of partitions.now)) ends.now }
 {
     ends.iter().any(|end| is_source_port(partitions, *end))
 }
 
 /// Whether a source is none, or a destination is none.
-fn has_wrong_direction(partitions: &[PartitionRow], channel: &ChannelRow) -> bool
-    ensures { result ≡ has_wrong_direction (map partition_view partitions.now) (channel_view channel.now) }
+fn has_wrong_direction<P: HasRow>(partitions: &[P], channel: &ChannelRow) -> bool
+    ensures { result ≡ has_wrong_direction (map P.row_of partitions.now) (channel_view channel.now) }
 {
     is_destination_port(partitions, channel.source)
         || has_source(partitions, channel.destinations.as_slice())
 }
 
-fn differs(partitions: &[PartitionRow], first: ChannelEnd, ends: &[ChannelEnd]) -> bool
-    ensures { result ≡ list_any (differ (map partition_view partitions.now) first) ends.now }
+fn differs<P: HasRow>(partitions: &[P], first: ChannelEnd, ends: &[ChannelEnd]) -> bool
+    ensures { result ≡ list_any (differ (map P.row_of partitions.now) first) ends.now }
 {
     ends.iter().any(|second| differ(partitions, first, *second))
 }
 
 /// Whether there are two ports of different kind or words.
-fn has_mixed_ports(partitions: &[PartitionRow], ends: &[ChannelEnd]) -> bool
-    ensures { result ≡ has_mixed_ports (map partition_view partitions.now) ends.now }
+fn has_mixed_ports<P: HasRow>(partitions: &[P], ends: &[ChannelEnd]) -> bool
+    ensures { result ≡ has_mixed_ports (map P.row_of partitions.now) ends.now }
 {
     ends.iter().any(|first| differs(partitions, *first, ends))
 }
@@ -164,31 +194,29 @@ fn has_device(ends: &[ChannelEnd]) -> bool
 }
 
 /// Whether the device stands at two of the ends.
-#[tactic(auto, unfolding(apex_meaning::specs::TableRules::has_two_devices))]
+#[tactic(auto, using(std::proofs::lemmas::List::drop_more), unfolding(apex_meaning::specs::TableRules::has_two_devices))]
 fn has_two_devices(ends: &[ChannelEnd]) -> bool
     ensures { result ≡ has_two_devices ends.now }
 {
-    let mut rest = ends;
-    while let Some((end, others)) = rest.split_first() {
+    for (place, end) in ends.iter().enumerate() {
         if is_device(end) {
-            return has_device(others);
+            return has_device(&ends[place + 1..]);
         }
-        rest = others;
     }
     false
 }
 
-fn has_queue(partitions: &[PartitionRow], ends: &[ChannelEnd]) -> bool
-    ensures { result ≡ list_any (is_queuing_port (map partition_view partitions.now)) ends.now }
+fn has_queue<P: HasRow>(partitions: &[P], ends: &[ChannelEnd]) -> bool
+    ensures { result ≡ list_any (is_queuing_port (map P.row_of partitions.now)) ends.now }
 {
     ends.iter().any(|end| is_queuing_port(partitions, *end))
 }
 
 /// Whether a channel with these ends connects what does not go together.
 #[tactic(auto, unfolding(apex_meaning::specs::TableRules::is_wrong))]
-fn is_wrong(partitions: &[PartitionRow], channel: &ChannelRow, ends: &[ChannelEnd]) -> bool
+fn is_wrong<P: HasRow>(partitions: &[P], channel: &ChannelRow, ends: &[ChannelEnd]) -> bool
     requires { ends.now ≡ ends_of (channel_view channel.now) }
-    ensures { result ≡ is_wrong (map partition_view partitions.now) (channel_view channel.now) }
+    ensures { result ≡ is_wrong (map P.row_of partitions.now) (channel_view channel.now) }
 {
     has_wrong_direction(partitions, channel)
         || has_mixed_ports(partitions, ends)
@@ -203,36 +231,39 @@ fn has_port(end: &ChannelEnd, others: &[ChannelEnd]) -> bool
     others.iter().any(|other| is_same_port(end, other))
 }
 
-#[tactic(auto, unfolding(apex_meaning::specs::TableRules::has_twice))]
+#[tactic(auto, using(std::proofs::lemmas::List::drop_more), unfolding(apex_meaning::specs::TableRules::has_twice))]
 fn has_same_port(ends: &[ChannelEnd]) -> bool
     ensures { result ≡ has_twice is_same_port ends.now }
 {
-    let mut rest = ends;
-    while let Some((end, others)) = rest.split_first() {
-        if has_port(end, others) {
+    for (place, end) in ends.iter().enumerate() {
+        if has_port(end, &ends[place + 1..]) {
             return true;
         }
-        rest = others;
     }
     false
 }
 
 /// Whether a port stands at two ends, or a channel connects what does not go together.
+///
+/// # Errors
+///
+/// Want of memory alone.
 #[tactic(auto, using(std::proofs::lemmas::List::drop_more))]
-pub fn has_wrong_ends(alloc: Global, table: &ModuleTable) -> Result<bool, TableFault>
-    ensures ok { IfOk result (λ b. b ≡ has_wrong_ends (table_of table.now)) }
-    ensures err { IfErr result (λ e. e ≡ TableFault.Memory) }
+pub fn has_wrong_ends<P: HasRow>(
+    alloc: Global,
+    partitions: &[P],
+    channels: &[ChannelRow],
+) -> Result<bool, AllocError>
+    ensures { IfOk result (λ b. b ≡ has_wrong_ends (map P.row_of partitions.now) (map channel_view channels.now)) }
 {
     let mut all: Vec<ChannelEnd> = Vec::new(alloc);
     let mut is_any_wrong = false;
-    for channel in table.channels.as_slice() {
+    for channel in channels {
         let ends = ends_of(alloc, channel)?;
-        if is_wrong(table.partitions.as_slice(), channel, ends.as_slice()) {
+        if is_wrong(partitions, channel, ends.as_slice()) {
             is_any_wrong = true;
         }
-        if all.extend_from_slice(ends.as_slice()).is_err() {
-            return Err(TableFault::Memory);
-        }
+        all.extend_from_slice(ends.as_slice())?;
     }
     Ok(is_any_wrong || has_same_port(all.as_slice()))
 }

@@ -1,22 +1,42 @@
 //! What windows offer to partitions: periods, durations and releases.
 
-ghost use Rattle.std.specs.Prelude.{◌≡◌, ◌≤◌, ◌<◌, ◌/◌, ℕ, map, length, nat_lt, false, ◌==◌};
-ghost use Rattle.apex_meaning.specs.TableRules.{has_odd_period, has_short_period, lacks_release, common, offered, falls_short};
+ghost use Rattle.std.specs.Prelude.{◌≡◌, ◌≤◌, ◌<◌, ◌/◌, ◌==◌, ℕ, map, length, nat_lt, false};
 ghost use Rattle.std.specs.List.{list_any};
-ghost use Rattle.apex_meaning.specs.Windows.{releases};
-ghost use Rattle.window_table.specs.Views.{table_of, partition_view};
+ghost use Rattle.apex_meaning.specs.TableRules.{is_wrong_window, has_wrong_window, has_odd_period, has_short_period, lacks_release, common, offered, falls_short};
+ghost use Rattle.apex_meaning.specs.Windows.{has_release};
+ghost use Rattle.window_table.specs.Schedules.{schedule_of};
 
-use crate::table::{ModuleTable, PartitionRow};
-use apex_types::{PartitionId, WindowRow};
+use crate::row::HasRow;
+use crate::schedule::{Schedule, releases};
+use crate::table::PartitionRow;
+use apex_types::{PartitionId, Ticks, WindowRow};
+
+/// Whether a window is of none of so many partitions, or ends past the frame.
+fn is_wrong_window(frame: u32, count: usize, window: &WindowRow) -> bool
+    ensures { result ≡ is_wrong_window frame count window.now }
+{
+    window.partition.0 < 1
+        || usize::from(window.partition.0) > count
+        || u64::from(window.offset) + u64::from(window.length) > u64::from(frame)
+}
+
+/// Whether a window is of none of so many partitions, or ends past the frame.
+pub fn has_wrong_window(frame: u32, count: usize, windows: &[WindowRow]) -> bool
+    ensures { result ≡ has_wrong_window (record { frame = frame; windows = windows.now }) count }
+{
+    windows
+        .iter()
+        .any(|window| is_wrong_window(frame, count, window))
+}
 
 /// Whether the frame is no multiple of a partition's period.
 #[tactic(auto, using(std::proofs::lemmas::List::drop_more))]
-pub fn has_odd_period(table: &ModuleTable) -> bool
-    requires { list_any (λ p. p.period == 0) (map partition_view table.now.partitions.items) ≡ false }
-    ensures { result ≡ has_odd_period (table_of table.now) }
+pub fn has_odd_period<P: HasRow>(frame: u32, partitions: &[P]) -> bool
+    requires { list_any (λ p. p.period == 0) (map P.row_of partitions.now) ≡ false }
+    ensures { result ≡ has_odd_period frame (map P.row_of partitions.now) }
 {
-    for partition in table.partitions.as_slice() {
-        if table.frame % partition.period != 0 {
+    for partition in partitions {
+        if frame % partition.row().period != 0 {
             return true;
         }
     }
@@ -24,47 +44,45 @@ pub fn has_odd_period(table: &ModuleTable) -> bool
 }
 
 /// The ticks that a window has in common with those from `low` up to `high`.
-fn common(low: u64, high: u64, window: &WindowRow) -> u64
-    ensures { result ≡ common low high window.now }
+fn common(low: Ticks, high: Ticks, window: &WindowRow) -> Ticks
+    ensures { result.0 ≡ common low.0 high.0 window.now }
 {
     let offset = u64::from(window.offset);
     let end = offset + u64::from(window.length);
-    end.min(high).saturating_sub(offset.max(low))
+    Ticks(end.min(high.0).saturating_sub(offset.max(low.0)))
 }
 
 /// Whether windows offer a partition fewer than `duration` of the ticks from `low` up to `high`.
-#[tactic(auto, unfolding(apex_meaning::specs::TableRules::offered))]
+#[tactic(auto, using(std::proofs::lemmas::List::drop_more), unfolding(apex_meaning::specs::TableRules::offered))]
 fn offers_less(
-    duration: u64,
+    duration: Ticks,
     partition: PartitionId,
-    low: u64,
-    high: u64,
+    low: Ticks,
+    high: Ticks,
     windows: &[WindowRow],
 ) -> bool
-    ensures { result ≡ nat_lt (offered partition.0 low high windows.now) duration }
+    ensures { result ≡ nat_lt (offered partition.0 low.0 high.0 windows.now) duration.0 }
 {
-    let mut missing = duration;
-    let mut rest = windows;
-    while let Some((window, others)) = rest.split_first() {
+    let mut missing = duration.0;
+    for window in windows {
         if missing == 0 {
             return false;
         }
         if window.partition.0 == partition.0 {
-            missing = missing.saturating_sub(common(low, high, window));
+            missing = missing.saturating_sub(common(low, high, window).0);
         }
-        rest = others;
     }
     missing > 0
 }
 
 /// The windows from the first on that ends after a tick.
 #[tactic(auto, unfolding(apex_meaning::specs::TableRules::offered))]
-fn not_ended(tick: u64, windows: &[WindowRow]) -> &[WindowRow]
-    ensures same { (p low high : ℕ) → tick ≤ low → offered p low high result.now ≡ offered p low high windows.now }
+fn not_ended(tick: Ticks, windows: &[WindowRow]) -> &[WindowRow]
+    ensures same { (p low high : ℕ) → tick.0 ≤ low → offered p low high result.now ≡ offered p low high windows.now }
 {
     let mut rest = windows;
     while let Some((window, others)) = rest.split_first() {
-        if u64::from(window.offset) + u64::from(window.length) > tick {
+        if u64::from(window.offset) + u64::from(window.length) > tick.0 {
             return rest;
         }
         rest = others;
@@ -74,7 +92,7 @@ fn not_ended(tick: u64, windows: &[WindowRow]) -> &[WindowRow]
 
 /// Whether the windows offer a partition less than its duration in one of its periods.
 #[tactic(auto, using(crate::proofs::Periods::period_within), unfolding(apex_meaning::specs::TableRules::falls_short))]
-pub fn falls_short(
+fn falls_short(
     frame: u32,
     number: PartitionId,
     partition: &PartitionRow,
@@ -91,8 +109,14 @@ pub fn falls_short(
     let mut rest = windows;
     let mut low: u64 = 0;
     for _ in 0..frame / partition.period {
-        rest = not_ended(low, rest);
-        if offers_less(duration, number, low, low + period, rest) {
+        rest = not_ended(Ticks(low), rest);
+        if offers_less(
+            Ticks(duration),
+            number,
+            Ticks(low),
+            Ticks(low + period),
+            rest,
+        ) {
             return true;
         }
         low += period;
@@ -102,18 +126,18 @@ pub fn falls_short(
 
 /// Whether a partition's windows offer less than its duration in one of its periods.
 #[tactic(auto, using(std::proofs::lemmas::List::drop_more), unfolding(apex_meaning::specs::TableRules::falls_short_from))]
-pub fn has_short_period(table: &ModuleTable) -> bool
-    requires few { length table.now.partitions.items ≤ 16 }
-    requires periods { list_any (λ p. p.period == 0) (map partition_view table.now.partitions.items) ≡ false }
-    ensures { result ≡ has_short_period (table_of table.now) }
+pub fn has_short_period<P: HasRow>(schedule: &Schedule, partitions: &[P]) -> bool
+    requires few { length partitions.now ≤ 16 }
+    requires periods { list_any (λ p. p.period == 0) (map P.row_of partitions.now) ≡ false }
+    ensures { result ≡ has_short_period (schedule_of schedule.now) (map P.row_of partitions.now) }
 {
     let mut number: u8 = 1;
-    for partition in table.partitions.as_slice() {
+    for partition in partitions {
         if falls_short(
-            table.frame,
+            schedule.frame,
             PartitionId(number),
-            partition,
-            table.windows.as_slice(),
+            partition.row(),
+            schedule.windows.as_slice(),
         ) {
             return true;
         }
@@ -122,28 +146,21 @@ pub fn has_short_period(table: &ModuleTable) -> bool
     false
 }
 
-/// Whether a window is a release window of a partition.
-pub fn releases(partition: PartitionId, window: &WindowRow) -> bool
-    ensures { result ≡ releases partition.0 window.now }
-{
-    window.release && window.partition.0 == partition.0
-}
-
-fn has_release(partition: PartitionId, windows: &[WindowRow]) -> bool
-    ensures { result ≡ list_any (releases partition.0) windows.now }
+fn has_release(windows: &[WindowRow], partition: PartitionId) -> bool
+    ensures { result ≡ has_release windows.now partition.0 }
 {
     windows.iter().any(|window| releases(partition, window))
 }
 
 /// Whether a partition has no release window.
 #[tactic(auto, using(std::proofs::lemmas::List::drop_more), unfolding(apex_meaning::specs::TableRules::lacks_release_from))]
-pub fn lacks_release(table: &ModuleTable) -> bool
-    requires { length table.now.partitions.items ≤ 16 }
-    ensures { result ≡ lacks_release (table_of table.now) }
+pub fn lacks_release<P: HasRow>(windows: &[WindowRow], partitions: &[P]) -> bool
+    requires { length partitions.now ≤ 16 }
+    ensures { result ≡ lacks_release windows.now (map P.row_of partitions.now) }
 {
     let mut number: u8 = 1;
-    for _ in table.partitions.as_slice() {
-        if !has_release(PartitionId(number), table.windows.as_slice()) {
+    for _ in partitions {
+        if !has_release(windows, PartitionId(number)) {
             return true;
         }
         number += 1;

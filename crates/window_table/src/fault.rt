@@ -31,6 +31,17 @@ pub enum TableFault {
     Memory,
 }
 
+impl From<AllocError> for TableFault {
+    ghost use Rattle.std.specs.Prelude.{◌≡◌};
+    ghost use Rattle.window_table.specs.declared.fault.TableFault.TheVariants.{Memory};
+
+    ghost from_gives = { λ _ e. e ≡ Memory };
+
+    fn from(_error: AllocError) -> TableFault {
+        TableFault::Memory
+    }
+}
+
 impl TableFault {
     ghost use Rattle.std.specs.Prelude.{◌≡◌};
     ghost use Rattle.window_table.specs.Answers.{number_of};

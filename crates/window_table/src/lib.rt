@@ -10,6 +10,7 @@ mod members;
 mod names;
 mod numbered;
 mod read;
+mod row;
 mod schedule;
 mod table;
 #[cfg(test)]
@@ -17,8 +18,10 @@ mod tests;
 mod words;
 mod written;
 
-pub use durations::falls_short;
+pub use channels::{has_unknown_port, has_wrong_ends};
+pub use durations::{has_odd_period, has_short_period, has_wrong_window, lacks_release};
 pub use fault::TableFault;
 pub use read::read_table;
-pub use schedule::{next_release, owner};
+pub use row::HasRow;
+pub use schedule::Schedule;
 pub use table::{ChannelRow, ModuleTable, PartitionRow};

@@ -12,6 +12,7 @@ use crate::fault::TableFault;
 use crate::limits::{exceeds_counts, exceeds_rows, partition_rows};
 use crate::names::{has_same_names, has_unknown_name};
 use crate::numbered::{channel_rows, window_rows};
+use crate::schedule::Schedule;
 use crate::table::{ModuleTable, PartitionRow};
 use crate::written::{WrittenPartition, WrittenTable, read_written};
 use apex_types::ModuleAction;
@@ -61,10 +62,9 @@ fn numbered(
     let frame = frame_row(written.frame);
     let windows = window_rows(alloc, frame, rows, written.windows.as_slice())?;
     Ok(ModuleTable {
-        frame,
+        schedule: Schedule { frame, windows },
         fault: written.fault.unwrap_or(ModuleAction::Ignore),
         partitions,
-        windows,
         channels,
     })
 }
@@ -100,16 +100,18 @@ fn broken_rule(
     requires placed { overlaps (table_text written.now) ≡ false }
     ensures { Judges (λ u. table_of table.now) result (judge_table (table_text written.now) (table_of table.now)) }
 {
-    if has_odd_period(table) {
+    let schedule = &table.schedule;
+    let partitions = table.partitions.as_slice();
+    if has_odd_period(schedule.frame, partitions) {
         return Err(TableFault::Period);
     }
-    if has_short_period(table) {
+    if has_short_period(schedule, partitions) {
         return Err(TableFault::Duration);
     }
-    if lacks_release(table) {
+    if lacks_release(schedule.windows.as_slice(), partitions) {
         return Err(TableFault::Release);
     }
-    if has_wrong_ends(alloc, table)? {
+    if has_wrong_ends(alloc, partitions, table.channels.as_slice())? {
         return Err(TableFault::Ends);
     }
     if has_unknown_action(written) {

@@ -1,72 +1,133 @@
-//! Whose tick it is, and when a partition is released next.
+//! The major frame: whose tick it is, whose window ends, and when a partition is released next.
 
-ghost use Rattle.std.specs.Prelude.{◌≡◌, ◌≤◌, ◌<◌, ◌^◌, option_map, IsTrue};
-ghost use Rattle.std.specs.List.{list_any};
-ghost use Rattle.apex_meaning.specs.Windows.{owner, is_within, until_start, releases, next_release, IsNextRelease};
+ghost use Rattle.std.specs.Prelude.{◌≡◌, ◌<◌};
+ghost use Rattle.apex_meaning.specs.Windows.{is_within, ends_at, releases, BeginWithin};
 
-use crate::durations::releases;
-use crate::table::ModuleTable;
-use apex_types::{PartitionId, Ticks, WindowRow};
+use apex_types::{At, PartitionId, Ticks, WindowRow};
 
-fn is_within(place: u64, window: &WindowRow) -> bool
-    ensures { result ≡ is_within place window.now }
+/// The ticks of the major frame, and its windows in the order of the table. The frame is above 0,
+/// and each window begins within it.
+#[derive(Drop)]
+pub struct Schedule {
+    pub frame: u32,
+    pub windows: Vec<WindowRow>,
+    ghost frame_there: { 0 < frame },
+    ghost begin_within: { BeginWithin frame windows.items },
+}
+
+/// Whether a window holds a place of the frame.
+fn is_within(place: Ticks, window: &WindowRow) -> bool
+    ensures { result ≡ is_within place.0 window.now }
 {
     let offset = u64::from(window.offset);
-    offset <= place && place < offset + u64::from(window.length)
+    offset <= place.0 && place.0 < offset + u64::from(window.length)
 }
 
-/// The partition whose window holds a tick, if any, of a major frame of `frame` ticks with these
-/// windows. The frames follow one another from `origin` on, which is not after the tick.
-pub fn owner(frame: u32, windows: &[WindowRow], origin: Ticks, tick: Ticks) -> Option<PartitionId>
-    requires frame { 0 < frame }
-    requires past { origin.0 ≤ tick.0 }
-    requires tick_limit { tick.0 ≤ 2 ^ 40 }
-    ensures { option_map (λ p. p.0) result ≡ owner frame windows.now origin.0 tick.0 }
+/// Whether a window ends just before a place of a frame.
+fn ends_at(frame: u32, place: Ticks, window: &WindowRow) -> bool
+    requires { 0 < frame }
+    ensures { result ≡ ends_at frame place.0 window.now }
 {
-    let place = (tick.0 - origin.0) % u64::from(frame);
-    let mut rest = windows;
-    while let Some((window, others)) = rest.split_first() {
-        if is_within(place, window) {
-            return Some(window.partition);
-        }
-        rest = others;
+    (u64::from(window.offset) + u64::from(window.length)) % u64::from(frame) == place.0
+}
+
+/// Whether a window is a release window of a partition.
+pub fn releases(partition: PartitionId, window: &WindowRow) -> bool
+    ensures { result ≡ releases partition.0 window.now }
+{
+    window.release && window.partition.0 == partition.0
+}
+
+impl Schedule {
+    ghost use Rattle.std.specs.Prelude.{◌≡◌, ◌≤◌, ◌<◌, ◌^◌, option_map, IsTrue};
+    ghost use Rattle.apex_meaning.specs.Windows.{at_tick, phase, owner, ended, has_release, until_start, until_one_of, next_release, IsNextRelease};
+    ghost use Rattle.window_table.specs.Schedules.{schedule_of};
+
+    /// The place of a tick in its frame.
+    fn phase(&self, at: At) -> Ticks
+        requires past { at.origin.0 ≤ at.now.0 }
+        ensures place { result.0 ≡ phase (schedule_of self.now) at }
+        ensures within { result.0 < self.now.frame }
+    {
+        Ticks((at.now.0 - at.origin.0) % u64::from(self.frame))
     }
-    None
-}
 
-/// How many ticks after a tick, at least one and at most a frame, a window starts next.
-fn until_start(frame: u32, origin: u64, tick: u64, window: &WindowRow) -> u64
-    requires frame { 0 < frame }
-    requires past { origin ≤ tick }
-    requires tick_limit { tick ≤ 2 ^ 40 }
-    ensures { result ≡ until_start frame origin tick window.now }
-{
-    let frame = u64::from(frame);
-    let offset = u64::from(window.offset);
-    let place = (tick + 1 - origin) % frame;
-    1 + (offset + frame - place) % frame
-}
-
-/// The least tick after `tick` at which a release window of a partition starts. The frames follow
-/// one another from `origin` on, which is not after the tick.
-#[tactic(auto, using(crate::proofs::Periods::until_first))]
-pub fn next_release(
-    table: &ModuleTable,
-    partition: PartitionId,
-    tick: Ticks,
-    origin: Ticks,
-) -> Ticks
-    requires past { origin.0 ≤ tick.0 }
-    requires tick_limit { tick.0 ≤ 2 ^ 40 }
-    ensures { result.0 ≡ next_release table.now.frame table.now.windows.items partition.0 origin.0 tick.0 }
-{
-    let mut least = u64::from(table.frame);
-    let mut rest = table.windows.as_slice();
-    while let Some((window, others)) = rest.split_first() {
-        if releases(partition, window) {
-            least = least.min(until_start(table.frame, origin.0, tick.0, window));
+    /// The partition whose window holds a tick, if any.
+    #[tactic(auto, using(std::proofs::lemmas::List::drop_more))]
+    pub fn owner(&self, at: At) -> Option<PartitionId>
+        requires past { at.origin.0 ≤ at.now.0 }
+        requires tick_limit { at.now.0 ≤ 2 ^ 40 }
+        ensures { option_map (λ p. p.0) result ≡ owner (schedule_of self.now) at }
+    {
+        let place = self.phase(at);
+        for window in self.windows.as_slice() {
+            if is_within(place, window) {
+                return Some(window.partition);
+            }
         }
-        rest = others;
+        None
     }
-    Ticks(tick.0 + least)
+
+    /// The partition whose window ends at a tick, if any: the tick before it was its last. At the
+    /// origin none ends.
+    #[tactic(auto, using(std::proofs::lemmas::List::drop_more))]
+    pub fn ended(&self, at: At) -> Option<PartitionId>
+        requires past { at.origin.0 ≤ at.now.0 }
+        requires tick_limit { at.now.0 ≤ 2 ^ 40 }
+        ensures { option_map (λ p. p.0) result ≡ ended (schedule_of self.now) at }
+    {
+        if at.now.0 <= at.origin.0 {
+            return None;
+        }
+        let place = self.phase(at);
+        for window in self.windows.as_slice() {
+            if ends_at(self.frame, place, window) {
+                return Some(window.partition);
+            }
+        }
+        None
+    }
+
+    /// How many ticks after a tick, at least one and at most a frame, a window starts next.
+    fn until_start(&self, window: &WindowRow, at: At) -> Ticks
+        requires past { at.origin.0 ≤ at.now.0 }
+        requires tick_limit { at.now.0 ≤ 2 ^ 40 }
+        ensures { result.0 ≡ until_start (schedule_of self.now) window.now at }
+    {
+        let next = At {
+            now: Ticks(at.now.0 + 1),
+            origin: at.origin,
+        };
+        let place = self.phase(next);
+        let frame = u64::from(self.frame);
+        Ticks(1 + (u64::from(window.offset) + frame - place.0) % frame)
+    }
+
+    /// How many ticks after a tick, at most a frame, a release window of a partition starts next.
+    #[tactic(auto, using(std::proofs::lemmas::List::drop_more, crate::proofs::Periods::until_first))]
+    fn until_release(&self, partition: PartitionId, at: At) -> Ticks
+        requires past { at.origin.0 ≤ at.now.0 }
+        requires tick_limit { at.now.0 ≤ 2 ^ 40 }
+        ensures computed { result.0 ≡ until_one_of (schedule_of self.now) partition.0 at self.now.windows.items }
+        ensures bound { result.0 ≤ self.now.frame }
+    {
+        let mut least = Ticks(u64::from(self.frame));
+        for window in self.windows.as_slice() {
+            if releases(partition, window) {
+                least = least.min(self.until_start(window, at));
+            }
+        }
+        least
+    }
+
+    /// The least tick after this one at which a release window of a partition starts; of a partition
+    /// without a release window a frame later.
+    pub fn next_release(&self, partition: PartitionId, at: At) -> Ticks
+        requires past { at.origin.0 ≤ at.now.0 }
+        requires tick_limit { at.now.0 ≤ 2 ^ 40 }
+        ensures computed { result.0 ≡ next_release (schedule_of self.now) partition.0 at }
+        ensures least { IsTrue (has_release self.now.windows.items partition.0) → IsNextRelease (schedule_of self.now) partition.0 at result.0 }
+    {
+        Ticks(at.now.0 + self.until_release(partition, at).0)
+    }
 }

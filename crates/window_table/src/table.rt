@@ -1,8 +1,7 @@
 //! An accepted module table as a record of its rows.
 
-ghost use Rattle.std.specs.Prelude.{◌<◌};
-
-use apex_types::{ChannelEnd, HealthTable, ModuleAction, Name, PortRow, WindowRow};
+use crate::schedule::Schedule;
+use apex_types::{ChannelEnd, HealthTable, ModuleAction, Name, PortRow};
 
 /// A partition: in each of its periods of the major frame its windows offer at least `duration`
 /// ticks.
@@ -23,14 +22,11 @@ pub struct ChannelRow {
     pub destinations: Vec<ChannelEnd>,
 }
 
-/// A module table. The major frame has `frame` ticks; partitions, ports and windows stand in the
-/// order of the text.
+/// A module table. Partitions, ports and windows stand in the order of the text.
 #[derive(Drop)]
 pub struct ModuleTable {
-    pub frame: u32,
+    pub schedule: Schedule,
     pub fault: ModuleAction,
     pub partitions: Vec<PartitionRow>,
-    pub windows: Vec<WindowRow>,
     pub channels: Vec<ChannelRow>,
-    ghost frame_there: { 0 < frame },
 }

@@ -1,10 +1,12 @@
 //! Images and their spellings.
 
-ghost use Rattle.std.specs.Prelude.{◌≡◌, ℕ, ◌<◌, ◌++◌, List, [], Ok, slice_index};
+ghost use Rattle.std.specs.Prelude.{◌≡◌, ℕ, ◌<◌, ◌≤◌, ◌++◌, List, [], length, Ok, slice_index};
+ghost use Rattle.apex_types.specs.declared.identity.At.{At};
 ghost use Rattle.apex_meaning.specs.Image.{Image};
 ghost use Rattle.apex_meaning.specs.ImageSpelling.{spelling};
 ghost use Rattle.apex_meaning.specs.ImageReading.{image_at};
 ghost use Rattle.apex_meaning.specs.ImageLimits.{IsLawful};
+ghost use Rattle.apex_meaning.specs.Windows.{IsNextRelease, next_release};
 
 /// What is read is lawful, and the bytes are its spelling.
 pub fn read_is_spelled()
@@ -20,4 +22,9 @@ pub fn spelled_is_read()
 /// another's, the images are one and nothing stands behind it.
 pub fn no_spelling_begins_another()
     ensures { (one other : Image) (rest : List ℕ) → IsLawful one → IsLawful other → spelling other ≡ spelling one ++ rest → (one ≡ other) × (rest ≡ []) }
+{}
+
+/// Each partition of a lawful image has a next release after every tick: the computed one.
+pub fn lawful_image_releases()
+    ensures { (image : Image) (p : ℕ) (at : At) → IsLawful image → 1 ≤ p → p ≤ length image.items → at.origin.0 ≤ at.now.0 → IsNextRelease image.schedule p at (next_release image.schedule p at) }
 {}

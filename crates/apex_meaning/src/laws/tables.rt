@@ -1,19 +1,26 @@
 //! Module tables that are accepted, and the images that they describe.
 
-ghost use Rattle.std.specs.Prelude.{◌≡◌, List, [], map, Ok, All};
+ghost use Rattle.std.specs.Prelude.{◌≡◌, ◌≤◌, ℕ, List, length, map, Ok, All};
+ghost use Rattle.apex_types.specs.declared.identity.At.{At};
 ghost use Rattle.toml.specs.Data.{Members};
 ghost use Rattle.apex_meaning.specs.Image.{Table, Item};
 ghost use Rattle.apex_meaning.specs.TableRules.{verdict};
 ghost use Rattle.apex_meaning.specs.ImageLimits.{IsSection, IsWithinLimits, IsLawful};
+ghost use Rattle.apex_meaning.specs.Windows.{IsNextRelease, next_release};
 
 /// An accepted table whose partitions have become lawful sections is within all limits of an image.
 pub fn accepted_table_is_within_limits()
     ensures { (ms : Members) (t : Table) (items : List Item) → verdict ms ≡ Ok t → map (λ it. it.partition) items ≡ t.partitions → All (λ it. IsSection it.partition.period it.section) items
-        → IsWithinLimits (record { frame = t.frame; fault = t.fault; items = items; windows = t.windows; channels = t.channels }) }
+        → IsWithinLimits (record { schedule = t.schedule; fault = t.fault; items = items; channels = t.channels }) }
 {}
 
-/// Where there is no channel, it is a lawful image.
+/// It is a lawful image: it also keeps the rules that are judged when all fields are read.
 pub fn accepted_table_is_lawful()
-    ensures { (ms : Members) (t : Table) (items : List Item) → verdict ms ≡ Ok t → map (λ it. it.partition) items ≡ t.partitions → All (λ it. IsSection it.partition.period it.section) items → t.channels ≡ []
-        → IsLawful (record { frame = t.frame; fault = t.fault; items = items; windows = t.windows; channels = t.channels }) }
+    ensures { (ms : Members) (t : Table) (items : List Item) → verdict ms ≡ Ok t → map (λ it. it.partition) items ≡ t.partitions → All (λ it. IsSection it.partition.period it.section) items
+        → IsLawful (record { schedule = t.schedule; fault = t.fault; items = items; channels = t.channels }) }
+{}
+
+/// Each partition has a next release after every tick: the computed one.
+pub fn accepted_table_releases()
+    ensures { (ms : Members) (t : Table) (p : ℕ) (at : At) → verdict ms ≡ Ok t → 1 ≤ p → p ≤ length t.partitions → at.origin.0 ≤ at.now.0 → IsNextRelease t.schedule p at (next_release t.schedule p at) }
 {}

@@ -15,7 +15,7 @@ fn sources_are_built()
 /// The smallest image's fields.
 fn an_image_is_read()
     ensures { image_at smallest_image ≡ Ok (record {
-      frame = 128;
+      schedule = record { frame = 128; windows = release_window 1 0 128 ∷ [] };
       fault = of_module.Ignore;
       items = record {
         partition = plain_partition (codes "a") 128 128;
@@ -37,7 +37,6 @@ fn an_image_is_read()
               ∷ [];
         };
       } ∷ [];
-      windows = release_window 1 0 128 ∷ [];
       channels = [];
     }) }
 {}

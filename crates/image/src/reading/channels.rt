@@ -4,7 +4,8 @@ ghost use Rattle.std.specs.Prelude.{◌≡◌, []};
 ghost use Rattle.std.specs.List.{list_any};
 ghost use Rattle.std.specs.Str.{bytes_eq};
 ghost use Rattle.apex_meaning.specs.ImageReading.{is_channel, fresh_name_at, end_between, channel_end_at, channel_at, items_at, list_at};
-ghost use Rattle.image.specs.Views.{Gives, channel_of, channels_of};
+ghost use Rattle.image.specs.Items.{channel_of, channels_of};
+ghost use Rattle.image.specs.Views.{Gives};
 
 use crate::fault::ImageFault;
 use crate::reading::numbers::{byte_at, name_at, same_name, u32_within};

@@ -2,16 +2,29 @@
 
 ghost use Rattle.std.specs.Prelude.{◌≡◌};
 ghost use Rattle.apex_meaning.specs.ImageReading.{magic_at, version_at, fields_at};
-ghost use Rattle.image.specs.Views.{Gives, image_of};
+ghost use Rattle.image.specs.Views.{Gives, fields_of};
 
 use crate::fault::ImageFault;
+use crate::item::PartitionItem;
 use crate::reading::channels::channel_list_at;
 use crate::reading::choices::module_action_at;
 use crate::reading::items::item_list_at;
 use crate::reading::numbers::{bytes_at, u16_at, u32_within};
 use crate::reading::rows::list_at;
-use crate::value::Image;
+use apex_types::{ModuleAction, WindowRow};
 use std::alloc::Global;
+use window_table::ChannelRow;
+
+/// All fields of an image: each is within its limit, and what the rules of the module table say of
+/// them is not judged.
+#[derive(Drop)]
+pub struct Fields {
+    pub frame: u32,
+    pub fault: ModuleAction,
+    pub partitions: Vec<PartitionItem>,
+    pub windows: Vec<WindowRow>,
+    pub channels: Vec<ChannelRow>,
+}
 
 #[tactic(auto, unfolding(apex_meaning::specs::ImageReading::magic_at))]
 fn magic_at(bytes: &[u8]) -> Result<(&[u8], &[u8]), ImageFault>
@@ -38,8 +51,8 @@ fn version_at(bytes: &[u8]) -> Result<(u16, &[u8]), ImageFault>
 
 /// The fields of an image, and the bytes behind them.
 #[tactic(auto, unfolding(apex_meaning::specs::ImageReading::fields_at))]
-pub fn fields_at(alloc: Global, bytes: &[u8]) -> Result<(Image, &[u8]), ImageFault>
-    ensures { Gives (λ x. (image_of x.0, x.1.now)) result (fields_at bytes.now) }
+pub fn fields_at(alloc: Global, bytes: &[u8]) -> Result<(Fields, &[u8]), ImageFault>
+    ensures { Gives (λ x. (fields_of x.0, x.1.now)) result (fields_at bytes.now) }
 {
     let (_, rest) = version_at(bytes)?;
     let (frame, rest) = u32_within(rest, 1, 1 << 24)?;
@@ -47,12 +60,12 @@ pub fn fields_at(alloc: Global, bytes: &[u8]) -> Result<(Image, &[u8]), ImageFau
     let (partitions, rest) = item_list_at(alloc, frame, rest)?;
     let (windows, rest) = list_at(alloc, rest, 1, 64)?;
     let (channels, rest) = channel_list_at(alloc, rest)?;
-    let image = Image {
+    let fields = Fields {
         frame,
         fault,
         partitions,
         windows,
         channels,
     };
-    Ok((image, rest))
+    Ok((fields, rest))
 }

@@ -2,14 +2,15 @@
 
 ghost use Rattle.std.specs.Prelude.{◌≡◌, ◌<◌, []};
 ghost use Rattle.apex_meaning.specs.ImageReading.{section_at, item_at, items_at, list_at};
-ghost use Rattle.image.specs.Views.{Gives, section_of, item_of, items_of};
+ghost use Rattle.image.specs.Items.{section_of, item_of, items_of};
+ghost use Rattle.image.specs.Views.{Gives};
 
 use crate::fault::ImageFault;
 use crate::reading::bodies::{bodies_at, code_at};
 use crate::reading::numbers::u32_within;
 use crate::reading::objects::objects_at;
 use crate::reading::partitions::partition_at;
-use crate::value::PartitionItem;
+use crate::item::PartitionItem;
 use apex_types::Section;
 use std::alloc::Global;
 

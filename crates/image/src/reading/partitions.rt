@@ -4,13 +4,14 @@ ghost use Rattle.std.specs.Prelude.{◌≡◌, ◌≤◌, ◌<◌, IfOk};
 ghost use Rattle.std.specs.List.{list_any};
 ghost use Rattle.std.specs.Str.{bytes_eq};
 ghost use Rattle.apex_meaning.specs.ImageReading.{is_port, is_partition, fresh_name_at, health_at, sampling_at, queuing_at, kind_at, port_at, partition_at};
-ghost use Rattle.image.specs.Views.{Gives, items_of, partition_of};
+ghost use Rattle.image.specs.Items.{items_of, partition_of};
+ghost use Rattle.image.specs.Views.{Gives};
 
 use crate::fault::ImageFault;
 use crate::reading::choices::{direction_at, discipline_at, partition_action_at};
 use crate::reading::numbers::{name_at, same_name, u8_within, u32_within, u64_within};
 use crate::reading::rows::{Row, list_at};
-use crate::value::PartitionItem;
+use crate::item::PartitionItem;
 use apex_types::{HealthTable, Name, PortKind, PortRow};
 use std::alloc::Global;
 use window_table::PartitionRow;

@@ -2,9 +2,9 @@
 
 ghost use Rattle.std.specs.Prelude.{◌≡◌, ◌++◌, OnOk};
 ghost use Rattle.apex_meaning.specs.ImageSpelling.{item};
-ghost use Rattle.image.specs.Views.{item_of};
+ghost use Rattle.image.specs.Items.{item_of};
 
-use crate::value::PartitionItem;
+use crate::item::PartitionItem;
 use crate::writing::rows::Spelled;
 use crate::writing::sections::put_section;
 use crate::writing::tables::put_partition;

@@ -2,7 +2,7 @@
 
 ghost use Rattle.std.specs.Prelude.{◌≡◌, ◌++◌, Option, OnOk};
 ghost use Rattle.apex_meaning.specs.ImageSpelling.{i64, semaphore, buffer, blackboard, routine, body, process, handler, instruction, objects_in, objects, bodies_in, bodies, section};
-ghost use Rattle.image.specs.Views.{section_of};
+ghost use Rattle.image.specs.Items.{section_of};
 
 use crate::writing::numbers::{number_of_discipline, put_duration, put_name};
 use crate::writing::rows::{Spelled, put_list};

@@ -2,7 +2,7 @@
 
 ghost use Rattle.std.specs.Prelude.{◌≡◌, ◌++◌, OnOk};
 ghost use Rattle.apex_meaning.specs.ImageSpelling.{health, port_kind, port_fields, port, partition, window, channel_end, channel};
-ghost use Rattle.image.specs.Views.{partition_of, channel_of};
+ghost use Rattle.image.specs.Items.{partition_of, channel_of};
 
 use crate::writing::numbers::{
     number_of_direction, number_of_discipline, number_of_partition_action, put_name,

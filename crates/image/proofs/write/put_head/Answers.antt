@@ -6,6 +6,6 @@ use Rattle.image.proofs.write.put_head.Goals as goal
 pub returns : goal.returns
 unfolding head
 returns c =
-    four c.args.out.now.items magic (u16 version) (u32 c.args.image.now.frame) (u8 (module_action c.args.image.now.fault))
+    four c.args.out.now.items magic (u16 version) (u32 c.args.image.now.schedule.frame) (u8 (module_action c.args.image.now.fault))
     c.extend_from_slice.new.self.items c.extend_from_slice-2.new.self.items c.extend_from_slice-3.new.self.items c.push.new.self.items
     (search rules) (search rules) (search rules) (search rules)

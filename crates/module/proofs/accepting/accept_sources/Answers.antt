@@ -3,7 +3,7 @@ use Rattle.std.specs.Prelude.{slice_get}
 use Rattle.std.specs.Option.{option_map}
 use Rattle.std.proofs.lemmas.List.{length-map, drop_more}
 use Rattle.std.proofs.lemmas.Option.{slice_get-map, slice_get_read}
-use Rattle.image.specs.Views.{partition_of}
+use Rattle.image.specs.Items.{partition_of}
 use Rattle.window_table.specs.declared.table.PartitionRow.{PartitionRow}
 use Rattle.module.specs.Sources.{AreSources}
 use Rattle.module.specs.declared.accepting.AcceptedSource.{AcceptedSource}

@@ -1,5 +1,5 @@
 use Rattle.std.proofs.Common.{◌≡◌, map, take, length}
-use Rattle.image.specs.Views.{items_of, partition_of}
+use Rattle.image.specs.Items.{items_of, partition_of}
 use Rattle.module.specs.Built.{AreCoded, built_items}
 use Rattle.module.specs.Sources.{programs_of}
 use Rattle.module.proofs.building.build_items.Given as goal

@@ -1,7 +1,7 @@
 use Rattle.std.proofs.Common.{rules, ◌≡◌, ◌+◌, [], ◌∷◌, ◌++◌, take, sym, ap, ◌∙◌}
 use Rattle.std.proofs.lemmas.List.{take_more}
 use Rattle.apex_meaning.specs.TwoMeanings.{machine_member}
-use Rattle.image.specs.Views.{item_of}
+use Rattle.image.specs.Items.{item_of}
 use Rattle.partition_base.specs.contracts.machine.MachineExecutor.TheImpl.{ghosts as machine}
 use Rattle.module.specs.Views.{view_of}
 use Rattle.module.proofs.Lawful.{one_more_loaded}

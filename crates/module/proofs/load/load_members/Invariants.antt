@@ -1,6 +1,6 @@
 use Rattle.std.proofs.Common.{◌≡◌, map, take}
 use Rattle.apex_meaning.specs.TwoMeanings.{machine_member}
-use Rattle.image.specs.Views.{items_of}
+use Rattle.image.specs.Items.{items_of}
 use Rattle.partition_base.specs.contracts.machine.MachineExecutor.TheImpl.{ghosts as machine}
 use Rattle.module.specs.Views.{members_of}
 use Rattle.module.proofs.load.load_members.Given as goal

@@ -1,10 +1,9 @@
 use Rattle.std.proofs.Common.{◌≡◌, ◌+◌, map, drop}
 use Rattle.apex_meaning.specs.TableRules.{lacks_release_from}
-use Rattle.window_table.specs.Views.{partition_view}
 use Rattle.window_table.proofs.durations.lacks_release.Given as goal
 
 abbrev pub invariant-loop : goal.invariant-loop
-invariant-loop l = record {
+invariant-loop g l = record {
   counted : l.number ≡ l.index + 1;
-  left : lacks_release_from 1 l.table.windows.items (map partition_view l.table.partitions.items) ≡ lacks_release_from l.number l.table.windows.items (map partition_view (drop l.index l.table.partitions.items));
+  left : lacks_release_from 1 l.windows (map g.P.HasRow.row_of l.partitions) ≡ lacks_release_from l.number l.windows (map g.P.HasRow.row_of (drop l.index l.partitions));
 }

@@ -3,7 +3,7 @@ use Rattle.apex_meaning.specs.TableRules.{offered}
 use Rattle.window_table.proofs.durations.not_ended.Given as goal
 
 abbrev pub invariant-loop-window : goal.invariant-loop-window
-invariant-loop-window l = (p low high : ℕ) → l.tick ≤ low → offered p low high l.rest ≡ offered p low high l.windows
+invariant-loop-window l = (p low high : ℕ) → l.tick.0 ≤ low → offered p low high l.rest ≡ offered p low high l.windows
 
 abbrev pub decreases-loop-window : goal.decreases-loop-window
 decreases-loop-window l = length l.rest

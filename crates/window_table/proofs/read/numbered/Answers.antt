@@ -1,7 +1,11 @@
-use Rattle.std.proofs.Common.{arith}
+use Rattle.std.proofs.Common.{◌≡◌, false, map, subst, arith}
+use Rattle.std.specs.List.{list_any}
 use Rattle.std.proofs.lemmas.Int.{ints, to_z-of_z}
 use Rattle.std.proofs.lemmas.List.{length-map}
-use Rattle.window_table.specs.Views.{table_text}
+use Rattle.apex_meaning.specs.TableRules.{exceeds_window}
+use Rattle.apex_meaning.specs.Windows.{BeginWithin}
+use Rattle.apex_meaning.proofs.AcceptedTable.{windows_begin}
+use Rattle.window_table.specs.Views.{partition_text, window_text, table_text}
 use Rattle.window_table.proofs.Rules.{frame_kept, few_partitions, few_ports, channels_within, windows_within, windows_known, ends_known}
 use Rattle.window_table.proofs.read.numbered.Goals as goal
 
@@ -30,3 +34,9 @@ pub frame_row-frame-requires : goal.frame_row-frame-requires
 frame_row-frame-requires c =
     let kept = frame_kept (table_text c.args.written.now) c.requires.counts in
     grind (arith, ints, to_z-of_z)
+
+pub invariant_of-result-clause-begin_within : goal.invariant_of-result-clause-begin_within
+invariant_of-result-clause-begin_within c =
+    let numbers : list_any exceeds_window (map window_text c.as_slice-2.result.now) ≡ false = rw c.as_slice-2.ensures.value (windows_within (table_text c.args.written.now) c.requires.within) in
+    subst (BeginWithin c.frame_row-frame.result) c.in_ok-windows.ensures.kept.1
+    (windows_begin (map partition_text c.as_slice-rows.result.now) c.frame_row-frame.result 0 (map window_text c.as_slice-2.result.now) c.in_ok-windows.ensures.kept.0 numbers)

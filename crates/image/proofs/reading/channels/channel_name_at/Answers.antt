@@ -1,6 +1,6 @@
 use Rattle.std.proofs.Common.{◌≡◌, true, ◌∙◌, sym}
 use Rattle.apex_meaning.specs.ImageReading.{is_channel}
-use Rattle.image.specs.Views.{channels_of}
+use Rattle.image.specs.Items.{channels_of}
 use Rattle.image.proofs.Names.{channel_names, used}
 use Rattle.image.proofs.reading.channels.channel_name_at.Goals as goal
 

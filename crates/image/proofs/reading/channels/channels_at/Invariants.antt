@@ -1,6 +1,6 @@
 use Rattle.std.proofs.Common.{◌≡◌, ◌-◌, []}
 use Rattle.apex_meaning.specs.ImageReading.{channel_at, items_at}
-use Rattle.image.specs.Views.{channels_of}
+use Rattle.image.specs.Items.{channels_of}
 use Rattle.image.proofs.reading.channels.channels_at.Given as goal
 
 abbrev pub invariant-loop : goal.invariant-loop

@@ -1,6 +1,6 @@
 use Rattle.std.proofs.Common.{◌≡◌, ◌-◌, []}
 use Rattle.apex_meaning.specs.ImageReading.{item_at, items_at}
-use Rattle.image.specs.Views.{items_of}
+use Rattle.image.specs.Items.{items_of}
 use Rattle.image.proofs.reading.items.items_at.Given as goal
 
 abbrev pub invariant-loop : goal.invariant-loop

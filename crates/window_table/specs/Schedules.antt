@@ -1,0 +1,6 @@
+-- What the code's schedule stands for in the definitions.
+use Rattle.apex_meaning.specs.Windows.{Schedule}
+use Rattle.window_table.specs.declared.schedule.Schedule as code
+
+abbrev pub schedule_of : code.Schedule → Schedule
+schedule_of s = record { frame = s.frame; windows = s.windows.items }

@@ -1,0 +1,24 @@
+//! Rows of partitions, wherever they stand.
+
+ghost use Rattle.std.specs.Prelude.{◌≡◌};
+ghost use Rattle.apex_meaning.specs.Image.{Partition};
+ghost use Rattle.window_table.specs.Views.{partition_view};
+
+use crate::table::PartitionRow;
+
+/// What has a partition's row of the module table.
+pub trait HasRow {
+    ghost row_of: { Self → Partition };
+
+    /// The row.
+    fn row(&self) -> &PartitionRow
+        ensures { partition_view result.now ≡ row_of self.now };
+}
+
+impl HasRow for PartitionRow {
+    ghost row_of = { partition_view };
+
+    fn row(&self) -> &PartitionRow {
+        self
+    }
+}
