@@ -1,7 +1,8 @@
 pub mod CodeWords
 pub mod Line
 pub mod NameText
+pub mod OperatorCosts
+pub mod ServiceCalls
 pub mod ServiceNumbers
 pub mod ServiceShape
-pub mod ServiceWords
 pub mod Sink
