@@ -30,6 +30,7 @@ pub mod AcceptedImage
 pub mod Spelled
 pub mod Choosing
 pub mod Computing
+pub mod Counts
 pub mod Shaped
 pub mod Longer
 pub mod Followed
@@ -37,3 +38,4 @@ pub mod ReadSteps
 pub mod ReadExpressions
 pub mod ReadStatements
 pub mod ReadPrograms
+pub mod Constructs

@@ -13,6 +13,7 @@ pub mod Windows
 pub mod Instructions
 pub mod MachineControl
 pub mod Choice
+pub mod Constructs
 pub mod Cost
 pub mod SourceControl
 pub mod Module
