@@ -33,6 +33,7 @@ pub mod Releases
 pub mod Spelled
 pub mod Choosing
 pub mod Computing
+pub mod Counts
 pub mod Shaped
 pub mod Longer
 pub mod Followed
@@ -40,3 +41,4 @@ pub mod ReadSteps
 pub mod ReadExpressions
 pub mod ReadStatements
 pub mod ReadPrograms
+pub mod Constructs

@@ -1,21 +1,21 @@
 -- What a verdict accepts fits the compiler.
 use Rattle.std.proofs.Common.{◌≡◌, ℕ, zero, suc, ◌+◌, ◌≤◌, ◌<◌, Bool, true, false, not, cond, nat_eq, List, [], ◌∷◌, ◌++◌, length, map, Option, Some, None, Result, Ok, Err, refl, sym, ap, ◌∙◌, subst, arith, append_assoc, length-append}
 use Rattle.std.specs.Prelude.{slice_get, nat_le, nat_lt, filter_map, option_map, unwrap_or, bytes_eq}
-use Rattle.std.specs.List.{list_all, cons_option}
+use Rattle.std.specs.List.{list_all, cons_option, sum_by}
 use Rattle.std.proofs.lemmas.Bool.{and_parts, leb-true, eqb-true, cond_both, cond-true, le-leb}
 use Rattle.std.proofs.lemmas.List.{length-map}
+use Rattle.std.proofs.lemmas.List.Sums.{sum_by-cons}
 use Rattle.apex_types.specs.declared.meaning.Meaning.{Meaning}
 use Rattle.apex_types.specs.declared.meaning.Meaning.TheVariants as meaning
 use Rattle.apex_types.specs.declared.meaning.ArgumentKind.{ArgumentKind}
 use Rattle.apex_types.specs.declared.meaning.ArgumentKind.TheVariants as argument
 use Rattle.apex_types.specs.declared.service.Service.{Service}
-use Rattle.apex_types.specs.declared.service.Service.TheVariants as service
 use Rattle.apex_types.specs.declared.row.PortRow.{PortRow}
 use Rattle.apex_meaning.specs.Program as program
 use Rattle.apex_meaning.specs.Syntax as written
 use Rattle.apex_meaning.specs.Cost.{size_of, frame_of_body}
-use Rattle.apex_meaning.specs.ServiceTable.{argument_words, answer_words}
-use Rattle.apex_meaning.specs.Resolve.{Counts, no_counts, counted, after, Entry, find, declared_meaning, declaration_entries, process_entries, declared_entries, slot, own_entries, Scope, or_else, scope_of, place_of, procedure_number_of, within, count_within, arguments_of, resolve_expr, resolve_links, resolve_exprs, resolve_argument, resolve_arguments, resolve_stmt, resolve_block, resolve_body_block, resolve_body, resolve_stack_body, resolve_process, procedure_of, resolve}
+use Rattle.apex_meaning.specs.ServiceTable.{arguments_of, words_of_kind, argument_words, answer_words}
+use Rattle.apex_meaning.specs.Resolve.{Counts, no_counts, counted, after, Entry, find, declared_meaning, declaration_entries, process_entries, declared_entries, slot, own_entries, Scope, or_else, scope_of, place_of, procedure_number_of, within, count_within, resolve_expr, resolve_links, resolve_exprs, resolve_argument, resolve_arguments, resolve_stmt, resolve_block, resolve_body_block, resolve_body, resolve_stack_body, resolve_process, procedure_of, resolve}
 use Rattle.apex_meaning.specs.WellFormed.{verdict, names_hold, kinds_hold, limits_hold, periods_hold, holds_of_handler, holds_of_procedure, is_procedure, expr_count, fits_expr, fits_links, fits_exprs, fits_argument, fits_arguments, fits_stmt, fits_block, kinds_hold_in_body, is_between, keeps_stmt, keeps_block, keeps_body, fits_stack, keeps_stack_body, keeps_kind, keeps_declaration, keeps_process, keeps_counts, keeps_handler}
 use Rattle.apex_meaning.specs.Fits.{Fits, FitsBody, FitsHandler, FitsProcedure, FitsExpr, FitsLinks, FitsExprs, FitsStmt, FitsBlock, IsWork, IsPlaceWithin, ArePlacesWithin, HasParameters, count_of}
 
@@ -196,75 +196,6 @@ processes_no_procedures procedures count (p ∷ ps) = (tt, processes_no_procedur
 
 -- ---- expressions and statements
 
--- the words that arguments of these kinds are
-abbrev words_of_kind : ArgumentKind → ℕ → ℕ
-words_of_kind argument.Word n = n + 1
-words_of_kind argument.Array n = n + 1 + 1
-words_of_kind (argument.Object kind) n = n + 1
-
-abbrev words_of_kinds : List ArgumentKind → ℕ
-words_of_kinds [] = 0
-words_of_kinds (k ∷ ks) = words_of_kind k (words_of_kinds ks)
-
-argument_count : (s : Service) → words_of_kinds (arguments_of s) ≡ argument_words s
-argument_count service.GetPartitionStatus = refl
-argument_count service.SetPartitionMode = refl
-argument_count service.GetProcessId = refl
-argument_count service.GetProcessStatus = refl
-argument_count service.CreateProcess = refl
-argument_count service.SetPriority = refl
-argument_count service.SuspendSelf = refl
-argument_count service.Suspend = refl
-argument_count service.Resume = refl
-argument_count service.StopSelf = refl
-argument_count service.Stop = refl
-argument_count service.Start = refl
-argument_count service.DelayedStart = refl
-argument_count service.LockPreemption = refl
-argument_count service.UnlockPreemption = refl
-argument_count service.GetMyId = refl
-argument_count service.TimedWait = refl
-argument_count service.PeriodicWait = refl
-argument_count service.GetTime = refl
-argument_count service.Replenish = refl
-argument_count service.CreateBuffer = refl
-argument_count service.SendBuffer = refl
-argument_count service.ReceiveBuffer = refl
-argument_count service.GetBufferId = refl
-argument_count service.GetBufferStatus = refl
-argument_count service.CreateBlackboard = refl
-argument_count service.DisplayBlackboard = refl
-argument_count service.ReadBlackboard = refl
-argument_count service.ClearBlackboard = refl
-argument_count service.GetBlackboardId = refl
-argument_count service.GetBlackboardStatus = refl
-argument_count service.CreateSemaphore = refl
-argument_count service.WaitSemaphore = refl
-argument_count service.SignalSemaphore = refl
-argument_count service.GetSemaphoreId = refl
-argument_count service.GetSemaphoreStatus = refl
-argument_count service.CreateEvent = refl
-argument_count service.SetEvent = refl
-argument_count service.ResetEvent = refl
-argument_count service.WaitEvent = refl
-argument_count service.GetEventId = refl
-argument_count service.GetEventStatus = refl
-argument_count service.CreateSamplingPort = refl
-argument_count service.WriteSamplingMessage = refl
-argument_count service.ReadSamplingMessage = refl
-argument_count service.GetSamplingPortId = refl
-argument_count service.GetSamplingPortStatus = refl
-argument_count service.CreateQueuingPort = refl
-argument_count service.SendQueuingMessage = refl
-argument_count service.ReceiveQueuingMessage = refl
-argument_count service.GetQueuingPortId = refl
-argument_count service.GetQueuingPortStatus = refl
-argument_count service.ClearQueuingPort = refl
-argument_count service.ReportApplicationMessage = refl
-argument_count service.CreateErrorHandler = refl
-argument_count service.GetErrorStatus = refl
-argument_count service.RaiseApplicationError = refl
-
 module _ (scope : Scope) (procedures : List program.Procedure) (n : ℕ) (slots : (name : List ℕ) → IsSlotWithin n (scope name)) (called : (name : List ℕ) → NamesProcedure procedures (scope name)) where
   expr_count_is : (es : written.Exprs) → count_of (resolve_exprs scope es) ≡ expr_count es
   expr_count_is written.NoExpr = refl
@@ -308,17 +239,17 @@ module _ (scope : Scope) (procedures : List program.Procedure) (n : ℕ) (slots 
   arguments_fit (k ∷ ks) written.NoExpr h = tt
   arguments_fit (k ∷ ks) (written.MoreExprs e es) h = let parts = and_parts _ _ h in argument_fits k e (resolve_arguments scope ks es) parts.0 (arguments_fit ks es parts.1)
 
-  argument_counted : (k : ArgumentKind) (e : written.Expr) (rest : program.Exprs) → count_of (resolve_argument scope k e rest) ≡ words_of_kind k (count_of rest)
-  argument_counted argument.Word e rest = refl
-  argument_counted argument.Array e rest = refl
-  argument_counted (argument.Object kind) e rest = refl
+  argument_counted : (k : ArgumentKind) (e : written.Expr) (rest : program.Exprs) → count_of (resolve_argument scope k e rest) ≡ words_of_kind k + count_of rest
+  argument_counted argument.Word e rest = omega arith
+  argument_counted argument.Array e rest = omega arith
+  argument_counted (argument.Object kind) e rest = omega arith
 
-  arguments_counted : (ks : List ArgumentKind) (es : written.Exprs) → fits_arguments scope ks es ≡ true → count_of (resolve_arguments scope ks es) ≡ words_of_kinds ks
+  arguments_counted : (ks : List ArgumentKind) (es : written.Exprs) → fits_arguments scope ks es ≡ true → count_of (resolve_arguments scope ks es) ≡ sum_by words_of_kind ks
   arguments_counted [] es h = refl
   arguments_counted (k ∷ ks) written.NoExpr h = absurd cc
   arguments_counted (k ∷ ks) (written.MoreExprs e es) h =
       let parts = and_parts (fits_argument scope k e) (fits_arguments scope ks es) h in
-      argument_counted k e (resolve_arguments scope ks es) ∙ ap (words_of_kind k) (arguments_counted ks es parts.1)
+      argument_counted k e (resolve_arguments scope ks es) ∙ ap (λ m. words_of_kind k + m) (arguments_counted ks es parts.1) ∙ sym (sum_by-cons words_of_kind k ks)
 
   targets_fit : (xs : List (List ℕ)) → ArePlacesWithin n (map (λ x. place_of (scope x)) xs)
   targets_fit [] = tt
@@ -347,7 +278,7 @@ module _ (scope : Scope) (procedures : List program.Procedure) (n : ℕ) (slots 
     stmt_fits returns (written.Request s arguments targets) h k =
         let parts = and_parts (fits_arguments scope (arguments_of s) arguments) _ h in
         let answers = and_parts (nat_eq (length targets) (answer_words s)) _ parts.1 in
-        (arguments_fit (arguments_of s) arguments parts.0, arguments_counted (arguments_of s) arguments parts.0 ∙ argument_count s, length-map targets _ ∙ eqb-true (length targets) (answer_words s) answers.0, targets_fit targets)
+        (arguments_fit (arguments_of s) arguments parts.0, arguments_counted (arguments_of s) arguments parts.0, length-map targets _ ∙ eqb-true (length targets) (answer_words s) answers.0, targets_fit targets)
 
     block_fits : (returns : Bool) (b : written.Block) → fits_block scope returns b ≡ true → keeps_block b ≡ true → FitsBlock procedures n returns (resolve_block scope b)
     block_fits returns written.NoStmt h k = tt

@@ -82,44 +82,33 @@ costs_of_procedure p = costs_of_block p.block ++ (literal_cost ∷ return_cost �
 abbrev pub costs_of_body : Body → List ℕ
 costs_of_body b = costs_of_block b.block ++ (end_cost ∷ [])
 
--- how many constructs, and so how many instructions, an expression has
-abbrev mutual
-  pub size_of_expr : Expr → ℕ
-  size_of_expr (Literal value) = 1
-  size_of_expr (Read place) = 1
-  size_of_expr (Element place size index) = size_of_expr index + 1
-  size_of_expr (Unary operator operand) = size_of_expr operand + 1
-  size_of_expr (Chain first rest) = size_of_expr first + size_of_links rest
-  size_of_expr (Apply procedure arguments) = size_of_exprs arguments + 1
+-- Their number, which is that of the instructions, and the sum of their costs.
+abbrev pub size_of_expr : Expr → ℕ
+size_of_expr e = length (costs_of_expr e)
 
-  pub size_of_links : Links → ℕ
-  size_of_links NoLink = 0
-  size_of_links (MoreLinks operator operand rest) = size_of_expr operand + 1 + size_of_links rest
+abbrev pub size_of_links : Links → ℕ
+size_of_links ls = length (costs_of_links ls)
 
-  pub size_of_exprs : Exprs → ℕ
-  size_of_exprs NoExpr = 0
-  size_of_exprs (MoreExprs first rest) = size_of_expr first + size_of_exprs rest
+abbrev pub size_of_exprs : Exprs → ℕ
+size_of_exprs es = length (costs_of_exprs es)
 
-abbrev mutual
-  pub size_of_stmt : Stmt → ℕ
-  size_of_stmt (Assign place value) = size_of_expr value + 1
-  size_of_stmt (AssignElement place size index value) = size_of_expr index + size_of_expr value + 1
-  size_of_stmt (If test then) = size_of_expr test + 1 + size_of_block then
-  size_of_stmt (IfElse test then other) = size_of_expr test + 1 + size_of_block then + 1 + size_of_block other
-  size_of_stmt (While test block) = size_of_expr test + 1 + size_of_block block + 1
-  size_of_stmt (Work ticks) = 1
-  size_of_stmt (Return value) = size_of_expr value + 1
-  size_of_stmt (Request service arguments targets) = size_of_exprs arguments + 1 + length targets
+abbrev pub size_of_stmt : Stmt → ℕ
+size_of_stmt s = length (costs_of_stmt s)
 
-  pub size_of_block : Block → ℕ
-  size_of_block NoStmt = 0
-  size_of_block (MoreStmts first rest) = size_of_stmt first + size_of_block rest
+abbrev pub size_of_block : Block → ℕ
+size_of_block b = length (costs_of_block b)
 
 abbrev pub size_of_procedure : Procedure → ℕ
-size_of_procedure p = size_of_block p.block + 2
+size_of_procedure p = length (costs_of_procedure p)
+
+abbrev pub cost_of_procedure : Procedure → ℕ
+cost_of_procedure p = sum (costs_of_procedure p)
 
 abbrev pub size_of_body : Body → ℕ
-size_of_body b = size_of_block b.block + 1
+size_of_body b = length (costs_of_body b)
+
+abbrev pub cost_of_body : Body → ℕ
+cost_of_body b = sum (costs_of_body b)
 
 abbrev pub size_of_handler : Option Body → ℕ
 size_of_handler None = 0
@@ -131,45 +120,6 @@ size_of_process p = size_of_body p.body
 -- the number of instructions of a program
 abbrev pub size_of : Program → ℕ
 size_of p = size_of_body p.init + size_of_handler p.handler + sum_by size_of_process p.processes + sum_by size_of_procedure p.procedures
-
--- the sum of the costs of an expression's constructs
-abbrev mutual
-  pub cost_of_expr : Expr → ℕ
-  cost_of_expr (Literal value) = literal_cost
-  cost_of_expr (Read place) = scalar_cost
-  cost_of_expr (Element place size index) = cost_of_expr index + element_cost
-  cost_of_expr (Unary operator operand) = cost_of_expr operand + unary_cost
-  cost_of_expr (Chain first rest) = cost_of_expr first + cost_of_links rest
-  cost_of_expr (Apply procedure arguments) = cost_of_exprs arguments + call_cost
-
-  pub cost_of_links : Links → ℕ
-  cost_of_links NoLink = 0
-  cost_of_links (MoreLinks operator operand rest) = cost_of_expr operand + cost_of_binary operator + cost_of_links rest
-
-  pub cost_of_exprs : Exprs → ℕ
-  cost_of_exprs NoExpr = 0
-  cost_of_exprs (MoreExprs first rest) = cost_of_expr first + cost_of_exprs rest
-
-abbrev mutual
-  pub cost_of_stmt : Stmt → ℕ
-  cost_of_stmt (Assign place value) = cost_of_expr value + scalar_cost
-  cost_of_stmt (AssignElement place size index value) = cost_of_expr index + cost_of_expr value + element_cost
-  cost_of_stmt (If test then) = cost_of_expr test + branch_cost + cost_of_block then
-  cost_of_stmt (IfElse test then other) = cost_of_expr test + branch_cost + cost_of_block then + jump_cost + cost_of_block other
-  cost_of_stmt (While test block) = cost_of_expr test + branch_cost + cost_of_block block + jump_cost
-  cost_of_stmt (Work ticks) = ticks
-  cost_of_stmt (Return value) = cost_of_expr value + return_cost
-  cost_of_stmt (Request service arguments targets) = cost_of_exprs arguments + cost_of_service service + length targets
-
-  pub cost_of_block : Block → ℕ
-  cost_of_block NoStmt = 0
-  cost_of_block (MoreStmts first rest) = cost_of_stmt first + cost_of_block rest
-
-abbrev pub cost_of_procedure : Procedure → ℕ
-cost_of_procedure p = cost_of_block p.block + literal_cost + return_cost
-
-abbrev pub cost_of_body : Body → ℕ
-cost_of_body b = cost_of_block b.block + end_cost
 
 -- the most operands of an expression that wait at once: an argument waits while those behind it
 -- are evaluated, and the result of a call is an operand

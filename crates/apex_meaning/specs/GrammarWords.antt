@@ -4,7 +4,7 @@ use Rattle.std.specs.Prelude.{ℕ, zero, suc, ◌+◌, ◌-◌, ◌*◌, ◌^◌
 use Rattle.std.specs.List.{prefix_len, starts_with}
 use Rattle.std.specs.Cmp.Lexicographic.{pointwise}
 use Rattle.apex_types.specs.declared.service.Service.{Service}
-use Rattle.apex_types.specs.ServiceWords.{service_word}
+use Rattle.apex_types.specs.ServiceShape.{service_word}
 use Rattle.apex_types.specs.ServiceNumbers.{services}
 
 -- A word: a name, a number (none above 2^63 - 1), the name of a service, a mark (one of the

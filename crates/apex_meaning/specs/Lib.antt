@@ -17,6 +17,7 @@ pub mod Partition
 pub mod Instructions
 pub mod MachineControl
 pub mod Choice
+pub mod Constructs
 pub mod Cost
 pub mod SourceControl
 pub mod Module

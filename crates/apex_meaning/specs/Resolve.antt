@@ -9,12 +9,11 @@ use Rattle.apex_types.specs.declared.meaning.ObjectKind.{ObjectKind}
 use Rattle.apex_types.specs.declared.meaning.ObjectKind.TheVariants as object
 use Rattle.apex_types.specs.declared.meaning.ArgumentKind.{ArgumentKind}
 use Rattle.apex_types.specs.declared.meaning.ArgumentKind.TheVariants as argument
-use Rattle.apex_types.specs.declared.service.Service.{Service}
-use Rattle.apex_types.specs.declared.service.Service.TheVariants as service
 use Rattle.apex_types.specs.declared.row.PortRow.{PortRow}
 use Rattle.apex_types.specs.declared.row.SemaphoreRow.{SemaphoreRow}
 use Rattle.apex_types.specs.declared.row.BufferRow.{BufferRow}
 use Rattle.apex_types.specs.declared.row.BlackboardRow.{BlackboardRow}
+use Rattle.apex_meaning.specs.ServiceTable.{arguments_of}
 use Rattle.apex_meaning.specs.Syntax as written
 use Rattle.apex_meaning.specs.Program as program
 
@@ -161,47 +160,6 @@ abbrev mutual
   pub resolve_exprs : Scope → written.Exprs → program.Exprs
   resolve_exprs scope written.NoExpr = program.NoExpr
   resolve_exprs scope (written.MoreExprs first rest) = program.MoreExprs (resolve_expr scope first) (resolve_exprs scope rest)
-
--- what the arguments of a service have to be, in their order
-abbrev pub arguments_of : Service → List ArgumentKind
-arguments_of service.GetPartitionStatus = []
-arguments_of service.GetProcessId = argument.Object object.Process ∷ []
-arguments_of service.CreateProcess = argument.Object object.Process ∷ []
-arguments_of service.SetPriority = argument.Word ∷ argument.Word ∷ []
-arguments_of service.StopSelf = []
-arguments_of service.DelayedStart = argument.Word ∷ argument.Word ∷ []
-arguments_of service.LockPreemption = []
-arguments_of service.UnlockPreemption = []
-arguments_of service.GetMyId = []
-arguments_of service.PeriodicWait = []
-arguments_of service.GetTime = []
-arguments_of service.CreateBuffer = argument.Object object.Buffer ∷ []
-arguments_of service.SendBuffer = argument.Word ∷ argument.Array ∷ argument.Word ∷ argument.Word ∷ []
-arguments_of service.ReceiveBuffer = argument.Word ∷ argument.Array ∷ argument.Word ∷ []
-arguments_of service.GetBufferId = argument.Object object.Buffer ∷ []
-arguments_of service.CreateBlackboard = argument.Object object.Blackboard ∷ []
-arguments_of service.DisplayBlackboard = argument.Word ∷ argument.Array ∷ argument.Word ∷ []
-arguments_of service.ReadBlackboard = argument.Word ∷ argument.Array ∷ argument.Word ∷ []
-arguments_of service.GetBlackboardId = argument.Object object.Blackboard ∷ []
-arguments_of service.CreateSemaphore = argument.Object object.Semaphore ∷ []
-arguments_of service.WaitSemaphore = argument.Word ∷ argument.Word ∷ []
-arguments_of service.GetSemaphoreId = argument.Object object.Semaphore ∷ []
-arguments_of service.CreateEvent = argument.Object object.Event ∷ []
-arguments_of service.WaitEvent = argument.Word ∷ argument.Word ∷ []
-arguments_of service.GetEventId = argument.Object object.Event ∷ []
-arguments_of service.CreateSamplingPort = argument.Object object.Port ∷ []
-arguments_of service.WriteSamplingMessage = argument.Word ∷ argument.Array ∷ argument.Word ∷ []
-arguments_of service.ReadSamplingMessage = argument.Word ∷ argument.Array ∷ []
-arguments_of service.GetSamplingPortId = argument.Object object.Port ∷ []
-arguments_of service.CreateQueuingPort = argument.Object object.Port ∷ []
-arguments_of service.SendQueuingMessage = argument.Word ∷ argument.Array ∷ argument.Word ∷ argument.Word ∷ []
-arguments_of service.ReceiveQueuingMessage = argument.Word ∷ argument.Array ∷ argument.Word ∷ []
-arguments_of service.GetQueuingPortId = argument.Object object.Port ∷ []
-arguments_of service.ReportApplicationMessage = argument.Array ∷ argument.Word ∷ []
-arguments_of service.CreateErrorHandler = []
-arguments_of service.GetErrorStatus = argument.Array ∷ []
-arguments_of service.RaiseApplicationError = argument.Word ∷ argument.Array ∷ argument.Word ∷ []
-arguments_of _ = argument.Word ∷ []
 
 -- what an expression stands for as the name of an argument
 abbrev pub named : Scope → written.Expr → Option Meaning

@@ -12,8 +12,8 @@ use Rattle.apex_types.specs.declared.meaning.ArgumentKind.TheVariants as argumen
 use Rattle.apex_types.specs.declared.row.PortRow.{PortRow}
 use Rattle.apex_meaning.specs.Cost.{frame_of_procedure, frame_of_body}
 use Rattle.apex_meaning.specs.Program as program
-use Rattle.apex_meaning.specs.Resolve.{Counts, no_counts, after, Entry, find, declared_entries, own_entries, Scope, scope_of, arguments_of, resolve_body, procedure_of, resolve}
-use Rattle.apex_meaning.specs.ServiceTable.{answer_words}
+use Rattle.apex_meaning.specs.Resolve.{Counts, no_counts, after, Entry, find, declared_entries, own_entries, Scope, scope_of, resolve_body, procedure_of, resolve}
+use Rattle.apex_meaning.specs.ServiceTable.{arguments_of, answer_words}
 use Rattle.apex_meaning.specs.Syntax as written
 
 -- A test of each body of a program: whether it is a procedure's, its parameters, and the body.

@@ -2,6 +2,7 @@
 
 pub mod checking;
 pub mod choice;
+pub mod costs;
 pub mod grammar;
 pub mod image;
 pub mod tables;

@@ -1,7 +1,8 @@
 -- Each service is the one of its number, and none has a number above 57.
-use Rattle.std.proofs.Common.{◌≡◌, ℕ, ◌-◌, ◌<◌, Some, None, nat_eq, false, refl, arith}
+use Rattle.std.proofs.Common.{◌≡◌, ◌∙◌, ℕ, zero, suc, ◌+◌, ◌-◌, ◌<◌, ◌≤◌, List, [], ◌∷◌, Option, Some, None, nat_eq, true, false, refl, sym, ap, inl, inr, rules, arith}
+use Rattle.std.specs.Prelude.{slice_get, IsNone, is_some}
 use Rattle.std.proofs.lemmas.Bool.Decides.{nat_tests}
-use Rattle.std.proofs.lemmas.Option.{slice_get_past}
+use Rattle.std.proofs.lemmas.Option.{slice_get_past, slice_get_cases}
 use Rattle.apex_types.specs.declared.service.Service.{Service}
 use Rattle.apex_types.specs.declared.service.Service.TheVariants as service
 use Rattle.apex_types.specs.ServiceNumbers.{services, service_of, number_of}
@@ -14,3 +15,32 @@ pub service_of_above : (number : ℕ) → 57 < number → service_of number ≡ 
 service_of_above number above =
     let some : nat_eq number 0 ≡ false = grind (arith, nat_tests) in
     rw some (slice_get_past services (number - 1) (omega arith))
+
+pub service_of_positive : (number : ℕ) → 0 < number → slice_get services (number - 1) ≡ service_of number
+service_of_positive number above =
+    let some : nat_eq number 0 ≡ false = grind (arith, nat_tests) in
+    rw some refl
+
+-- services in the order of their numbers, from a number on
+AreNumbered : ℕ → List Service → Type 0
+AreNumbered n [] = Unit {0}
+AreNumbered n (s ∷ ss) = (number_of s ≡ n) × AreNumbered (n + 1) ss
+
+all_numbered : AreNumbered 1 services
+unfolding AreNumbered
+all_numbered = search rules
+
+number_in : (ss : List Service) (n i : ℕ) (s : Service) → AreNumbered n ss → slice_get ss i ≡ Some s → number_of s ≡ n + i
+unfolding AreNumbered
+number_in [] n i s h e = cc
+number_in (t ∷ ss) n zero s h e = let same : t ≡ s = cc in ap number_of (sym same) ∙ h.0 ∙ omega arith
+number_in (t ∷ ss) n (suc i) s h e = number_in ss (n + 1) i s h.1 e ∙ omega arith
+
+pub number_of_service : (number : ℕ) (s : Service) → 0 < number → slice_get services (number - 1) ≡ Some s → number_of s ≡ number
+number_of_service number s above e = number_in services 1 (number - 1) s all_numbered e ∙ omega arith
+
+pub past_when_none : (i : ℕ) → IsNone (slice_get services i) → 57 ≤ i
+past_when_none i e = elim (slice_get_cases services i).1 [ inl w ↦ absurd (let clash : true ≡ false = sym (ap is_some w.2) ∙ e in cc) | inr past ↦ past.0 ]
+
+pub none_when_past : (i : ℕ) → 57 ≤ i → IsNone (slice_get services i)
+none_when_past i past = ap is_some (slice_get_past services i past)

@@ -1,9 +1,10 @@
 pub mod CodeWords
 pub mod Line
 pub mod NameText
+pub mod OperatorCosts
 pub mod Room
 pub mod Runners
+pub mod ServiceCalls
 pub mod ServiceNumbers
 pub mod ServiceShape
-pub mod ServiceWords
 pub mod Sink

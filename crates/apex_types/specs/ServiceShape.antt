@@ -1,68 +1,123 @@
--- How many words the arguments of each service take, and how many it answers (the code, then its
--- outputs).
-use Rattle.std.specs.Prelude.{ℕ}
+-- The shape of each service, a row a service: its number in this profile, its name in the standard,
+-- what its arguments have to be, how many outputs it has beside its code, and whether it creates.
+-- What a service takes, answers and costs follows from its row.
+use Rattle.std.specs.Prelude.{ℕ, ◌+◌, Bool, true, false, List, [], ◌∷◌, codes, if◌then◌else◌}
+use Rattle.std.specs.List.{sum_by, list_any}
+use Rattle.apex_types.specs.declared.meaning.ObjectKind.TheVariants as object
+use Rattle.apex_types.specs.declared.meaning.ArgumentKind.{ArgumentKind}
+use Rattle.apex_types.specs.declared.meaning.ArgumentKind.TheVariants as argument
 use Rattle.apex_types.specs.declared.service.Service.{Service}
 use Rattle.apex_types.specs.declared.service.Service.TheVariants as service
+use Rattle.apex_types.specs.declared.shape.ServiceClass.{ServiceClass}
+use Rattle.apex_types.specs.declared.shape.ServiceClass.TheVariants.{Creation, WithArray, Other}
 
--- the words of the arguments: an array argument is two, its place and its size
+pub record Shape : Type 0 where
+  pub number : ℕ
+  pub word : List ℕ
+  pub arguments : List ArgumentKind
+  pub outputs : ℕ
+  pub creates : Bool
+
+abbrev pub row : ℕ → List ℕ → List ArgumentKind → ℕ → Shape
+row number word arguments outputs = record { number = number; word = word; arguments = arguments; outputs = outputs; creates = false }
+
+abbrev pub creation : ℕ → List ℕ → List ArgumentKind → ℕ → Shape
+creation number word arguments outputs = record { number = number; word = word; arguments = arguments; outputs = outputs; creates = true }
+
+abbrev pub shape : Service → Shape
+shape service.GetPartitionStatus = row 1 (codes "GET_PARTITION_STATUS") [] 6
+shape service.SetPartitionMode = row 2 (codes "SET_PARTITION_MODE") (argument.Word ∷ []) 0
+shape service.GetProcessId = row 3 (codes "GET_PROCESS_ID") (argument.Object object.Process ∷ []) 1
+shape service.GetProcessStatus = row 4 (codes "GET_PROCESS_STATUS") (argument.Word ∷ []) 3
+shape service.CreateProcess = creation 5 (codes "CREATE_PROCESS") (argument.Object object.Process ∷ []) 1
+shape service.SetPriority = row 6 (codes "SET_PRIORITY") (argument.Word ∷ argument.Word ∷ []) 0
+shape service.SuspendSelf = row 7 (codes "SUSPEND_SELF") (argument.Word ∷ []) 0
+shape service.Suspend = row 8 (codes "SUSPEND") (argument.Word ∷ []) 0
+shape service.Resume = row 9 (codes "RESUME") (argument.Word ∷ []) 0
+shape service.StopSelf = row 10 (codes "STOP_SELF") [] 0
+shape service.Stop = row 11 (codes "STOP") (argument.Word ∷ []) 0
+shape service.Start = row 12 (codes "START") (argument.Word ∷ []) 0
+shape service.DelayedStart = row 13 (codes "DELAYED_START") (argument.Word ∷ argument.Word ∷ []) 0
+shape service.LockPreemption = row 14 (codes "LOCK_PREEMPTION") [] 1
+shape service.UnlockPreemption = row 15 (codes "UNLOCK_PREEMPTION") [] 1
+shape service.GetMyId = row 16 (codes "GET_MY_ID") [] 1
+shape service.TimedWait = row 17 (codes "TIMED_WAIT") (argument.Word ∷ []) 0
+shape service.PeriodicWait = row 18 (codes "PERIODIC_WAIT") [] 0
+shape service.GetTime = row 19 (codes "GET_TIME") [] 1
+shape service.Replenish = row 20 (codes "REPLENISH") (argument.Word ∷ []) 0
+shape service.CreateBuffer = creation 21 (codes "CREATE_BUFFER") (argument.Object object.Buffer ∷ []) 1
+shape service.SendBuffer = row 22 (codes "SEND_BUFFER") (argument.Word ∷ argument.Array ∷ argument.Word ∷ argument.Word ∷ []) 0
+shape service.ReceiveBuffer = row 23 (codes "RECEIVE_BUFFER") (argument.Word ∷ argument.Array ∷ argument.Word ∷ []) 1
+shape service.GetBufferId = row 24 (codes "GET_BUFFER_ID") (argument.Object object.Buffer ∷ []) 1
+shape service.GetBufferStatus = row 25 (codes "GET_BUFFER_STATUS") (argument.Word ∷ []) 4
+shape service.CreateBlackboard = creation 26 (codes "CREATE_BLACKBOARD") (argument.Object object.Blackboard ∷ []) 1
+shape service.DisplayBlackboard = row 27 (codes "DISPLAY_BLACKBOARD") (argument.Word ∷ argument.Array ∷ argument.Word ∷ []) 0
+shape service.ReadBlackboard = row 28 (codes "READ_BLACKBOARD") (argument.Word ∷ argument.Array ∷ argument.Word ∷ []) 1
+shape service.ClearBlackboard = row 29 (codes "CLEAR_BLACKBOARD") (argument.Word ∷ []) 0
+shape service.GetBlackboardId = row 30 (codes "GET_BLACKBOARD_ID") (argument.Object object.Blackboard ∷ []) 1
+shape service.GetBlackboardStatus = row 31 (codes "GET_BLACKBOARD_STATUS") (argument.Word ∷ []) 3
+shape service.CreateSemaphore = creation 32 (codes "CREATE_SEMAPHORE") (argument.Object object.Semaphore ∷ []) 1
+shape service.WaitSemaphore = row 33 (codes "WAIT_SEMAPHORE") (argument.Word ∷ argument.Word ∷ []) 0
+shape service.SignalSemaphore = row 34 (codes "SIGNAL_SEMAPHORE") (argument.Word ∷ []) 0
+shape service.GetSemaphoreId = row 35 (codes "GET_SEMAPHORE_ID") (argument.Object object.Semaphore ∷ []) 1
+shape service.GetSemaphoreStatus = row 36 (codes "GET_SEMAPHORE_STATUS") (argument.Word ∷ []) 3
+shape service.CreateEvent = creation 37 (codes "CREATE_EVENT") (argument.Object object.Event ∷ []) 1
+shape service.SetEvent = row 38 (codes "SET_EVENT") (argument.Word ∷ []) 0
+shape service.ResetEvent = row 39 (codes "RESET_EVENT") (argument.Word ∷ []) 0
+shape service.WaitEvent = row 40 (codes "WAIT_EVENT") (argument.Word ∷ argument.Word ∷ []) 0
+shape service.GetEventId = row 41 (codes "GET_EVENT_ID") (argument.Object object.Event ∷ []) 1
+shape service.GetEventStatus = row 42 (codes "GET_EVENT_STATUS") (argument.Word ∷ []) 2
+shape service.CreateSamplingPort = creation 43 (codes "CREATE_SAMPLING_PORT") (argument.Object object.Port ∷ []) 1
+shape service.WriteSamplingMessage = row 44 (codes "WRITE_SAMPLING_MESSAGE") (argument.Word ∷ argument.Array ∷ argument.Word ∷ []) 0
+shape service.ReadSamplingMessage = row 45 (codes "READ_SAMPLING_MESSAGE") (argument.Word ∷ argument.Array ∷ []) 2
+shape service.GetSamplingPortId = row 46 (codes "GET_SAMPLING_PORT_ID") (argument.Object object.Port ∷ []) 1
+shape service.GetSamplingPortStatus = row 47 (codes "GET_SAMPLING_PORT_STATUS") (argument.Word ∷ []) 4
+shape service.CreateQueuingPort = creation 48 (codes "CREATE_QUEUING_PORT") (argument.Object object.Port ∷ []) 1
+shape service.SendQueuingMessage = row 49 (codes "SEND_QUEUING_MESSAGE") (argument.Word ∷ argument.Array ∷ argument.Word ∷ argument.Word ∷ []) 0
+shape service.ReceiveQueuingMessage = row 50 (codes "RECEIVE_QUEUING_MESSAGE") (argument.Word ∷ argument.Array ∷ argument.Word ∷ []) 1
+shape service.GetQueuingPortId = row 51 (codes "GET_QUEUING_PORT_ID") (argument.Object object.Port ∷ []) 1
+shape service.GetQueuingPortStatus = row 52 (codes "GET_QUEUING_PORT_STATUS") (argument.Word ∷ []) 5
+shape service.ClearQueuingPort = row 53 (codes "CLEAR_QUEUING_PORT") (argument.Word ∷ []) 0
+shape service.ReportApplicationMessage = row 54 (codes "REPORT_APPLICATION_MESSAGE") (argument.Array ∷ argument.Word ∷ []) 0
+shape service.CreateErrorHandler = creation 55 (codes "CREATE_ERROR_HANDLER") [] 0
+shape service.GetErrorStatus = row 56 (codes "GET_ERROR_STATUS") (argument.Array ∷ []) 3
+shape service.RaiseApplicationError = row 57 (codes "RAISE_APPLICATION_ERROR") (argument.Word ∷ argument.Array ∷ argument.Word ∷ []) 0
+
+abbrev pub number_of : Service → ℕ
+number_of s = (shape s).number
+
+abbrev pub service_word : Service → List ℕ
+service_word s = (shape s).word
+
+-- what the arguments of a service have to be, in their order
+abbrev pub arguments_of : Service → List ArgumentKind
+arguments_of s = (shape s).arguments
+
+-- the words that an argument takes: an array is two, its place and its size
+abbrev pub words_of_kind : ArgumentKind → ℕ
+words_of_kind argument.Array = 2
+words_of_kind _ = 1
+
 abbrev pub argument_words : Service → ℕ
-argument_words service.GetPartitionStatus = 0
-argument_words service.SetPriority = 2
-argument_words service.StopSelf = 0
-argument_words service.DelayedStart = 2
-argument_words service.LockPreemption = 0
-argument_words service.UnlockPreemption = 0
-argument_words service.GetMyId = 0
-argument_words service.PeriodicWait = 0
-argument_words service.GetTime = 0
-argument_words service.SendBuffer = 5
-argument_words service.ReceiveBuffer = 4
-argument_words service.DisplayBlackboard = 4
-argument_words service.ReadBlackboard = 4
-argument_words service.WaitSemaphore = 2
-argument_words service.WaitEvent = 2
-argument_words service.WriteSamplingMessage = 4
-argument_words service.ReadSamplingMessage = 3
-argument_words service.SendQueuingMessage = 5
-argument_words service.ReceiveQueuingMessage = 4
-argument_words service.ReportApplicationMessage = 3
-argument_words service.CreateErrorHandler = 0
-argument_words service.GetErrorStatus = 2
-argument_words service.RaiseApplicationError = 4
-argument_words _ = 1
+argument_words s = sum_by words_of_kind (arguments_of s)
 
 -- the words of an answer: the code and the outputs; STOP_SELF has none
 abbrev pub answer_words : Service → ℕ
-answer_words service.GetPartitionStatus = 7
-answer_words service.GetProcessId = 2
-answer_words service.GetProcessStatus = 4
-answer_words service.CreateProcess = 2
 answer_words service.StopSelf = 0
-answer_words service.LockPreemption = 2
-answer_words service.UnlockPreemption = 2
-answer_words service.GetMyId = 2
-answer_words service.GetTime = 2
-answer_words service.CreateBuffer = 2
-answer_words service.ReceiveBuffer = 2
-answer_words service.GetBufferId = 2
-answer_words service.GetBufferStatus = 5
-answer_words service.CreateBlackboard = 2
-answer_words service.ReadBlackboard = 2
-answer_words service.GetBlackboardId = 2
-answer_words service.GetBlackboardStatus = 4
-answer_words service.CreateSemaphore = 2
-answer_words service.GetSemaphoreId = 2
-answer_words service.GetSemaphoreStatus = 4
-answer_words service.CreateEvent = 2
-answer_words service.GetEventId = 2
-answer_words service.GetEventStatus = 3
-answer_words service.CreateSamplingPort = 2
-answer_words service.ReadSamplingMessage = 3
-answer_words service.GetSamplingPortId = 2
-answer_words service.GetSamplingPortStatus = 5
-answer_words service.CreateQueuingPort = 2
-answer_words service.ReceiveQueuingMessage = 2
-answer_words service.GetQueuingPortId = 2
-answer_words service.GetQueuingPortStatus = 6
-answer_words service.GetErrorStatus = 4
-answer_words _ = 1
+answer_words s = 1 + (shape s).outputs
+
+abbrev pub is_array : ArgumentKind → Bool
+is_array argument.Array = true
+is_array _ = false
+
+abbrev pub class_of : Service → ServiceClass
+class_of s = if (shape s).creates then Creation else if list_any is_array (arguments_of s) then WithArray else Other
+
+-- what a service of each class costs in ticks
+abbrev pub cost_of_class : ServiceClass → ℕ
+cost_of_class Creation = 8
+cost_of_class WithArray = 6
+cost_of_class Other = 4
+
+abbrev pub cost_of_service : Service → ℕ
+cost_of_service s = cost_of_class (class_of s)

@@ -21,13 +21,6 @@ pub struct PartitionId(pub u8);
 #[derive(Clone, Copy, Debug, PartialEq, Eq)]
 pub struct PortId(pub u8);
 
-/// A tick of the run, and the tick of the module's last start.
-#[derive(Clone, Copy, Debug, PartialEq, Eq)]
-pub struct At {
-    pub now: Ticks,
-    pub origin: Ticks,
-}
-
 /// The most processes of a partition, beside INIT and the error handler.
 pub const MOST_PROCESSES: u8 = 31;
 

@@ -1,5 +1,7 @@
 //! The instructions of the modelled processor.
 
+ghost use Rattle.std.specs.Prelude.{◌≡◌};
+
 /// An operator that takes two operands.
 #[derive(Clone, Copy, Debug, PartialEq, Eq)]
 pub enum BinaryOperator {
@@ -16,6 +18,21 @@ pub enum BinaryOperator {
     GreaterOrEqual,
     And,
     Or,
+}
+
+impl BinaryOperator {
+    ghost use Rattle.apex_types.specs.OperatorCosts.{cost_of_binary};
+
+    /// What this operator costs in ticks.
+    pub fn cost(self) -> u32
+        ensures { result ≡ cost_of_binary self }
+    {
+        match self {
+            BinaryOperator::Multiply => 2,
+            BinaryOperator::Divide | BinaryOperator::Remainder => 4,
+            _ => 1,
+        }
+    }
 }
 
 /// An operator that takes one operand.

@@ -3,6 +3,7 @@
 //! Names and numbers are those of ARINC 653 Part 1 (APEX, required services).
 #![tactic(auto)]
 
+pub mod call;
 pub mod codes;
 pub mod event;
 pub mod identity;
@@ -14,9 +15,11 @@ pub mod place;
 pub mod process;
 pub mod row;
 pub mod service;
+pub mod shape;
 pub mod sink;
 pub mod text;
 
+pub use call::{array_of, call_of, services_are_numbered};
 pub use codes::{
     Discipline, ErrorKind, ErrorLevel, Mode, ModuleAction, PartitionAction, ProcessState, Response,
     ReturnCode, StartCondition,
@@ -35,6 +38,7 @@ pub use row::{
     BlackboardRow, BodyRow, BufferRow, ChannelEnd, HealthTable, PortDirection, PortKind, PortRow,
     ProcessRow, RoutineRow, Section, SemaphoreRow, WindowRow,
 };
-pub use service::{ArrayPlace, Call, Service};
+pub use service::{ArrayPlace, Call, SERVICES, Service};
+pub use shape::{ServiceClass, Shape};
 pub use sink::{Sink, SinkFault, WriterSink, put_all};
 pub use text::{write_event, write_events};

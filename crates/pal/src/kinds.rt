@@ -9,7 +9,6 @@ ghost use Rattle.pal_base.specs.View.{texts, name_of, expr_of, exprs_of, links_o
 ghost use Rattle.pal.specs.Tables.{entries_of};
 ghost use Rattle.pal.specs.Scopes.{names_of, sees};
 
-use crate::arguments::arguments_of;
 use crate::lines::{earlier, unless};
 use crate::scope::{Scope, enter_body};
 use crate::table::NameTable;
@@ -164,7 +163,7 @@ fn statement_fault(scope: &Scope, returns: bool, line: u32, statement: &StmtKind
             earlier(unless(returns, line), expression_fault(scope, value))
         }
         StmtKind::Request(service, arguments, targets) => earlier(
-            arguments_fault(scope, line, arguments_of(*service), arguments),
+            arguments_fault(scope, line, service.arguments(), arguments),
             earlier(
                 unless(targets.len() == usize::from(service.answer_words()), line),
                 targets_fault(scope, targets),

@@ -2,7 +2,6 @@
 //! what its bodies cost.
 #![tactic(auto)]
 
-mod arguments;
 #[cfg(test)]
 mod examples;
 mod frames;

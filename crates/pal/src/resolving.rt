@@ -12,7 +12,6 @@ ghost use Rattle.pal.specs.Tables.{entries_of};
 ghost use Rattle.pal.specs.Scopes.{names_of, sees};
 ghost use Rattle.pal.specs.Parts.{resolve_among, exprs_onto};
 
-use crate::arguments::arguments_of;
 use crate::meanings::Counts;
 use crate::numbers::{limited, signed_word_of, word_of};
 use crate::scope::{Scope, enter_body};
@@ -376,7 +375,7 @@ fn resolve_statement(
             Ok(program::Stmt::Return(value))
         }
         StmtKind::Request(service, arguments, targets) => {
-            let kinds = arguments_of(*service);
+            let kinds = service.arguments();
             let arguments = resolve_arguments(alloc, scope, kinds, arguments)?;
             let targets = resolve_targets(alloc, scope, targets)?;
             Ok(program::Stmt::Request(*service, arguments, targets))

@@ -3,11 +3,10 @@
 
 ghost use Rattle.std.specs.Prelude.{◌≡◌, ◌+◌, min, length};
 ghost use Rattle.apex_meaning.specs.Cost as cost;
-ghost use Rattle.apex_meaning.specs.Operators as costs;
 ghost use Rattle.apex_meaning.specs.ServiceTable as services;
 ghost use Rattle.pal_base.specs.ProgramView.{expr_of, exprs_of, links_of, stmt_of, block_of};
 
-use apex_types::{BinaryOperator, Place, Service};
+use apex_types::{Place, Service};
 use pal_base::program::{Expr, Link, Stmt};
 
 /// The ticks of an expression.
@@ -32,7 +31,7 @@ fn cost_of_links(links: &[Link]) -> u64
     for link in links {
         ticks = ticks
             .saturating_add(cost_of_expr(&link.operand))
-            .saturating_add(cost_of_binary(link.operator));
+            .saturating_add(u64::from(link.operator.cost()));
     }
     ticks
 }
@@ -54,7 +53,7 @@ fn cost_of_request(service: Service, arguments: &[Expr], targets: &[Place]) -> u
     ensures { result ≡ min (cost.cost_of_exprs (exprs_of arguments.now) + services.cost_of_service service + length targets.now) u64.MAX }
 {
     cost_of_exprs(arguments)
-        .saturating_add(cost_of_service(service))
+        .saturating_add(u64::from(service.cost()))
         .saturating_add(targets.len() as u64)
 }
 
@@ -98,43 +97,4 @@ pub fn cost_of_block(block: &[Stmt]) -> u64
         ticks = ticks.saturating_add(cost_of_stmt(stmt));
     }
     ticks
-}
-
-/// The ticks of an operator.
-fn cost_of_binary(operator: BinaryOperator) -> u64
-    ensures { result ≡ costs.cost_of_binary operator }
-{
-    match operator {
-        BinaryOperator::Multiply => 2,
-        BinaryOperator::Divide | BinaryOperator::Remainder => 4,
-        _ => 1,
-    }
-}
-
-/// The ticks of a service: 8 for a creation, 6 with an array argument, else 4.
-fn cost_of_service(service: Service) -> u64
-    ensures { result ≡ services.cost_of_service service }
-{
-    match service {
-        Service::CreateProcess
-        | Service::CreateBuffer
-        | Service::CreateBlackboard
-        | Service::CreateSemaphore
-        | Service::CreateEvent
-        | Service::CreateSamplingPort
-        | Service::CreateQueuingPort
-        | Service::CreateErrorHandler => 8,
-        Service::SendBuffer
-        | Service::ReceiveBuffer
-        | Service::DisplayBlackboard
-        | Service::ReadBlackboard
-        | Service::WriteSamplingMessage
-        | Service::ReadSamplingMessage
-        | Service::SendQueuingMessage
-        | Service::ReceiveQueuingMessage
-        | Service::ReportApplicationMessage
-        | Service::GetErrorStatus
-        | Service::RaiseApplicationError => 6,
-        _ => 4,
-    }
 }

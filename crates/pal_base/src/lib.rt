@@ -7,7 +7,6 @@ pub mod fault;
 mod mark;
 pub mod parse;
 pub mod program;
-mod service_word;
 mod source;
 mod statement;
 pub mod syntax;

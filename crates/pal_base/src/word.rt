@@ -3,7 +3,7 @@
 ghost use Rattle.std.specs.Prelude.{◌≡◌, ◌+◌, ◌-◌, ◌*◌, ◌<◌, length, map, drop, option_map, find, nat_eq, IfOk, IfErr, IfSome, OnOk, false};
 ghost use Rattle.std.specs.List.{starts_with};
 ghost use Rattle.std.specs.Str.{IsAscii};
-ghost use Rattle.apex_types.specs.ServiceWords.{service_word};
+ghost use Rattle.apex_types.specs.ServiceShape.{service_word};
 ghost use Rattle.apex_types.specs.ServiceNumbers.{services};
 ghost use Rattle.apex_meaning.specs.GrammarWords as grammar;
 ghost use Rattle.apex_meaning.specs.GrammarWords.{is_blank, is_lower, is_digit, is_upper, behind_blanks, front, behind, same};
@@ -15,9 +15,8 @@ ghost use Rattle.pal_base.specs.WordView.{word_of, token_of, Extends, IsKnown};
 
 use crate::fault::PalFault;
 use crate::mark::{GRAMMAR_WORDS, Mark, SIGNS};
-use crate::service_word::SERVICES;
 use crate::syntax::{NameId, Natural};
-use apex_types::Service;
+use apex_types::{SERVICES, Service};
 use indexmap::IndexSet;
 use std::alloc::Global;
 

@@ -1,11 +1,11 @@
 -- How the state of a partition in the code is seen.
-use Rattle.std.specs.Prelude.{List}
 use Rattle.apex_meaning.specs.Kernel as meaning
+use Rattle.window_table.specs.Schedules.{schedule_of}
 use Rattle.partition.specs.declared.fixed.Fixed.{Fixed}
 use Rattle.partition.specs.declared.kernel.Kernel.TheInside.{Inside}
 
 abbrev pub fixed_of : Fixed → meaning.Fixed
-fixed_of f = record { name = f.name; number = f.number.0; period = f.period; duration = f.duration; frame = f.frame; windows = f.windows.items; health = f.health }
+fixed_of f = record { name = f.name; number = f.number.0; period = f.period; duration = f.duration; schedule = schedule_of f.schedule; health = f.health }
 
 -- objects, ports and an error handler are to come
 abbrev pub kernel_of : Inside → meaning.Kernel

@@ -1,8 +1,9 @@
 //! What no tick of a partition changes.
 
-use apex_types::{HealthTable, Name, PartitionId, WindowRow};
+use apex_types::{HealthTable, Name, PartitionId};
+use window_table::Schedule;
 
-/// The partition's row of the module table, its number, and its own windows of the major frame.
+/// The partition's row of the module table, its number, and the major frame with its own windows.
 #[derive(Drop)]
 pub struct Fixed {
     pub name: Name,
@@ -11,8 +12,7 @@ pub struct Fixed {
     pub period: u32,
     /// In ticks.
     pub duration: u32,
-    /// The major frame, in ticks.
-    pub frame: u32,
-    pub windows: Vec<WindowRow>,
+    /// The major frame with the partition's own windows.
+    pub schedule: Schedule,
     pub health: HealthTable,
 }

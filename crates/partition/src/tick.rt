@@ -12,9 +12,9 @@ ghost use Rattle.processor.specs.Views.{asks_of};
 use crate::acting::{act_all, tell};
 use crate::kernel::Kernel;
 use crate::partition::Partition;
-use apex_types::{At, Events, Mode, Name, Out, Runner, StartCondition, Words};
+use apex_types::{At, Events, Mode, Name, Out, Runner, StartCondition, Words, array_of};
 use partition_base::Executor;
-use processor::{Outcome, array_of};
+use processor::Outcome;
 
 impl<E: Executor> Partition<E> {
     /// A partition of a kernel over an executor.

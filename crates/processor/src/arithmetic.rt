@@ -1,7 +1,7 @@
 //! What operators give.
 
 ghost use Rattle.std.specs.Prelude.{◌≡◌};
-ghost use Rattle.apex_meaning.specs.Operators.{apply_binary, apply_unary, cost_of_binary, truth};
+ghost use Rattle.apex_meaning.specs.Operators.{apply_binary, apply_unary, truth};
 
 use apex_types::{BinaryOperator, UnaryOperator};
 
@@ -58,16 +58,5 @@ pub fn apply_unary(operator: UnaryOperator, a: i64) -> Option<i64>
     match operator {
         UnaryOperator::Negate => a.checked_neg(),
         UnaryOperator::Not => Some(truth(a == 0)),
-    }
-}
-
-/// What an operator costs in ticks.
-pub fn cost_of_binary(operator: BinaryOperator) -> u32
-    ensures { result ≡ cost_of_binary operator }
-{
-    match operator {
-        BinaryOperator::Multiply => 2,
-        BinaryOperator::Divide | BinaryOperator::Remainder => 4,
-        _ => 1,
     }
 }

@@ -8,8 +8,7 @@ use crate::code::Code;
 use crate::context::Context;
 use crate::data::Data;
 use crate::outcome::Outcome;
-use crate::service_table::{array_of, call_of};
-use apex_types::{Call, ErrorKind, RoutineRow, Service};
+use apex_types::{Call, ErrorKind, RoutineRow, Service, array_of, call_of};
 
 /// Sets the words of the stack from one place up to another to 0.
 fn clear(stack: &mut Vec<i64>, from: u32, to: u32)

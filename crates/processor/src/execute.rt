@@ -6,12 +6,11 @@ ghost use Rattle.apex_meaning.specs.ServiceTable.{service_of};
 ghost use Rattle.apex_meaning.specs.MachineControl.{machine_tick};
 ghost use Rattle.processor.specs.Views.{control_of, asks_of, is_busy, only_counts};
 
-use crate::arithmetic::{apply_binary, apply_unary, cost_of_binary};
+use crate::arithmetic::{apply_binary, apply_unary};
 use crate::code::Code;
 use crate::context::Context;
 use crate::data::Data;
 use crate::outcome::Outcome;
-use crate::service_table::cost_of_service;
 use apex_types::{BinaryOperator, ErrorKind, Instr, Service, UnaryOperator};
 
 /// Whether WORK takes so many ticks.
@@ -34,7 +33,7 @@ fn cost_of_request(x: u32) -> u32
     ensures { result ≡ cost_of_request (service_of x) }
 {
     match Service::from_number(x) {
-        Some(service) => cost_of_service(service),
+        Some(service) => service.cost(),
         None => 1,
     }
 }
@@ -45,7 +44,7 @@ fn cost_of(instruction: Instr) -> u32
 {
     match instruction {
         Instr::LoadElement(_, _) | Instr::StoreElement(_, _) => 2,
-        Instr::Binary(operator) => cost_of_binary(operator),
+        Instr::Binary(operator) => operator.cost(),
         Instr::Enter(_) => 3,
         Instr::GiveBack(_) => 2,
         Instr::Work(v) => cost_of_work(v),

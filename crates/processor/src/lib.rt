@@ -13,7 +13,6 @@ mod data;
 mod execute;
 mod memory;
 mod outcome;
-mod service_table;
 
 pub use code::Code;
 pub use codec::{decode, encode, encode_and_decode_agree, fields, op_name};
@@ -21,5 +20,3 @@ pub use context::Context;
 pub use data::Data;
 pub use execute::step;
 pub use outcome::Outcome;
-pub use service_table::array_of;
-pub use service_table::services_are_numbered;

@@ -1,38 +1,11 @@
-//! What each service costs, and its call from the words of its arguments.
+//! The call of a service from the words of its arguments.
 
 ghost use Rattle.std.specs.Prelude.{◌≡◌, ◌<◌, None, Some, ℕ};
 ghost use Rattle.apex_types.specs.declared.service.Service.{Service};
-ghost use Rattle.apex_meaning.specs.ServiceTable.{number_of, service_of, cost_of_service, argument, array_argument, call_of, array_of};
+ghost use Rattle.apex_types.specs.ServiceNumbers.{number_of, service_of};
+ghost use Rattle.apex_types.specs.ServiceCalls.{argument, array_argument, call_of, array_of};
 
-use apex_types::{ArrayPlace, Call, Service};
-
-/// What a service costs in ticks.
-pub fn cost_of_service(service: Service) -> u32
-    ensures { result ≡ cost_of_service service }
-{
-    match service {
-        Service::SendBuffer
-        | Service::ReceiveBuffer
-        | Service::DisplayBlackboard
-        | Service::ReadBlackboard
-        | Service::WriteSamplingMessage
-        | Service::ReadSamplingMessage
-        | Service::SendQueuingMessage
-        | Service::ReceiveQueuingMessage
-        | Service::ReportApplicationMessage
-        | Service::GetErrorStatus
-        | Service::RaiseApplicationError => 6,
-        Service::CreateProcess
-        | Service::CreateBuffer
-        | Service::CreateBlackboard
-        | Service::CreateSemaphore
-        | Service::CreateEvent
-        | Service::CreateSamplingPort
-        | Service::CreateQueuingPort
-        | Service::CreateErrorHandler => 8,
-        _ => 4,
-    }
-}
+use crate::service::{ArrayPlace, Call, Service};
 
 /// The argument at an index.
 fn argument(words: &[i64], index: usize) -> i64

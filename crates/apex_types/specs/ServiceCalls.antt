@@ -1,0 +1,88 @@
+-- The call of a service as the words of its arguments, and the array argument of a call.
+use Rattle.std.specs.Prelude.{ℕ, ◌+◌, ℤ, pos, List, get_or, Option, Some, None}
+use Rattle.apex_types.specs.declared.service.Service.{Service}
+use Rattle.apex_types.specs.declared.service.Service.TheVariants as service
+use Rattle.apex_types.specs.declared.service.Call.{Call}
+use Rattle.apex_types.specs.declared.service.Call.TheVariants as call
+use Rattle.apex_types.specs.declared.service.ArrayPlace.{ArrayPlace}
+
+abbrev pub argument : List ℤ → ℕ → ℤ
+argument words i = get_or words i (pos 0)
+
+abbrev pub array_argument : List ℤ → ℕ → ArrayPlace
+array_argument words i = record { base = argument words i; size = argument words (i + 1) }
+
+-- the call of a service with these words as its arguments, the first pushed first
+abbrev pub call_of : Service → List ℤ → Call
+call_of service.GetPartitionStatus words = call.GetPartitionStatus
+call_of service.SetPartitionMode words = call.SetPartitionMode (argument words 0)
+call_of service.GetProcessId words = call.GetProcessId (argument words 0)
+call_of service.GetProcessStatus words = call.GetProcessStatus (argument words 0)
+call_of service.CreateProcess words = call.CreateProcess (argument words 0)
+call_of service.SetPriority words = call.SetPriority (argument words 0) (argument words 1)
+call_of service.SuspendSelf words = call.SuspendSelf (argument words 0)
+call_of service.Suspend words = call.Suspend (argument words 0)
+call_of service.Resume words = call.Resume (argument words 0)
+call_of service.StopSelf words = call.StopSelf
+call_of service.Stop words = call.Stop (argument words 0)
+call_of service.Start words = call.Start (argument words 0)
+call_of service.DelayedStart words = call.DelayedStart (argument words 0) (argument words 1)
+call_of service.LockPreemption words = call.LockPreemption
+call_of service.UnlockPreemption words = call.UnlockPreemption
+call_of service.GetMyId words = call.GetMyId
+call_of service.TimedWait words = call.TimedWait (argument words 0)
+call_of service.PeriodicWait words = call.PeriodicWait
+call_of service.GetTime words = call.GetTime
+call_of service.Replenish words = call.Replenish (argument words 0)
+call_of service.CreateBuffer words = call.CreateBuffer (argument words 0)
+call_of service.SendBuffer words = call.SendBuffer (argument words 0) (array_argument words 1) (argument words 3) (argument words 4)
+call_of service.ReceiveBuffer words = call.ReceiveBuffer (argument words 0) (array_argument words 1) (argument words 3)
+call_of service.GetBufferId words = call.GetBufferId (argument words 0)
+call_of service.GetBufferStatus words = call.GetBufferStatus (argument words 0)
+call_of service.CreateBlackboard words = call.CreateBlackboard (argument words 0)
+call_of service.DisplayBlackboard words = call.DisplayBlackboard (argument words 0) (array_argument words 1) (argument words 3)
+call_of service.ReadBlackboard words = call.ReadBlackboard (argument words 0) (array_argument words 1) (argument words 3)
+call_of service.ClearBlackboard words = call.ClearBlackboard (argument words 0)
+call_of service.GetBlackboardId words = call.GetBlackboardId (argument words 0)
+call_of service.GetBlackboardStatus words = call.GetBlackboardStatus (argument words 0)
+call_of service.CreateSemaphore words = call.CreateSemaphore (argument words 0)
+call_of service.WaitSemaphore words = call.WaitSemaphore (argument words 0) (argument words 1)
+call_of service.SignalSemaphore words = call.SignalSemaphore (argument words 0)
+call_of service.GetSemaphoreId words = call.GetSemaphoreId (argument words 0)
+call_of service.GetSemaphoreStatus words = call.GetSemaphoreStatus (argument words 0)
+call_of service.CreateEvent words = call.CreateEvent (argument words 0)
+call_of service.SetEvent words = call.SetEvent (argument words 0)
+call_of service.ResetEvent words = call.ResetEvent (argument words 0)
+call_of service.WaitEvent words = call.WaitEvent (argument words 0) (argument words 1)
+call_of service.GetEventId words = call.GetEventId (argument words 0)
+call_of service.GetEventStatus words = call.GetEventStatus (argument words 0)
+call_of service.CreateSamplingPort words = call.CreateSamplingPort (argument words 0)
+call_of service.WriteSamplingMessage words = call.WriteSamplingMessage (argument words 0) (array_argument words 1) (argument words 3)
+call_of service.ReadSamplingMessage words = call.ReadSamplingMessage (argument words 0) (array_argument words 1)
+call_of service.GetSamplingPortId words = call.GetSamplingPortId (argument words 0)
+call_of service.GetSamplingPortStatus words = call.GetSamplingPortStatus (argument words 0)
+call_of service.CreateQueuingPort words = call.CreateQueuingPort (argument words 0)
+call_of service.SendQueuingMessage words = call.SendQueuingMessage (argument words 0) (array_argument words 1) (argument words 3) (argument words 4)
+call_of service.ReceiveQueuingMessage words = call.ReceiveQueuingMessage (argument words 0) (array_argument words 1) (argument words 3)
+call_of service.GetQueuingPortId words = call.GetQueuingPortId (argument words 0)
+call_of service.GetQueuingPortStatus words = call.GetQueuingPortStatus (argument words 0)
+call_of service.ClearQueuingPort words = call.ClearQueuingPort (argument words 0)
+call_of service.ReportApplicationMessage words = call.ReportApplicationMessage (array_argument words 0) (argument words 2)
+call_of service.CreateErrorHandler words = call.CreateErrorHandler
+call_of service.GetErrorStatus words = call.GetErrorStatus (array_argument words 0)
+call_of service.RaiseApplicationError words = call.RaiseApplicationError (argument words 0) (array_argument words 1) (argument words 3)
+
+-- the array argument of a call, where it has one
+abbrev pub array_of : Call → Option ArrayPlace
+array_of (call.SendBuffer _ a _ _) = Some a
+array_of (call.ReceiveBuffer _ a _) = Some a
+array_of (call.DisplayBlackboard _ a _) = Some a
+array_of (call.ReadBlackboard _ a _) = Some a
+array_of (call.WriteSamplingMessage _ a _) = Some a
+array_of (call.ReadSamplingMessage _ a) = Some a
+array_of (call.SendQueuingMessage _ a _ _) = Some a
+array_of (call.ReceiveQueuingMessage _ a _) = Some a
+array_of (call.ReportApplicationMessage a _) = Some a
+array_of (call.GetErrorStatus a) = Some a
+array_of (call.RaiseApplicationError _ a _) = Some a
+array_of _ = None
