@@ -4,3 +4,4 @@ pub mod Periods
 pub mod PortNames
 pub mod Reading
 pub mod Rules
+pub mod OwnWindows

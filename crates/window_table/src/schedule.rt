@@ -1,9 +1,10 @@
 //! The major frame: whose tick it is, whose window ends, and when a partition is released next.
 
-ghost use Rattle.std.specs.Prelude.{◌≡◌, ◌<◌};
+ghost use Rattle.std.specs.Prelude.{◌≡◌, ◌<◌, ◌==◌, IfOk, filter};
 ghost use Rattle.apex_meaning.specs.Windows.{is_within, ends_at, releases, BeginWithin};
 
 use apex_types::{At, PartitionId, Ticks, WindowRow};
+use std::alloc::{AllocError, Global};
 
 /// The ticks of the major frame, and its windows in the order of the table. The frame is above 0,
 /// and each window begins within it.
@@ -38,10 +39,42 @@ pub fn releases(partition: PartitionId, window: &WindowRow) -> bool
     window.release && window.partition.0 == partition.0
 }
 
+/// The windows of one partition.
+#[tactic(auto, using(std::proofs::lemmas::List::drop_more))]
+fn own_windows(
+    alloc: Global,
+    windows: &[WindowRow],
+    partition: PartitionId,
+) -> Result<Vec<WindowRow>, AllocError>
+    ensures { IfOk result (λ own. own.items ≡ filter (λ w. w.partition.0 == partition.0) windows.now) }
+{
+    let mut own = Vec::new(alloc);
+    for window in windows {
+        if window.partition.0 == partition.0 {
+            own.push(*window)?;
+        }
+    }
+    Ok(own)
+}
+
 impl Schedule {
     ghost use Rattle.std.specs.Prelude.{◌≡◌, ◌≤◌, ◌<◌, ◌^◌, option_map, IsTrue};
-    ghost use Rattle.apex_meaning.specs.Windows.{at_tick, phase, owner, ended, has_release, until_start, until_one_of, next_release, IsNextRelease};
+    ghost use Rattle.apex_meaning.specs.Windows.{at_tick, schedule_of_partition, phase, owner, ended, has_release, until_start, until_one_of, next_release, IsNextRelease};
     ghost use Rattle.window_table.specs.Schedules.{schedule_of};
+
+    /// The same frame with the windows of one partition alone. An error is one of memory.
+    pub fn of_partition(
+        &self,
+        alloc: Global,
+        partition: PartitionId,
+    ) -> Result<Schedule, AllocError>
+        ensures { IfOk result (λ own. schedule_of own ≡ schedule_of_partition partition.0 (schedule_of self.now)) }
+    {
+        Ok(Schedule {
+            frame: self.frame,
+            windows: own_windows(alloc, self.windows.as_slice(), partition)?,
+        })
+    }
 
     /// The place of a tick in its frame.
     fn phase(&self, at: At) -> Ticks
