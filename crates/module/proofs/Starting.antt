@@ -7,7 +7,8 @@ use Rattle.std.proofs.lemmas.List.{map-set, set_past, length-map}
 use Rattle.std.proofs.lemmas.Option.{slice_get-map, slice_get_past, slice_get-get_or}
 use Rattle.apex_types.specs.declared.event.Event.{Event}
 use Rattle.apex_types.specs.Line.{text_of}
-use Rattle.apex_meaning.specs.Module.{Member, started_member, start_lines}
+use Rattle.apex_meaning.specs.Module.{started_member, start_lines}
+use Rattle.apex_meaning.specs.Partition.{Member}
 use Rattle.module.proofs.Texts.{text_append}
 use Rattle.module.specs.Members.{starts_member}
 

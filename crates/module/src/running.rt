@@ -10,13 +10,14 @@ ghost use Rattle.apex_meaning.specs.ImageReading.{image_at};
 ghost use Rattle.image.specs.Views.{image_of};
 ghost use Rattle.module.specs.Promises.{IsRefused, Means, Runs};
 ghost use Rattle.module.specs.Views.{members_of, module_of};
+ghost use Rattle.window_table.specs.Schedules.{schedule_of};
 
+use crate::advance::FIRST_TICK;
 use crate::building::build;
 use crate::fault::{BuildAndRunFault, RunFault};
 use crate::member::Module;
-use apex_types::{Events, Sink, SinkFault, write_events};
+use apex_types::{At, Events, Sink, SinkFault, Ticks, write_events};
 use image::{Image, ImageFault, load_image};
-use partition::{Actions, Out};
 use partition_base::{Executor, Machine};
 use std::alloc::Global;
 
@@ -84,38 +85,32 @@ fn run_module<E: Executor, S: Sink>(
     if ticks == 0 {
         return Ok(());
     }
-    let mut out = Out {
-        lines: Events::new(),
-        actions: Actions::new(),
-    };
-    start(running, &mut out, sink)?;
-    run_ticks(running, ticks, &mut out, sink)
+    let mut events = Events::new();
+    start(running, &mut events, sink)?;
+    run_ticks(running, ticks, &mut events, sink)
 }
 
 /// The first start of each partition, in order.
 fn start<E: Executor, S: Sink>(
     running: &mut Module<E>,
-    out: &mut Out,
+    events: &mut Events,
     sink: &mut S,
 ) -> Result<(), SinkFault>
-    requires lines { out.old.lines.items ≡ [] }
-    requires actions { out.old.actions.items ≡ [] }
+    requires empty { events.old.items ≡ [] }
     requires failures { S.failures sink.old < 2 ^ 64 - 1 }
-    ensures frame { running.new.frame ≡ running.old.frame }
-    ensures windows { running.new.windows.items ≡ running.old.windows.items }
+    ensures schedule { schedule_of running.new.schedule ≡ schedule_of running.old.schedule }
     ensures members { OnOk result (members_of E.Executor running.new.members.items ≡ (meaning.starts (members_of E.Executor running.old.members.items)).members) }
     ensures ok { OnOk result (Appends (S.taken sink.old) (S.taken sink.new) (text_of (meaning.starts (members_of E.Executor running.old.members.items)).lines)) }
     ensures quiet { OnOk result (S.failures sink.new ≡ S.failures sink.old) }
     ensures failed { OnErr result (S.failures sink.new ≡ S.failures sink.old + 1) }
     ensures beginning { OnErr result (TakesBeginning (S.taken sink.old) (S.taken sink.new) (text_of (meaning.starts (members_of E.Executor running.old.members.items)).lines)) }
-    ensures lines { OnOk result (out.new.lines.items ≡ []) }
-    ensures actions { OnOk result (out.new.actions.items ≡ []) }
+    ensures empty { OnOk result (events.new.items ≡ []) }
 {
     let mut place = 0;
     while place < running.members.len() {
-        running.start_at(place, out);
-        write_events(out.lines.as_slice(), sink)?;
-        out.lines.clear();
+        running.start_at(place, events);
+        write_events(events.as_slice(), sink)?;
+        events.clear();
         place += 1;
     }
     Ok(())
@@ -125,26 +120,28 @@ fn start<E: Executor, S: Sink>(
 fn run_ticks<E: Executor, S: Sink>(
     running: &mut Module<E>,
     ticks: u64,
-    out: &mut Out,
+    events: &mut Events,
     sink: &mut S,
 ) -> Result<(), SinkFault>
     requires ticks { ticks ≤ 2 ^ 40 }
-    requires lines { out.old.lines.items ≡ [] }
-    requires actions { out.old.actions.items ≡ [] }
+    requires empty { events.old.items ≡ [] }
     requires failures { S.failures sink.old < 2 ^ 64 - 1 }
-    ensures ok { OnOk result (Appends (S.taken sink.old) (S.taken sink.new) (text_of (meaning.trace_from running.old.frame running.old.windows.items ticks 0 (members_of E.Executor running.old.members.items)))) }
+    ensures ok { OnOk result (Appends (S.taken sink.old) (S.taken sink.new) (text_of (meaning.trace_from (schedule_of running.old.schedule) ticks meaning.first_tick (members_of E.Executor running.old.members.items)))) }
     ensures quiet { OnOk result (S.failures sink.new ≡ S.failures sink.old) }
     ensures failed { OnErr result (S.failures sink.new ≡ S.failures sink.old + 1) }
-    ensures beginning { OnErr result (TakesBeginning (S.taken sink.old) (S.taken sink.new) (text_of (meaning.trace_from running.old.frame running.old.windows.items ticks 0 (members_of E.Executor running.old.members.items)))) }
+    ensures beginning { OnErr result (TakesBeginning (S.taken sink.old) (S.taken sink.new) (text_of (meaning.trace_from (schedule_of running.old.schedule) ticks meaning.first_tick (members_of E.Executor running.old.members.items)))) }
 {
     let mut left = ticks;
-    let mut now = 0;
+    let mut at = FIRST_TICK;
     while left > 0 {
-        running.tick(now, out);
-        write_events(out.lines.as_slice(), sink)?;
-        out.lines.clear();
+        running.tick(at, events);
+        write_events(events.as_slice(), sink)?;
+        events.clear();
         left -= 1;
-        now += 1;
+        at = At {
+            now: Ticks(at.now.0 + 1),
+            origin: at.origin,
+        };
     }
     Ok(())
 }

@@ -1,8 +1,8 @@
-use Rattle.std.proofs.Common.{rules, ◌≡◌}
-use Rattle.module.proofs.Lawful.{loaded_kernel, loaded_member}
+use Rattle.std.proofs.Common.{rules, ◌∙◌}
+use Rattle.module.proofs.Lawful.{loaded_member}
+use Rattle.partition.specs.View.{fixed_of as view}
 use Rattle.module.proofs.load.load_member.Goals as goal
 
 pub returns : goal.returns
 returns c =
-    let kernel : c.in_ok-kernel.kernel ≡ loaded_kernel c.args.item.now = search rules in
-    loaded_member c.args.item.now _ _ _ _ _ c.in_ok-executor.ensures.engine kernel c.in_ok-executor.ensures.controls c.in_ok-mem.ensures c.in_ok-executor.ensures.initial
+    c.new.ensures c.in_ok-mem.mem ∙ loaded_member (view c.args.fixed) c.args.item.now.section _ _ _ _ _ c.in_ok-executor.ensures.engine c.in_ok-kernel.ensures c.in_ok-executor.ensures.controls c.in_ok-mem.ensures c.in_ok-executor.ensures.initial
