@@ -53,13 +53,8 @@ items_fit frame before [] h place item e = absurd (none-some item e)
 items_fit frame before (i ∷ items) h zero item e = subst (λ (x : PartitionItem). IsFittingSection x.section) (same_Some i item e) (section_fits i.row.period i.section h.0.section)
 items_fit frame before (i ∷ items) h (suc place) item e = items_fit frame (before ++ item_of i ∷ []) items h.1 place item e
 
-pub lawful_fits : (image : Image) → IsLawful (image_of image) → AreFittingItems image.partitions.items
-lawful_fits image h = items_fit image.frame [] image.partitions.items h.limits.items
-
-pub lawful_frame : (image : Image) → IsLawful (image_of image) → 1 ≤ image.frame
-lawful_frame image h = h.limits.frame.least
-
-pub ruleset lawful = (lawful_fits, lawful_frame)
+pub items_of_image_fit : (image : Image) → AreFittingItems image.partitions.items
+items_of_image_fit image = items_fit image.schedule.frame [] image.partitions.items image.lawful.limits.items
 
 idle_processes : (rows : List ProcessRow) → replicate (length rows) None ≡ map (no_control_for {C = MachineControl}) (map machine_row rows)
 idle_processes [] = refl

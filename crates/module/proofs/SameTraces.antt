@@ -49,4 +49,4 @@ members_same (row ∷ rows) [] h = tt
 members_same (row ∷ rows) (p ∷ ps) h = (member_same row p h.0, members_same rows ps h.1)
 
 pub traces_same : (t : Table) (programs : List Program) (n : ℕ) → AreCompiled programs → source_trace t programs n ≡ machine_trace (built_image t programs) n
-traces_same t programs n h = trace_same Related t.frame t.windows n (paired t.partitions programs) (source_members t.partitions programs) (map machine_member (built_items t.partitions programs)) (members_same t.partitions programs h)
+traces_same t programs n h = trace_same Related t.schedule n (paired t.partitions programs) (source_members t.partitions programs) (map machine_member (built_items t.partitions programs)) (members_same t.partitions programs h)

@@ -4,49 +4,48 @@ use Rattle.std.proofs.KnownBytes.{Appends-nil}
 use Rattle.std.specs.Io.KnownBytes.{Appends}
 use Rattle.std.proofs.lemmas.Grind.{flat_map-append}
 use Rattle.apex_types.specs.declared.event.Event.{Event}
-use Rattle.apex_types.specs.declared.row.WindowRow.{WindowRow}
 use Rattle.apex_types.specs.Line.{line_of, text_of}
 use Rattle.apex_types.specs.Sink.{TakesBeginning}
 use Rattle.apex_types.proofs.Writing.{under_way_fails}
+use Rattle.apex_meaning.specs.Windows.{Schedule}
 use Rattle.apex_meaning.specs.Module.{Member, Module, module_tick, trace_from, starts, trace}
 
 pub text_append : (one other : List Event) → text_of (one ++ other) ≡ text_of one ++ text_of other
 text_append one other = flat_map-append line_of one other
 
 -- the first tick of several, and the rest
-pub first_tick : {C : Type 0} (frame : ℕ) (windows : List WindowRow) (n t : ℕ) (ms : List (Member C)) → 0 < n
-    → trace_from frame windows n t ms ≡ (module_tick frame windows t ms).lines ++ trace_from frame windows (n - 1) (t + 1) (module_tick frame windows t ms).members
-first_tick frame windows zero t ms h = absurd (omega arith)
-first_tick frame windows (suc n) t ms h =
+pub first_tick : {C : Type 0} (s : Schedule) (n t : ℕ) (ms : List (Member C)) → 0 < n
+    → trace_from s n t ms ≡ (module_tick s t ms).lines ++ trace_from s (n - 1) (t + 1) (module_tick s t ms).members
+first_tick s zero t ms h = absurd (omega arith)
+first_tick s (suc n) t ms h =
     let left : n ≡ suc n - 1 = omega arith in
-    ap (λ k. (module_tick frame windows t ms).lines ++ trace_from frame windows k (t + 1) (module_tick frame windows t ms).members) left
+    ap (λ k. (module_tick s t ms).lines ++ trace_from s k (t + 1) (module_tick s t ms).members) left
 
 -- the start and the ticks
-pub some_ticks : {C : Type 0} (m : Module C) (n : ℕ) → 0 < n → trace m n ≡ (starts m.members).lines ++ trace_from m.frame m.windows n 0 (starts m.members).members
+pub some_ticks : {C : Type 0} (m : Module C) (n : ℕ) → 0 < n → trace m n ≡ (starts m.members).lines ++ trace_from m.schedule n 0 (starts m.members).members
 some_ticks m zero h = absurd (omega arith)
 some_ticks m (suc n) h = refl
 
 -- the text of the first tick, and that of the rest
-pub tick_text : {C : Type 0} (frame own_frame : ℕ) (windows own_windows : List WindowRow) (n t : ℕ) (ms next : List (Member C)) (lines : List Event) → own_frame ≡ frame → own_windows ≡ windows → 0 < n
-    → lines ≡ (module_tick own_frame own_windows t ms).lines → next ≡ (module_tick own_frame own_windows t ms).members
-    → text_of (trace_from frame windows n t ms) ≡ text_of lines ++ text_of (trace_from frame windows (n - 1) (t + 1) next)
-tick_text frame own_frame windows own_windows n t ms next lines same_frame same_windows h of_tick after =
-    let lines_are : (module_tick frame windows t ms).lines ≡ lines = sym (of_tick ∙ ap (λ f. (module_tick f own_windows t ms).lines) same_frame ∙ ap (λ w. (module_tick frame w t ms).lines) same_windows) in
-    let next_is : (module_tick frame windows t ms).members ≡ next = sym (after ∙ ap (λ f. (module_tick f own_windows t ms).members) same_frame ∙ ap (λ w. (module_tick frame w t ms).members) same_windows) in
-    ap text_of (first_tick frame windows n t ms h
-    ∙ ap (λ (es : List Event). es ++ trace_from frame windows (n - 1) (t + 1) (module_tick frame windows t ms).members) lines_are
-    ∙ ap (λ ms. lines ++ trace_from frame windows (n - 1) (t + 1) ms) next_is)
-    ∙ text_append lines (trace_from frame windows (n - 1) (t + 1) next)
+pub tick_text : {C : Type 0} (s own : Schedule) (n t : ℕ) (ms next : List (Member C)) (lines : List Event) → own ≡ s → 0 < n
+    → lines ≡ (module_tick own t ms).lines → next ≡ (module_tick own t ms).members
+    → text_of (trace_from s n t ms) ≡ text_of lines ++ text_of (trace_from s (n - 1) (t + 1) next)
+tick_text s own n t ms next lines same h of_tick after =
+    let lines_are : (module_tick s t ms).lines ≡ lines = sym (of_tick ∙ ap (λ x. (module_tick x t ms).lines) same) in
+    let next_is : (module_tick s t ms).members ≡ next = sym (after ∙ ap (λ x. (module_tick x t ms).members) same) in
+    ap text_of (first_tick s n t ms h
+    ∙ ap (λ (es : List Event). es ++ trace_from s (n - 1) (t + 1) (module_tick s t ms).members) lines_are
+    ∙ ap (λ ms. lines ++ trace_from s (n - 1) (t + 1) ms) next_is)
+    ∙ text_append lines (trace_from s (n - 1) (t + 1) next)
 
 -- the text of the start, and that of the ticks
-pub whole_text : {C : Type 0} (m : Module C) (frame n : ℕ) (windows : List WindowRow) (ms : List (Member C)) → 0 < n → frame ≡ m.frame → windows ≡ m.windows → ms ≡ (starts m.members).members
-    → text_of (trace m n) ≡ text_of (starts m.members).lines ++ text_of (trace_from frame windows n 0 ms)
-whole_text m frame n windows ms h same_frame same_windows same_members =
+pub whole_text : {C : Type 0} (m : Module C) (s : Schedule) (n : ℕ) (ms : List (Member C)) → 0 < n → s ≡ m.schedule → ms ≡ (starts m.members).members
+    → text_of (trace m n) ≡ text_of (starts m.members).lines ++ text_of (trace_from s n 0 ms)
+whole_text m s n ms h same_schedule same_members =
     ap text_of (some_ticks m n h
-    ∙ ap (λ f. (starts m.members).lines ++ trace_from f m.windows n 0 (starts m.members).members) (sym same_frame)
-    ∙ ap (λ w. (starts m.members).lines ++ trace_from frame w n 0 (starts m.members).members) (sym same_windows)
-    ∙ ap (λ ms. (starts m.members).lines ++ trace_from frame windows n 0 ms) (sym same_members))
-    ∙ text_append (starts m.members).lines (trace_from frame windows n 0 ms)
+    ∙ ap (λ x. (starts m.members).lines ++ trace_from x n 0 (starts m.members).members) (sym same_schedule)
+    ∙ ap (λ ms. (starts m.members).lines ++ trace_from s n 0 ms) (sym same_members))
+    ∙ text_append (starts m.members).lines (trace_from s n 0 ms)
 
 -- the first part of a text fails
 pub first_fails : (old new : Option (List ℕ)) (text one two : List ℕ) → text ≡ one ++ two → TakesBeginning old new one → TakesBeginning old new text

@@ -1,6 +1,7 @@
 -- The partitions of a running module as the definitions see them, over any executor.
 use Rattle.std.specs.Prelude.{List, map}
 use Rattle.apex_meaning.specs.Module as meaning
+use Rattle.window_table.specs.Schedules.{schedule_of}
 use Rattle.partition_base.specs.declared.executor.Executor.{Ghosts}
 use Rattle.module.specs.declared.member.Member.{Member}
 use Rattle.module.specs.declared.member.Module.{Module}
@@ -13,4 +14,4 @@ abbrev pub members_of : {E X : Type 0} → (g : Ghosts E X) → List (Member E X
 members_of g ms = map (view_of g) ms
 
 abbrev pub module_of : {E X : Type 0} → (g : Ghosts E X) → Module E X g → meaning.Module g.Control
-module_of g m = record { frame = m.frame; windows = m.windows.items; members = members_of g m.members.items }
+module_of g m = record { schedule = schedule_of m.schedule; members = members_of g m.members.items }

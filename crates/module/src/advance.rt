@@ -2,14 +2,14 @@
 
 ghost use Rattle.std.specs.Prelude.{◌≡◌, ◌≤◌, ◌^◌, [], slice_get, option_map};
 ghost use Rattle.apex_meaning.specs.Module as meaning;
+ghost use Rattle.window_table.specs.Schedules.{schedule_of};
 ghost use Rattle.module.specs.Members.{starts_member};
 ghost use Rattle.module.specs.Views.{members_of};
 
 use crate::member::{Module, start_member, tick_member};
-use apex_types::{PartitionId, Ticks};
+use apex_types::{At, PartitionId, Ticks};
 use partition::Out;
 use partition_base::Executor;
-use window_table::owner;
 
 impl<E: Executor> Module<E> {
     /// The first start of the partition at a place among the members.
@@ -17,8 +17,7 @@ impl<E: Executor> Module<E> {
     pub fn start_at(&mut self, place: usize, out: &mut Out)
         requires lines { out.old.lines.items ≡ [] }
         requires actions { out.old.actions.items ≡ [] }
-        ensures frame { self.new.frame ≡ self.old.frame }
-        ensures windows { self.new.windows.items ≡ self.old.windows.items }
+        ensures schedule { schedule_of self.new.schedule ≡ schedule_of self.old.schedule }
         ensures members { members_of E.Executor self.new.members.items ≡ (starts_member (members_of E.Executor self.old.members.items) place (slice_get (members_of E.Executor self.old.members.items) place)).members }
         ensures lines { out.new.lines.items ≡ (starts_member (members_of E.Executor self.old.members.items) place (slice_get (members_of E.Executor self.old.members.items) place)).lines }
         ensures actions { out.new.actions.items ≡ [] }
@@ -34,8 +33,7 @@ impl<E: Executor> Module<E> {
         requires now { now ≤ 2 ^ 40 }
         requires lines { out.old.lines.items ≡ [] }
         requires actions { out.old.actions.items ≡ [] }
-        ensures frame { self.new.frame ≡ self.old.frame }
-        ensures windows { self.new.windows.items ≡ self.old.windows.items }
+        ensures schedule { schedule_of self.new.schedule ≡ schedule_of self.old.schedule }
         ensures members { members_of E.Executor self.new.members.items ≡ (meaning.ticks_member now (members_of E.Executor self.old.members.items) place (slice_get (members_of E.Executor self.old.members.items) place)).members }
         ensures lines { out.new.lines.items ≡ (meaning.ticks_member now (members_of E.Executor self.old.members.items) place (slice_get (members_of E.Executor self.old.members.items) place)).lines }
         ensures actions { out.new.actions.items ≡ [] }
@@ -50,8 +48,7 @@ impl<E: Executor> Module<E> {
         requires now { now ≤ 2 ^ 40 }
         requires lines { out.old.lines.items ≡ [] }
         requires actions { out.old.actions.items ≡ [] }
-        ensures frame { self.new.frame ≡ self.old.frame }
-        ensures windows { self.new.windows.items ≡ self.old.windows.items }
+        ensures schedule { schedule_of self.new.schedule ≡ schedule_of self.old.schedule }
         ensures members { members_of E.Executor self.new.members.items ≡ (meaning.ticks_owner now (members_of E.Executor self.old.members.items) (option_map (λ p. p.0) owner)).members }
         ensures lines { out.new.lines.items ≡ (meaning.ticks_owner now (members_of E.Executor self.old.members.items) (option_map (λ p. p.0) owner)).lines }
         ensures actions { out.new.actions.items ≡ [] }
@@ -67,13 +64,15 @@ impl<E: Executor> Module<E> {
         requires now { now ≤ 2 ^ 40 }
         requires lines { out.old.lines.items ≡ [] }
         requires actions { out.old.actions.items ≡ [] }
-        ensures frame { self.new.frame ≡ self.old.frame }
-        ensures windows { self.new.windows.items ≡ self.old.windows.items }
-        ensures members { members_of E.Executor self.new.members.items ≡ (meaning.module_tick self.old.frame self.old.windows.items now (members_of E.Executor self.old.members.items)).members }
-        ensures lines { out.new.lines.items ≡ (meaning.module_tick self.old.frame self.old.windows.items now (members_of E.Executor self.old.members.items)).lines }
+        ensures schedule { schedule_of self.new.schedule ≡ schedule_of self.old.schedule }
+        ensures members { members_of E.Executor self.new.members.items ≡ (meaning.module_tick (schedule_of self.old.schedule) now (members_of E.Executor self.old.members.items)).members }
+        ensures lines { out.new.lines.items ≡ (meaning.module_tick (schedule_of self.old.schedule) now (members_of E.Executor self.old.members.items)).lines }
         ensures actions { out.new.actions.items ≡ [] }
     {
-        let owner = owner(self.frame, self.windows.as_slice(), Ticks(0), Ticks(now));
+        let owner = self.schedule.owner(At {
+            now: Ticks(now),
+            origin: Ticks(0),
+        });
         self.tick_owner(owner, now, out);
     }
 }

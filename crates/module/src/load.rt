@@ -1,7 +1,6 @@
 //! From an image to its partitions, ready to start.
 
-ghost use Rattle.std.specs.Prelude.{◌≡◌, ◌<◌, map, IfOk};
-ghost use Rattle.apex_meaning.specs.ImageLimits.{IsLawful};
+ghost use Rattle.std.specs.Prelude.{◌≡◌, map, IfOk};
 ghost use Rattle.apex_meaning.specs.TwoMeanings.{machine_member, machine_module};
 ghost use Rattle.image.specs.Items.{item_of, items_of};
 ghost use Rattle.image.specs.Views.{image_of};
@@ -17,15 +16,12 @@ use partition_base::Machine;
 use std::alloc::{AllocError, Global};
 
 impl Module<Machine> {
-    /// The partitions of a lawful image, idle, with nothing created. An error is one of memory.
-    #[tactic(auto, using(crate::proofs::Lawful::lawful))]
+    /// The partitions of an image, idle, with nothing created. An error is one of memory.
     pub fn load(alloc: Global, image: &Image) -> Result<Module<Machine>, AllocError>
-        requires { IsLawful (image_of image.now) }
         ensures { IfOk result (λ loaded. module_of machine loaded ≡ machine_module (image_of image.now)) }
     {
         Ok(Module {
-            frame: image.frame,
-            windows: Vec::from_slice(alloc, image.windows.as_slice())?,
+            schedule: image.schedule.try_clone(alloc)?,
             members: load_members(alloc, image.partitions.as_slice())?,
         })
     }

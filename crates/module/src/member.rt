@@ -1,12 +1,13 @@
 //! The partitions of a module, each with its data, over any executor.
 
-ghost use Rattle.std.specs.Prelude.{◌≡◌, ◌≤◌, ◌<◌, ◌^◌, [], length};
+ghost use Rattle.std.specs.Prelude.{◌≡◌, ◌≤◌, ◌^◌, [], length};
 ghost use Rattle.apex_meaning.specs.Module as meaning;
 ghost use Rattle.module.specs.Members.{member_of};
 
-use apex_types::{Mode, StartCondition, WindowRow};
+use apex_types::{Mode, StartCondition};
 use partition::{Out, Partition};
 use partition_base::Executor;
+use window_table::Schedule;
 
 /// A partition with the data that its processes share.
 #[derive(Drop)]
@@ -19,10 +20,8 @@ pub struct Member<E: Executor> {
 /// The partitions of an image in their order, and the windows of its major frame.
 #[derive(Drop)]
 pub struct Module<E: Executor> {
-    pub frame: u32,
-    pub windows: Vec<WindowRow>,
+    pub schedule: Schedule,
     pub members: Vec<Member<E>>,
-    ghost frame_there: { 0 < frame },
 }
 
 /// The first start of a partition.

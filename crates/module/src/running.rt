@@ -1,19 +1,21 @@
 //! Running an image: its partitions in their windows, tick by tick, and the text of their trace.
 
-ghost use Rattle.std.specs.Prelude.{◌≡◌, ◌≤◌, ◌<◌, ◌+◌, ◌-◌, ◌^◌, [], Ok, map, IfOk, IfErr, OnOk, OnErr, IsErrOf};
+ghost use Rattle.std.specs.Prelude.{◌≡◌, ◌≤◌, ◌<◌, ◌+◌, ◌-◌, ◌^◌, [], true, Ok, map, IfOk, IfErr, OnOk, OnErr, IsErrOf};
 ghost use Rattle.std.specs.Io.KnownBytes.{Appends};
 ghost use Rattle.apex_types.specs.Line.{text_of};
 ghost use Rattle.apex_types.specs.Sink.{TakesBeginning};
 ghost use Rattle.apex_meaning.specs.Module as meaning;
-ghost use Rattle.apex_meaning.specs.ImageLimits.{IsLawful};
 ghost use Rattle.apex_meaning.specs.ImageReading.{image_at};
 ghost use Rattle.image.specs.Views.{image_of};
+ghost use Rattle.window_table.specs.Schedules.{schedule_of};
+ghost use Rattle.module.specs.Part.{is_image_of_part};
 ghost use Rattle.module.specs.Promises.{IsRefused, Means, Runs};
 ghost use Rattle.module.specs.Views.{members_of, module_of};
 
 use crate::building::build;
 use crate::fault::{BuildAndRunFault, RunFault};
 use crate::member::Module;
+use crate::part::is_image_of_part;
 use apex_types::{Events, Sink, SinkFault, write_events};
 use image::{Image, ImageFault, load_image};
 use partition::{Actions, Out};
@@ -54,18 +56,21 @@ pub fn run<S: Sink>(
     }
 }
 
-/// The image that the bytes are.
-#[tactic(auto, using(crate::proofs::Reading::lawful))]
+/// The image that the bytes are, if it is of the part that is run so far.
 fn load(alloc: Global, bytes: &[u8]) -> Result<Image, RunFault>
     ensures read { IfOk result (λ image. image_at bytes.now ≡ Ok (image_of image)) }
-    ensures lawful { IfOk result (λ image. IsLawful (image_of image)) }
+    ensures part { IfOk result (λ image. is_image_of_part (image_of image) ≡ true) }
     ensures refused { IfErr result (λ fault. IsRefused (image_at bytes.now) fault) }
 {
-    match load_image(alloc, bytes) {
-        Ok(image) => Ok(image),
-        Err(ImageFault::Memory) => Err(RunFault::Memory),
-        Err(_) => Err(RunFault::NotYet),
+    let image = match load_image(alloc, bytes) {
+        Ok(image) => image,
+        Err(ImageFault::Memory) => return Err(RunFault::Memory),
+        Err(_) => return Err(RunFault::NotYet),
+    };
+    if !is_image_of_part(&image) {
+        return Err(RunFault::NotYet);
     }
+    Ok(image)
 }
 
 /// The start of each partition, then so many ticks; without a tick nothing happens.
@@ -101,8 +106,7 @@ fn start<E: Executor, S: Sink>(
     requires lines { out.old.lines.items ≡ [] }
     requires actions { out.old.actions.items ≡ [] }
     requires failures { S.failures sink.old < 2 ^ 64 - 1 }
-    ensures frame { running.new.frame ≡ running.old.frame }
-    ensures windows { running.new.windows.items ≡ running.old.windows.items }
+    ensures schedule { schedule_of running.new.schedule ≡ schedule_of running.old.schedule }
     ensures members { OnOk result (members_of E.Executor running.new.members.items ≡ (meaning.starts (members_of E.Executor running.old.members.items)).members) }
     ensures ok { OnOk result (Appends (S.taken sink.old) (S.taken sink.new) (text_of (meaning.starts (members_of E.Executor running.old.members.items)).lines)) }
     ensures quiet { OnOk result (S.failures sink.new ≡ S.failures sink.old) }
@@ -132,10 +136,10 @@ fn run_ticks<E: Executor, S: Sink>(
     requires lines { out.old.lines.items ≡ [] }
     requires actions { out.old.actions.items ≡ [] }
     requires failures { S.failures sink.old < 2 ^ 64 - 1 }
-    ensures ok { OnOk result (Appends (S.taken sink.old) (S.taken sink.new) (text_of (meaning.trace_from running.old.frame running.old.windows.items ticks 0 (members_of E.Executor running.old.members.items)))) }
+    ensures ok { OnOk result (Appends (S.taken sink.old) (S.taken sink.new) (text_of (meaning.trace_from (schedule_of running.old.schedule) ticks 0 (members_of E.Executor running.old.members.items)))) }
     ensures quiet { OnOk result (S.failures sink.new ≡ S.failures sink.old) }
     ensures failed { OnErr result (S.failures sink.new ≡ S.failures sink.old + 1) }
-    ensures beginning { OnErr result (TakesBeginning (S.taken sink.old) (S.taken sink.new) (text_of (meaning.trace_from running.old.frame running.old.windows.items ticks 0 (members_of E.Executor running.old.members.items)))) }
+    ensures beginning { OnErr result (TakesBeginning (S.taken sink.old) (S.taken sink.new) (text_of (meaning.trace_from (schedule_of running.old.schedule) ticks 0 (members_of E.Executor running.old.members.items)))) }
 {
     let mut left = ticks;
     let mut now = 0;

@@ -4,6 +4,7 @@ ghost use Rattle.std.specs.Prelude.{◌≡◌, ◌<◌};
 ghost use Rattle.apex_meaning.specs.Windows.{is_within, ends_at, releases, BeginWithin};
 
 use apex_types::{At, PartitionId, Ticks, WindowRow};
+use std::alloc::{AllocError, Global};
 
 /// The ticks of the major frame, and its windows in the order of the table. The frame is above 0,
 /// and each window begins within it.
@@ -39,9 +40,20 @@ pub fn releases(partition: PartitionId, window: &WindowRow) -> bool
 }
 
 impl Schedule {
-    ghost use Rattle.std.specs.Prelude.{◌≡◌, ◌≤◌, ◌<◌, ◌^◌, option_map, IsTrue};
+    ghost use Rattle.std.specs.Prelude.{◌≡◌, ◌≤◌, ◌<◌, ◌^◌, option_map, IsTrue, IfOk};
     ghost use Rattle.apex_meaning.specs.Windows.{at_tick, phase, owner, ended, has_release, until_start, until_one_of, next_release, IsNextRelease};
     ghost use Rattle.window_table.specs.Schedules.{schedule_of};
+
+    /// The same schedule once more. An error is one of memory.
+    pub fn try_clone(&self, alloc: Global) -> Result<Schedule, AllocError>
+        ensures { IfOk result (λ copy. schedule_of copy ≡ schedule_of self.now) }
+    {
+        let windows = Vec::from_slice(alloc, self.windows.as_slice())?;
+        Ok(Schedule {
+            frame: self.frame,
+            windows,
+        })
+    }
 
     /// The place of a tick in its frame.
     fn phase(&self, at: At) -> Ticks

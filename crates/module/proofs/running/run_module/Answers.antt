@@ -11,12 +11,12 @@ pub returns-in_err-start-clause-beginning : goal.returns-in_err-start-clause-beg
 returns-in_err-start-clause-beginning g c =
     let m = module_of g.E.Executor c.args.running.now in
     let starts = meaning.starts m.members in
-    let split = whole_text m m.frame c.args.ticks m.windows starts.members (omega arith) refl refl refl in
+    let split = whole_text m m.schedule c.args.ticks starts.members (omega arith) refl refl in
     let out : TakesBeginning (g.S.Sink.taken c.args.sink.now) (g.S.Sink.taken c.start.new.sink) (text_of (meaning.trace m c.args.ticks)) = first_fails _ _ _ _ _ split c.in_err-start.ensures.beginning in
     err_at c.from_residual.result out
 
 pub returns-clause-beginning : goal.returns-clause-beginning
 returns-clause-beginning g c =
     let m = module_of g.E.Executor c.args.running.now in
-    let split = whole_text m _ c.args.ticks _ _ (omega arith) c.in_ok-start.ensures.frame c.in_ok-start.ensures.windows c.in_ok-start.ensures.members in
+    let split = whole_text m _ c.args.ticks _ (omega arith) c.in_ok-start.ensures.schedule c.in_ok-start.ensures.members in
     on_err c.run_ticks.result c.run_ticks.ensures.beginning (λ h. second_fails _ _ _ _ _ _ split c.in_ok-start.ensures.ok h)

@@ -16,8 +16,7 @@ loop-place-preserved g c =
     record {
       lines = search rules;
       actions = search rules;
-      frame = c.start_at.ensures.frame ∙ c.loop-place.invariant.frame;
-      windows = c.start_at.ensures.windows ∙ c.loop-place.invariant.windows;
+      schedule = c.start_at.ensures.schedule ∙ c.loop-place.invariant.schedule;
       members = step_members _ _ _ c.loop-place.place so_far within c.start_at.ensures.members;
       under_way = under_way_more _ _ _ _ (text_of c.as_slice.result.now) _ left c.in_ok-write_events.ensures.ok;
       quiet = search rules;
