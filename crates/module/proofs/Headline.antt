@@ -1,12 +1,10 @@
 -- From accepted sources to the text of their trace.
-use Rattle.std.proofs.Common.{◌≡◌, ◌≢◌, ℕ, List, [], ◌∷◌, length, map, Option, Result, Ok, Err, IfOk, refl, sym, ap, subst, ◌∙◌}
+use Rattle.std.proofs.Common.{◌≡◌, ◌≢◌, ℕ, List, [], ◌∷◌, length, map, Option, Result, Ok, Err, IfOk, inl, inr, refl, sym, ap, subst, ◌∙◌}
 use Rattle.std.specs.Prelude.{true, ◌==◌}
 use Rattle.std.specs.List.{list_all, All}
 use Rattle.std.specs.Io.KnownBytes.{Appends}
-use Rattle.std.proofs.lemmas.Bool.{and_parts, eqb-true}
-use Rattle.std.proofs.lemmas.List.{nil_from_length}
+use Rattle.std.proofs.lemmas.Bool.{and_parts, false≢true}
 use Rattle.std.proofs.lemmas.List.Elements.{All-nil, All-cons}
-use Rattle.toml.specs.Data.{Members}
 use Rattle.apex_types.specs.declared.event.Event.{Event}
 use Rattle.apex_types.specs.Line.{text_of}
 use Rattle.apex_types.specs.Sink.{TakesBeginning}
@@ -15,15 +13,14 @@ use Rattle.apex_meaning.specs.Image.{Partition, Section, Table, Item, Image}
 use Rattle.apex_meaning.specs.ImageLimits.{IsSection, IsLawful}
 use Rattle.apex_meaning.specs.ImageReading.{Fault, image_at}
 use Rattle.apex_meaning.specs.Program.{Program}
-use Rattle.apex_meaning.specs.TableRules.{verdict}
 use Rattle.apex_meaning.specs.TwoMeanings.{source_trace, machine_trace}
 use Rattle.apex_meaning.proofs.AcceptedImage.{accepted_image}
 use Rattle.apex_meaning.proofs.ImageLaws.{spelled_is_read}
 use Rattle.apex_meaning.proofs.WellFormedSection.{accepted_section}
-use Rattle.module.specs.Accepted.{IsAccepted, AreAccepted, IsTable}
-use Rattle.module.specs.Built.{built_item, built_items, built_image, IsCoded, AreCoded, IsBuiltFrom}
+use Rattle.module.specs.Accepted.{IsAccepted, AreAccepted, IsJudged, IsTable}
+use Rattle.module.specs.Built.{built_item, built_items, built_image, IsCoded, AreCoded, BecomesLawful, IsBuiltFrom}
 use Rattle.module.specs.Building.{IsImageOf}
-use Rattle.module.specs.Part.{is_row_of_part, is_table_of_part}
+use Rattle.module.specs.Part.{is_image_of_part, is_row_of_part, is_table_of_part}
 use Rattle.module.specs.Promises.{IsRun, IsOutside, Runs, IsAcceptedRun, Means, ran}
 use Rattle.module.specs.declared.fault.RunFault.{RunFault}
 use Rattle.module.specs.declared.fault.RunFault.TheVariants.{Ticks, NotYet, Memory, Write}
@@ -34,10 +31,9 @@ use Rattle.module.proofs.SameTraces.{traces_same}
 lawful_section : (row : Partition) (source : List ℕ) (p : Program) → IsAccepted row source p → IsCoded p → IsSection row.period (section_of p)
 lawful_section row source p a h = accepted_section row.ports row.period a.tree p a.judged h.size h.words
 
--- a table of the part has no channel
-no_channel : (t : Table) → is_table_of_part t ≡ true → t.channels ≡ []
-no_channel t h =
-    nil_from_length t.channels (eqb-true (length t.channels) 0 (and_parts (length t.channels == 0) (list_all is_row_of_part t.partitions) h).0)
+-- a table of the part becomes an image of the part
+image_of_part : (t : Table) (ps : List Program) → is_table_of_part t ≡ true → is_image_of_part (built_image t ps) ≡ true
+image_of_part t ps h = (and_parts (length t.channels == 0) (list_all is_row_of_part t.partitions) h).0
 
 -- a partition and its section, which an image may have
 abbrev IsLawfulItem : Item → Type 0
@@ -54,10 +50,13 @@ items_lawful (r ∷ rows) (s ∷ sources) (p ∷ ps) a h =
     let rest = items_lawful rows sources ps a.1 h.1 in
     (ap (λ (xs : List Partition). r ∷ xs) rest.0, All-cons IsLawfulItem (built_item r p) (built_items rows ps) (lawful_section r s p a.0 h.0) rest.1)
 
-lawful_image : (ms : Members) (t : Table) (sources : List (List ℕ)) (ps : List Program) → verdict ms ≡ Ok t → t.channels ≡ [] → AreAccepted t.partitions sources ps → AreCoded ps → IsLawful (built_image t ps)
-lawful_image ms t sources ps judged none a h =
+pub lawful_image : (t : Table) (sources : List (List ℕ)) (ps : List Program) → IsJudged t → AreAccepted t.partitions sources ps → BecomesLawful t ps
+lawful_image t sources ps judged a h =
     let each = items_lawful t.partitions sources ps a h in
-    accepted_image ms t (built_items t.partitions ps) judged each.0 each.1 none
+    accepted_image judged.0 t (built_items t.partitions ps) judged.1 each.0 each.1
+
+pub judged_table : (text : List ℕ) (t : Table) → IsTable text t → IsJudged t
+judged_table text t h = (h.0, h.2)
 
 -- the image of an accepted module, and its bytes
 module_image : (table : List ℕ) (sources : List (List ℕ)) (t : Table) (bytes : List ℕ) → IsTable table t → is_table_of_part t ≡ true → IsBuiltFrom t sources bytes → IsImageOf table sources bytes
@@ -66,7 +65,8 @@ module_image table sources t bytes is_table part h = record {
   programs = h.programs;
   accepted = record { rows = is_table; accepted = h.accepted };
   image = built_image t h.programs;
-  loaded = ap image_at h.spelled ∙ spelled_is_read (built_image t h.programs) (lawful_image is_table.0 t sources h.programs is_table.2 (no_channel t part) h.accepted h.coded);
+  loaded = ap image_at h.spelled ∙ spelled_is_read (built_image t h.programs) (lawful_image t sources h.programs (judged_table table t is_table) h.accepted h.coded);
+  part = image_of_part t h.programs part;
   meaning = λ n. sym (traces_same t h.programs n (are_compiled t.partitions sources h.programs h.accepted h.coded));
 }
 
@@ -93,9 +93,10 @@ accepted_run : (table : List ℕ) (sources : List (List ℕ)) (bytes devices : L
 accepted_run table sources bytes devices n image h r = record { accepted = h.accepted; alone = r.alone; few = r.few }
 
 -- an image that is loaded is refused for its devices alone
-has_devices : (read : Result Image Fault) (image : Image) (devices : List ℕ) → read ≡ ok_image image → IsOutside read devices → devices ≢ []
-has_devices (Ok other) image devices e h = h
-has_devices (Err fault) image devices e h = absurd cc
+has_devices : (read : Result Image Fault) (image : Image) (devices : List ℕ) → read ≡ ok_image image → is_image_of_part image ≡ true → IsOutside read devices → devices ≢ []
+has_devices (Ok other) image devices e part (inl outside) = absurd (false≢true (sym outside ∙ ap is_image_of_part (image_is other image e) ∙ part))
+has_devices (Ok other) image devices e part (inr some) = some
+has_devices (Err fault) image devices e part h = absurd cc
 
 pub run_means : (table : List ℕ) (sources : List (List ℕ)) (bytes devices : List ℕ) (n : ℕ) (old new : Option (List ℕ)) (answer : Result (Unit {0}) RunFault)
     → IsImageOf table sources bytes → Runs (image_at bytes) devices n old new answer → Means table sources devices n old new (ran answer)
@@ -104,5 +105,5 @@ run_means table sources bytes devices n old new (Ok x) h (image, r, out) =
 run_means table sources bytes devices n old new (Err Write) h (image, r, out) =
     (h.rows, h.programs, accepted_run table sources bytes devices n image h r, subst (TakesBeginning old new) (same_text table sources bytes devices n image h r) out)
 run_means table sources bytes devices n old new (Err Ticks) h r = r
-run_means table sources bytes devices n old new (Err NotYet) h r = (has_devices (image_at bytes) h.image devices h.loaded r.0, r.1)
+run_means table sources bytes devices n old new (Err NotYet) h r = (has_devices (image_at bytes) h.image devices h.loaded h.part r.0, r.1)
 run_means table sources bytes devices n old new (Err Memory) h r = r

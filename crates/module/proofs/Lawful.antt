@@ -57,13 +57,13 @@ items_fit frame before [] h place item e = absurd (none-some item e)
 items_fit frame before (i ∷ items) h zero item e = subst (λ (x : PartitionItem). IsFittingSection x.section) (same_Some i item e) (section_fits i.row.period i.section h.0.section)
 items_fit frame before (i ∷ items) h (suc place) item e = items_fit frame (before ++ item_of i ∷ []) items h.1 place item e
 
-pub lawful_fits : (image : Image) → IsLawful (image_of image) → AreFittingItems image.partitions.items
-lawful_fits image h = items_fit image.schedule.frame [] image.partitions.items h.limits.items
+pub items_of_image_fit : (image : Image) → AreFittingItems image.partitions.items
+items_of_image_fit image = items_fit image.schedule.frame [] image.partitions.items image.lawful.limits.items
 
-pub lawful_few : (image : Image) → IsLawful (image_of image) → length image.partitions.items ≤ 16
-lawful_few image h = let same = length-map image.partitions.items item_of in let most = h.limits.item_count.most in omega arith
+pub items_of_image_few : (image : Image) → length image.partitions.items ≤ 16
+items_of_image_few image = let same = length-map image.partitions.items item_of in let most = image.lawful.limits.item_count.most in omega arith
 
-pub ruleset lawful = (lawful_fits, lawful_few)
+pub ruleset fitting_items = (items_of_image_fit, items_of_image_few)
 
 idle_processes : (rows : List ProcessRow) → replicate (length rows) None ≡ map (no_control_for {C = MachineControl}) (map machine_row rows)
 idle_processes [] = refl

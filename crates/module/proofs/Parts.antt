@@ -6,6 +6,8 @@ use Rattle.std.specs.Option.{option_map}
 use Rattle.std.proofs.lemmas.Bool.{ne_eqb}
 use Rattle.std.proofs.lemmas.List.{length-map}
 use Rattle.std.proofs.lemmas.List.Folds.{list_all-map}
+use Rattle.image.specs.Views.{image_of}
+use Rattle.image.specs.declared.value.Image.{Image}
 use Rattle.window_table.specs.Views.{partition_view, channel_view, table_of}
 use Rattle.window_table.specs.declared.table.ModuleTable.{ModuleTable}
 use Rattle.pal_base.specs.declared.program.Body.{Body}
@@ -19,7 +21,7 @@ use Rattle.pal_base.specs.declared.syntax.DeclarationKind.TheVariants as kind
 use Rattle.pal_base.specs.declared.syntax.Declaration.{Declaration}
 use Rattle.pal_base.specs.declared.syntax.Program as source
 use Rattle.pal_base.specs.ProgramView.{expr_of, exprs_of, stmt_of, block_of, body_of, procedure_of, process_of, program_of}
-use Rattle.module.specs.Part.{is_expr_of_part, are_exprs_of_part, is_three, is_normal, is_stmt_of_part, is_block_of_part, is_process_of_part, is_row_of_part, is_table_of_part, is_program_of_part, is_port, declares_port}
+use Rattle.module.specs.Part.{is_expr_of_part, are_exprs_of_part, is_three, is_normal, is_stmt_of_part, is_block_of_part, is_process_of_part, is_image_of_part, is_row_of_part, is_table_of_part, is_program_of_part, is_port, declares_port}
 
 pub exprs_are : (es : List Expr) → list_all (λ e. is_expr_of_part (expr_of e)) es ≡ are_exprs_of_part (exprs_of es)
 exprs_are [] = refl
@@ -32,6 +34,11 @@ block_is (s ∷ ss) = ap (λ b. is_stmt_of_part (stmt_of s) && b) (block_is ss)
 pub normal_is : (e : Expr) (es : List Expr) → is_normal (exprs_of (e ∷ es)) ≡ ((length es == 0) && is_three (expr_of e))
 normal_is e [] = refl
 normal_is e (x ∷ es) = ap (λ b. b && is_three (expr_of e)) (sym (ne_eqb (length (x ∷ es)) 0 (λ h. omega (arith, h))))
+
+-- ---- images
+
+pub channels_are : (image : Image) → (length image.channels.items == 0) ≡ is_image_of_part (image_of image)
+channels_are image = ap (λ n. n == 0) (sym (length-map image.channels.items channel_view))
 
 -- ---- whole tables and programs
 

@@ -22,6 +22,10 @@ AreAccepted [] [] [] = Unit {0}
 AreAccepted (row ∷ rows) (source ∷ sources) (p ∷ ps) = IsAccepted row source p × AreAccepted rows sources ps
 AreAccepted _ _ _ = ⊥
 
+-- a document that keeps the rules has these rows
+abbrev pub IsJudged : Table → Type 0
+IsJudged t = (document : Members) × (table_rules.verdict document ≡ Ok t)
+
 -- the text of a table is a document that keeps the rules, with these rows
 abbrev pub IsTable : List ℕ → Table → Type 0
 IsTable text t = (document : Members) × IsDocument text document × (table_rules.verdict document ≡ Ok t)

@@ -16,18 +16,19 @@ use Rattle.pal_base.specs.declared.fault.Refusal.TheVariants as refusal
 use Rattle.window_table.specs.Answers.{AnswersText}
 use Rattle.window_table.specs.declared.fault.TableFault.TheVariants as table_fault
 use Rattle.module.specs.Accepted.{IsAccepted, AreAccepted, IsTable, IsModule}
-use Rattle.module.specs.Part.{is_table_of_part, is_program_of_part, is_built, declares_port}
+use Rattle.module.specs.Part.{is_image_of_part, is_table_of_part, is_program_of_part, is_built, declares_port}
 use Rattle.module.specs.declared.fault.BuildFault.{BuildFault}
 use Rattle.module.specs.declared.fault.BuildFault.TheVariants as fault
 
--- The bytes are an image's, which for every number of ticks means what the accepted table and sources
--- mean.
+-- The bytes are an image's, which is run and for every number of ticks means what the accepted table and
+-- sources mean.
 pub record IsImageOf (table : List ℕ) (sources : List (List ℕ)) (bytes : List ℕ) : Type 0 where
   pub rows : Table
   pub programs : List Program
   pub accepted : IsModule table sources rows programs
   pub image : Image
   pub loaded : image_at bytes ≡ Ok image
+  pub part : is_image_of_part image ≡ true
   pub meaning : (n : ℕ) → machine_trace image n ≡ source_trace rows programs n
 
 -- ---- refusals of a source

@@ -6,6 +6,7 @@ use Rattle.apex_meaning.specs.Program.{Program}
 use Rattle.apex_meaning.specs.CompiledCode.{code_of, section_of}
 use Rattle.apex_meaning.specs.Fits.{Fits}
 use Rattle.apex_meaning.specs.Image.{Partition, Table, Item, Image}
+use Rattle.apex_meaning.specs.ImageLimits.{IsLawful}
 use Rattle.apex_meaning.specs.ImageSpelling.{spelling}
 use Rattle.apex_meaning.specs.Instructions.{reading}
 use Rattle.module.specs.Accepted.{AreAccepted}
@@ -21,7 +22,7 @@ built_items (row ∷ rows) [] = []
 built_items (row ∷ rows) (p ∷ ps) = built_item row p ∷ built_items rows ps
 
 abbrev pub built_image : Table → List Program → Image
-built_image t programs = record { frame = t.frame; fault = t.fault; items = built_items t.partitions programs; windows = t.windows; channels = t.channels }
+built_image t programs = record { schedule = t.schedule; fault = t.fault; items = built_items t.partitions programs; channels = t.channels }
 
 -- A program of at most 65,536 instructions, which are read again from their bytes, and of words of 64
 -- bits.
@@ -33,6 +34,10 @@ pub record IsCoded (p : Program) : Type 0 where
 abbrev pub AreCoded : List Program → Type 0
 AreCoded [] = Unit {0}
 AreCoded (p ∷ ps) = IsCoded p × AreCoded ps
+
+-- once the programs are compiled, their image is lawful
+abbrev pub BecomesLawful : Table → List Program → Type 0
+BecomesLawful t programs = AreCoded programs → IsLawful (built_image t programs)
 
 -- A program that fits, with its code.
 pub record IsCompiled (p : Program) : Type 0 where

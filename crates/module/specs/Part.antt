@@ -10,7 +10,7 @@ use Rattle.apex_types.specs.declared.row.HealthTable.{HealthTable}
 use Rattle.apex_types.specs.declared.service.Service.{Service}
 use Rattle.apex_types.specs.declared.service.Service.TheVariants as service
 use Rattle.apex_meaning.specs.Cost.{size_of}
-use Rattle.apex_meaning.specs.Image.{Partition, Table}
+use Rattle.apex_meaning.specs.Image.{Partition, Table, Image}
 use Rattle.apex_meaning.specs.Syntax as written
 use Rattle.apex_meaning.specs.Program.{Expr, Literal, Read, Chain, Links, NoLink, MoreLinks, Exprs, NoExpr, MoreExprs, Stmt, Assign, AssignElement, Work, Request, Block, NoStmt, MoreStmts, Process, Program}
 
@@ -33,6 +33,11 @@ is_row_of_part row = (length row.ports == 0) && ignores_all row.health
 
 abbrev pub is_table_of_part : Table → Bool
 is_table_of_part t = (length t.channels == 0) && list_all is_row_of_part t.partitions
+
+-- ---- images: what is run so far has no channel
+
+abbrev pub is_image_of_part : Image → Bool
+is_image_of_part image = length image.channels == 0
 
 -- ---- programs
 

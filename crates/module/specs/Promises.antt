@@ -1,5 +1,5 @@
 -- What running an image, and building and running a module, promise.
-use Rattle.std.specs.Prelude.{◌≡◌, ◌≢◌, ℕ, ◌^◌, ◌<◌, ◌≤◌, List, [], Option, Result, Ok, Err}
+use Rattle.std.specs.Prelude.{◌≡◌, ◌≢◌, ◌⊎◌, ℕ, true, false, ◌^◌, ◌<◌, ◌≤◌, List, [], Option, Result, Ok, Err}
 use Rattle.std.specs.Io.KnownBytes.{Appends}
 use Rattle.apex_types.specs.Line.{text_of}
 use Rattle.apex_types.specs.Sink.{TakesBeginning}
@@ -13,15 +13,18 @@ use Rattle.module.specs.declared.fault.BuildAndRunFault.TheVariants.{Build, Run}
 use Rattle.module.specs.declared.fault.RunFault.{RunFault}
 use Rattle.module.specs.declared.fault.RunFault.TheVariants.{Ticks, NotYet, Memory, Write}
 use Rattle.module.specs.Building.{IsRefusal}
+use Rattle.module.specs.Part.{is_image_of_part}
 
--- what is refused for now: bytes that are no image, and device texts that are not empty
+-- what is refused for now: bytes that are no image, images outside the part that is run, and device
+-- texts that are not empty
 abbrev pub IsOutside : Result Image Fault → List ℕ → Type 0
 IsOutside (Err fault) devices = Unit {0}
-IsOutside (Ok image) devices = devices ≢ []
+IsOutside (Ok image) devices = (is_image_of_part image ≡ false) ⊎ (devices ≢ [])
 
--- the image that was read, within the ticks that are run, with no device
+-- the image that was read, of the part that is run, within the ticks that are run, with no device
 pub record IsRun (read : Result Image Fault) (devices : List ℕ) (n : ℕ) (image : Image) : Type 0 where
   pub loaded : read ≡ Ok image
+  pub part : is_image_of_part image ≡ true
   pub alone : devices ≡ []
   pub few : n ≤ 2 ^ 40
 
@@ -34,9 +37,10 @@ Runs read devices n old new (Err Ticks) = (2 ^ 40 < n) × (new ≡ old)
 Runs read devices n old new (Err NotYet) = IsOutside read devices × (new ≡ old)
 Runs read devices n old new (Err Memory) = new ≡ old
 
--- why bytes are not loaded
+-- why bytes are not run: they are no image, or one outside the part
 abbrev pub IsRefused : Result Image Fault → RunFault → Type 0
 IsRefused (Err fault) NotYet = Unit {0}
+IsRefused (Ok image) NotYet = is_image_of_part image ≡ false
 IsRefused read Memory = Unit {0}
 IsRefused _ _ = ⊥
 

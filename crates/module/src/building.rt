@@ -7,9 +7,9 @@ ghost use Rattle.image.specs.Items.{item_of, items_of, partition_of, section_of}
 ghost use Rattle.image.specs.Views.{image_of};
 ghost use Rattle.pal_base.specs.ProgramView.{program_of};
 ghost use Rattle.window_table.specs.Views.{table_of};
-ghost use Rattle.module.specs.Accepted.{IsTable};
+ghost use Rattle.module.specs.Accepted.{IsJudged, IsTable};
 ghost use Rattle.module.specs.Building.{IsImageOf, IsRefusal, IsRefusedWith, IsTableRefusal, IsProgramRefusal, IsLengthRefusal};
-ghost use Rattle.module.specs.Built.{IsBuiltFrom, IsCoded, AreCoded, built_image, built_item, built_items};
+ghost use Rattle.module.specs.Built.{BecomesLawful, IsBuiltFrom, IsCoded, AreCoded, built_image, built_item, built_items};
 ghost use Rattle.module.specs.Part.{is_table_of_part};
 ghost use Rattle.module.specs.Sources.{programs_of};
 
@@ -54,6 +54,7 @@ fn read(alloc: Global, text: &[u8]) -> Result<ModuleTable, BuildFault>
 
 /// The bytes of the image of an accepted table and its sources.
 fn build_table(alloc: Global, table: ModuleTable, sources: &[&[u8]]) -> Result<Vec<u8>, BuildFault>
+    requires { IsJudged (table_of table) }
     ensures built { IfOk result (λ bytes. IsBuiltFrom (table_of table) (map (λ s. s.now) sources.now) bytes.items) }
     ensures part { IfOk result (λ bytes. is_table_of_part (table_of table) ≡ true) }
     ensures refused { IfErr result (λ fault. IsRefusedWith (table_of table) (map (λ s. s.now) sources.now) fault) }
@@ -74,7 +75,8 @@ fn build_bytes(
     table: ModuleTable,
     sources: &[AcceptedSource],
 ) -> Result<Vec<u8>, BuildFault>
-    requires { length sources.now ≡ length table.partitions.items }
+    requires count { length sources.now ≡ length table.partitions.items }
+    requires lawful { BecomesLawful (table_of table) (programs_of sources.now) }
     ensures spelled { IfOk result (λ bytes. bytes.items ≡ spelling (built_image (table_of table) (programs_of sources.now))) }
     ensures coded { IfOk result (λ bytes. AreCoded (programs_of sources.now)) }
     ensures refused { IfErr result (λ fault. IsLengthRefusal (programs_of sources.now) fault) }
@@ -92,24 +94,23 @@ fn build_image(
     table: ModuleTable,
     sources: &[AcceptedSource],
 ) -> Result<Image, BuildFault>
-    requires { length sources.now ≡ length table.partitions.items }
+    requires count { length sources.now ≡ length table.partitions.items }
+    requires lawful { BecomesLawful (table_of table) (programs_of sources.now) }
     ensures image { IfOk result (λ image. image_of image ≡ built_image (table_of table) (programs_of sources.now)) }
     ensures coded { IfOk result (λ image. AreCoded (programs_of sources.now)) }
     ensures refused { IfErr result (λ fault. IsLengthRefusal (programs_of sources.now) fault) }
 {
     let ModuleTable {
-        frame,
+        schedule,
         fault,
         partitions,
-        windows,
         channels,
     } = table;
     let partitions = build_items(alloc, partitions, sources)?;
     Ok(Image {
-        frame,
+        schedule,
         fault,
         partitions,
-        windows,
         channels,
     })
 }

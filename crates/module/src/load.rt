@@ -21,7 +21,7 @@ use window_table::{PartitionRow, Schedule};
 
 impl Module<Machine> {
     /// The partitions of an image, idle, with nothing created. An error is one of memory.
-    #[tactic(auto, using(crate::proofs::Lawful::lawful))]
+    #[tactic(auto, using(crate::proofs::Lawful::fitting_items))]
     pub fn load(alloc: Global, image: &Image) -> Result<Module<Machine>, AllocError>
         ensures { IfOk result (λ loaded. module_of machine loaded ≡ machine_module (image_of image.now)) }
     {

@@ -2,12 +2,14 @@
 
 ghost use Rattle.std.specs.Prelude.{◌≡◌, []};
 ghost use Rattle.std.specs.List.{list_all, list_any};
+ghost use Rattle.image.specs.Views.{image_of};
 ghost use Rattle.pal_base.specs.ProgramView.{expr_of, exprs_of, links_of, stmt_of, block_of, process_of, program_of};
 ghost use Rattle.pal_base.specs.View as written;
 ghost use Rattle.window_table.specs.Views.{partition_view, table_of};
-ghost use Rattle.module.specs.Part.{ignores_all, is_row_of_part, is_table_of_part, is_plus, is_expr_of_part, are_links_of_part, are_exprs_of_part, is_index_within, is_normal, is_three, is_request_of_part, is_stmt_of_part, is_block_of_part, is_process_of_part, is_program_of_part, is_ignored, is_port, declares_port};
+ghost use Rattle.module.specs.Part.{ignores_all, is_image_of_part, is_row_of_part, is_table_of_part, is_plus, is_expr_of_part, are_links_of_part, are_exprs_of_part, is_index_within, is_normal, is_three, is_request_of_part, is_stmt_of_part, is_block_of_part, is_process_of_part, is_program_of_part, is_ignored, is_port, declares_port};
 
 use apex_types::{BinaryOperator, HealthTable, PartitionAction, Service};
+use image::Image;
 use pal_base::program::{Expr, Link, Process, Program, Stmt};
 use pal_base::syntax::{self, Declaration, DeclarationKind};
 use window_table::{ModuleTable, PartitionRow};
@@ -42,6 +44,14 @@ pub fn is_table_of_part(table: &ModuleTable) -> bool
     ensures { result ≡ is_table_of_part (table_of table.now) }
 {
     table.channels.is_empty() && are_rows_of_part(&table.partitions)
+}
+
+/// Whether an image is of the part that is run: it has no channel.
+#[tactic(auto, using(crate::proofs::Parts::channels_are))]
+pub fn is_image_of_part(image: &Image) -> bool
+    ensures { result ≡ is_image_of_part (image_of image.now) }
+{
+    image.channels.is_empty()
 }
 
 fn are_rows_of_part(rows: &[PartitionRow]) -> bool

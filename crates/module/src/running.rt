@@ -1,21 +1,22 @@
 //! Running an image: its partitions in their windows, tick by tick, and the text of their trace.
 
-ghost use Rattle.std.specs.Prelude.{◌≡◌, ◌≤◌, ◌<◌, ◌+◌, ◌-◌, ◌^◌, [], Ok, map, IfOk, IfErr, OnOk, OnErr, IsErrOf};
+ghost use Rattle.std.specs.Prelude.{◌≡◌, ◌≤◌, ◌<◌, ◌+◌, ◌-◌, ◌^◌, [], true, Ok, map, IfOk, IfErr, OnOk, OnErr, IsErrOf};
 ghost use Rattle.std.specs.Io.KnownBytes.{Appends};
 ghost use Rattle.apex_types.specs.Line.{text_of};
 ghost use Rattle.apex_types.specs.Sink.{TakesBeginning};
 ghost use Rattle.apex_meaning.specs.Module as meaning;
-ghost use Rattle.apex_meaning.specs.ImageLimits.{IsLawful};
 ghost use Rattle.apex_meaning.specs.ImageReading.{image_at};
 ghost use Rattle.image.specs.Views.{image_of};
+ghost use Rattle.window_table.specs.Schedules.{schedule_of};
+ghost use Rattle.module.specs.Part.{is_image_of_part};
 ghost use Rattle.module.specs.Promises.{IsRefused, Means, Runs};
 ghost use Rattle.module.specs.Views.{members_of, module_of};
-ghost use Rattle.window_table.specs.Schedules.{schedule_of};
 
 use crate::advance::FIRST_TICK;
 use crate::building::build;
 use crate::fault::{BuildAndRunFault, RunFault};
 use crate::member::Module;
+use crate::part::is_image_of_part;
 use apex_types::{At, Events, Sink, SinkFault, Ticks, write_events};
 use image::{Image, ImageFault, load_image};
 use partition_base::{Executor, Machine};
@@ -55,18 +56,21 @@ pub fn run<S: Sink>(
     }
 }
 
-/// The image that the bytes are.
-#[tactic(auto, using(crate::proofs::Reading::lawful))]
+/// The image that the bytes are, if it is of the part that is run so far.
 fn load(alloc: Global, bytes: &[u8]) -> Result<Image, RunFault>
     ensures read { IfOk result (λ image. image_at bytes.now ≡ Ok (image_of image)) }
-    ensures lawful { IfOk result (λ image. IsLawful (image_of image)) }
+    ensures part { IfOk result (λ image. is_image_of_part (image_of image) ≡ true) }
     ensures refused { IfErr result (λ fault. IsRefused (image_at bytes.now) fault) }
 {
-    match load_image(alloc, bytes) {
-        Ok(image) => Ok(image),
-        Err(ImageFault::Memory) => Err(RunFault::Memory),
-        Err(_) => Err(RunFault::NotYet),
+    let image = match load_image(alloc, bytes) {
+        Ok(image) => image,
+        Err(ImageFault::Memory) => return Err(RunFault::Memory),
+        Err(_) => return Err(RunFault::NotYet),
+    };
+    if !is_image_of_part(&image) {
+        return Err(RunFault::NotYet);
     }
+    Ok(image)
 }
 
 /// The start of each partition, then so many ticks; without a tick nothing happens.

@@ -58,9 +58,20 @@ fn own_windows(
 }
 
 impl Schedule {
-    ghost use Rattle.std.specs.Prelude.{◌≡◌, ◌≤◌, ◌<◌, ◌^◌, option_map, IsTrue};
+    ghost use Rattle.std.specs.Prelude.{◌≡◌, ◌≤◌, ◌<◌, ◌^◌, option_map, IsTrue, IfOk};
     ghost use Rattle.apex_meaning.specs.Windows.{at_tick, schedule_of_partition, phase, owner, ended, has_release, until_start, until_one_of, next_release, IsNextRelease};
     ghost use Rattle.window_table.specs.Schedules.{schedule_of};
+
+    /// The same schedule once more. An error is one of memory.
+    pub fn try_clone(&self, alloc: Global) -> Result<Schedule, AllocError>
+        ensures { IfOk result (λ copy. schedule_of copy ≡ schedule_of self.now) }
+    {
+        let windows = Vec::from_slice(alloc, self.windows.as_slice())?;
+        Ok(Schedule {
+            frame: self.frame,
+            windows,
+        })
+    }
 
     /// The same frame with the windows of one partition alone. An error is one of memory.
     pub fn of_partition(

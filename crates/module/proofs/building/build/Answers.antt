@@ -1,6 +1,6 @@
 use Rattle.std.proofs.Common.{map}
 use Rattle.window_table.specs.Views.{table_of}
-use Rattle.module.proofs.Headline.{built_bytes}
+use Rattle.module.proofs.Headline.{built_bytes, judged_table}
 use Rattle.module.proofs.Refused.{weaker, passed_on, table_refused, refused_with}
 use Rattle.module.proofs.building.build.Goals as goal
 
@@ -15,3 +15,6 @@ returns-clause-refused c =
 pub returns-in_err-table-clause-refused : goal.returns-in_err-table-clause-refused
 returns-in_err-table-clause-refused c =
     passed_on _ _ c.in_err-table.field-0.0 c.from_residual.result c.from_residual.ensures (table_refused c.args.table.now (map (λ s. s.now) c.args.sources.now)) c.in_err-table.ensures.refused
+
+pub build_table-requires : goal.build_table-requires
+build_table-requires c = judged_table c.args.table.now (table_of c.in_ok-table.table) c.in_ok-table.ensures.table
