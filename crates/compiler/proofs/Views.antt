@@ -1,82 +1,12 @@
--- What the definitions see of a variant that holds a list of its own kind.
-use Rattle.std.proofs.Common.{◌≡◌, ℕ, zero, suc, ◌<◌, ◌≤◌, arith, get_or, length, List, [], ◌∷◌, refl, sym, ap, ◌∙◌}
-use Rattle.std.specs.Prelude.{Vec, Box}
-use Rattle.std.specs.declared.alloc.Global.{Global}
-use mathlib.Core.Former.{Count}
-use Rattle.pal_base.specs.declared.program.Expr.{Expr, Chain, Chain', Apply, Apply', Row_of-Expr, end_of-Expr, more_of-Expr, items-the_row-Expr, items_hidden-the_row-Expr-1, Row_of-Link, end_of-Link, more_of-Link, items-the_row-Link, items_hidden-the_row-Link-0}
-use Rattle.pal_base.specs.declared.program.Link.{Link}
-use Rattle.pal_base.specs.declared.program.Stmt.{Stmt, If, If', IfElse, IfElse', While, While', Row_of-Stmt, end_of-Stmt, more_of-Stmt, items-the_row-Stmt, items_hidden-the_row-Stmt-0}
-use Rattle.pal_base.specs.ProgramView.{expr_of, expr_row, link_row, exprs_of, links_of, stmt_of, stmt_row, block_of}
+-- The size of a block and of its statements.
+use Rattle.std.proofs.Common.{ℕ, zero, suc, ◌<◌, ◌≤◌, arith, get_or, length, List, [], ◌∷◌}
+use Rattle.pal_base.specs.declared.program.Stmt.{Stmt}
+use Rattle.pal_base.specs.ProgramView.{stmt_of, block_of}
 use Rattle.apex_meaning.specs.Cost.{size_of_stmt, size_of_block}
-use Rattle.apex_meaning.specs.Program as tree
-
-expr_list : (n : _) (k : Row_of-Expr n) → expr_row k ≡ exprs_of (items-the_row-Expr n k)
-expr_list n end_of-Expr = refl
-expr_list n (more_of-Expr e es) = ap (λ r. tree.MoreExprs (expr_of e) r) (expr_list _ es)
-
-link_list : (n : _) (k : Row_of-Link n) → link_row k ≡ links_of (items-the_row-Link n k)
-link_list n end_of-Link = refl
-link_list n (more_of-Link operator e ls) = ap (λ r. tree.MoreLinks operator (expr_of e) r) (link_list _ ls)
-
-stmt_list : (n : _) (k : Row_of-Stmt n) → stmt_row k ≡ block_of (items-the_row-Stmt n k)
-stmt_list n end_of-Stmt = refl
-stmt_list n (more_of-Stmt s ss) = ap (λ r. tree.MoreStmts (stmt_of s) r) (stmt_list _ ss)
-
-abbrev arguments_of : Expr → (n : Count) × Row_of-Expr n
-arguments_of (Apply' f shape es) = (_, es)
-arguments_of _ = (_, end_of-Expr)
-
-abbrev rest_of : Expr → (n : Count) × Row_of-Link n
-rest_of (Chain' p first shape ls) = (_, ls)
-rest_of _ = (_, end_of-Link)
-
-abbrev first_block : Stmt → (n : Count) × Row_of-Stmt n
-first_block (If' test shape ss) = (_, ss)
-first_block (IfElse' test shape ss other ts) = (_, ss)
-first_block (While' test shape ss) = (_, ss)
-first_block _ = (_, end_of-Stmt)
-
-abbrev second_block : Stmt → (n : Count) × Row_of-Stmt n
-second_block (IfElse' test shape ss other ts) = (_, ts)
-second_block _ = (_, end_of-Stmt)
-
-view_apply : (f : ℕ) (es : Vec Expr Global) → expr_of (Apply f es) ≡ tree.Apply f (exprs_of es.items)
-view_apply f es = let row = arguments_of (Apply f es) in ap (λ r. tree.Apply f r) (expr_list row.0 row.1 ∙ ap exprs_of (items_hidden-the_row-Expr-1 es))
-
-view_chain : (e : Box Expr Global) (ls : Vec Link Global) → expr_of (Chain e ls) ≡ tree.Chain (expr_of e.value) (links_of ls.items)
-view_chain e ls = let row = rest_of (Chain e ls) in ap (λ r. tree.Chain (expr_of e.value) r) (link_list row.0 row.1 ∙ ap links_of (items_hidden-the_row-Link-0 ls))
-
-view_if : (test : Expr) (ss : Vec Stmt Global) → stmt_of (If test ss) ≡ tree.If (expr_of test) (block_of ss.items)
-view_if test ss = let row = first_block (If test ss) in ap (λ r. tree.If (expr_of test) r) (stmt_list row.0 row.1 ∙ ap block_of (items_hidden-the_row-Stmt-0 ss))
-
-view_while : (test : Expr) (ss : Vec Stmt Global) → stmt_of (While test ss) ≡ tree.While (expr_of test) (block_of ss.items)
-view_while test ss = let row = first_block (While test ss) in ap (λ r. tree.While (expr_of test) r) (stmt_list row.0 row.1 ∙ ap block_of (items_hidden-the_row-Stmt-0 ss))
-
-view_if_else : (test : Expr) (ss ts : Vec Stmt Global) → stmt_of (IfElse test ss ts) ≡ tree.IfElse (expr_of test) (block_of ss.items) (block_of ts.items)
-view_if_else test ss ts =
-    let row = first_block (IfElse test ss ts) in
-    let other = second_block (IfElse test ss ts) in
-    ap (λ r. tree.IfElse (expr_of test) r (stmt_row other.1)) (stmt_list row.0 row.1 ∙ ap block_of (items_hidden-the_row-Stmt-0 ss))
-    ∙ ap (λ r. tree.IfElse (expr_of test) (block_of ss.items) r) (stmt_list other.0 other.1 ∙ ap block_of (items_hidden-the_row-Stmt-0 ts))
-
--- the same where a function has looked into the value
-pub seen_chain : (e : Expr) (first : Box Expr Global) (ls : Vec Link Global) (x : Expr) (xs : List Link) → e ≡ Chain first ls → x ≡ first.value → xs ≡ ls.items → expr_of e ≡ tree.Chain (expr_of x) (links_of xs)
-seen_chain e first ls x xs is at list = ap expr_of is ∙ view_chain first ls ∙ ap (λ y. tree.Chain (expr_of y) (links_of ls.items)) (sym at) ∙ ap (λ ys. tree.Chain (expr_of x) (links_of ys)) (sym list)
-
-pub seen_apply : (e : Expr) (f : ℕ) (es : Vec Expr Global) (xs : List Expr) → e ≡ Apply f es → xs ≡ es.items → expr_of e ≡ tree.Apply f (exprs_of xs)
-seen_apply e f es xs is list = ap expr_of is ∙ view_apply f es ∙ ap (λ ys. tree.Apply f (exprs_of ys)) (sym list)
-
-pub seen_if : (s : Stmt) (test : Expr) (ss : Vec Stmt Global) (xs : List Stmt) → s ≡ If test ss → xs ≡ ss.items → stmt_of s ≡ tree.If (expr_of test) (block_of xs)
-seen_if s test ss xs is list = ap stmt_of is ∙ view_if test ss ∙ ap (λ ys. tree.If (expr_of test) (block_of ys)) (sym list)
-
-pub seen_while : (s : Stmt) (test : Expr) (ss : Vec Stmt Global) (xs : List Stmt) → s ≡ While test ss → xs ≡ ss.items → stmt_of s ≡ tree.While (expr_of test) (block_of xs)
-seen_while s test ss xs is list = ap stmt_of is ∙ view_while test ss ∙ ap (λ ys. tree.While (expr_of test) (block_of ys)) (sym list)
-
-pub seen_if_else : (s : Stmt) (test : Expr) (ss ts : Vec Stmt Global) (xs ys : List Stmt) → s ≡ IfElse test ss ts → xs ≡ ss.items → ys ≡ ts.items → stmt_of s ≡ tree.IfElse (expr_of test) (block_of xs) (block_of ys)
-seen_if_else s test ss ts xs ys is first second = ap stmt_of is ∙ view_if_else test ss ts ∙ ap (λ zs. tree.IfElse (expr_of test) (block_of zs) (block_of ts.items)) (sym first) ∙ ap (λ zs. tree.IfElse (expr_of test) (block_of xs) (block_of zs)) (sym second)
+use Rattle.apex_meaning.proofs.Counts.{more_stmts_size}
 
 -- a statement of a block is no longer than the block
 pub item_size : (xs : List Stmt) (i : ℕ) (d : Stmt) → i < length xs → size_of_stmt (stmt_of (get_or xs i d)) ≤ size_of_block (block_of xs)
 item_size [] i d h = absurd (omega arith)
-item_size (x ∷ xs) zero d h = omega arith
-item_size (x ∷ xs) (suc i) d h = let h' : i < length xs = omega arith in omega (arith, item_size xs i d h')
+item_size (x ∷ xs) zero d h = omega (arith, more_stmts_size (stmt_of x) (block_of xs))
+item_size (x ∷ xs) (suc i) d h = let h' : i < length xs = omega arith in omega (arith, more_stmts_size (stmt_of x) (block_of xs), item_size xs i d h')

@@ -7,8 +7,8 @@ ghost use Rattle.apex_meaning.specs.CompiledCode as code_of;
 ghost use Rattle.pal_base.specs.ProgramView.{body_of, procedure_of, process_of};
 
 use crate::emit::{emit_block, put};
-use crate::operands::operands_of_block;
 use apex_types::{BodyRow, Instr, ProcessRow, RoutineRow};
+use pal_base::frames::{frame_of_body, frame_of_procedure};
 use pal_base::program::{Body, Procedure, Process};
 use std::alloc::{AllocError, Global};
 
@@ -22,11 +22,12 @@ pub fn emit_body(code: &mut Vec<Instr>, body: &Body) -> Result<BodyRow, AllocErr
     let slots = u16::from(body.locals);
     emit_block(code, slots, &body.block)?;
     put(code, Instr::End)?;
+    let frame = frame_of_body(body) as u32;
     Ok(BodyRow {
         stack: body.stack,
         entry,
         slots,
-        frame: u32::from(slots) + operands_of_block(&body.block) + 2,
+        frame,
     })
 }
 
@@ -86,11 +87,12 @@ fn emit_procedure(code: &mut Vec<Instr>, procedure: &Procedure) -> Result<Routin
     emit_block(code, slots, &procedure.block)?;
     put(code, Instr::Push(0))?;
     put(code, Instr::GiveBack(u32::from(slots)))?;
+    let frame = frame_of_procedure(procedure.parameters, procedure.locals, &procedure.block) as u32;
     Ok(RoutineRow {
         entry,
         parameters: procedure.parameters,
         slots,
-        frame: u32::from(slots) + operands_of_block(&procedure.block).max(1) + 2,
+        frame,
     })
 }
 

@@ -6,7 +6,6 @@
 mod bodies;
 mod emit;
 mod fault;
-mod operands;
 mod section;
 mod size;
 

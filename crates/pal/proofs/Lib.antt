@@ -1,4 +1,3 @@
-pub mod ProgramRows
 pub mod SyntaxRows
 pub mod Tables
 pub mod Tests

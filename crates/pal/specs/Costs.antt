@@ -1,19 +1,16 @@
 -- What the report of a program's costs has: a row for each body, INIT, the handler, the processes and
 -- the procedures, in this order.
-use Rattle.std.specs.Prelude.{ℕ, List, [], ◌∷◌, ◌++◌, map, min, Option, Some, None}
+use Rattle.std.specs.Prelude.{ℕ, List, [], ◌∷◌, ◌++◌, map, Option, Some, None}
 use Rattle.apex_meaning.specs.Cost as cost
 use Rattle.pal_base.specs.declared.program.Body.{Body}
 use Rattle.pal_base.specs.declared.program.Procedure as code_procedure
 use Rattle.pal_base.specs.declared.program.Process as code_process
 use Rattle.pal_base.specs.declared.program.Program.{Program}
 use Rattle.pal_base.specs.ProgramView.{body_of, procedure_of}
+use Rattle.pal_base.specs.Costs.{held}
 use Rattle.pal.specs.declared.report.BodyCost.{BodyCost}
 use Rattle.pal.specs.declared.report.BodyName.{BodyName}
 use Rattle.pal.specs.declared.report.BodyName.TheVariants as name
-
--- a number as 64 bits hold it: beyond them it is the greatest that they do
-abbrev pub held : ℕ → ℕ
-held n = min n 18446744073709551615
 
 -- its instructions, its frame, and the sum of the costs of its constructs
 abbrev pub cost_of_body : BodyName → Body → BodyCost

@@ -12,7 +12,6 @@ ghost use Rattle.pal_base.specs.View.{texts, name_of, number_of, integer_of, exp
 ghost use Rattle.pal.specs.Tables.{entries_of};
 ghost use Rattle.pal.specs.Parts.{limits_hold_among};
 
-use crate::frames::{frame_of_body, frame_of_procedure};
 use crate::lines::{earlier, unless};
 use crate::meanings::Counts;
 use crate::numbers::value_of;
@@ -20,6 +19,7 @@ use crate::resolving::{limited_count, resolve_body, resolve_statements};
 use crate::table::{NameTable, text_of};
 use apex_types::Name;
 use indexmap::IndexSet;
+use pal_base::frames::{frame_of_body, frame_of_procedure};
 use pal_base::syntax::{
     Body, Declaration, DeclarationKind, Expr, Identifier, Link, Numeral, Process, Program,
     StackBody, Stmt, StmtKind,

@@ -5,11 +5,10 @@ ghost use Rattle.apex_meaning.specs.Cost as cost;
 ghost use Rattle.pal_base.specs.ProgramView.{body_of, procedure_of};
 ghost use Rattle.pal.specs.Costs.{costs_of, cost_of_body, cost_of_handler, cost_of_process, cost_of_procedure, cost_of_procedure_body};
 
-use crate::frames::{frame_of_body, frame_of_procedure};
-use crate::size::size_of_block;
-use crate::ticks::cost_of_block;
 use crate::verdict::Checked;
 use apex_types::Name;
+use pal_base::cost::{Cost, cost_of_body, cost_of_procedure};
+use pal_base::frames::{frame_of_body, frame_of_procedure};
 use pal_base::program::{Body, Procedure, Process};
 use std::alloc::{AllocError, Global};
 
@@ -77,21 +76,23 @@ fn report_procedures(report: &mut Vec<BodyCost>, procedures: &[Procedure]) -> Re
 fn body_cost(name: BodyName, body: &Body) -> BodyCost
     ensures { result ≡ cost_of_body name body.now }
 {
+    let Cost { size, ticks } = cost_of_body(body);
     BodyCost {
         name,
-        instructions: size_of_block(&body.block).saturating_add(1),
+        instructions: size,
         frame: frame_of_body(body),
-        cost: cost_of_block(&body.block).saturating_add(4),
+        cost: ticks,
     }
 }
 
 fn procedure_cost(name: BodyName, procedure: &Procedure) -> BodyCost
     ensures { result ≡ cost_of_procedure_body name procedure.now }
 {
+    let Cost { size, ticks } = cost_of_procedure(procedure);
     BodyCost {
         name,
-        instructions: size_of_block(&procedure.block).saturating_add(2),
+        instructions: size,
         frame: frame_of_procedure(procedure.parameters, procedure.locals, &procedure.block),
-        cost: cost_of_block(&procedure.block).saturating_add(3),
+        cost: ticks,
     }
 }

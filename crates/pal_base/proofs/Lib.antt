@@ -4,3 +4,5 @@ pub mod Turns
 pub mod Views
 pub mod Cuts
 pub mod Refusals
+pub mod ProgramRows
+pub mod Costs

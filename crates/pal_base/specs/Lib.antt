@@ -9,3 +9,4 @@ pub mod Reads
 pub mod Answers
 pub mod Numbers
 pub mod Parts
+pub mod Costs

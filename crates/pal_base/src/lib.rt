@@ -1,10 +1,13 @@
 //! Pal's trees: the program as it is written, and the program with its names resolved.
 #![tactic(auto)]
 
+pub mod cost;
 mod declaration;
 mod expression;
 pub mod fault;
+pub mod frames;
 mod mark;
+mod operands;
 pub mod parse;
 pub mod program;
 mod source;

@@ -1,7 +1,7 @@
 use Rattle.std.proofs.Common.{◌++◌, ◌∷◌, [], sym, ap, ◌∙◌, append_assoc}
 use Rattle.apex_meaning.specs.CompiledCode as code_of
 use Rattle.pal_base.specs.ProgramView.{expr_of, exprs_of, links_of}
-use Rattle.compiler.proofs.Views.{seen_apply, seen_chain}
+use Rattle.pal_base.proofs.ProgramRows.{seen_apply, seen_chain}
 use Rattle.compiler.proofs.Emitted.{on_ok}
 use Rattle.apex_types.specs.declared.instruction.Instr.TheVariants.{Enter}
 use Rattle.compiler.proofs.emit.+emit_expr.Goals as goal

@@ -5,7 +5,7 @@ use Rattle.pal_base.specs.View as view
 use Rattle.pal_base.specs.ProgramView.{expr_of, links_of}
 use Rattle.pal.specs.Scopes.{names_of, sees}
 use Rattle.pal.proofs.SyntaxRows.{seen_apply, seen_chain}
-use Rattle.pal.proofs.ProgramRows.{view_apply, view_chain}
+use Rattle.pal_base.proofs.ProgramRows.{view_apply, view_chain}
 use Rattle.pal.proofs.Resolved.{exprs_step, exprs_done, links_step, links_done}
 use Rattle.pal.proofs.resolving.+resolve_expression.Goals as goal
 

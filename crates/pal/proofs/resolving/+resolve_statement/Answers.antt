@@ -5,7 +5,7 @@ use Rattle.pal_base.specs.View as view
 use Rattle.pal_base.specs.ProgramView.{block_of}
 use Rattle.pal.specs.Scopes.{names_of, sees}
 use Rattle.pal.proofs.SyntaxRows.{seen_if, seen_while, seen_if_else}
-use Rattle.pal.proofs.ProgramRows.{view_if, view_while, view_if_else}
+use Rattle.pal_base.proofs.ProgramRows.{view_if, view_while, view_if_else}
 use Rattle.pal.proofs.Resolved.{block_step, block_done}
 use Rattle.pal.proofs.resolving.+resolve_statement.Goals as goal
 

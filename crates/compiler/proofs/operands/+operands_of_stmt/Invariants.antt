@@ -1,7 +1,0 @@
-use Rattle.std.proofs.Common.{◌≡◌, ◌≤◌, min, max, drop}
-use Rattle.apex_meaning.specs.Cost as cost
-use Rattle.pal_base.specs.ProgramView.{block_of}
-use Rattle.compiler.proofs.operands.+operands_of_stmt.Given as goal
-
-abbrev pub invariant-operands_of_block-loop-stmt : goal.invariant-operands_of_block-loop-stmt
-invariant-operands_of_block-loop-stmt l = (l.most ≤ 4294967295) × (min (max l.most (cost.operands_of_block (block_of (drop l.stmt-index l.block)))) 4294967295 ≡ min (cost.operands_of_block (block_of l.block)) 4294967295)

@@ -1,0 +1,8 @@
+use Rattle.std.proofs.Common.{drop}
+use Rattle.apex_meaning.specs.Cost as cost
+use Rattle.pal_base.specs.ProgramView.{block_of}
+use Rattle.pal_base.proofs.Costs.{UnderWay}
+use Rattle.pal_base.proofs.cost.+cost_of_stmt.Given as goal
+
+abbrev pub invariant-cost_of_block-loop-stmt : goal.invariant-cost_of_block-loop-stmt
+invariant-cost_of_block-loop-stmt l = UnderWay l.cost (cost.costs_of_block (block_of (drop l.stmt-index l.block))) (cost.costs_of_block (block_of l.block))
