@@ -7,8 +7,8 @@ use partition_base::Executor;
 /// The kernel of a partition, and what runs its processes.
 #[derive(Drop)]
 pub struct Partition<E: Executor> {
-    pub(crate) kernel: Kernel,
-    pub(crate) executor: E,
+    pub kernel: Kernel,
+    pub executor: E,
     /// What a phase has told and asked for, before it is done.
     pub(crate) out: Out,
 }

@@ -6,7 +6,7 @@ ghost use Rattle.apex_meaning.specs.Kernel.{of_processes};
 ghost use Rattle.apex_meaning.specs.Partition as meaning;
 ghost use Rattle.apex_meaning.specs.PartitionServices.{clears};
 ghost use Rattle.apex_meaning.specs.Step.{IsMade};
-ghost use Rattle.partition.specs.Members.{member_at, member_of, acts_all, IsWhole, IsMoved};
+ghost use Rattle.partition.specs.Members.{member_of, acts_all, IsWhole, IsMoved};
 ghost use Rattle.processor.specs.Views.{asks_of};
 
 use crate::acting::{act_all, tell};
@@ -19,7 +19,8 @@ use processor::Outcome;
 impl<E: Executor> Partition<E> {
     /// A partition of a kernel over an executor.
     pub fn new(kernel: Kernel, executor: E) -> Partition<E>
-        ensures { (mem : E.Mem) → member_of E.Executor result mem ≡ member_at E.Executor kernel executor mem }
+        ensures kernel { result.kernel ≡ kernel }
+        ensures executor { result.executor ≡ executor }
     {
         Partition {
             kernel,
