@@ -4,8 +4,8 @@ use Rattle.std.proofs.lemmas.List.{map-append}
 use Rattle.apex_types.specs.declared.place.Place.{Place}
 use Rattle.apex_meaning.specs.Program.{Procedure, Body, Expr, Links, Exprs, Stmt, Block}
 use Rattle.apex_meaning.specs.Program.{Literal, Read, Element, Unary, Chain, Apply, NoLink, MoreLinks, NoExpr, MoreExprs}
-use Rattle.apex_meaning.specs.Program.{Assign, AssignElement, If, IfElse, While, Work, Return, Request, NoStmt, MoreStmts}
-use Rattle.apex_meaning.specs.SourceControl.{Part, Evaluate, Execute, Do, Simple, Value, ReadScalar, ReadElement, OperateOne, OperateTwo, Open, WriteScalar, WriteElement, Choose, ChooseElse, Repeat, Leave, GoBack, Spend, GiveBack, Ask, EndBody, Front, links_then, exprs_then, block_then, targets_then, front_of_expr, front_of_exprs, front_of_stmt, front_of, cost_of_simple, parts_of_body, parts_of_procedure}
+use Rattle.apex_meaning.specs.Program.{Assign, AssignElement, If, IfElse, While, Work, Return, CallService, NoStmt, MoreStmts}
+use Rattle.apex_meaning.specs.SourceControl.{Part, Evaluate, Execute, Do, Simple, Value, ReadScalar, ReadElement, OperateOne, OperateTwo, Open, WriteScalar, WriteElement, Choose, ChooseElse, Repeat, Leave, GoBack, Spend, ReturnValue, Ask, EndBody, Front, links_then, exprs_then, block_then, targets_then, front_of_expr, front_of_exprs, front_of_stmt, front_of, cost_of_simple, parts_of_body, parts_of_procedure}
 use Rattle.apex_meaning.specs.Cost.{costs_of_expr, costs_of_links, costs_of_exprs, costs_of_stmt, costs_of_block, costs_of_procedure, costs_of_body, scalar_cost}
 use Rattle.apex_meaning.specs.Constructs.{constructs_of_expr, constructs_of_links, constructs_of_exprs, constructs_of_stmt, constructs_of_block, with_held, constructs_of}
 
@@ -49,8 +49,8 @@ stmt_unfolds (If test block) r = expr_unfolds test (Do (Choose block) ∷ r) ∙
 stmt_unfolds (IfElse test block other) r = expr_unfolds test (Do (ChooseElse block other) ∷ r) ∙ simp append_assoc
 stmt_unfolds (While test block) r = expr_unfolds test (Do (Repeat test block) ∷ r) ∙ simp append_assoc
 stmt_unfolds (Work ticks) r = refl
-stmt_unfolds (Return e) r = expr_unfolds e (Do GiveBack ∷ r) ∙ simp append_assoc
-stmt_unfolds (Request service es ts) r = exprs_unfold es (Ask service) (targets_then ts r) ∙ ap (λ xs. constructs_of_exprs es ++ (Ask service ∷ xs)) (targets_constructs ts r) ∙ simp append_assoc
+stmt_unfolds (Return e) r = expr_unfolds e (Do ReturnValue ∷ r) ∙ simp append_assoc
+stmt_unfolds (CallService service es ts) r = exprs_unfold es (Ask service) (targets_then ts r) ∙ ap (λ xs. constructs_of_exprs es ++ (Ask service ∷ xs)) (targets_constructs ts r) ∙ simp append_assoc
 
 pub part_unfolds : (part : Part) (rest : List Part) → constructs_of (part ∷ rest) ≡ with_held (front_of (part ∷ rest)).construct ++ constructs_of (front_of (part ∷ rest)).rest
 part_unfolds (Evaluate e) rest = sym (expr_unfolds e rest)
@@ -88,7 +88,7 @@ mutual
   stmt_costs (While test block) = simp (expr_costs test, block_costs block, map-append, append_assoc)
   stmt_costs (Work ticks) = refl
   stmt_costs (Return e) = simp (expr_costs e, map-append)
-  stmt_costs (Request service es ts) = simp (exprs_costs es, targets_costs ts, map-append)
+  stmt_costs (CallService service es ts) = simp (exprs_costs es, targets_costs ts, map-append)
 
   block_costs : (b : Block) → costs_of_block b ≡ map cost_of_simple (constructs_of_block b)
   block_costs NoStmt = refl
@@ -98,4 +98,4 @@ pub body_costs : (b : Body) → costs_of_body b ≡ map cost_of_simple (construc
 body_costs b = simp (block_constructs b.block (Do EndBody ∷ []), block_costs b.block, map-append)
 
 pub procedure_costs : (p : Procedure) → costs_of_procedure p ≡ map cost_of_simple (constructs_of (parts_of_procedure p))
-procedure_costs p = simp (block_constructs p.block (Do (Value (pos 0)) ∷ Do GiveBack ∷ []), block_costs p.block, map-append)
+procedure_costs p = simp (block_constructs p.block (Do (Value (pos 0)) ∷ Do ReturnValue ∷ []), block_costs p.block, map-append)

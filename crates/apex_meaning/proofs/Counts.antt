@@ -7,7 +7,7 @@ use Rattle.apex_types.specs.declared.place.Place.{Place}
 use Rattle.apex_types.specs.declared.service.Service.{Service}
 use Rattle.apex_meaning.specs.Program.{Procedure, Body, Expr, Links, Exprs, Stmt, Block}
 use Rattle.apex_meaning.specs.Program.{Element, Unary, Chain, Apply, MoreLinks, MoreExprs}
-use Rattle.apex_meaning.specs.Program.{Assign, AssignElement, If, IfElse, While, Return, Request, MoreStmts}
+use Rattle.apex_meaning.specs.Program.{Assign, AssignElement, If, IfElse, While, Return, CallService, MoreStmts}
 use Rattle.apex_meaning.specs.ServiceTable.{cost_of_service}
 use Rattle.apex_meaning.specs.Operators.{cost_of_binary}
 use Rattle.apex_meaning.specs.Cost.{literal_cost, scalar_cost, element_cost, unary_cost, branch_cost, jump_cost, call_cost, return_cost, end_cost, costs_of_expr, costs_of_links, costs_of_exprs, costs_of_stmt, costs_of_block, size_of_expr, size_of_links, size_of_exprs, size_of_stmt, size_of_block, size_of_procedure, size_of_body}
@@ -48,8 +48,8 @@ while_size test block = omega (arith, length-append (costs_of_expr test ++ (bran
 pub return_size : (value : Expr) → size_of_stmt (Return value) ≡ size_of_expr value + 1
 return_size value = omega (arith, length-append (costs_of_expr value) (return_cost ∷ []))
 
-pub request_size : (service : Service) (arguments : Exprs) (targets : List Place) → size_of_stmt (Request service arguments targets) ≡ size_of_exprs arguments + 1 + length targets
-request_size service arguments targets = omega (arith, length-append (costs_of_exprs arguments) (cost_of_service service ∷ map (λ _. scalar_cost) targets), length-map targets (λ _. scalar_cost))
+pub call_service_size : (service : Service) (arguments : Exprs) (targets : List Place) → size_of_stmt (CallService service arguments targets) ≡ size_of_exprs arguments + 1 + length targets
+call_service_size service arguments targets = omega (arith, length-append (costs_of_exprs arguments) (cost_of_service service ∷ map (λ _. scalar_cost) targets), length-map targets (λ _. scalar_cost))
 
 pub more_stmts_size : (first : Stmt) (rest : Block) → size_of_block (MoreStmts first rest) ≡ size_of_stmt first + size_of_block rest
 more_stmts_size first rest = omega (arith, length-append (costs_of_stmt first) (costs_of_block rest))

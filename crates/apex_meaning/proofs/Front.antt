@@ -6,14 +6,14 @@ use Rattle.apex_types.specs.declared.instruction.Instr.TheVariants as instr
 use Rattle.apex_types.specs.declared.place.Place.{Place}
 use Rattle.apex_meaning.specs.Program.{Program, Procedure, Body, Expr, Links, Exprs, Stmt, Block}
 use Rattle.apex_meaning.specs.Program.{Literal, Read, Element, Unary, Chain, Apply, NoLink, MoreLinks, NoExpr, MoreExprs}
-use Rattle.apex_meaning.specs.Program.{Assign, AssignElement, If, IfElse, While, Work, Return, Request, NoStmt, MoreStmts}
+use Rattle.apex_meaning.specs.Program.{Assign, AssignElement, If, IfElse, While, Work, Return, CallService, NoStmt, MoreStmts}
 use Rattle.apex_meaning.specs.ServiceTable.{number_of, argument_words, answer_words}
 use Rattle.apex_meaning.specs.Cost.{size_of_expr, size_of_links, size_of_exprs, size_of_stmt, size_of_block, operands_of_expr, operands_of_links, operands_of_exprs, operands_of_stmt, operands_of_block}
 use Rattle.apex_meaning.specs.Fits.{count_of, FitsExpr, FitsLinks, FitsExprs, FitsStmt, FitsBlock, ArePlacesWithin}
 use Rattle.apex_meaning.specs.CompiledCode.{load, store, expr_code, links_code, exprs_code, stmt_code, block_code}
-use Rattle.apex_meaning.specs.SourceControl.{Part, Evaluate, Execute, Do, Simple, Value, ReadScalar, ReadElement, OperateOne, OperateTwo, Open, WriteScalar, WriteElement, Choose, ChooseElse, Repeat, Leave, GoBack, Spend, GiveBack, Ask, EndBody, Front, links_then, exprs_then, block_then, targets_then, front_of_expr, front_of_exprs, front_of_stmt, front_of}
+use Rattle.apex_meaning.specs.SourceControl.{Part, Evaluate, Execute, Do, Simple, Value, ReadScalar, ReadElement, OperateOne, OperateTwo, Open, WriteScalar, WriteElement, Choose, ChooseElse, Repeat, Leave, GoBack, Spend, ReturnValue, Ask, EndBody, Front, links_then, exprs_then, block_then, targets_then, front_of_expr, front_of_exprs, front_of_stmt, front_of}
 use Rattle.apex_meaning.specs.Related.{Code, HasAt, Limits, ExprAt, StmtAt, BlockAt, Goes}
-use Rattle.apex_meaning.proofs.Counts.{element_size, unary_size, chain_size, apply_size, more_links_size, more_exprs_size, assign_size, assign_element_size, if_size, if_else_size, while_size, request_size, more_stmts_size}
+use Rattle.apex_meaning.proofs.Counts.{element_size, unary_size, chain_size, apply_size, more_links_size, more_exprs_size, assign_size, assign_element_size, if_size, if_else_size, while_size, call_service_size, more_stmts_size}
 use Rattle.apex_meaning.proofs.Sizes.{expr_size, links_size, exprs_size, stmt_size, block_size}
 use Rattle.apex_meaning.proofs.Placed.{has_front, has_back}
 
@@ -101,7 +101,7 @@ module _ (code : Code) (ps : List Procedure) (k : Limits) where
         let at : pc + size_of_expr (Chain e ls) ≡ pc + size_of_expr e + size_of_links ls = omega (arith, chain_size e ls) in
         front_expr e (links_then ls r) pc n (record { has = has_front code pc (expr_code e) (links_code ls) h.has; fits = h.fits.0; room = room_e }) (links_goes ls r (pc + size_of_expr e) n back h.fits.1 room_ls (moved r _ _ (n + 1) (n + 1) at refl g))
     front_expr (Apply f es) r pc n h g =
-        let i = instr.Enter f ∷ [] in
+        let i = instr.Call f ∷ [] in
         let back = has_back code pc (size_of_exprs es) (exprs_code es) i (exprs_size es) h.has in
         let p = h.fits.0.0 in
         let arity : p.parameters ≡ count_of es = h.fits.0.2 in
@@ -203,12 +203,12 @@ module _ (code : Code) (ps : List Procedure) (k : Limits) where
       front_expr test (Do (Repeat test block) ∷ r) pc n (record { has = has_front code pc (expr_code test) (i ∷ first) there; fits = h.fits.0; room = room_test }) (back.0, one, record { has = back.1; fits = h.fits.1; room = room_block }, (pc, jump.0, again, at), moved r _ _ _ _ at less g)
   front_stmt (Work ticks) r pc n h g = (h.has.0, h.fits, g)
   front_stmt (Return e) r pc n h g =
-      let i = instr.GiveBack k.slots ∷ [] in
+      let i = instr.Return k.slots ∷ [] in
       let back = has_back code pc (size_of_expr e) (expr_code e) i (expr_size e) h.has in
       let one : 1 ≤ n + 1 = omega arith in
-      front_expr e (Do GiveBack ∷ r) pc n (record { has = has_front code pc (expr_code e) i h.has; fits = h.fits.1; room = h.room }) (back.0, one, h.fits.0)
-  front_stmt (Request service es ts) r pc n h g =
-      let i = instr.Request (number_of service) ∷ map store ts in
+      front_expr e (Do ReturnValue ∷ r) pc n (record { has = has_front code pc (expr_code e) i h.has; fits = h.fits.1; room = h.room }) (back.0, one, h.fits.0)
+  front_stmt (CallService service es ts) r pc n h g =
+      let i = instr.Service (number_of service) ∷ map store ts in
       let back = has_back code pc (size_of_exprs es) (exprs_code es) i (exprs_size es) h.has in
       let arity : count_of es ≡ argument_words service = h.fits.1 in
       let answer : length ts ≡ answer_words service = h.fits.2 in
@@ -216,7 +216,7 @@ module _ (code : Code) (ps : List Procedure) (k : Limits) where
       let room_es : n + operands_of_exprs es ≤ k.room = omega arith in
       let handed : argument_words service ≤ n + count_of es = omega arith in
       let room_answer : n + count_of es - argument_words service + answer_words service ≤ k.room = omega arith in
-      let at : pc + size_of_stmt (Request service es ts) ≡ pc + size_of_exprs es + 1 + length ts = omega (arith, request_size service es ts) in
+      let at : pc + size_of_stmt (CallService service es ts) ≡ pc + size_of_exprs es + 1 + length ts = omega (arith, call_service_size service es ts) in
       let left : n + length ts ≡ n + count_of es - argument_words service + answer_words service = omega arith in
       let here = pc + size_of_exprs es + 1 in
       front_exprs es (Ask service) (targets_then ts r) pc n (has_front code pc (exprs_code es) i h.has) h.fits.0 room_es (back.0, handed, room_answer, moved (targets_then ts r) here here _ _ refl left (targets_goes ts r here n back.1 h.fits.3 (moved r _ _ n n at refl g)))

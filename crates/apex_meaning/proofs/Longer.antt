@@ -70,7 +70,7 @@ mutual
   stmt_longer (tree.While e b) rest = omega (arith, expr_longer e (Mark (codes "{") ∷ closed b rest), block_longer b (Mark (codes "}") ∷ rest))
   stmt_longer (tree.Work ticks) rest = omega arith
   stmt_longer (tree.Return e) rest = omega (arith, expr_longer e (Mark (codes ";") ∷ rest))
-  stmt_longer (tree.Request service es xs) rest =
+  stmt_longer (tree.CallService service es xs) rest =
       let after = targets_words xs (Mark (codes ";") ∷ rest) in
       omega (arith, arguments_longer es true (Mark (codes ")") ∷ after), targets_longer xs (Mark (codes ";") ∷ rest))
 

@@ -3,7 +3,7 @@ use Rattle.std.proofs.Common.{◌≡◌, ℕ, ◌-◌, ◌≤◌, true, false, c
 use Rattle.std.specs.Prelude.{codes}
 use Rattle.apex_types.specs.declared.service.Service.{Service}
 use Rattle.apex_meaning.specs.GrammarWords.{Word, Mark, same}
-use Rattle.apex_meaning.specs.GrammarReading.{◌>>=◌, each, until, expect, name_at, number_at, service_at, repeat, block_of, expr_at, nested_at, arguments_at, names_at, targets_at, request_at, assignment_at, work_at, return_at, branch_with, while_with, stmt_with, statements_with, block_at, stmt_at, statements_at, block_read}
+use Rattle.apex_meaning.specs.GrammarReading.{◌>>=◌, each, until, expect, name_at, number_at, service_at, repeat, block_of, expr_at, nested_at, arguments_at, names_at, targets_at, service_call_at, assignment_at, work_at, return_at, branch_with, while_with, stmt_with, statements_with, block_at, stmt_at, statements_at, block_read}
 use Rattle.apex_meaning.specs.Grammar.{all_words, next_name, names_words, targets_words, expr_words, arguments_words, stmt_words, block_words, IsExpr, IsStmt, IsBlock}
 use Rattle.apex_meaning.specs.Syntax as tree
 use Rattle.apex_meaning.proofs.Repeats.{repeat_ends}
@@ -57,7 +57,7 @@ stmt_start (tree.IfElse e b other) mark rest differs = unmarked (codes "if") mar
 stmt_start (tree.While e b) mark rest differs = unmarked (codes "while") mark _ differs.1
 stmt_start (tree.Work ticks) mark rest differs = unmarked (codes "work") mark _ differs.2
 stmt_start (tree.Return e) mark rest differs = unmarked (codes "return") mark _ differs.3
-stmt_start (tree.Request service es xs) mark rest differs = refl
+stmt_start (tree.CallService service es xs) mark rest differs = refl
 
 no_brace : (s : tree.Stmt) (rest : List Word) → expect (codes "}") (stmt_words s rest) ≡ None
 no_brace s rest = stmt_start s (codes "}") rest (refl, refl, refl, refl)
@@ -140,9 +140,9 @@ return_reads : (e : tree.Expr) (k : ℕ) (rest : List Word) → IsExpr e k 5 →
 unfolding stmt_at stmt_with return_at name_at service_at expect
 return_reads e k rest is = then_reads (expr_at k (expr_words e (Mark (codes ";") ∷ rest))) _ _ _ (expr_at_reads e k (Mark (codes ";") ∷ rest) is (semicolon_ends 5 rest)) refl
 
-request_reads : (service : Service) (es : tree.Exprs) (xs : List (List ℕ)) (k : ℕ) (rest : List Word) → IsStmt (tree.Request service es xs) k → stmt_at k (stmt_words (tree.Request service es xs) rest) ≡ Some (tree.Request service es xs, rest)
-unfolding stmt_at stmt_with request_at name_at service_at expect
-request_reads service es xs k rest is =
+service_call_reads : (service : Service) (es : tree.Exprs) (xs : List (List ℕ)) (k : ℕ) (rest : List Word) → IsStmt (tree.CallService service es xs) k → stmt_at k (stmt_words (tree.CallService service es xs) rest) ≡ Some (tree.CallService service es xs, rest)
+unfolding stmt_at stmt_with service_call_at name_at service_at expect
+service_call_reads service es xs k rest is =
     let after = targets_words xs (Mark (codes ";") ∷ rest) in
     then_reads (arguments_at k (arguments_words es true (Mark (codes ")") ∷ after))) _ _ _ (arguments_at_read k es after is.0 (arguments_read es (k - 1) after is.1))
     (then_reads (targets_at after) _ _ _ (targets_read xs rest) refl)
@@ -158,7 +158,7 @@ mutual
   stmt_reads (tree.While e b) k rest is none = while_reads e b k rest is.0 (opens k b rest is.1 (closes (k - 1) b rest (block_reads b (k - 1) rest is.2)))
   stmt_reads (tree.Work ticks) k rest is none = work_reads ticks k rest
   stmt_reads (tree.Return e) k rest is none = return_reads e k rest is
-  stmt_reads (tree.Request service es xs) k rest is none = request_reads service es xs k rest is
+  stmt_reads (tree.CallService service es xs) k rest is none = service_call_reads service es xs k rest is
 
   block_reads : (b : tree.Block) (k : ℕ) (rest : List Word) → IsBlock b k → repeat (stmt_turn k) (block_words b (Mark (codes "}") ∷ rest)) ≡ Some (block_list b, Mark (codes "}") ∷ rest)
   block_reads tree.NoStmt k rest is = repeat_ends (stmt_turn k) (Mark (codes "}") ∷ rest) (stmt_turn_ends k rest)

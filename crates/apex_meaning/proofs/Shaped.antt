@@ -5,7 +5,7 @@ use Rattle.apex_types.specs.declared.instruction.BinaryOperator.{BinaryOperator}
 use Rattle.apex_types.specs.declared.instruction.UnaryOperator.TheVariants as unary
 use Rattle.apex_types.specs.declared.service.Service.{Service}
 use Rattle.apex_meaning.specs.GrammarWords.{Word}
-use Rattle.apex_meaning.specs.GrammarReading.{Reading, ◌>>=◌, each, until, expect, name_at, number_at, service_at, discipline_at, targets_at, locals_at, first_value_at, first_values_at, parameters_at, declared, integer_at, turned, repeat_within, repeat, Rank, Disjunction, Conjunction, Comparison, Sum, Product, operators_of, one_of, links_of, chain_of, exprs_of, block_of, link_at, one_or_none, links_at, chain_with, products_with, sums_with, comparisons_with, conjunctions_with, operand_with, ranked, arguments_with, named_with, unary_with, unary_at, expr_at, nested_at, arguments_at, request_at, assignment_at, work_at, return_at, branch_with, while_with, stmt_with, statements_with, block_at, stmt_at, statements_at, body_at, variable_at, array_at, semaphore_at, event_at, buffer_at, blackboard_at, port_at, procedure_at, declaration_at, declarations_at, stack_body_at, handler_at, process_at, processes_at, all_read, program_at}
+use Rattle.apex_meaning.specs.GrammarReading.{Reading, ◌>>=◌, each, until, expect, name_at, number_at, service_at, discipline_at, targets_at, locals_at, first_value_at, first_values_at, parameters_at, declared, integer_at, turned, repeat_within, repeat, Rank, Disjunction, Conjunction, Comparison, Sum, Product, operators_of, one_of, links_of, chain_of, exprs_of, block_of, link_at, one_or_none, links_at, chain_with, products_with, sums_with, comparisons_with, conjunctions_with, operand_with, ranked, arguments_with, named_with, unary_with, unary_at, expr_at, nested_at, arguments_at, service_call_at, assignment_at, work_at, return_at, branch_with, while_with, stmt_with, statements_with, block_at, stmt_at, statements_at, body_at, variable_at, array_at, semaphore_at, event_at, buffer_at, blackboard_at, port_at, procedure_at, declaration_at, declarations_at, stack_body_at, handler_at, process_at, processes_at, all_read, program_at}
 use Rattle.apex_meaning.specs.Grammar.{rank_of, looseness, IsFew, IsExpr, AreLinks, AreArguments, IsStmt, IsBlock, IsBody, IsKind, Each, IsHandler, IsProgram, IsWritten}
 use Rattle.apex_meaning.specs.Syntax as tree
 use Rattle.apex_meaning.proofs.Spelled.{found, nothing, and_then, one_way, each_some, until_some, passed, Turn, program_spells}
@@ -224,10 +224,10 @@ Holds k b = IsBlock b k
 abbrev InnerBlock : ℕ → tree.Block → Type 0
 InnerBlock k b = (1 ≤ k) × IsBlock b (k - 1)
 
-request_shapes : (k : ℕ) (service : Service) → Shapes tree.Stmt (Stands k) (request_at k service)
-unfolding request_at
-request_shapes k service ws us y h = and_then (expect _ ws) _ _ h (λ vs e h. and_then (arguments_at k vs) _ _ h (λ es f h. and_then (targets_at es.1) _ _ h (λ xs g h. and_then (expect _ xs.1) _ _ h (λ zs i h.
-    so (Stands k) zs us (tree.Request service es.0 xs.0) y (arguments_at_shape k vs es.1 es.0 f) h))))
+service_call_shapes : (k : ℕ) (service : Service) → Shapes tree.Stmt (Stands k) (service_call_at k service)
+unfolding service_call_at
+service_call_shapes k service ws us y h = and_then (expect _ ws) _ _ h (λ vs e h. and_then (arguments_at k vs) _ _ h (λ es f h. and_then (targets_at es.1) _ _ h (λ xs g h. and_then (expect _ xs.1) _ _ h (λ zs i h.
+    so (Stands k) zs us (tree.CallService service es.0 xs.0) y (arguments_at_shape k vs es.1 es.0 f) h))))
 
 assignment_shapes : (k : ℕ) (x : List ℕ) → Shapes tree.Stmt (Stands k) (assignment_at k x)
 unfolding assignment_at
@@ -257,7 +257,7 @@ while_shapes k block s ws us y h = and_then (expr_at k ws) _ _ h (λ t e h. and_
 stmt_shapes : (k : ℕ) (block : Reading tree.Block) → Shapes tree.Block (InnerBlock k) block → Shapes tree.Stmt (Stands k) (stmt_with block k)
 unfolding stmt_with
 stmt_shapes k block s ws us y h = one_way (name_at ws) _ _ _ h (λ x e h. assignment_shapes k x.0 x.1 us y h)
-    (λ h. one_way (service_at ws) _ _ _ h (λ x e h. request_shapes k x.0 x.1 us y h)
+    (λ h. one_way (service_at ws) _ _ _ h (λ x e h. service_call_shapes k x.0 x.1 us y h)
     (λ h. one_way (expect _ ws) _ _ _ h (λ vs e h. work_shapes k vs us y h)
     (λ h. one_way (expect _ ws) _ _ _ h (λ vs e h. return_shapes k vs us y h)
     (λ h. one_way (expect _ ws) _ _ _ h (λ vs e h. branch_shapes k block s vs us y h)

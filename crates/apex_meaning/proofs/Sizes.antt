@@ -6,11 +6,11 @@ use Rattle.std.proofs.lemmas.List.Sums.{sum_by-cons}
 use Rattle.apex_types.specs.declared.instruction.Instr.TheVariants as instr
 use Rattle.apex_meaning.specs.Program.{Program, Procedure, Body, Process, Expr, Links, Exprs, Stmt, Block}
 use Rattle.apex_meaning.specs.Program.{Literal, Read, Element, Unary, Chain, Apply, NoLink, MoreLinks, NoExpr, MoreExprs}
-use Rattle.apex_meaning.specs.Program.{Assign, AssignElement, If, IfElse, While, Work, Return, Request, NoStmt, MoreStmts}
+use Rattle.apex_meaning.specs.Program.{Assign, AssignElement, If, IfElse, While, Work, Return, CallService, NoStmt, MoreStmts}
 use Rattle.apex_meaning.specs.ServiceTable.{number_of}
 use Rattle.apex_meaning.specs.Cost.{size_of_expr, size_of_links, size_of_exprs, size_of_stmt, size_of_block, size_of_procedure, size_of_body, size_of_handler, size_of_process, size_of}
 use Rattle.apex_meaning.specs.CompiledCode.{load, store, expr_code, links_code, exprs_code, stmt_code, block_code, procedure_code, body_code, handler_code, processes_code, procedures_code, slots_of, code_of, handler_place, processes_place, procedures_place}
-use Rattle.apex_meaning.proofs.Counts.{element_size, unary_size, chain_size, apply_size, more_links_size, more_exprs_size, assign_size, assign_element_size, if_size, if_else_size, while_size, return_size, request_size, more_stmts_size, procedure_counts, body_counts}
+use Rattle.apex_meaning.proofs.Counts.{element_size, unary_size, chain_size, apply_size, more_links_size, more_exprs_size, assign_size, assign_element_size, if_size, if_else_size, while_size, return_size, call_service_size, more_stmts_size, procedure_counts, body_counts}
 
 mutual
   pub expr_size : (e : Expr) → length (expr_code e) ≡ size_of_expr e
@@ -19,7 +19,7 @@ mutual
   expr_size (Element place size index) = omega (arith, element_size place size index, length-append (expr_code index) (instr.LoadElement place size ∷ []), expr_size index)
   expr_size (Unary operator operand) = omega (arith, unary_size operator operand, length-append (expr_code operand) (instr.Unary operator ∷ []), expr_size operand)
   expr_size (Chain first rest) = omega (arith, chain_size first rest, length-append (expr_code first) (links_code rest), expr_size first, links_size rest)
-  expr_size (Apply procedure arguments) = omega (arith, apply_size procedure arguments, length-append (exprs_code arguments) (instr.Enter procedure ∷ []), exprs_size arguments)
+  expr_size (Apply procedure arguments) = omega (arith, apply_size procedure arguments, length-append (exprs_code arguments) (instr.Call procedure ∷ []), exprs_size arguments)
 
   pub links_size : (ls : Links) → length (links_code ls) ≡ size_of_links ls
   links_size NoLink = refl
@@ -46,15 +46,15 @@ mutual
       let front = instr.JumpIfZero (inside + size_of_block block + 1) ∷ block_code k inside block in
       omega (arith, while_size test block, length-append (expr_code test ++ front) (instr.Jump at ∷ []), length-append (expr_code test) front, expr_size test, block_size block k inside)
   stmt_size (Work ticks) k at = refl
-  stmt_size (Return value) k at = omega (arith, return_size value, length-append (expr_code value) (instr.GiveBack k ∷ []), expr_size value)
-  stmt_size (Request service arguments targets) k at = omega (arith, request_size service arguments targets, length-append (exprs_code arguments) (instr.Request (number_of service) ∷ map store targets), exprs_size arguments, length-map targets store)
+  stmt_size (Return value) k at = omega (arith, return_size value, length-append (expr_code value) (instr.Return k ∷ []), expr_size value)
+  stmt_size (CallService service arguments targets) k at = omega (arith, call_service_size service arguments targets, length-append (exprs_code arguments) (instr.Service (number_of service) ∷ map store targets), exprs_size arguments, length-map targets store)
 
   pub block_size : (b : Block) (k at : ℕ) → length (block_code k at b) ≡ size_of_block b
   block_size NoStmt k at = refl
   block_size (MoreStmts first rest) k at = omega (arith, more_stmts_size first rest, length-append (stmt_code k at first) (block_code k (at + size_of_stmt first) rest), stmt_size first k at, block_size rest k (at + size_of_stmt first))
 
 pub procedure_size : (p : Procedure) (at : ℕ) → length (procedure_code at p) ≡ size_of_procedure p
-procedure_size p at = omega (arith, procedure_counts p, length-append (block_code (slots_of p) at p.block) (instr.Push (pos 0) ∷ instr.GiveBack (slots_of p) ∷ []), block_size p.block (slots_of p) at)
+procedure_size p at = omega (arith, procedure_counts p, length-append (block_code (slots_of p) at p.block) (instr.Push (pos 0) ∷ instr.Return (slots_of p) ∷ []), block_size p.block (slots_of p) at)
 
 pub body_size : (b : Body) (at : ℕ) → length (body_code at b) ≡ size_of_body b
 body_size b at = omega (arith, body_counts b, length-append (block_code b.locals at b.block) (instr.End ∷ []), block_size b.block b.locals at)

@@ -7,8 +7,8 @@ use Rattle.apex_types.specs.declared.instruction.UnaryOperator.TheVariants as un
 use Rattle.apex_types.specs.declared.codes.Discipline.{Discipline}
 use Rattle.apex_types.specs.declared.codes.Discipline.TheVariants as discipline
 use Rattle.apex_types.specs.declared.service.Service.{Service}
-use Rattle.apex_meaning.specs.GrammarWords.{Word, Name, Number, Request, Mark, Stray, same}
-use Rattle.apex_meaning.specs.GrammarReading.{Reading, ◌>>=◌, either, each, until, expect, name_at, number_at, service_at, integer_at, discipline_at, turned, repeat_within, repeat, Rank, Disjunction, Conjunction, Comparison, Sum, Product, operator_mark, one_of, links_of, chain_of, exprs_of, block_of, link_at, one_or_none, links_at, chain_with, products_with, sums_with, comparisons_with, conjunctions_with, operand_with, ranked, arguments_with, named_with, unary_with, unary_at, expr_at, nested_at, arguments_at, names_at, targets_at, request_at, assignment_at, work_at, return_at, branch_with, while_with, stmt_with, statements_with, block_at, stmt_at, statements_at, local_at, locals_at, body_at, declared, first_value_at, variable_at, integers_at, first_values_at, array_at, semaphore_at, event_at, buffer_at, blackboard_at, port_at, parameters_at, procedure_at, declaration_at, declarations_at, stack_body_at, handler_at, process_at, processes_at, all_read, program_at}
+use Rattle.apex_meaning.specs.GrammarWords.{Word, Name, Number, ServiceWord, Mark, Stray, same}
+use Rattle.apex_meaning.specs.GrammarReading.{Reading, ◌>>=◌, either, each, until, expect, name_at, number_at, service_at, integer_at, discipline_at, turned, repeat_within, repeat, Rank, Disjunction, Conjunction, Comparison, Sum, Product, operator_mark, one_of, links_of, chain_of, exprs_of, block_of, link_at, one_or_none, links_at, chain_with, products_with, sums_with, comparisons_with, conjunctions_with, operand_with, ranked, arguments_with, named_with, unary_with, unary_at, expr_at, nested_at, arguments_at, names_at, targets_at, service_call_at, assignment_at, work_at, return_at, branch_with, while_with, stmt_with, statements_with, block_at, stmt_at, statements_at, local_at, locals_at, body_at, declared, first_value_at, variable_at, integers_at, first_values_at, array_at, semaphore_at, event_at, buffer_at, blackboard_at, port_at, parameters_at, procedure_at, declaration_at, declarations_at, stack_body_at, handler_at, process_at, processes_at, all_read, program_at}
 use Rattle.apex_meaning.specs.Grammar.{integer_words, all_words, next_name, names_words, targets_words, expr_words, links_words, arguments_words, stmt_words, block_words, local_words, body_words, discipline_word, first_words, values_words, declaration_words, stack_body_words, handler_words, process_words, program_words}
 use Rattle.apex_meaning.specs.Syntax as tree
 
@@ -62,7 +62,7 @@ expect_spells mark [] us h = nothing us h
 expect_spells mark (Mark text ∷ ws) us h = chosen (same text mark) text mark ws us (λ e. same_text text mark (sym e)) h
 expect_spells mark (Name text ∷ ws) us h = nothing us h
 expect_spells mark (Number value ∷ ws) us h = nothing us h
-expect_spells mark (Request service ∷ ws) us h = nothing us h
+expect_spells mark (ServiceWord service ∷ ws) us h = nothing us h
 expect_spells mark (Stray ∷ ws) us h = nothing us h
 
 name_spells : (ws us : List Word) (x : List ℕ) → name_at ws ≡ Some (x, us) → ws ≡ Name x ∷ us
@@ -71,7 +71,7 @@ name_spells [] us x h = nothing (x, us) h
 name_spells (Name text ∷ ws) us x h = ends (λ n rest. Name n ∷ rest) (Name text ∷ ws) ws us text x refl h
 name_spells (Mark text ∷ ws) us x h = nothing (x, us) h
 name_spells (Number value ∷ ws) us x h = nothing (x, us) h
-name_spells (Request service ∷ ws) us x h = nothing (x, us) h
+name_spells (ServiceWord service ∷ ws) us x h = nothing (x, us) h
 name_spells (Stray ∷ ws) us x h = nothing (x, us) h
 
 number_spells : (ws us : List Word) (n : Option ℕ) → number_at ws ≡ Some (n, us) → ws ≡ Number n ∷ us
@@ -80,13 +80,13 @@ number_spells [] us n h = nothing (n, us) h
 number_spells (Number value ∷ ws) us n h = ends (λ m rest. Number m ∷ rest) (Number value ∷ ws) ws us value n refl h
 number_spells (Name text ∷ ws) us n h = nothing (n, us) h
 number_spells (Mark text ∷ ws) us n h = nothing (n, us) h
-number_spells (Request service ∷ ws) us n h = nothing (n, us) h
+number_spells (ServiceWord service ∷ ws) us n h = nothing (n, us) h
 number_spells (Stray ∷ ws) us n h = nothing (n, us) h
 
-service_spells : (ws us : List Word) (s : Service) → service_at ws ≡ Some (s, us) → ws ≡ Request s ∷ us
+service_spells : (ws us : List Word) (s : Service) → service_at ws ≡ Some (s, us) → ws ≡ ServiceWord s ∷ us
 unfolding service_at
 service_spells [] us s h = nothing (s, us) h
-service_spells (Request service ∷ ws) us s h = ends (λ t rest. Request t ∷ rest) (Request service ∷ ws) ws us service s refl h
+service_spells (ServiceWord service ∷ ws) us s h = ends (λ t rest. ServiceWord t ∷ rest) (ServiceWord service ∷ ws) ws us service s refl h
 service_spells (Name text ∷ ws) us s h = nothing (s, us) h
 service_spells (Mark text ∷ ws) us s h = nothing (s, us) h
 service_spells (Number value ∷ ws) us s h = nothing (s, us) h
@@ -306,11 +306,11 @@ opened_words b rest = Mark (codes "{") ∷ block_words b (Mark (codes "}") ∷ r
 abbrev braced_words : tree.Block → List Word → List Word
 braced_words b rest = block_words b (Mark (codes "}") ∷ rest)
 
-request_spells : (k : ℕ) (service : Service) (ws us : List Word) (y : tree.Stmt) → request_at k service ws ≡ Some (y, us) → Request service ∷ ws ≡ stmt_words y us
-unfolding request_at
-request_spells k service ws us y h = and_then _ _ _ h (λ vs e h. and_then _ _ _ h (λ es f h. and_then _ _ _ h (λ xs g h. and_then _ _ _ h (λ zs i h.
-    ends stmt_words (Request service ∷ ws) zs us (tree.Request service es.0 xs.0) y
-    (ap (λ v. Request service ∷ v) (expect_spells _ ws vs e ∙ ap (λ v. Mark (codes "(") ∷ v) (arguments_at_spell k vs es.1 es.0 f
+service_call_spells : (k : ℕ) (service : Service) (ws us : List Word) (y : tree.Stmt) → service_call_at k service ws ≡ Some (y, us) → ServiceWord service ∷ ws ≡ stmt_words y us
+unfolding service_call_at
+service_call_spells k service ws us y h = and_then _ _ _ h (λ vs e h. and_then _ _ _ h (λ es f h. and_then _ _ _ h (λ xs g h. and_then _ _ _ h (λ zs i h.
+    ends stmt_words (ServiceWord service ∷ ws) zs us (tree.CallService service es.0 xs.0) y
+    (ap (λ v. ServiceWord service ∷ v) (expect_spells _ ws vs e ∙ ap (λ v. Mark (codes "(") ∷ v) (arguments_at_spell k vs es.1 es.0 f
     ∙ ap (closed_words es.0) (targets_spell es.1 xs.1 xs.0 g ∙ ap (targets_words xs.0) (expect_spells _ xs.1 zs i))))) h))))
 
 assignment_spells : (k : ℕ) (x : List ℕ) (ws us : List Word) (y : tree.Stmt) → assignment_at k x ws ≡ Some (y, us) → Name x ∷ ws ≡ stmt_words y us
@@ -353,7 +353,7 @@ unfolding stmt_with
 stmt_spells block k s ws us y h = one_way _ _ _ _ h
     (λ x e h. name_spells ws x.1 x.0 e ∙ assignment_spells k x.0 x.1 us y h)
     (λ h. one_way _ _ _ _ h
-    (λ x e h. service_spells ws x.1 x.0 e ∙ request_spells k x.0 x.1 us y h)
+    (λ x e h. service_spells ws x.1 x.0 e ∙ service_call_spells k x.0 x.1 us y h)
     (λ h. one_way _ _ _ _ h
     (λ vs e h. expect_spells _ ws vs e ∙ work_spells vs us y h)
     (λ h. one_way _ _ _ _ h

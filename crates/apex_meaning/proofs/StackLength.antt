@@ -13,7 +13,7 @@ use Rattle.apex_meaning.specs.Instructions.{cost_of, is_work}
 use Rattle.apex_meaning.specs.Operators.{apply_binary, apply_unary, is_zero, element_at}
 use Rattle.apex_meaning.specs.ServiceTable.{service_of, argument_words, answer_words, call_of, array_of, has_array_within}
 use Rattle.apex_meaning.specs.Words.{put_words}
-use Rattle.apex_meaning.specs.MachineControl.{MachineControl, Effect, asks_only, refuses, counts, goes_on, top, below_top, with_operands, pushes, pushes_or, word_at, element_word, stored, stored_at, stored_element, changes_data, changes_stack, enters_at, enters, code_limit, saved_within, gives_back, arguments, calls, requests, loads_region, stores_region, with_region, executes, spends, fetched, machine_tick, pushed, machine_reply}
+use Rattle.apex_meaning.specs.MachineControl.{MachineControl, Effect, asks_only, refuses, counts, goes_on, top, below_top, with_operands, pushes, pushes_or, word_at, element_word, stored, stored_at, stored_element, changes_data, changes_stack, enters_at, enters, code_limit, saved_within, gives_back, arguments, calls, calls_numbered, loads_region, stores_region, with_region, executes, spends, fetched, machine_tick, pushed, machine_reply}
 
 -- the lengths of the stack and of the data after a tick
 pub record KeepsLengths (m : MachineControl) (data_words : List ℤ) (t : Ticked MachineControl) : Type 0 where
@@ -122,9 +122,9 @@ keeps_calls service m words =
     let asked = called service m words in
     keeps_if (has_array_within (length words) (array_of (call_of service (arguments service m)))) m words (cond overflows (refuses StackOverflow m words) asked) (refuses MemoryViolation m words) (keeps_if overflows m words (refuses StackOverflow m words) asked (keeps_refused StackOverflow m words) (record { stack = refl; words = refl })) (keeps_refused MemoryViolation m words)
 
-keeps_requests : (service : Option Service) (m : MachineControl) (words : List ℤ) → KeepsLengths m words (requests service m words)
-keeps_requests None m words = keeps_refused IllegalRequest m words
-keeps_requests (Some service) m words = keeps_operands (argument_words service) (calls service) m words (keeps_calls service m words)
+keeps_calls_numbered : (service : Option Service) (m : MachineControl) (words : List ℤ) → KeepsLengths m words (calls_numbered service m words)
+keeps_calls_numbered None m words = keeps_refused IllegalRequest m words
+keeps_calls_numbered (Some service) m words = keeps_operands (argument_words service) (calls service) m words (keeps_calls service m words)
 
 keeps_loads : (region : ℕ) (m : MachineControl) (words : List ℤ) → KeepsLengths m words (loads_region region m words)
 keeps_loads region m words =
@@ -153,10 +153,10 @@ keeps_executes rs (instr.Binary op) m words = keeps_operands 2 (pushes_or Numeri
 keeps_executes rs (instr.Unary op) m words = keeps_operands 1 (pushes_or NumericError (m.sp - 1) (apply_unary op (top m))) m words (keeps_pushes_or NumericError (m.sp - 1) (apply_unary op (top m)) m words)
 keeps_executes rs (instr.Jump x) m words = record { stack = refl; words = refl }
 keeps_executes rs (instr.JumpIfZero x) m words = keeps_operands 1 (goes_on (cond (is_zero (top m)) x (m.pc + 1)) (m.sp - 1) m.stack) m words (record { stack = refl; words = refl })
-keeps_executes rs (instr.Enter x) m words = keeps_enters (slice_get rs x) m words
-keeps_executes rs (instr.GiveBack x) m words = let pc = saved_within code_limit (slice_get m.stack (m.fp + x)) in let fp = saved_within m.fp (slice_get m.stack (m.fp + x + 1)) in keeps_operands 1 (gives_back pc fp) m words (keeps_gives_back pc fp m words)
+keeps_executes rs (instr.Call x) m words = keeps_enters (slice_get rs x) m words
+keeps_executes rs (instr.Return x) m words = let pc = saved_within code_limit (slice_get m.stack (m.fp + x)) in let fp = saved_within m.fp (slice_get m.stack (m.fp + x + 1)) in keeps_operands 1 (gives_back pc fp) m words (keeps_gives_back pc fp m words)
 keeps_executes rs (instr.Work v) m words = keeps_if (is_work v) m words (goes_on (m.pc + 1) m.sp m.stack m words) (refuses IllegalRequest m words) (record { stack = refl; words = refl }) (keeps_refused IllegalRequest m words)
-keeps_executes rs (instr.Request x) m words = keeps_requests (service_of x) m words
+keeps_executes rs (instr.Service x) m words = keeps_calls_numbered (service_of x) m words
 keeps_executes rs instr.End m words = keeps_asks Ends m words
 keeps_executes rs (instr.LoadRegion x) m words = keeps_region x (with_operands 1 (loads_region x)) m words (keeps_operands 1 (loads_region x) m words (keeps_loads x m words))
 keeps_executes rs (instr.StoreRegion x) m words = keeps_region x (with_operands 2 (stores_region x)) m words (keeps_operands 2 (stores_region x) m words (keeps_stores x m words))

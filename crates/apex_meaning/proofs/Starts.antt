@@ -16,7 +16,7 @@ use Rattle.apex_meaning.specs.Program.{Program, Procedure, Body, Process, Block}
 use Rattle.apex_meaning.specs.Cost.{size_of, size_of_block, size_of_body, size_of_handler, size_of_process, size_of_procedure, operands_of_block, frame_of_procedure, frame_of_body}
 use Rattle.apex_meaning.specs.Fits.{Fits, FitsBody, FitsHandler, FitsProcedure}
 use Rattle.apex_meaning.specs.CompiledCode.{block_code, body_code, handler_code, processes_code, procedure_code, procedures_code, slots_of, code_of, handler_place, processes_place, procedures_place, body_row, routine_row, routine_rows, process_row, process_rows, section_of}
-use Rattle.apex_meaning.specs.SourceControl.{SourceControl, Do, Value, GiveBack, EndBody, parts_of_procedure, parts_of_body, source_start, source_body, body_at, or_init, body_of_process, source_engine}
+use Rattle.apex_meaning.specs.SourceControl.{SourceControl, Do, Value, ReturnValue, EndBody, parts_of_procedure, parts_of_body, source_start, source_body, body_at, or_init, body_of_process, source_engine}
 use Rattle.apex_meaning.specs.MachineControl.{MachineControl, machine_start, machine_engine}
 use Rattle.apex_meaning.specs.Engine.{Simulates}
 use Rattle.apex_meaning.specs.Instructions.{reading}
@@ -30,11 +30,11 @@ use Rattle.apex_meaning.proofs.Ticks.{limits_of, Stands, Placed, keeps_tick, kee
 procedure_goes : (code : Code) (ps : List Procedure) (p : Procedure) (at : ℕ) → FitsProcedure ps p → HasAt code at (procedure_code at p) → Goes code ps (limits_of p) at 0 (parts_of_procedure p)
 procedure_goes code ps p at fits has =
     let block = block_code (slots_of p) at p.block in
-    let end = instr.Push (pos 0) ∷ instr.GiveBack (slots_of p) ∷ [] in
+    let end = instr.Push (pos 0) ∷ instr.Return (slots_of p) ∷ [] in
     let back = has_back code at (size_of_block p.block) block end (block_size p.block (slots_of p) at) has in
     let room : 0 + operands_of_block p.block ≤ max 1 (operands_of_block p.block) = omega arith in
     let one : 0 < max 1 (operands_of_block p.block) = omega arith in
-    block_goes code ps (limits_of p) p.block (Do (Value (pos 0)) ∷ Do GiveBack ∷ []) at 0 (record { has = has_front code at block end has; fits = fits.block; room = room }) (back.0, one, (back.1.0, omega arith, refl))
+    block_goes code ps (limits_of p) p.block (Do (Value (pos 0)) ∷ Do ReturnValue ∷ []) at 0 (record { has = has_front code at block end has; fits = fits.block; room = room }) (back.0, one, (back.1.0, omega arith, refl))
 
 abbrev limits_of_body : Body → Limits
 limits_of_body b = record { slots = b.locals; room = operands_of_block b.block; returns = false }

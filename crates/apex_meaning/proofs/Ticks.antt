@@ -23,10 +23,10 @@ use Rattle.apex_meaning.specs.Engine.{Asks, Nothing, Calls, Faults, Ends, Ticked
 use Rattle.apex_meaning.specs.Fits.{IsWork, IsPlaceWithin}
 use Rattle.apex_meaning.specs.CompiledCode.{load, store, slots_of}
 use Rattle.apex_meaning.specs.SourceControl as source
-use Rattle.apex_meaning.specs.SourceControl.{SourceControl, OpenCall, Part, Evaluate, Execute, Do, Simple, Value, ReadScalar, ReadElement, OperateOne, OperateTwo, Open, WriteScalar, WriteElement, Choose, ChooseElse, Repeat, Leave, GoBack, Spend, GiveBack, Ask, EndBody, Front, front, front_of, cost_of_simple, taken, moves, stays, value_or, writes, writes_slot, write_at, effect, tick_at, tick_awaiting, source_tick, source_reply, opens, parts_of_procedure, block_then, asks_service}
+use Rattle.apex_meaning.specs.SourceControl.{SourceControl, OpenCall, Part, Evaluate, Execute, Do, Simple, Value, ReadScalar, ReadElement, OperateOne, OperateTwo, Open, WriteScalar, WriteElement, Choose, ChooseElse, Repeat, Leave, GoBack, Spend, ReturnValue, Ask, EndBody, Front, front, front_of, cost_of_simple, taken, moves, stays, value_or, writes, writes_slot, write_at, effect, tick_at, tick_awaiting, source_tick, source_reply, opens, parts_of_procedure, block_then, asks_service}
 use Rattle.apex_meaning.specs.MachineControl as machine
 use Rattle.apex_meaning.specs.Words.{put_words}
-use Rattle.apex_meaning.specs.MachineControl.{MachineControl, Effect, asks_only, refuses, word, top, below_top, with_operands, pushes, pushes_or, element_word, stored, stored_element, changes_data, changes_stack, enters_at, enters, code_limit, saved_within, pushed, popped, arguments, requests, executes, spends, fetched, machine_tick, machine_reply}
+use Rattle.apex_meaning.specs.MachineControl.{MachineControl, Effect, asks_only, refuses, word, top, below_top, with_operands, pushes, pushes_or, element_word, stored, stored_element, changes_data, changes_stack, enters_at, enters, code_limit, saved_within, pushed, popped, arguments, calls_numbered, executes, spends, fetched, machine_tick, machine_reply}
 use Rattle.apex_meaning.specs.Related.{Code, Fetches, HasAt, Limits, ExprAt, StmtAt, BlockAt, GoesBack, Goes, Laid, calls_of, onto, saved, below, HasCaller, InProgress, Waiting, Keeps}
 use Rattle.apex_types.proofs.Numbers.{service_of_number}
 use Rattle.apex_meaning.proofs.Front.{unfolded, moved, block_goes, front_goes}
@@ -415,7 +415,7 @@ module _ (code : Code) (program : Program) (rs : List RoutineRow) (c : SourceCon
         asks = refl;
       }
 
-  does_ask : (s : Service) (rest : List Part) (n : ℕ) (vs : List ℤ) → c.values ≡ vs → n ≡ length vs → Goes code program.procedures k.limits m.pc n (Do (Ask s) ∷ rest) → Same code program (effect program (Ask s) rest c vs words) (executes rs (instr.Request (number_of s)) m words)
+  does_ask : (s : Service) (rest : List Part) (n : ℕ) (vs : List ℤ) → c.values ≡ vs → n ≡ length vs → Goes code program.procedures k.limits m.pc n (Do (Ask s) ∷ rest) → Same code program (effect program (Ask s) rest c vs words) (executes rs (instr.Service (number_of s)) m words)
   does_ask s rest n vs e en g =
       let a = argument_words s in
       let ws = reverse (take a vs) in
@@ -437,7 +437,7 @@ module _ (code : Code) (program : Program) (rs : List RoutineRow) (c : SourceCon
       let b = has_array_within (length words) (array_of (call_of s ws)) in
       let new : Ticked MachineControl = record { control = record { pc = m.pc + 1; fp = m.fp; sp = m.sp - a; stack = m.stack; spent = 0; awaits = answer_words s }; words = words; asks = Calls (call_of s ws) } in
       by_machine code program _ _ (if b then new else refuses error.MemoryViolation m words)
-      (ap (λ o. requests o m words) (service_of_number s) ∙ there a vs (machine.calls s) e handed ∙ ap (λ l. asked s l) args ∙ ap (λ t. if b then (if t then refuses error.StackOverflow m words else new) else refuses error.MemoryViolation m words) (le-ltb (length m.stack) (m.sp - a + answer_words s) fits_stack))
+      (ap (λ o. calls_numbered o m words) (service_of_number s) ∙ there a vs (machine.calls s) e handed ∙ ap (λ l. asked s l) args ∙ ap (λ t. if b then (if t then refuses error.StackOverflow m words else new) else refuses error.MemoryViolation m words) (le-ltb (length m.stack) (m.sp - a + answer_words s) fits_stack))
       (asks_same s ws rest (drop a vs) (onto (take a vs) k.junk) (n - a + answer_words s) b count g.3 place split fits)
 
   -- a call: the test of both is of one number
@@ -548,19 +548,19 @@ module _ (code : Code) (program : Program) (rs : List RoutineRow) (c : SourceCon
       by_machine code program _ _ (enters_at (m.sp - r.parameters) r m words) (there r.parameters vs (enters_at (m.sp - r.parameters) r) e enough)
       (tests_same p r rest vs t u (nat_le t c.stack) refl same (λ le. enters_same p r rest vs stands e handed_on room_left back goes_on (subst (λ q. q ≤ c.stack) t_is le)))
 
-  does_open : Placed code program rs → (f : ℕ) (rest : List Part) (n : ℕ) (vs : List ℤ) → c.values ≡ vs → n ≡ length vs → Goes code program.procedures k.limits m.pc n (Do (Open f) ∷ rest) → Same code program (effect program (Open f) rest c vs words) (executes rs (instr.Enter f) m words)
+  does_open : Placed code program rs → (f : ℕ) (rest : List Part) (n : ℕ) (vs : List ℤ) → c.values ≡ vs → n ≡ length vs → Goes code program.procedures k.limits m.pc n (Do (Open f) ∷ rest) → Same code program (effect program (Open f) rest c vs words) (executes rs (instr.Call f) m words)
   does_open placed f rest n vs e en g =
       let p = g.1.0 in
       let found = placed.routine f p g.1.1 in
       let short = placed.short in
-      let inside : m.pc < length code = slice_get_within code m.pc (Some (instr.Enter f)) g.0 in
+      let inside : m.pc < length code = slice_get_within code m.pc (Some (instr.Call f)) g.0 in
       let back : m.pc + 1 ≤ 65_536 = omega arith in
       by_machine code program _ _ (enters (Some found.0) m words) (ap (λ o. enters o m words) found.1)
       (by_source code program _ (opens (Some p) c rest vs words) _ (ap (λ o. opens o c rest vs words) g.1.1)
       (opens_same p found.0 rest n vs found.2 e en g.1.2 g.1.3 back g.1.4))
 
   -- a return
-  returns : (ls : List Laid) (v : ℤ) (vs : List ℤ) → c.values ≡ v ∷ vs → Fetches code m.pc (instr.GiveBack k.limits.slots) → HasCaller k.limits.returns ls → k.limits.returns ≡ true → Waiting code program.procedures c.stack ls → c.callers ≡ calls_of ls → m.fp ≡ taken (calls_of ls) → m.stack ≡ (below ls ++ (c.slots ++ saved ls)) ++ onto c.values k.junk → Same code program (source.gives_back c.callers v c words) (executes rs (instr.GiveBack k.limits.slots) m words)
+  returns : (ls : List Laid) (v : ℤ) (vs : List ℤ) → c.values ≡ v ∷ vs → Fetches code m.pc (instr.Return k.limits.slots) → HasCaller k.limits.returns ls → k.limits.returns ≡ true → Waiting code program.procedures c.stack ls → c.callers ≡ calls_of ls → m.fp ≡ taken (calls_of ls) → m.stack ≡ (below ls ++ (c.slots ++ saved ls)) ++ onto c.values k.junk → Same code program (source.gives_back c.callers v c words) (executes rs (instr.Return k.limits.slots) m words)
   returns [] v vs e fetch has r w callers fp st = absurd (subst (λ b. HasCaller b []) r has)
   returns (l ∷ ls) v vs e fetch has r w callers fp st =
       let x = k.limits.slots in
@@ -620,7 +620,7 @@ module _ (code : Code) (program : Program) (rs : List RoutineRow) (c : SourceCon
         asks = refl;
       }))
 
-  does_return : (rest : List Part) (n : ℕ) (vs : List ℤ) → c.values ≡ vs → n ≡ length vs → Goes code program.procedures k.limits m.pc n (Do GiveBack ∷ rest) → Same code program (effect program GiveBack rest c vs words) (executes rs (instr.GiveBack k.limits.slots) m words)
+  does_return : (rest : List Part) (n : ℕ) (vs : List ℤ) → c.values ≡ vs → n ≡ length vs → Goes code program.procedures k.limits m.pc n (Do ReturnValue ∷ rest) → Same code program (effect program ReturnValue rest c vs words) (executes rs (instr.Return k.limits.slots) m words)
   does_return rest n [] e en g = let one = g.1 in absurd (omega arith)
   does_return rest n (v ∷ vs) e en g = returns k.laid v vs e g.0 k.body.caller g.2 k.waiting k.callers k.fp k.stack
 
@@ -671,7 +671,7 @@ module _ (code : Code) (program : Program) (rs : List RoutineRow) (c : SourceCon
   does placed (ReadElement place size) rest n en g = by_instr (ReadElement place size) rest (instr.LoadElement place size) g.0 refl (does_element place size rest n c.values refl en g)
   does placed (OperateOne op) rest n en g = by_instr (OperateOne op) rest (instr.Unary op) g.0 refl (does_unary op rest n c.values refl en g)
   does placed (OperateTwo op) rest n en g = by_instr (OperateTwo op) rest (instr.Binary op) g.0 refl (does_binary op rest n c.values refl en g)
-  does placed (Open f) rest n en g = by_instr (Open f) rest (instr.Enter f) g.0 refl (does_open placed f rest n c.values refl en g)
+  does placed (Open f) rest n en g = by_instr (Open f) rest (instr.Call f) g.0 refl (does_open placed f rest n c.values refl en g)
   does placed (WriteScalar place) rest n en g = by_instr (WriteScalar place) rest (store place) g.0 (store_cost place) (does_write place rest n c.values refl en g)
   does placed (WriteElement place size) rest n en g = by_instr (WriteElement place size) rest (instr.StoreElement place size) g.0 refl (does_write_element place size rest n c.values refl en g)
   does placed (Choose block) rest n en g = by_instr (Choose block) rest (instr.JumpIfZero (m.pc + 1 + size_of_block block)) g.0 refl (does_choose block rest n c.values refl en g)
@@ -680,8 +680,8 @@ module _ (code : Code) (program : Program) (rs : List RoutineRow) (c : SourceCon
   does placed Leave rest n en g = by_instr Leave rest (instr.Jump g.0) g.1 refl (moves_on rest n g.0 c.values refl en g.2)
   does placed (GoBack test block) rest n en g = by_instr (GoBack test block) rest (instr.Jump g.0.0) g.0.1 refl (does_go_back test block rest n c.values refl en g)
   does placed (Spend ticks) rest n en g = by_instr (Spend ticks) rest (instr.Work (pos ticks)) g.0 (ap (λ b. if b then ticks else 1) (work_allowed ticks g.1)) (does_spend ticks rest n c.values refl en g)
-  does placed GiveBack rest n en g = by_instr GiveBack rest (instr.GiveBack k.limits.slots) g.0 refl (does_return rest n c.values refl en g)
-  does placed (Ask s) rest n en g = by_instr (Ask s) rest (instr.Request (number_of s)) g.0 (ap (λ o. Rattle.apex_meaning.specs.Instructions.cost_of_request o) (service_of_number s)) (does_ask s rest n c.values refl en g)
+  does placed ReturnValue rest n en g = by_instr ReturnValue rest (instr.Return k.limits.slots) g.0 refl (does_return rest n c.values refl en g)
+  does placed (Ask s) rest n en g = by_instr (Ask s) rest (instr.Service (number_of s)) g.0 (ap (λ o. Rattle.apex_meaning.specs.Instructions.cost_of_service_call o) (service_of_number s)) (does_ask s rest n c.values refl en g)
   does placed EndBody rest n en g = by_instr EndBody rest instr.End g refl (stays_same Ends)
 
   ticks : Placed code program rs → Same code program (tick_at program (front_of c.parts) c words) (fetched rs (slice_get code m.pc) m words)

@@ -5,10 +5,10 @@ use Rattle.std.specs.List.{list_all, cons_option, sum_by}
 use Rattle.std.proofs.lemmas.Bool.{and_parts, leb-true, eqb-true, cond_both, cond-true, le-leb}
 use Rattle.std.proofs.lemmas.List.{length-map}
 use Rattle.std.proofs.lemmas.List.Sums.{sum_by-cons}
-use Rattle.apex_types.specs.declared.meaning.Meaning.{Meaning}
-use Rattle.apex_types.specs.declared.meaning.Meaning.TheVariants as meaning
-use Rattle.apex_types.specs.declared.meaning.ArgumentKind.{ArgumentKind}
-use Rattle.apex_types.specs.declared.meaning.ArgumentKind.TheVariants as argument
+use Rattle.apex_types.specs.declared.denotation.Denotation.{Denotation}
+use Rattle.apex_types.specs.declared.denotation.Denotation.TheVariants as denotation
+use Rattle.apex_types.specs.declared.shape.ArgumentKind.{ArgumentKind}
+use Rattle.apex_types.specs.declared.shape.ArgumentKind.TheVariants as argument
 use Rattle.apex_types.specs.declared.service.Service.{Service}
 use Rattle.apex_types.specs.declared.row.PortRow.{PortRow}
 use Rattle.apex_meaning.specs.Program as program
@@ -45,7 +45,7 @@ accepted ports period p r h =
 -- ---- what a name stands for
 
 -- each entry's meaning
-abbrev pub EachEntry : (Option Meaning → Type 0) → List Entry → Type 0
+abbrev pub EachEntry : (Option Denotation → Type 0) → List Entry → Type 0
 EachEntry P [] = Unit {0}
 EachEntry P (e ∷ es) = P (Some e.meaning) × EachEntry P es
 
@@ -53,24 +53,24 @@ chosen : {A : Type 0} (P : A → Type 0) (b : Bool) (x y : A) → P x → P y �
 chosen P true x y p q = p
 chosen P false x y p q = q
 
-pub found : (P : Option Meaning → Type 0) (name : List ℕ) (es : List Entry) → P None → EachEntry P es → P (find name es)
+pub found : (P : Option Denotation → Type 0) (name : List ℕ) (es : List Entry) → P None → EachEntry P es → P (find name es)
 found P name [] n a = n
 found P name (e ∷ es) n a = chosen P (bytes_eq e.name name) (Some e.meaning) (find name es) a.0 (found P name es n a.1)
 
-either_meaning : (P : Option Meaning → Type 0) (a b : Option Meaning) → P a → P b → P (or_else a b)
+either_meaning : (P : Option Denotation → Type 0) (a b : Option Denotation) → P a → P b → P (or_else a b)
 either_meaning P None b p q = q
 either_meaning P (Some m) b p q = p
 
-pub in_scope : (P : Option Meaning → Type 0) (own declared : List Entry) → P None → EachEntry P own → EachEntry P declared → (name : List ℕ) → P (scope_of own declared name)
+pub in_scope : (P : Option Denotation → Type 0) (own declared : List Entry) → P None → EachEntry P own → EachEntry P declared → (name : List ℕ) → P (scope_of own declared name)
 in_scope P own declared n a b name = either_meaning P (find name own) (find name declared) (found P name own n a) (found P name declared n b)
 
-both_entries : (P : Option Meaning → Type 0) (xs ys : List Entry) → EachEntry P xs → EachEntry P ys → EachEntry P (xs ++ ys)
+both_entries : (P : Option Denotation → Type 0) (xs ys : List Entry) → EachEntry P xs → EachEntry P ys → EachEntry P (xs ++ ys)
 both_entries P [] ys a b = b
 both_entries P (x ∷ xs) ys a b = (a.0, both_entries P xs ys a.1 b)
 
 -- ---- slots
 
-abbrev IsSlotWithin : ℕ → Option Meaning → Type 0
+abbrev IsSlotWithin : ℕ → Option Denotation → Type 0
 IsSlotWithin n m = IsPlaceWithin n (place_of m)
 
 slot_within : (n place : ℕ) → place < n → slot place < n
@@ -110,8 +110,8 @@ one_or_none None = []
 one_or_none (Some x) = x ∷ []
 
 -- the number of a procedure is its place, and it has so many parameters
-abbrev pub NamesProcedure : List program.Procedure → Option Meaning → Type 0
-NamesProcedure procedures (Some (meaning.Procedure f n)) = HasParameters procedures f n
+abbrev pub NamesProcedure : List program.Procedure → Option Denotation → Type 0
+NamesProcedure procedures (Some (denotation.Procedure f n)) = HasParameters procedures f n
 NamesProcedure procedures _ = Unit {0}
 
 pub counts_next : (o : Option Counts) (ds : List written.Declaration) → elim o [ None ↦ false | Some next ↦ keeps_counts next ds ] ≡ true → (n : Counts) × (o ≡ Some n) × (keeps_counts n ds ≡ true)
@@ -201,12 +201,12 @@ module _ (scope : Scope) (procedures : List program.Procedure) (n : ℕ) (slots 
   expr_count_is written.NoExpr = refl
   expr_count_is (written.MoreExprs e es) = ap (λ k. k + 1) (expr_count_is es)
 
-  takes_as_many : (m : Option Meaning) (k : ℕ) → NamesProcedure procedures m → is_procedure k m ≡ true → HasParameters procedures (procedure_number_of m) k
+  takes_as_many : (m : Option Denotation) (k : ℕ) → NamesProcedure procedures m → is_procedure k m ≡ true → HasParameters procedures (procedure_number_of m) k
   takes_as_many None k names h = absurd cc
-  takes_as_many (Some (meaning.Scalar place)) k names h = absurd cc
-  takes_as_many (Some (meaning.Array place size)) k names h = absurd cc
-  takes_as_many (Some (meaning.Object kind number)) k names h = absurd cc
-  takes_as_many (Some (meaning.Procedure f parameters)) k names h = (names.0, names.1, names.2 ∙ eqb-true parameters k h)
+  takes_as_many (Some (denotation.Scalar place)) k names h = absurd cc
+  takes_as_many (Some (denotation.Array place size)) k names h = absurd cc
+  takes_as_many (Some (denotation.Object kind number)) k names h = absurd cc
+  takes_as_many (Some (denotation.Procedure f parameters)) k names h = (names.0, names.1, names.2 ∙ eqb-true parameters k h)
 
   mutual
     expr_fits : (e : written.Expr) → fits_expr scope e ≡ true → FitsExpr procedures n (resolve_expr scope e)
@@ -275,7 +275,7 @@ module _ (scope : Scope) (procedures : List program.Procedure) (n : ℕ) (slots 
     stmt_fits returns (written.While test block) h k = let parts = and_parts _ _ h in (expr_fits test parts.0, block_fits returns block parts.1 (and_parts _ _ k).1)
     stmt_fits returns (written.Work ticks) h k = work_fits ticks k
     stmt_fits returns (written.Return value) h k = let parts = and_parts _ _ h in (parts.0, expr_fits value parts.1)
-    stmt_fits returns (written.Request s arguments targets) h k =
+    stmt_fits returns (written.CallService s arguments targets) h k =
         let parts = and_parts (fits_arguments scope (arguments_of s) arguments) _ h in
         let answers = and_parts (nat_eq (length targets) (answer_words s)) _ parts.1 in
         (arguments_fit (arguments_of s) arguments parts.0, arguments_counted (arguments_of s) arguments parts.0, length-map targets _ ∙ eqb-true (length targets) (answer_words s) answers.0, targets_fit targets)

@@ -8,7 +8,7 @@ use Rattle.std.proofs.lemmas.List.{length-map, append-nil}
 use Rattle.std.proofs.lemmas.List.Sums.{sum_by-cons}
 use Rattle.std.proofs.lemmas.List.Folds.{list_any-append}
 use Rattle.apex_types.specs.NameText.{is_name}
-use Rattle.apex_types.specs.declared.meaning.Meaning.{Meaning}
+use Rattle.apex_types.specs.declared.denotation.Denotation.{Denotation}
 use Rattle.apex_types.specs.declared.row.ProcessRow.{ProcessRow}
 use Rattle.apex_types.specs.declared.row.RoutineRow.{RoutineRow}
 use Rattle.apex_types.specs.declared.row.PortRow.{PortRow}
@@ -123,11 +123,11 @@ multiple_is unit false (Some n) h k =
 abbrev Covers : List Entry → List ProcessRow → Type 0
 Covers entries rows = (name : List ℕ) → is_some (find name entries) ≡ false → is_process rows name ≡ false
 
-no_match : (b : Bool) (m : Meaning) → is_some (cond b (Some m) None) ≡ false → b ≡ false
+no_match : (b : Bool) (m : Denotation) → is_some (cond b (Some m) None) ≡ false → b ≡ false
 no_match true m h = absurd cc
 no_match false m h = refl
 
-not_first : (b : Bool) (m : Meaning) (o p : Option Meaning) (Q : Type 0) → (is_some o ≡ false → (is_some p ≡ false) × Q) → is_some (cond b (Some m) o) ≡ false → (is_some (cond b (Some m) p) ≡ false) × Q
+not_first : (b : Bool) (m : Denotation) (o p : Option Denotation) (Q : Type 0) → (is_some o ≡ false → (is_some p ≡ false) × Q) → is_some (cond b (Some m) o) ≡ false → (is_some (cond b (Some m) p) ≡ false) × Q
 not_first true m o p Q rest h = absurd cc
 not_first false m o p Q rest h = rest h
 

@@ -13,7 +13,7 @@ use Rattle.apex_types.specs.declared.row.ProcessRow.{ProcessRow}
 use Rattle.apex_types.specs.declared.row.BodyRow.{BodyRow}
 use Rattle.apex_meaning.specs.Program.{Program, Procedure, Body, Process, Expr, Links, Exprs, Stmt, Block}
 use Rattle.apex_meaning.specs.Program.{Literal, Read, Element, Unary, Chain, Apply, NoLink, MoreLinks, NoExpr, MoreExprs}
-use Rattle.apex_meaning.specs.Program.{Assign, AssignElement, If, IfElse, While, Work, Return, Request, NoStmt, MoreStmts}
+use Rattle.apex_meaning.specs.Program.{Assign, AssignElement, If, IfElse, While, Work, Return, CallService, NoStmt, MoreStmts}
 use Rattle.apex_meaning.specs.ServiceTable.{number_of}
 use Rattle.apex_meaning.specs.Cost.{size_of_expr, size_of_stmt, size_of_block, size_of_procedure, size_of_body, size_of_handler, size_of_process, frame_of_procedure, frame_of_body}
 use Rattle.apex_meaning.specs.Instructions.{bytes_of}
@@ -34,7 +34,7 @@ abbrev mutual
   expr_code (Element place size index) = expr_code index ++ (instr.LoadElement place size ∷ [])
   expr_code (Unary operator operand) = expr_code operand ++ (instr.Unary operator ∷ [])
   expr_code (Chain first rest) = expr_code first ++ links_code rest
-  expr_code (Apply procedure arguments) = exprs_code arguments ++ (instr.Enter procedure ∷ [])
+  expr_code (Apply procedure arguments) = exprs_code arguments ++ (instr.Call procedure ∷ [])
 
   pub links_code : Links → List Instr
   links_code NoLink = []
@@ -62,8 +62,8 @@ abbrev mutual
       let inside = at + size_of_expr test + 1 in
       expr_code test ++ (instr.JumpIfZero (inside + size_of_block block + 1) ∷ block_code slots inside block) ++ (instr.Jump at ∷ [])
   stmt_code slots at (Work ticks) = instr.Work (pos ticks) ∷ []
-  stmt_code slots at (Return value) = expr_code value ++ (instr.GiveBack slots ∷ [])
-  stmt_code slots at (Request service arguments targets) = exprs_code arguments ++ (instr.Request (number_of service) ∷ map store targets)
+  stmt_code slots at (Return value) = expr_code value ++ (instr.Return slots ∷ [])
+  stmt_code slots at (CallService service arguments targets) = exprs_code arguments ++ (instr.Service (number_of service) ∷ map store targets)
 
   pub block_code : ℕ → ℕ → Block → List Instr
   block_code slots at NoStmt = []
@@ -74,7 +74,7 @@ abbrev pub slots_of : Procedure → ℕ
 slots_of p = p.parameters + p.locals
 
 abbrev pub procedure_code : ℕ → Procedure → List Instr
-procedure_code at p = block_code (slots_of p) at p.block ++ (instr.Push (pos 0) ∷ instr.GiveBack (slots_of p) ∷ [])
+procedure_code at p = block_code (slots_of p) at p.block ++ (instr.Push (pos 0) ∷ instr.Return (slots_of p) ∷ [])
 
 abbrev pub body_code : ℕ → Body → List Instr
 body_code at b = block_code b.locals at b.block ++ (instr.End ∷ [])

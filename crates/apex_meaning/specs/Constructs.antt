@@ -3,8 +3,8 @@
 use Rattle.std.specs.Prelude.{List, [], ◌∷◌, ◌++◌, map}
 use Rattle.apex_meaning.specs.Program.{Expr, Links, Exprs, Stmt, Block}
 use Rattle.apex_meaning.specs.Program.{Literal, Read, Element, Unary, Chain, Apply, NoLink, MoreLinks, NoExpr, MoreExprs}
-use Rattle.apex_meaning.specs.Program.{Assign, AssignElement, If, IfElse, While, Work, Return, Request, NoStmt, MoreStmts}
-use Rattle.apex_meaning.specs.SourceControl.{Part, Evaluate, Execute, Do, Simple, Value, ReadScalar, ReadElement, OperateOne, OperateTwo, Open, WriteScalar, WriteElement, Choose, ChooseElse, Repeat, Leave, GoBack, Spend, GiveBack, Ask}
+use Rattle.apex_meaning.specs.Program.{Assign, AssignElement, If, IfElse, While, Work, Return, CallService, NoStmt, MoreStmts}
+use Rattle.apex_meaning.specs.SourceControl.{Part, Evaluate, Execute, Do, Simple, Value, ReadScalar, ReadElement, OperateOne, OperateTwo, Open, WriteScalar, WriteElement, Choose, ChooseElse, Repeat, Leave, GoBack, Spend, ReturnValue, Ask}
 
 abbrev mutual
   pub constructs_of_expr : Expr → List Simple
@@ -31,8 +31,8 @@ abbrev mutual
   constructs_of_stmt (IfElse test block other) = constructs_of_expr test ++ (ChooseElse block other ∷ constructs_of_block block ++ (Leave ∷ constructs_of_block other))
   constructs_of_stmt (While test block) = constructs_of_expr test ++ (Repeat test block ∷ constructs_of_block block ++ (GoBack test block ∷ []))
   constructs_of_stmt (Work ticks) = Spend ticks ∷ []
-  constructs_of_stmt (Return value) = constructs_of_expr value ++ (GiveBack ∷ [])
-  constructs_of_stmt (Request service arguments targets) = constructs_of_exprs arguments ++ (Ask service ∷ map WriteScalar targets)
+  constructs_of_stmt (Return value) = constructs_of_expr value ++ (ReturnValue ∷ [])
+  constructs_of_stmt (CallService service arguments targets) = constructs_of_exprs arguments ++ (Ask service ∷ map WriteScalar targets)
 
   pub constructs_of_block : Block → List Simple
   constructs_of_block NoStmt = []

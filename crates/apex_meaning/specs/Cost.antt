@@ -9,7 +9,7 @@ use Rattle.apex_meaning.specs.Operators.{cost_of_binary}
 use Rattle.apex_meaning.specs.ServiceTable.{cost_of_service, answer_words}
 use Rattle.apex_meaning.specs.Program.{Program, Procedure, Body, Process, Expr, Links, Exprs, Stmt, Block}
 use Rattle.apex_meaning.specs.Program.{Literal, Read, Element, Unary, Chain, Apply, NoLink, MoreLinks, NoExpr, MoreExprs}
-use Rattle.apex_meaning.specs.Program.{Assign, AssignElement, If, IfElse, While, Work, Return, Request, NoStmt, MoreStmts}
+use Rattle.apex_meaning.specs.Program.{Assign, AssignElement, If, IfElse, While, Work, Return, CallService, NoStmt, MoreStmts}
 
 -- ticks of a construct: a literal; the read or write of a scalar, of an array element; a unary
 -- operator; a branch; a jump (leaving a then part that has an else, or going back to the test of a
@@ -69,7 +69,7 @@ abbrev mutual
   costs_of_stmt (While test block) = costs_of_expr test ++ (branch_cost ∷ costs_of_block block) ++ (jump_cost ∷ [])
   costs_of_stmt (Work ticks) = ticks ∷ []
   costs_of_stmt (Return value) = costs_of_expr value ++ (return_cost ∷ [])
-  costs_of_stmt (Request service arguments targets) = costs_of_exprs arguments ++ (cost_of_service service ∷ map (λ _. scalar_cost) targets)
+  costs_of_stmt (CallService service arguments targets) = costs_of_exprs arguments ++ (cost_of_service service ∷ map (λ _. scalar_cost) targets)
 
   pub costs_of_block : Block → List ℕ
   costs_of_block NoStmt = []
@@ -149,7 +149,7 @@ abbrev mutual
   operands_of_stmt (While test block) = max (operands_of_expr test) (operands_of_block block)
   operands_of_stmt (Work ticks) = 0
   operands_of_stmt (Return value) = operands_of_expr value
-  operands_of_stmt (Request service arguments targets) = max (answer_words service) (operands_of_exprs arguments)
+  operands_of_stmt (CallService service arguments targets) = max (answer_words service) (operands_of_exprs arguments)
 
   pub operands_of_block : Block → ℕ
   operands_of_block NoStmt = 0

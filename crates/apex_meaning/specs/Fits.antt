@@ -4,7 +4,7 @@ use Rattle.apex_types.specs.declared.place.Place.{Place}
 use Rattle.apex_types.specs.declared.place.Place.TheVariants.{Data, Slot}
 use Rattle.apex_meaning.specs.Program.{Program, Procedure, Body, Process, Expr, Links, Exprs, Stmt, Block}
 use Rattle.apex_meaning.specs.Program.{Literal, Read, Element, Unary, Chain, Apply, NoLink, MoreLinks, NoExpr, MoreExprs}
-use Rattle.apex_meaning.specs.Program.{Assign, AssignElement, If, IfElse, While, Work, Return, Request, NoStmt, MoreStmts}
+use Rattle.apex_meaning.specs.Program.{Assign, AssignElement, If, IfElse, While, Work, Return, CallService, NoStmt, MoreStmts}
 use Rattle.apex_meaning.specs.ServiceTable.{argument_words, answer_words}
 use Rattle.apex_meaning.specs.Cost.{size_of, frame_of_procedure, frame_of_body}
 use Rattle.apex_meaning.specs.CompiledCode.{slots_of}
@@ -59,7 +59,7 @@ abbrev mutual
   FitsStmt procedures slots returns (While test block) = FitsExpr procedures slots test × FitsBlock procedures slots returns block
   FitsStmt procedures slots returns (Work ticks) = IsWork ticks
   FitsStmt procedures slots returns (Return value) = (returns ≡ true) × FitsExpr procedures slots value
-  FitsStmt procedures slots returns (Request service arguments targets) = FitsExprs procedures slots arguments × (count_of arguments ≡ argument_words service) × (length targets ≡ answer_words service) × ArePlacesWithin slots targets
+  FitsStmt procedures slots returns (CallService service arguments targets) = FitsExprs procedures slots arguments × (count_of arguments ≡ argument_words service) × (length targets ≡ answer_words service) × ArePlacesWithin slots targets
 
   pub FitsBlock : List Procedure → ℕ → Bool → Block → Type 0
   FitsBlock procedures slots returns NoStmt = Unit {0}

@@ -7,7 +7,7 @@ use Rattle.apex_types.specs.declared.instruction.UnaryOperator.{UnaryOperator}
 use Rattle.apex_types.specs.declared.instruction.UnaryOperator.TheVariants as unary
 use Rattle.apex_types.specs.declared.codes.Discipline.{Discipline}
 use Rattle.apex_types.specs.declared.codes.Discipline.TheVariants as discipline
-use Rattle.apex_meaning.specs.GrammarWords.{Word, Name, Number, Request, Mark}
+use Rattle.apex_meaning.specs.GrammarWords.{Word, Name, Number, ServiceWord, Mark}
 use Rattle.apex_meaning.specs.GrammarReading.{operator_mark, Rank, Disjunction, Conjunction, Comparison, Sum, Product}
 use Rattle.apex_meaning.specs.Syntax as tree
 
@@ -71,7 +71,7 @@ abbrev mutual
   stmt_words (tree.While e b) rest = Mark (codes "while") ∷ expr_words e (Mark (codes "{") ∷ block_words b (Mark (codes "}") ∷ rest))
   stmt_words (tree.Work ticks) rest = Mark (codes "work") ∷ Number ticks ∷ Mark (codes ";") ∷ rest
   stmt_words (tree.Return e) rest = Mark (codes "return") ∷ expr_words e (Mark (codes ";") ∷ rest)
-  stmt_words (tree.Request service es xs) rest = Request service ∷ Mark (codes "(") ∷ arguments_words es true (Mark (codes ")") ∷ targets_words xs (Mark (codes ";") ∷ rest))
+  stmt_words (tree.CallService service es xs) rest = ServiceWord service ∷ Mark (codes "(") ∷ arguments_words es true (Mark (codes ")") ∷ targets_words xs (Mark (codes ";") ∷ rest))
 
   pub block_words : tree.Block → List Word → List Word
   block_words tree.NoStmt rest = rest
@@ -199,7 +199,7 @@ abbrev mutual
   IsStmt (tree.While e b) levels = IsExpr e levels 5 × (1 ≤ levels) × IsBlock b (levels - 1)
   IsStmt (tree.Work ticks) levels = Unit {0}
   IsStmt (tree.Return e) levels = IsExpr e levels 5
-  IsStmt (tree.Request service es xs) levels = (1 ≤ levels) × AreArguments es (levels - 1)
+  IsStmt (tree.CallService service es xs) levels = (1 ≤ levels) × AreArguments es (levels - 1)
 
   pub IsBlock : tree.Block → ℕ → Type 0
   IsBlock tree.NoStmt levels = Unit {0}

@@ -8,7 +8,7 @@ use Rattle.apex_types.specs.declared.instruction.UnaryOperator.TheVariants as un
 use Rattle.apex_types.specs.declared.codes.Discipline.{Discipline}
 use Rattle.apex_types.specs.declared.codes.Discipline.TheVariants as discipline
 use Rattle.apex_types.specs.declared.service.Service.{Service}
-use Rattle.apex_meaning.specs.GrammarWords.{Word, Name, Number, Request, Mark, Stray, same}
+use Rattle.apex_meaning.specs.GrammarWords.{Word, Name, Number, ServiceWord, Mark, Stray, same}
 use Rattle.apex_meaning.specs.Syntax as tree
 
 -- what is read at the front of the words, and the words behind it; or nothing
@@ -31,7 +31,7 @@ expect mark [] = None
 expect mark (Mark text ∷ ws) = if same text mark then Some ws else None
 expect mark (Name text ∷ ws) = None
 expect mark (Number value ∷ ws) = None
-expect mark (Request service ∷ ws) = None
+expect mark (ServiceWord service ∷ ws) = None
 expect mark (Stray ∷ ws) = None
 
 unfoldable pub name_at : Reading (List ℕ)
@@ -39,7 +39,7 @@ name_at [] = None
 name_at (Name text ∷ ws) = Some (text, ws)
 name_at (Mark text ∷ ws) = None
 name_at (Number value ∷ ws) = None
-name_at (Request service ∷ ws) = None
+name_at (ServiceWord service ∷ ws) = None
 name_at (Stray ∷ ws) = None
 
 unfoldable pub number_at : Reading (Option ℕ)
@@ -47,12 +47,12 @@ number_at [] = None
 number_at (Number value ∷ ws) = Some (value, ws)
 number_at (Name text ∷ ws) = None
 number_at (Mark text ∷ ws) = None
-number_at (Request service ∷ ws) = None
+number_at (ServiceWord service ∷ ws) = None
 number_at (Stray ∷ ws) = None
 
 unfoldable pub service_at : Reading Service
 service_at [] = None
-service_at (Request service ∷ ws) = Some (service, ws)
+service_at (ServiceWord service ∷ ws) = Some (service, ws)
 service_at (Name text ∷ ws) = None
 service_at (Mark text ∷ ws) = None
 service_at (Number value ∷ ws) = None
@@ -246,9 +246,9 @@ names_at ws = name_at ws >>= λ first. repeat (λ ws. each (expect (codes ",") w
 unfoldable pub targets_at : Reading (List (List ℕ))
 targets_at ws = either (expect (codes "->") ws) names_at (Some ([], ws))
 
-unfoldable pub request_at : ℕ → Service → Reading tree.Stmt
-request_at k service ws = expect (codes "(") ws >>= λ rest. arguments_at k rest >>= λ es. targets_at es.1 >>= λ xs.
-    expect (codes ";") xs.1 >>= λ rest. Some (tree.Request service es.0 xs.0, rest)
+unfoldable pub service_call_at : ℕ → Service → Reading tree.Stmt
+service_call_at k service ws = expect (codes "(") ws >>= λ rest. arguments_at k rest >>= λ es. targets_at es.1 >>= λ xs.
+    expect (codes ";") xs.1 >>= λ rest. Some (tree.CallService service es.0 xs.0, rest)
 
 unfoldable pub assignment_at : ℕ → List ℕ → Reading tree.Stmt
 assignment_at k x ws = either (expect (codes "[") ws)
@@ -273,7 +273,7 @@ while_with block k ws = expr_at k ws >>= λ e. block e.1 >>= λ b. Some (tree.Wh
 -- a statement, where blocks are read so
 unfoldable pub stmt_with : Reading tree.Block → ℕ → Reading tree.Stmt
 stmt_with block k ws = either (name_at ws) (λ x. assignment_at k x.0 x.1)
-    (either (service_at ws) (λ s. request_at k s.0 s.1)
+    (either (service_at ws) (λ s. service_call_at k s.0 s.1)
     (either (expect (codes "work") ws) work_at
     (either (expect (codes "return") ws) (return_at k)
     (either (expect (codes "if") ws) (branch_with block k)

@@ -12,7 +12,7 @@ use Rattle.apex_types.specs.ServiceNumbers.{services}
 pub data Word : Type 0 where
   Name : (text : List ℕ) → Word
   Number : (value : Option ℕ) → Word
-  Request : (service : Service) → Word
+  ServiceWord : (service : Service) → Word
   Mark : (text : List ℕ) → Word
   Stray : Word
 
@@ -83,7 +83,7 @@ mark_or_name (Some mark) text = Mark mark
 mark_or_name None text = Name text
 
 abbrev pub service_or_stray : Option Service → Word
-service_or_stray (Some s) = Request s
+service_or_stray (Some s) = ServiceWord s
 service_or_stray None = Stray
 
 abbrev pub sign_or_stray : Option (List ℕ) → ℕ → List ℕ → Word × List ℕ

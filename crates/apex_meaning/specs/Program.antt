@@ -39,7 +39,7 @@ mutual
     While : (test : Expr) (block : Block) → Stmt
     Work : (ticks : ℕ) → Stmt
     Return : (value : Expr) → Stmt
-    Request : (service : Service) (arguments : Exprs) (targets : List Place) → Stmt
+    CallService : (service : Service) (arguments : Exprs) (targets : List Place) → Stmt
 
   pub data Block : Type 0 where
     NoStmt : Block

@@ -13,7 +13,7 @@ use Rattle.apex_meaning.specs.ServiceTable.{number_of, argument_words, answer_wo
 use Rattle.apex_meaning.specs.Cost.{size_of_expr, size_of_stmt, size_of_block, operands_of_expr, operands_of_stmt, operands_of_block}
 use Rattle.apex_meaning.specs.Fits.{FitsExpr, FitsStmt, FitsBlock, IsPlaceWithin, IsWork, Fits}
 use Rattle.apex_meaning.specs.CompiledCode.{load, store, expr_code, stmt_code, block_code, code_of, section_of}
-use Rattle.apex_meaning.specs.SourceControl.{SourceControl, OpenCall, Part, Evaluate, Execute, Do, Simple, Value, ReadScalar, ReadElement, OperateOne, OperateTwo, Open, WriteScalar, WriteElement, Choose, ChooseElse, Repeat, Leave, GoBack, Spend, GiveBack, Ask, EndBody, taken, source_engine, body_at, body_of_process}
+use Rattle.apex_meaning.specs.SourceControl.{SourceControl, OpenCall, Part, Evaluate, Execute, Do, Simple, Value, ReadScalar, ReadElement, OperateOne, OperateTwo, Open, WriteScalar, WriteElement, Choose, ChooseElse, Repeat, Leave, GoBack, Spend, ReturnValue, Ask, EndBody, taken, source_engine, body_at, body_of_process}
 use Rattle.apex_meaning.specs.MachineControl.{MachineControl, machine_engine}
 use Rattle.apex_meaning.specs.Engine.{Simulates}
 use Rattle.apex_meaning.specs.Instructions.{reading}
@@ -71,7 +71,7 @@ Goes code ps k pc n (Do (ReadScalar place) ∷ r) = Fetches code pc (load place)
 Goes code ps k pc n (Do (ReadElement place size) ∷ r) = Fetches code pc (instr.LoadElement place size) × (1 ≤ n) × Goes code ps k (pc + 1) n r
 Goes code ps k pc n (Do (OperateOne operator) ∷ r) = Fetches code pc (instr.Unary operator) × (1 ≤ n) × Goes code ps k (pc + 1) n r
 Goes code ps k pc n (Do (OperateTwo operator) ∷ r) = Fetches code pc (instr.Binary operator) × (2 ≤ n) × Goes code ps k (pc + 1) (n - 1) r
-Goes code ps k pc n (Do (Open f) ∷ r) = Fetches code pc (instr.Enter f) × ((p : Procedure) × (slice_get ps f ≡ Some p) × (p.parameters ≤ n) × (n - p.parameters < k.room) × Goes code ps k (pc + 1) (n - p.parameters + 1) r)
+Goes code ps k pc n (Do (Open f) ∷ r) = Fetches code pc (instr.Call f) × ((p : Procedure) × (slice_get ps f ≡ Some p) × (p.parameters ≤ n) × (n - p.parameters < k.room) × Goes code ps k (pc + 1) (n - p.parameters + 1) r)
 Goes code ps k pc n (Do (WriteScalar place) ∷ r) = Fetches code pc (store place) × IsPlaceWithin k.slots place × (1 ≤ n) × Goes code ps k (pc + 1) (n - 1) r
 Goes code ps k pc n (Do (WriteElement place size) ∷ r) = Fetches code pc (instr.StoreElement place size) × (2 ≤ n) × Goes code ps k (pc + 1) (n - 2) r
 Goes code ps k pc n (Do (Choose block) ∷ r) =
@@ -90,8 +90,8 @@ Goes code ps k pc n (Do (Repeat test block) ∷ r) =
 Goes code ps k pc n (Do Leave ∷ r) = (a : ℕ) × Fetches code pc (instr.Jump a) × Goes code ps k a n r
 Goes code ps k pc n (Do (GoBack test block) ∷ r) = GoesBack code ps k pc n test block × Goes code ps k (pc + 1) n r
 Goes code ps k pc n (Do (Spend ticks) ∷ r) = Fetches code pc (instr.Work (pos ticks)) × IsWork ticks × Goes code ps k (pc + 1) n r
-Goes code ps k pc n (Do GiveBack ∷ r) = Fetches code pc (instr.GiveBack k.slots) × (1 ≤ n) × (k.returns ≡ true)
-Goes code ps k pc n (Do (Ask service) ∷ r) = Fetches code pc (instr.Request (number_of service)) × (argument_words service ≤ n) × (n - argument_words service + answer_words service ≤ k.room) × Goes code ps k (pc + 1) (n - argument_words service + answer_words service) r
+Goes code ps k pc n (Do ReturnValue ∷ r) = Fetches code pc (instr.Return k.slots) × (1 ≤ n) × (k.returns ≡ true)
+Goes code ps k pc n (Do (Ask service) ∷ r) = Fetches code pc (instr.Service (number_of service)) × (argument_words service ≤ n) × (n - argument_words service + answer_words service ≤ k.room) × Goes code ps k (pc + 1) (n - argument_words service + answer_words service) r
 Goes code ps k pc n (Do EndBody ∷ r) = Fetches code pc instr.End
 
 -- a call that waits, the instruction with which it goes on, and the limits of its body

@@ -3,12 +3,12 @@
 use Rattle.std.specs.Prelude.{ℕ, ◌+◌, ◌-◌, ◌^◌, ℤ, pos, ◌-ℤ◌, Bool, true, false, nat_eq, nat_le, nat_lt, if◌then◌else◌, List, [], ◌∷◌, ◌++◌, map, length, take, replicate, flat_map, filter_map, count_by, position, Option, Some, None, option_map, unwrap_or, bytes_eq}
 use Rattle.apex_types.specs.declared.place.Place.{Place}
 use Rattle.apex_types.specs.declared.place.Place.TheVariants.{Data, Slot}
-use Rattle.apex_types.specs.declared.meaning.Meaning.{Meaning}
-use Rattle.apex_types.specs.declared.meaning.Meaning.TheVariants as meaning
-use Rattle.apex_types.specs.declared.meaning.ObjectKind.{ObjectKind}
-use Rattle.apex_types.specs.declared.meaning.ObjectKind.TheVariants as object
-use Rattle.apex_types.specs.declared.meaning.ArgumentKind.{ArgumentKind}
-use Rattle.apex_types.specs.declared.meaning.ArgumentKind.TheVariants as argument
+use Rattle.apex_types.specs.declared.denotation.Denotation.{Denotation}
+use Rattle.apex_types.specs.declared.denotation.Denotation.TheVariants as denotation
+use Rattle.apex_types.specs.declared.denotation.ObjectKind.{ObjectKind}
+use Rattle.apex_types.specs.declared.denotation.ObjectKind.TheVariants as object
+use Rattle.apex_types.specs.declared.shape.ArgumentKind.{ArgumentKind}
+use Rattle.apex_types.specs.declared.shape.ArgumentKind.TheVariants as argument
 use Rattle.apex_types.specs.declared.row.PortRow.{PortRow}
 use Rattle.apex_types.specs.declared.row.SemaphoreRow.{SemaphoreRow}
 use Rattle.apex_types.specs.declared.row.BufferRow.{BufferRow}
@@ -68,23 +68,23 @@ port_number ports name = unwrap_or (option_map (λ i. i + 1) (position (λ p. by
 
 -- What a declared name stands for, after so much is declared: variables and arrays lie in the data
 -- in the order of declaration, objects are numbered from 1, each kind by itself, procedures from 0.
-abbrev pub declared_meaning : List PortRow → Counts → List ℕ → written.Kind → Meaning
-declared_meaning ports c name (written.Variable value) = meaning.Scalar (Data c.words)
-declared_meaning ports c name (written.Array size values) = meaning.Array c.words (pos (within 65536 size))
-declared_meaning ports c name (written.Semaphore first maximum discipline) = meaning.Object object.Semaphore (next 16 c.semaphores)
-declared_meaning ports c name written.Event = meaning.Object object.Event (next 16 c.events)
-declared_meaning ports c name (written.Buffer words messages discipline) = meaning.Object object.Buffer (next 16 c.buffers)
-declared_meaning ports c name (written.Blackboard words) = meaning.Object object.Blackboard (next 16 c.blackboards)
-declared_meaning ports c name written.Port = meaning.Object object.Port (port_number ports name)
-declared_meaning ports c name (written.Procedure parameters body) = meaning.Procedure c.procedures (length parameters)
+abbrev pub declared_meaning : List PortRow → Counts → List ℕ → written.Kind → Denotation
+declared_meaning ports c name (written.Variable value) = denotation.Scalar (Data c.words)
+declared_meaning ports c name (written.Array size values) = denotation.Array c.words (pos (within 65536 size))
+declared_meaning ports c name (written.Semaphore first maximum discipline) = denotation.Object object.Semaphore (next 16 c.semaphores)
+declared_meaning ports c name written.Event = denotation.Object object.Event (next 16 c.events)
+declared_meaning ports c name (written.Buffer words messages discipline) = denotation.Object object.Buffer (next 16 c.buffers)
+declared_meaning ports c name (written.Blackboard words) = denotation.Object object.Blackboard (next 16 c.blackboards)
+declared_meaning ports c name written.Port = denotation.Object object.Port (port_number ports name)
+declared_meaning ports c name (written.Procedure parameters body) = denotation.Procedure c.procedures (length parameters)
 
 -- a name and what it stands for
 pub record Entry : Type 0 where
   pub name : List ℕ
-  pub meaning : Meaning
+  pub meaning : Denotation
 
 -- what a name stands for by the first entry that has it
-abbrev pub find : List ℕ → List Entry → Option Meaning
+abbrev pub find : List ℕ → List Entry → Option Denotation
 find name [] = None
 find name (e ∷ es) = if bytes_eq e.name name then Some e.meaning else find name es
 
@@ -96,7 +96,7 @@ declaration_entries ports c (d ∷ ds) = record { name = d.name; meaning = decla
 -- the entries of the processes, which are numbered from 1
 abbrev pub process_entries : ℕ → List written.Process → List Entry
 process_entries count [] = []
-process_entries count (p ∷ ps) = record { name = p.name; meaning = meaning.Object object.Process (next 31 count) } ∷ process_entries (unwrap_or (counted 31 count 1) count) ps
+process_entries count (p ∷ ps) = record { name = p.name; meaning = denotation.Object object.Process (next 31 count) } ∷ process_entries (unwrap_or (counted 31 count 1) count) ps
 
 abbrev pub declared_entries : List PortRow → written.Program → List Entry
 declared_entries ports p = declaration_entries ports no_counts p.declarations ++ process_entries 0 p.processes
@@ -108,13 +108,13 @@ slot place = if nat_lt place 72 then place else 0
 -- the entries of the parameters and locals of a body, with so many before them
 abbrev pub own_entries : ℕ → List (List ℕ) → List Entry
 own_entries place [] = []
-own_entries place (x ∷ xs) = record { name = x; meaning = meaning.Scalar (Slot (slot place)) } ∷ own_entries (place + 1) xs
+own_entries place (x ∷ xs) = record { name = x; meaning = denotation.Scalar (Slot (slot place)) } ∷ own_entries (place + 1) xs
 
 -- what each name stands for in a body: a parameter or local, or what is declared of that name
 abbrev pub Scope : Type 0
-Scope = List ℕ → Option Meaning
+Scope = List ℕ → Option Denotation
 
-abbrev pub or_else : Option Meaning → Option Meaning → Option Meaning
+abbrev pub or_else : Option Denotation → Option Denotation → Option Denotation
 or_else (Some m) other = Some m
 or_else None other = other
 
@@ -122,24 +122,24 @@ abbrev pub scope_of : List Entry → List Entry → Scope
 scope_of own declared name = or_else (find name own) (find name declared)
 
 -- what stands for a name of the kind that is wanted; for any other name it is 0
-abbrev pub place_of : Option Meaning → Place
-place_of (Some (meaning.Scalar place)) = place
+abbrev pub place_of : Option Denotation → Place
+place_of (Some (denotation.Scalar place)) = place
 place_of _ = Data 0
 
-abbrev pub array_place_of : Option Meaning → ℕ
-array_place_of (Some (meaning.Array place size)) = place
+abbrev pub array_place_of : Option Denotation → ℕ
+array_place_of (Some (denotation.Array place size)) = place
 array_place_of _ = 0
 
-abbrev pub array_size_of : Option Meaning → ℤ
-array_size_of (Some (meaning.Array place size)) = size
+abbrev pub array_size_of : Option Denotation → ℤ
+array_size_of (Some (denotation.Array place size)) = size
 array_size_of _ = pos 0
 
-abbrev pub object_number_of : Option Meaning → ℕ
-object_number_of (Some (meaning.Object kind number)) = number
+abbrev pub object_number_of : Option Denotation → ℕ
+object_number_of (Some (denotation.Object kind number)) = number
 object_number_of _ = 0
 
-abbrev pub procedure_number_of : Option Meaning → ℕ
-procedure_number_of (Some (meaning.Procedure number parameters)) = number
+abbrev pub procedure_number_of : Option Denotation → ℕ
+procedure_number_of (Some (denotation.Procedure number parameters)) = number
 procedure_number_of _ = 0
 
 -- An expression with its names resolved; its parentheses are gone.
@@ -162,7 +162,7 @@ abbrev mutual
   resolve_exprs scope (written.MoreExprs first rest) = program.MoreExprs (resolve_expr scope first) (resolve_exprs scope rest)
 
 -- what an expression stands for as the name of an argument
-abbrev pub named : Scope → written.Expr → Option Meaning
+abbrev pub named : Scope → written.Expr → Option Denotation
 named scope (written.Name name) = scope name
 named scope _ = None
 
@@ -185,7 +185,7 @@ abbrev mutual
   resolve_stmt scope (written.While test block) = program.While (resolve_expr scope test) (resolve_block scope block)
   resolve_stmt scope (written.Work ticks) = program.Work (within 1000000 ticks)
   resolve_stmt scope (written.Return value) = program.Return (resolve_expr scope value)
-  resolve_stmt scope (written.Request service arguments targets) = program.Request service (resolve_arguments scope (arguments_of service) arguments) (map (λ x. place_of (scope x)) targets)
+  resolve_stmt scope (written.CallService service arguments targets) = program.CallService service (resolve_arguments scope (arguments_of service) arguments) (map (λ x. place_of (scope x)) targets)
 
   pub resolve_block : Scope → written.Block → program.Block
   resolve_block scope written.NoStmt = program.NoStmt

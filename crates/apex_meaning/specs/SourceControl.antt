@@ -14,7 +14,7 @@ use Rattle.apex_types.specs.declared.service.Service.{Service}
 use Rattle.apex_types.specs.declared.service.Call.{Call}
 use Rattle.apex_meaning.specs.Program.{Program, Procedure, Body, Process, Expr, Links, Exprs, Stmt, Block}
 use Rattle.apex_meaning.specs.Program.{Literal, Read, Element, Unary, Chain, Apply, NoLink, MoreLinks, NoExpr, MoreExprs}
-use Rattle.apex_meaning.specs.Program.{Assign, AssignElement, If, IfElse, While, Work, Return, Request, NoStmt, MoreStmts}
+use Rattle.apex_meaning.specs.Program.{Assign, AssignElement, If, IfElse, While, Work, Return, CallService, NoStmt, MoreStmts}
 use Rattle.apex_meaning.specs.Operators.{apply_binary, apply_unary, is_zero, element_at, cost_of_binary}
 use Rattle.apex_meaning.specs.ServiceTable.{argument_words, answer_words, cost_of_service, call_of, array_of, has_array_within}
 use Rattle.apex_meaning.specs.Engine.{Engine, Ticked, Asks, Nothing, Calls, Faults, Ends}
@@ -37,7 +37,7 @@ pub data Simple : Type 0 where
   Leave : Simple
   GoBack : (test : Expr) (block : Block) → Simple
   Spend : (ticks : ℕ) → Simple
-  GiveBack : Simple
+  ReturnValue : Simple
   Ask : (service : Service) → Simple
   EndBody : Simple
 
@@ -112,8 +112,8 @@ front_of_stmt (If test block) rest = front_of_expr test (Do (Choose block) ∷ r
 front_of_stmt (IfElse test block other) rest = front_of_expr test (Do (ChooseElse block other) ∷ rest)
 front_of_stmt (While test block) rest = front_of_expr test (Do (Repeat test block) ∷ rest)
 front_of_stmt (Work ticks) rest = front (Spend ticks) rest
-front_of_stmt (Return value) rest = front_of_expr value (Do GiveBack ∷ rest)
-front_of_stmt (Request service arguments targets) rest = front_of_exprs arguments (Ask service) (targets_then targets rest)
+front_of_stmt (Return value) rest = front_of_expr value (Do ReturnValue ∷ rest)
+front_of_stmt (CallService service arguments targets) rest = front_of_exprs arguments (Ask service) (targets_then targets rest)
 
 -- where nothing is to do the body is at its end
 abbrev pub front_of : List Part → Front
@@ -138,7 +138,7 @@ cost_of_simple (Repeat test block) = branch_cost
 cost_of_simple Leave = jump_cost
 cost_of_simple (GoBack test block) = jump_cost
 cost_of_simple (Spend ticks) = ticks
-cost_of_simple GiveBack = return_cost
+cost_of_simple ReturnValue = return_cost
 cost_of_simple (Ask service) = cost_of_service service
 cost_of_simple EndBody = end_cost
 
@@ -185,7 +185,7 @@ writes_slot (Some slots) c rest values words = record { control = record { parts
 
 -- what is to do in a procedure: its block, then `return 0`
 abbrev pub parts_of_procedure : Procedure → List Part
-parts_of_procedure p = block_then p.block (Do (Value (pos 0)) ∷ Do GiveBack ∷ [])
+parts_of_procedure p = block_then p.block (Do (Value (pos 0)) ∷ Do ReturnValue ∷ [])
 
 -- A call opens where its place and its frame are within the stack: its parameters are the values
 -- handed on, which are the caller's no more, and its locals are 0.
@@ -234,7 +234,7 @@ effect program (Repeat test block) rest c (v ∷ values) words = goes_on c (if i
 effect program Leave rest c values words = goes_on c rest values words
 effect program (GoBack test block) rest c values words = goes_on c (Execute (While test block) ∷ rest) values words
 effect program (Spend ticks) rest c values words = goes_on c rest values words
-effect program GiveBack rest c (v ∷ values) words = gives_back c.callers v c words
+effect program ReturnValue rest c (v ∷ values) words = gives_back c.callers v c words
 effect program (Ask service) rest c values words = asks_service service (call_of service (reverse (take (argument_words service) values))) c rest (drop (argument_words service) values) words
 effect program EndBody rest c values words = stays c words Ends
 effect program _ rest c values words = stays c words (Faults error.IllegalRequest)

@@ -35,7 +35,7 @@ mutual
     While : (test : Expr) (block : Block) → Stmt
     Work : (ticks : Option ℕ) → Stmt
     Return : (value : Expr) → Stmt
-    Request : (service : Service) (arguments : Exprs) (targets : List (List ℕ)) → Stmt
+    CallService : (service : Service) (arguments : Exprs) (targets : List (List ℕ)) → Stmt
 
   pub data Block : Type 0 where
     NoStmt : Block

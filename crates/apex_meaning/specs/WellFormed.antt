@@ -3,12 +3,12 @@
 use Rattle.std.specs.Prelude.{ℕ, ◌+◌, ◌%◌, ◌^◌, Bool, true, false, not, ◌&&◌, nat_eq, nat_le, nat_lt, is_some, List, [], ◌∷◌, ◌++◌, length, Option, Some, None, Result, Ok, Err, if◌then◌else◌}
 use Rattle.std.specs.List.{list_all}
 use Rattle.apex_types.specs.NameText.{is_name}
-use Rattle.apex_types.specs.declared.meaning.Meaning.{Meaning}
-use Rattle.apex_types.specs.declared.meaning.Meaning.TheVariants as meaning
-use Rattle.apex_types.specs.declared.meaning.ObjectKind.{ObjectKind}
-use Rattle.apex_types.specs.declared.meaning.ObjectKind.TheVariants as object
-use Rattle.apex_types.specs.declared.meaning.ArgumentKind.{ArgumentKind}
-use Rattle.apex_types.specs.declared.meaning.ArgumentKind.TheVariants as argument
+use Rattle.apex_types.specs.declared.denotation.Denotation.{Denotation}
+use Rattle.apex_types.specs.declared.denotation.Denotation.TheVariants as denotation
+use Rattle.apex_types.specs.declared.denotation.ObjectKind.{ObjectKind}
+use Rattle.apex_types.specs.declared.denotation.ObjectKind.TheVariants as object
+use Rattle.apex_types.specs.declared.shape.ArgumentKind.{ArgumentKind}
+use Rattle.apex_types.specs.declared.shape.ArgumentKind.TheVariants as argument
 use Rattle.apex_types.specs.declared.row.PortRow.{PortRow}
 use Rattle.apex_meaning.specs.Cost.{frame_of_procedure, frame_of_body}
 use Rattle.apex_meaning.specs.Program as program
@@ -63,7 +63,7 @@ abbrev mutual
   knows_stmt scope (written.While test block) = knows_expr scope test && knows_block scope block
   knows_stmt scope (written.Work ticks) = true
   knows_stmt scope (written.Return value) = knows_expr scope value
-  knows_stmt scope (written.Request service arguments targets) = knows_exprs scope arguments && list_all (λ x. is_some (scope x)) targets
+  knows_stmt scope (written.CallService service arguments targets) = knows_exprs scope arguments && list_all (λ x. is_some (scope x)) targets
 
   pub knows_block : Scope → written.Block → Bool
   knows_block scope written.NoStmt = true
@@ -82,17 +82,17 @@ names_hold ports p = let declared = declared_entries ports p in
 -- KINDS: each name stands where its kind may, and calls and services have as many arguments and
 -- targets as they take.
 
-abbrev pub is_scalar : Option Meaning → Bool
-is_scalar (Some (meaning.Scalar place)) = true
+abbrev pub is_scalar : Option Denotation → Bool
+is_scalar (Some (denotation.Scalar place)) = true
 is_scalar _ = false
 
-abbrev pub is_array : Option Meaning → Bool
-is_array (Some (meaning.Array place size)) = true
+abbrev pub is_array : Option Denotation → Bool
+is_array (Some (denotation.Array place size)) = true
 is_array _ = false
 
 -- a procedure with so many parameters
-abbrev pub is_procedure : ℕ → Option Meaning → Bool
-is_procedure n (Some (meaning.Procedure number parameters)) = nat_eq parameters n
+abbrev pub is_procedure : ℕ → Option Denotation → Bool
+is_procedure n (Some (denotation.Procedure number parameters)) = nat_eq parameters n
 is_procedure n _ = false
 
 abbrev pub is_same_kind : ObjectKind → ObjectKind → Bool
@@ -104,8 +104,8 @@ is_same_kind object.Port object.Port = true
 is_same_kind object.Process object.Process = true
 is_same_kind _ _ = false
 
-abbrev pub is_object : ObjectKind → Option Meaning → Bool
-is_object kind (Some (meaning.Object found number)) = is_same_kind found kind
+abbrev pub is_object : ObjectKind → Option Denotation → Bool
+is_object kind (Some (denotation.Object found number)) = is_same_kind found kind
 is_object kind _ = false
 
 abbrev pub expr_count : written.Exprs → ℕ
@@ -153,7 +153,7 @@ abbrev mutual
   fits_stmt scope returns (written.While test block) = fits_expr scope test && fits_block scope returns block
   fits_stmt scope returns (written.Work ticks) = true
   fits_stmt scope returns (written.Return value) = returns && fits_expr scope value
-  fits_stmt scope returns (written.Request service arguments targets) = fits_arguments scope (arguments_of service) arguments
+  fits_stmt scope returns (written.CallService service arguments targets) = fits_arguments scope (arguments_of service) arguments
       && (nat_eq (length targets) (answer_words service) && list_all (λ x. is_scalar (scope x)) targets)
 
   pub fits_block : Scope → Bool → written.Block → Bool
@@ -206,7 +206,7 @@ abbrev mutual
   keeps_stmt (written.While test block) = keeps_expr test && keeps_block block
   keeps_stmt (written.Work ticks) = is_between 1 1000000 ticks
   keeps_stmt (written.Return value) = keeps_expr value
-  keeps_stmt (written.Request service arguments targets) = keeps_exprs arguments && list_all is_name targets
+  keeps_stmt (written.CallService service arguments targets) = keeps_exprs arguments && list_all is_name targets
 
   pub keeps_block : written.Block → Bool
   keeps_block written.NoStmt = true

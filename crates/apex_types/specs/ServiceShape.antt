@@ -3,9 +3,9 @@
 -- What a service takes, answers and costs follows from its row.
 use Rattle.std.specs.Prelude.{ℕ, ◌+◌, Bool, true, false, List, [], ◌∷◌, codes, if◌then◌else◌}
 use Rattle.std.specs.List.{sum_by, list_any}
-use Rattle.apex_types.specs.declared.meaning.ObjectKind.TheVariants as object
-use Rattle.apex_types.specs.declared.meaning.ArgumentKind.{ArgumentKind}
-use Rattle.apex_types.specs.declared.meaning.ArgumentKind.TheVariants as argument
+use Rattle.apex_types.specs.declared.denotation.ObjectKind.TheVariants as object
+use Rattle.apex_types.specs.declared.shape.ArgumentKind.{ArgumentKind}
+use Rattle.apex_types.specs.declared.shape.ArgumentKind.TheVariants as argument
 use Rattle.apex_types.specs.declared.service.Service.{Service}
 use Rattle.apex_types.specs.declared.service.Service.TheVariants as service
 use Rattle.apex_types.specs.declared.shape.ServiceClass.{ServiceClass}

@@ -68,13 +68,13 @@ pub enum Instr {
     /// JZ x
     JumpIfZero(u32),
     /// CALL x: the routine of that number, from 0
-    Enter(u32),
-    /// RET x: x is the number of words of the frame
-    GiveBack(u32),
+    Call(u32),
+    /// RET x: x is the number of slots, parameters and locals, of the running routine
+    Return(u32),
     /// WORK v
     Work(i64),
     /// SVC x: the service of that number
-    Request(u32),
+    Service(u32),
     /// END
     End,
     /// LDR x: a word of region x

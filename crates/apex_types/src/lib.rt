@@ -5,10 +5,10 @@
 
 pub mod call;
 pub mod codes;
+pub mod denotation;
 pub mod event;
 pub mod identity;
 pub mod instruction;
-pub mod meaning;
 pub mod name;
 pub mod out;
 pub mod place;
@@ -24,12 +24,12 @@ pub use codes::{
     Discipline, ErrorKind, ErrorLevel, Mode, ModuleAction, PartitionAction, ProcessState, Response,
     ReturnCode, StartCondition,
 };
+pub use denotation::{Denotation, ObjectKind};
 pub use event::{Event, EventKind, Events, Subject, Words};
 pub use identity::{
     At, MOST_PROCESSES, PartitionId, PortId, Priority, ProcessIndex, Runner, Ticks,
 };
 pub use instruction::{BinaryOperator, Instr, UnaryOperator};
-pub use meaning::{ArgumentKind, Meaning, ObjectKind};
 pub use name::Name;
 pub use out::{Actions, Happenings, Out};
 pub use place::Place;
@@ -39,6 +39,6 @@ pub use row::{
     ProcessRow, RoutineRow, Section, SemaphoreRow, WindowRow,
 };
 pub use service::{ArrayPlace, Call, SERVICES, Service};
-pub use shape::{ServiceClass, Shape};
+pub use shape::{ArgumentKind, ServiceClass, Shape};
 pub use sink::{Sink, SinkFault, WriterSink, put_all};
 pub use text::{write_event, write_events};

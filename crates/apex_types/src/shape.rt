@@ -2,7 +2,7 @@
 
 ghost use Rattle.std.specs.Prelude.{◌≡◌, ◌≤◌, length, true, false};
 
-use crate::meaning::{ArgumentKind, ObjectKind};
+use crate::denotation::ObjectKind;
 use crate::service::Service;
 
 /// The services that cost the same.
@@ -28,6 +28,17 @@ impl ServiceClass {
             ServiceClass::Other => 4,
         }
     }
+}
+
+/// What an argument of a service has to be.
+#[derive(Clone, Copy, Debug, PartialEq, Eq)]
+pub enum ArgumentKind {
+    /// An expression.
+    Word,
+    /// The name of an array.
+    Array,
+    /// The name of an object, a port or a process of that kind.
+    Object(ObjectKind),
 }
 
 impl ArgumentKind {

@@ -6,9 +6,9 @@ use Rattle.apex_types.specs.declared.service.Service.TheVariants as service
 use Rattle.apex_meaning.specs.ServiceTable.{answer_words}
 use Rattle.apex_meaning.specs.Program.{Expr, Links, Exprs, Stmt, Block}
 use Rattle.apex_meaning.specs.Program.{Literal, Read, Element, Unary, Chain, Apply, NoLink, MoreLinks, NoExpr, MoreExprs}
-use Rattle.apex_meaning.specs.Program.{Assign, AssignElement, If, IfElse, While, Work, Return, Request, NoStmt, MoreStmts}
+use Rattle.apex_meaning.specs.Program.{Assign, AssignElement, If, IfElse, While, Work, Return, CallService, NoStmt, MoreStmts}
 use Rattle.apex_meaning.specs.Cost.{size_of_expr, size_of_links, size_of_exprs, size_of_stmt, size_of_block, operands_of_expr, operands_of_links, operands_of_exprs, operands_of_stmt, operands_of_block}
-use Rattle.apex_meaning.proofs.Counts.{element_size, unary_size, chain_size, apply_size, more_links_size, more_exprs_size, assign_size, assign_element_size, if_size, if_else_size, while_size, return_size, request_size, more_stmts_size}
+use Rattle.apex_meaning.proofs.Counts.{element_size, unary_size, chain_size, apply_size, more_links_size, more_exprs_size, assign_size, assign_element_size, if_size, if_else_size, while_size, return_size, call_service_size, more_stmts_size}
 
 answer_few : (s : Service) → answer_words s ≤ 7
 answer_few service.GetPartitionStatus = omega arith
@@ -48,7 +48,7 @@ mutual
   stmt_operands (While test block) = omega (arith, while_size test block, expr_operands test, block_operands block)
   stmt_operands (Work ticks) = omega arith
   stmt_operands (Return value) = omega (arith, return_size value, expr_operands value)
-  stmt_operands (Request service arguments targets) = omega (arith, request_size service arguments targets, exprs_operands arguments, answer_few service)
+  stmt_operands (CallService service arguments targets) = omega (arith, call_service_size service arguments targets, exprs_operands arguments, answer_few service)
 
   pub block_operands : (b : Block) → operands_of_block b ≤ size_of_block b + 6
   block_operands NoStmt = omega arith

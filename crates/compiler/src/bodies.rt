@@ -86,7 +86,7 @@ fn emit_procedure(code: &mut Vec<Instr>, procedure: &Procedure) -> Result<Routin
     let slots = slots_of(procedure.parameters, procedure.locals);
     emit_block(code, slots, &procedure.block)?;
     put(code, Instr::Push(0))?;
-    put(code, Instr::GiveBack(u32::from(slots)))?;
+    put(code, Instr::Return(u32::from(slots)))?;
     let frame = frame_of_procedure(procedure.parameters, procedure.locals, &procedure.block) as u32;
     Ok(RoutineRow {
         entry,

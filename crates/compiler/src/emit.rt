@@ -60,7 +60,7 @@ fn emit_expr(code: &mut Vec<Instr>, expr: &Expr) -> Result<(), AllocError>
         }
         Expr::Apply(procedure, arguments) => {
             emit_exprs(code, arguments)?;
-            put(code, Instr::Enter(*procedure))
+            put(code, Instr::Call(*procedure))
         }
     }
 }
@@ -108,16 +108,16 @@ fn emit_test(code: &mut Vec<Instr>, test: &Expr) -> Result<u32, AllocError>
 }
 
 /// A request of a service: its arguments, the request, and what takes its answer.
-fn emit_request(
+fn emit_service_call(
     code: &mut Vec<Instr>,
     service: Service,
     arguments: &[Expr],
     targets: &[Place],
 ) -> Result<(), AllocError>
-    ensures { OnOk result (code.new.items ≡ code.old.items ++ (code_of.exprs_code (exprs_of arguments.now) ++ (Instr.Request (number_of service) ∷ map code_of.store targets.now))) }
+    ensures { OnOk result (code.new.items ≡ code.old.items ++ (code_of.exprs_code (exprs_of arguments.now) ++ (Instr.Service (number_of service) ∷ map code_of.store targets.now))) }
 {
     emit_exprs(code, arguments)?;
-    put(code, Instr::Request(service.number()))?;
+    put(code, Instr::Service(service.number()))?;
     emit_targets(code, targets)
 }
 
@@ -164,10 +164,10 @@ fn emit_stmt(code: &mut Vec<Instr>, slots: u16, stmt: &Stmt) -> Result<(), Alloc
         Stmt::Work(ticks) => put(code, Instr::Work(i64::from(*ticks))),
         Stmt::Return(value) => {
             emit_expr(code, value)?;
-            put(code, Instr::GiveBack(u32::from(slots)))
+            put(code, Instr::Return(u32::from(slots)))
         }
-        Stmt::Request(service, arguments, targets) => {
-            emit_request(code, *service, arguments, targets)
+        Stmt::CallService(service, arguments, targets) => {
+            emit_service_call(code, *service, arguments, targets)
         }
     }
 }

@@ -12,7 +12,7 @@ use Rattle.apex_types.specs.declared.service.Service.TheVariants as service
 use Rattle.apex_meaning.specs.Cost.{size_of}
 use Rattle.apex_meaning.specs.Image.{Partition, Table, Image}
 use Rattle.apex_meaning.specs.Syntax as written
-use Rattle.apex_meaning.specs.Program.{Expr, Literal, Read, Chain, Links, NoLink, MoreLinks, Exprs, NoExpr, MoreExprs, Stmt, Assign, AssignElement, Work, Request, Block, NoStmt, MoreStmts, Process, Program}
+use Rattle.apex_meaning.specs.Program.{Expr, Literal, Read, Chain, Links, NoLink, MoreLinks, Exprs, NoExpr, MoreExprs, Stmt, Assign, AssignElement, Work, CallService, Block, NoStmt, MoreStmts, Process, Program}
 
 -- ---- the table: no port and no channel, and every error of a partition ignored; what is done on
 -- ---- a fault of the module is not judged
@@ -88,7 +88,7 @@ abbrev pub is_stmt_of_part : Stmt → Bool
 is_stmt_of_part (Assign place value) = is_expr_of_part value
 is_stmt_of_part (AssignElement place size index value) = is_index_within size index && is_expr_of_part value
 is_stmt_of_part (Work ticks) = true
-is_stmt_of_part (Request service arguments targets) = is_request_of_part service arguments
+is_stmt_of_part (CallService service arguments targets) = is_request_of_part service arguments
 is_stmt_of_part _ = false
 
 abbrev pub is_block_of_part : Block → Bool

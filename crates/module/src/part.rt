@@ -128,7 +128,7 @@ fn is_stmt_of_part(stmt: &Stmt) -> bool
             is_index_within(*size, index) && is_expr_of_part(value)
         }
         Stmt::Work(_) => true,
-        Stmt::Request(service, arguments, _) => is_request_of_part(*service, arguments),
+        Stmt::CallService(service, arguments, _) => is_request_of_part(*service, arguments),
         _ => false,
     }
 }

@@ -9,9 +9,9 @@ use Rattle.std.proofs.lemmas.Slice.Eq.{bytes_eq-Decides}
 use Rattle.std.proofs.lemmas.Bool.{cases_Bool, false_from_ne_true}
 use Rattle.apex_types.specs.declared.place.Place.TheVariants.{Slot}
 use Rattle.apex_types.specs.declared.row.PortRow.{PortRow}
-use Rattle.apex_types.specs.declared.meaning.Meaning.{Meaning}
-use Rattle.apex_types.specs.declared.meaning.Meaning.TheVariants.{Scalar, Object}
-use Rattle.apex_types.specs.declared.meaning.ObjectKind.TheVariants as object
+use Rattle.apex_types.specs.declared.denotation.Denotation.{Denotation}
+use Rattle.apex_types.specs.declared.denotation.Denotation.TheVariants.{Scalar, Object}
+use Rattle.apex_types.specs.declared.denotation.ObjectKind.TheVariants as object
 use Rattle.pal_base.specs.declared.syntax.Declaration.{Declaration}
 use Rattle.pal_base.specs.declared.syntax.Process.{Process}
 use Rattle.pal_base.specs.View.{name_of, declaration_of, declared_of, process_of}
@@ -28,11 +28,11 @@ eq_sym xs ys = elim (cases_Bool (bytes_eq ys xs)) [
 ]
 
 -- the look-up by a table's text is that of the definitions
-pub found : {K : Type 0} (text : K → List ℕ) (q : List ℕ) (es : List (K × Meaning)) → lookup (λ k. bytes_eq q (text k)) es ≡ find q (map (λ e. record { name = text e.0; meaning = e.1 }) es)
+pub found : {K : Type 0} (text : K → List ℕ) (q : List ℕ) (es : List (K × Denotation)) → lookup (λ k. bytes_eq q (text k)) es ≡ find q (map (λ e. record { name = text e.0; meaning = e.1 }) es)
 found text q [] = refl
 found text q (e ∷ es) = ap (λ b. cond b (Some e.1) (lookup (λ k. bytes_eq q (text k)) es)) (eq_sym q (text e.0)) ∙ ap (λ r. cond (bytes_eq (text e.0) q) (Some e.1) r) (found text q es)
 
-append_step : (b : Bool) (m : Meaning) (r f g : Option Meaning) → r ≡ or_else f g → cond b (Some m) r ≡ or_else (cond b (Some m) f) g
+append_step : (b : Bool) (m : Denotation) (r f g : Option Denotation) → r ≡ or_else f g → cond b (Some m) r ≡ or_else (cond b (Some m) f) g
 append_step true m r f g h = refl
 append_step false m r f g h = h
 
@@ -40,30 +40,30 @@ pub find-append : (q : List ℕ) (es fs : List Entry) → find q (es ++ fs) ≡ 
 find-append q [] fs = refl
 find-append q (e ∷ es) fs = append_step (bytes_eq e.name q) e.meaning (find q (es ++ fs)) (find q es) (find q fs) (find-append q es fs)
 
-abbrev pub entry : {K : Type 0} → (K → List ℕ) → K × Meaning → Entry
+abbrev pub entry : {K : Type 0} → (K → List ℕ) → K × Denotation → Entry
 entry text e = record { name = text e.0; meaning = e.1 }
 
-insert_step : {X : Type 0} (a b : Bool) (m : Meaning) (o : Option Meaning) (x y z : X) → a ≡ b → is_some (cond b (Some m) o) ≡ false → (is_some o ≡ false → y ≡ z) → cond a x y ≡ z
+insert_step : {X : Type 0} (a b : Bool) (m : Denotation) (o : Option Denotation) (x y z : X) → a ≡ b → is_some (cond b (Some m) o) ≡ false → (is_some o ≡ false → y ≡ z) → cond a x y ≡ z
 insert_step a true m o x y z p h next = let k : true ≡ false = h in cc
 insert_step true false m o x y z p h next = let k : true ≡ false = p in cc
 insert_step false false m o x y z p h next = next h
 
 -- a name that is not there goes last
-pub inserted : {K : Type 0} (text : K → List ℕ) (k : K) (v : Meaning) (es : List (K × Meaning)) → is_some (find (text k) (map (entry text) es)) ≡ false → insert_entry (λ a b. bytes_eq (text a) (text b)) es k v ≡ es ++ (k, v) ∷ []
+pub inserted : {K : Type 0} (text : K → List ℕ) (k : K) (v : Denotation) (es : List (K × Denotation)) → is_some (find (text k) (map (entry text) es)) ≡ false → insert_entry (λ a b. bytes_eq (text a) (text b)) es k v ≡ es ++ (k, v) ∷ []
 inserted text k v [] h = refl
 inserted text k v (e ∷ es) h =
     insert_step (bytes_eq (text k) (text e.0)) (bytes_eq (text e.0) (text k)) e.1 (find (text k) (map (entry text) es))
     ((e.0, v) ∷ es) (e ∷ insert_entry (λ a b. bytes_eq (text a) (text b)) es k v) (e ∷ (es ++ (k, v) ∷ []))
     (eq_sym (text k) (text e.0)) h (λ g. ap (λ xs. e ∷ xs) (inserted text k v es g))
 
-pub entered : {K : Type 0} (text : K → List ℕ) (k : K) (v : Meaning) (es more : List (K × Meaning)) → is_some (find (text k) (map (entry text) es)) ≡ false → more ≡ insert_entry (λ a b. bytes_eq (text a) (text b)) es k v → map (entry text) more ≡ map (entry text) es ++ entry text (k, v) ∷ []
+pub entered : {K : Type 0} (text : K → List ℕ) (k : K) (v : Denotation) (es more : List (K × Denotation)) → is_some (find (text k) (map (entry text) es)) ≡ false → more ≡ insert_entry (λ a b. bytes_eq (text a) (text b)) es k v → map (entry text) more ≡ map (entry text) es ++ entry text (k, v) ∷ []
 entered text k v es more h is = ap (map (entry text)) (is ∙ inserted text k v es h) ∙ map-append (entry text) es ((k, v) ∷ [])
 
 -- a name that is there already changes no look-up
 pub shadowed : (e : Entry) (es : List Entry) → is_some (find e.name es) ≡ true → (name : List ℕ) (rest : List Entry) → find name (es ++ rest) ≡ find name (es ++ e ∷ rest)
 shadowed e es h name rest = find-append name es rest ∙ by (bytes_eq e.name name) refl ∙ sym (find-append name es (e ∷ rest))
   where
-    covers : (r s : Option Meaning) (o : Option Meaning) → is_some o ≡ true → or_else o r ≡ or_else o s
+    covers : (r s : Option Denotation) (o : Option Denotation) → is_some o ≡ true → or_else o r ≡ or_else o s
     covers r s None h = let k : false ≡ true = h in cc
     covers r s (Some m) h = refl
 
@@ -130,11 +130,11 @@ list_step first now next left later all e new f g is flag step before h =
 pub and_unit : (f new : Bool) → (f && new) ≡ (f && (new && true))
 and_unit f new = ap (λ b. f && b) (sym (and_true new))
 
-none_or_some : (o : Option Meaning) → is_none o ≡ not (is_some o)
+none_or_some : (o : Option Denotation) → is_none o ≡ not (is_some o)
 none_or_some None = refl
 none_or_some (Some m) = refl
 
-pub not_declared : (q q' : List ℕ) (declared : List Entry) (o : Option Meaning) → o ≡ find q declared → is_none o ≡ not (is_some (find q declared))
+pub not_declared : (q q' : List ℕ) (declared : List Entry) (o : Option Denotation) → o ≡ find q declared → is_none o ≡ not (is_some (find q declared))
 not_declared q q' declared o is = none_or_some o ∙ ap (λ x. not (is_some x)) is
 
 next_of : (i : ℕ) → suc i ≡ i + 1
@@ -167,7 +167,7 @@ pub counts_next : (o : Option code.Counts) (c d : code.Counts) (a : Option Count
 counts_next o c d a is seen = ap counts_of is ∙ counts_kept o c ∙ ap (λ x. unwrap_or x (counts_of c)) seen
 
 module _ (names : List (List ℕ)) (ports : List PortRow) where
-  pub declaration_left : (ds : List Declaration) (i : ℕ) (x : Declaration) (c next : Counts) (text : List ℕ) (m : Meaning) → i < length ds → x ≡ get_or ds i x → text ≡ name_of names x.name → m ≡ declared_meaning ports c text (declared_of names x.kind) → next ≡ unwrap_or (after c (declared_of names x.kind)) c
+  pub declaration_left : (ds : List Declaration) (i : ℕ) (x : Declaration) (c next : Counts) (text : List ℕ) (m : Denotation) → i < length ds → x ≡ get_or ds i x → text ≡ name_of names x.name → m ≡ declared_meaning ports c text (declared_of names x.kind) → next ≡ unwrap_or (after c (declared_of names x.kind)) c
       → declaration_entries ports c (map (declaration_of names) (drop i ds)) ≡ record { name = text; meaning = m } ∷ declaration_entries ports next (map (declaration_of names) (drop (i + 1) ds))
   declaration_left ds i x c next text m lt is named means counted =
       let rest = map (declaration_of names) (drop (i + 1) ds) in

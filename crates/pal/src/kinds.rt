@@ -162,7 +162,7 @@ fn statement_fault(scope: &Scope, returns: bool, line: u32, statement: &StmtKind
         StmtKind::Return(value) => {
             earlier(unless(returns, line), expression_fault(scope, value))
         }
-        StmtKind::Request(service, arguments, targets) => earlier(
+        StmtKind::CallService(service, arguments, targets) => earlier(
             arguments_fault(scope, line, service.arguments(), arguments),
             earlier(
                 unless(targets.len() == usize::from(service.answer_words()), line),

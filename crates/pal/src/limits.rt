@@ -359,7 +359,7 @@ fn statement_fault(names: &IndexSet<String>, line: u32, statement: &StmtKind) ->
         ),
         StmtKind::Work(ticks) => outside(1, 1_000_000, ticks, line),
         StmtKind::Return(value) => expression_fault(names, value),
-        StmtKind::Request(_, arguments, targets) => earlier(
+        StmtKind::CallService(_, arguments, targets) => earlier(
             expressions_fault(names, arguments),
             names_fault(names, targets),
         ),

@@ -12,7 +12,7 @@ ghost use Rattle.pal.specs.Tables.{entries_of, counts_of};
 use crate::lines::{earlier, unless};
 use crate::numbers::{limited, value_of};
 use crate::table::{NameTable, text_of};
-use apex_types::{Meaning, ObjectKind, Place, PortRow};
+use apex_types::{Denotation, ObjectKind, Place, PortRow};
 use indexmap::IndexSet;
 use pal_base::syntax::{Declaration, DeclarationKind, Process, Program};
 use std::alloc::{AllocError, Global};
@@ -88,27 +88,27 @@ impl Counts {
     };
 
     /// What a name so declared stands for, where so much is declared before it.
-    fn meaning(&self, kind: &DeclarationKind, ports: &[PortRow], name: &str) -> Meaning
+    fn meaning(&self, kind: &DeclarationKind, ports: &[PortRow], name: &str) -> Denotation
         ensures { (names : List (List ℕ)) → result ≡ declared_meaning ports.now (counts_of self.now) name.now (declared_of names kind.now) }
     {
         match kind {
-            DeclarationKind::Variable(_) => Meaning::Scalar(Place::Data(self.words)),
+            DeclarationKind::Variable(_) => Denotation::Scalar(Place::Data(self.words)),
             DeclarationKind::Array { size, .. } => {
-                Meaning::Array(self.words, limited(65_536, size) as i64)
+                Denotation::Array(self.words, limited(65_536, size) as i64)
             }
             DeclarationKind::Semaphore { .. } => {
-                Meaning::Object(ObjectKind::Semaphore, next(16, self.semaphores))
+                Denotation::Object(ObjectKind::Semaphore, next(16, self.semaphores))
             }
-            DeclarationKind::Event => Meaning::Object(ObjectKind::Event, next(16, self.events)),
+            DeclarationKind::Event => Denotation::Object(ObjectKind::Event, next(16, self.events)),
             DeclarationKind::Buffer { .. } => {
-                Meaning::Object(ObjectKind::Buffer, next(16, self.buffers))
+                Denotation::Object(ObjectKind::Buffer, next(16, self.buffers))
             }
             DeclarationKind::Blackboard { .. } => {
-                Meaning::Object(ObjectKind::Blackboard, next(16, self.blackboards))
+                Denotation::Object(ObjectKind::Blackboard, next(16, self.blackboards))
             }
-            DeclarationKind::Port => Meaning::Object(ObjectKind::Port, port_number(ports, name)),
+            DeclarationKind::Port => Denotation::Object(ObjectKind::Port, port_number(ports, name)),
             DeclarationKind::Procedure { parameters, .. } => {
-                Meaning::Procedure(self.procedures, parameters.len())
+                Denotation::Procedure(self.procedures, parameters.len())
             }
         }
     }
@@ -202,7 +202,7 @@ fn enter_processes<'a>(
     for process in processes {
         let text = text_of(names, process.name.name);
         let number = next(31, count);
-        let is_new = table.enter(text, Meaning::Object(ObjectKind::Process, number))?;
+        let is_new = table.enter(text, Denotation::Object(ObjectKind::Process, number))?;
         fault = earlier(fault, unless(is_new, process.line));
         count = counted(31, count, 1).unwrap_or(count);
     }

@@ -153,7 +153,7 @@ fn statement_fault(scope: &Scope, statement: &StmtKind) -> Option<u32>
         ),
         StmtKind::Work(_) => None,
         StmtKind::Return(value) => expression_fault(scope, value),
-        StmtKind::Request(_, arguments, targets) => earlier(
+        StmtKind::CallService(_, arguments, targets) => earlier(
             expressions_fault(scope, arguments),
             targets_fault(scope, targets),
         ),

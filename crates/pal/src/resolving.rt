@@ -374,11 +374,11 @@ fn resolve_statement(
             let value = resolve_expression(alloc, scope, value)?;
             Ok(program::Stmt::Return(value))
         }
-        StmtKind::Request(service, arguments, targets) => {
+        StmtKind::CallService(service, arguments, targets) => {
             let kinds = service.arguments();
             let arguments = resolve_arguments(alloc, scope, kinds, arguments)?;
             let targets = resolve_targets(alloc, scope, targets)?;
-            Ok(program::Stmt::Request(*service, arguments, targets))
+            Ok(program::Stmt::CallService(*service, arguments, targets))
         }
     }
 }

@@ -12,7 +12,7 @@ ghost use Rattle.pal.specs.Scopes.{names_of, sees};
 use crate::lines::{earlier, unless};
 use crate::meanings::slot;
 use crate::table::{NameTable, text_of};
-use apex_types::{Meaning, ObjectKind, Place};
+use apex_types::{Denotation, ObjectKind, Place};
 use indexmap::IndexSet;
 use pal_base::syntax::Identifier;
 use std::alloc::{AllocError, Global};
@@ -73,7 +73,7 @@ fn enter_names<'a>(
     for (index, identifier) in identifiers.iter().enumerate() {
         let text = text_of(names, identifier.name);
         let is_free = declared.get(text).is_none();
-        let meaning = Meaning::Scalar(Place::Slot(slot(before, index)));
+        let meaning = Denotation::Scalar(Place::Slot(slot(before, index)));
         let is_new = own.enter(text, meaning)?;
         let line = identifier.line;
         fault = earlier(fault, earlier(unless(is_new, line), unless(is_free, line)));
@@ -83,7 +83,7 @@ fn enter_names<'a>(
 
 impl<'a> Scope<'a> {
     /// What the name stands for.
-    pub fn get(&self, name: Identifier) -> Option<Meaning>
+    pub fn get(&self, name: Identifier) -> Option<Denotation>
         ensures { result ≡ sees self.now (name_of (names_of self.now) name) }
     {
         let text = text_of(self.names, name.name);
@@ -105,7 +105,7 @@ impl<'a> Scope<'a> {
         ensures { is_none result ≡ well_formed.is_scalar (sees self.now (name_of (names_of self.now) name)) }
     {
         match self.get(name) {
-            Some(Meaning::Scalar(_)) => None,
+            Some(Denotation::Scalar(_)) => None,
             _ => Some(name.line),
         }
     }
@@ -115,7 +115,7 @@ impl<'a> Scope<'a> {
         ensures { is_none result ≡ well_formed.is_array (sees self.now (name_of (names_of self.now) name)) }
     {
         match self.get(name) {
-            Some(Meaning::Array(_, _)) => None,
+            Some(Denotation::Array(_, _)) => None,
             _ => Some(name.line),
         }
     }
@@ -125,7 +125,10 @@ impl<'a> Scope<'a> {
         ensures { is_none result ≡ well_formed.is_procedure arguments (sees self.now (name_of (names_of self.now) name)) }
     {
         match self.get(name) {
-            Some(Meaning::Procedure(_, parameters)) => unless(parameters == arguments, name.line),
+            Some(Denotation::Procedure(_, parameters)) => unless(
+                parameters == arguments,
+                name.line,
+            ),
             _ => Some(name.line),
         }
     }
@@ -135,7 +138,7 @@ impl<'a> Scope<'a> {
         ensures { is_none result ≡ well_formed.is_object kind (sees self.now (name_of (names_of self.now) name)) }
     {
         match self.get(name) {
-            Some(Meaning::Object(found, _)) => unless(is_same_kind(found, kind), name.line),
+            Some(Denotation::Object(found, _)) => unless(is_same_kind(found, kind), name.line),
             _ => Some(name.line),
         }
     }
@@ -145,7 +148,7 @@ impl<'a> Scope<'a> {
         ensures { result ≡ place_of (sees self.now (name_of (names_of self.now) name)) }
     {
         match self.get(name) {
-            Some(Meaning::Scalar(place)) => place,
+            Some(Denotation::Scalar(place)) => place,
             _ => Place::Data(0),
         }
     }
@@ -156,7 +159,7 @@ impl<'a> Scope<'a> {
         ensures size { result.1 ≡ array_size_of (sees self.now (name_of (names_of self.now) name)) }
     {
         match self.get(name) {
-            Some(Meaning::Array(place, size)) => (place, size),
+            Some(Denotation::Array(place, size)) => (place, size),
             _ => (0, 0),
         }
     }
@@ -166,7 +169,7 @@ impl<'a> Scope<'a> {
         ensures { result ≡ object_number_of (sees self.now (name_of (names_of self.now) name)) }
     {
         match self.get(name) {
-            Some(Meaning::Object(_, number)) => number,
+            Some(Denotation::Object(_, number)) => number,
             _ => 0,
         }
     }
@@ -176,7 +179,7 @@ impl<'a> Scope<'a> {
         ensures { result ≡ procedure_number_of (sees self.now (name_of (names_of self.now) name)) }
     {
         match self.get(name) {
-            Some(Meaning::Procedure(number, _)) => number,
+            Some(Denotation::Procedure(number, _)) => number,
             _ => 0,
         }
     }

@@ -6,7 +6,7 @@ ghost use Rattle.apex_meaning.specs.WellFormed.{are_new};
 ghost use Rattle.pal_base.specs.View.{texts, id_text};
 ghost use Rattle.pal.specs.Tables.{entries_of};
 
-use apex_types::Meaning;
+use apex_types::Denotation;
 use indexmap::{IndexMap, IndexSet};
 use pal_base::syntax::NameId;
 use std::alloc::{AllocError, Global};
@@ -14,7 +14,7 @@ use std::alloc::{AllocError, Global};
 /// What names stand for, by their texts, in the order in which they were entered.
 #[derive(Drop)]
 pub struct NameTable<'a> {
-    pub entries: IndexMap<&'a str, Meaning>,
+    pub entries: IndexMap<&'a str, Denotation>,
 }
 
 impl<'a> NameTable<'a> {
@@ -28,7 +28,7 @@ impl<'a> NameTable<'a> {
     }
 
     /// What the name stands for.
-    pub fn get(&self, text: &str) -> Option<Meaning>
+    pub fn get(&self, text: &str) -> Option<Denotation>
         ensures { result ≡ find text.now (entries_of self.now) }
     {
         self.entries.get(text).copied()
@@ -36,7 +36,7 @@ impl<'a> NameTable<'a> {
 
     /// Lets the name stand for a meaning, unless it stands for one already; answers whether it is
     /// new.
-    pub fn enter(&mut self, text: &'a str, meaning: Meaning) -> Result<bool, AllocError>
+    pub fn enter(&mut self, text: &'a str, meaning: Denotation) -> Result<bool, AllocError>
         ensures sees { OnOk result ((name : List ℕ) (rest : List Entry) → find name (entries_of self.new ++ rest) ≡ find name (entries_of self.old ++ record { name = text.now; meaning = meaning } ∷ rest)) }
         ensures fresh { IfOk result (λ is_new. (declared rest : List Entry) → (is_new && not (is_some (find text.now declared)) && are_new declared (entries_of self.new) rest) ≡ are_new declared (entries_of self.old) (record { name = text.now; meaning = meaning } ∷ rest)) }
         ensures behind { IfOk result (λ is_new. is_new ≡ true → entries_of self.new ≡ entries_of self.old ++ record { name = text.now; meaning = meaning } ∷ []) }

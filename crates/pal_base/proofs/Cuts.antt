@@ -3,7 +3,7 @@ use Rattle.std.proofs.Common.{◌≡◌, ℕ, zero, suc, ◌-◌, Bool, true, fa
 use Rattle.std.specs.Prelude.{codes, if◌then◌else◌, ◌==◌}
 use Rattle.std.proofs.lemmas.Bool.{eqb-true}
 use Rattle.apex_meaning.specs.GrammarWords.{Word}
-use Rattle.apex_meaning.specs.GrammarReading.{Reading, repeat, either, expect, name_at, service_at, integer_at, integers_at, first_values_at, declarations_at, stack_body_at, handler_at, processes_at, program_at, all_read, expr_at, exprs_of, ranked, Rank, Disjunction, unary_with, unary_at, unary_read, deeper_at, nested_at, arguments_at, arguments_with, links_at, link_at, links_of, operator_at, chain_with, chain_of, named_with, operated_at, block_at, block_read, statements_at, statements_with, stmt_at, stmt_with, branch_with, while_with, request_at, assignment_at, work_at, return_at, targets_at, block_of, ◌>>=◌}
+use Rattle.apex_meaning.specs.GrammarReading.{Reading, repeat, either, expect, name_at, service_at, integer_at, integers_at, first_values_at, declarations_at, stack_body_at, handler_at, processes_at, program_at, all_read, expr_at, exprs_of, ranked, Rank, Disjunction, unary_with, unary_at, unary_read, deeper_at, nested_at, arguments_at, arguments_with, links_at, link_at, links_of, operator_at, chain_with, chain_of, named_with, operated_at, block_at, block_read, statements_at, statements_with, stmt_at, stmt_with, branch_with, while_with, service_call_at, assignment_at, work_at, return_at, targets_at, block_of, ◌>>=◌}
 use Rattle.apex_meaning.specs.Syntax as tree
 use Rattle.apex_types.specs.declared.instruction.BinaryOperator.{BinaryOperator}
 use Rattle.apex_types.specs.declared.instruction.UnaryOperator.{UnaryOperator}
@@ -11,7 +11,7 @@ use Rattle.pal_base.specs.declared.source.Rank as declared
 use Rattle.pal_base.specs.declared.source.Rank.TheVariants as code
 use Rattle.pal_base.specs.Seen.{rank_of}
 use Rattle.pal_base.proofs.Turns.{each_finds, each_ends, each_fails}
-use Rattle.pal_base.specs.Reads.{listed, up_to, and_more, integers_read, arguments_read, arguments_within, request_read, stmt_read}
+use Rattle.pal_base.specs.Reads.{listed, up_to, and_more, integers_read, arguments_read, arguments_within, service_call_read, stmt_read}
 use Rattle.apex_types.specs.declared.service.Service.{Service}
 
 and_more_goes_on : {X B : Type 0} (x : X) (r : Option (List X × List Word)) (g : List X → List Word → Option B) → (and_more x r >>= λ all. g all.0 all.1) ≡ (r >>= λ more. g (x ∷ more.0) more.1)
@@ -85,26 +85,26 @@ pub no_statement : (k : ℕ) (ws : List Word) → k ≡ 0 → name_at ws ≡ Non
 unfolding stmt_at stmt_with
 no_statement zero ws h name service work return =
     either_none (name_at ws) (λ x. assignment_at zero x.0 x.1) _ None name
-    (either_none (service_at ws) (λ s. request_at zero s.0 s.1) _ None service
+    (either_none (service_at ws) (λ s. service_call_at zero s.0 s.1) _ None service
     (either_none (expect (codes "work") ws) work_at _ None work
     (either_none (expect (codes "return") ws) (return_at zero) _ None return
     (no_block_statement (expect (codes "if") ws) (expect (codes "while") ws)))))
 no_statement (suc k) ws h name service work return = absurd (omega arith)
 
-pub no_request : (k : ℕ) (service : Service) (ws : List Word) → k ≡ 0 → request_read k service ws ≡ None
-unfolding request_read arguments_read
-no_request zero service ws h = nothing_behind (expect (codes "(") ws) _ (λ rest. refl)
-no_request (suc k) service ws h = absurd (omega arith)
+pub no_service_call : (k : ℕ) (service : Service) (ws : List Word) → k ≡ 0 → service_call_read k service ws ≡ None
+unfolding service_call_read arguments_read
+no_service_call zero service ws h = nothing_behind (expect (codes "(") ws) _ (λ rest. refl)
+no_service_call (suc k) service ws h = absurd (omega arith)
 
-requests_are : (k : ℕ) (service : Service) (ws : List Word) → request_read k service ws ≡ request_at k service ws
-unfolding request_read request_at
-requests_are k service ws = λ i. expect (codes "(") ws >>= λ rest. arguments_are k rest i >>= λ es. targets_at es.1 >>= λ xs.
-    expect (codes ";") xs.1 >>= λ rest. Some (tree.Request service es.0 xs.0, rest)
+service_calls_are : (k : ℕ) (service : Service) (ws : List Word) → service_call_read k service ws ≡ service_call_at k service ws
+unfolding service_call_read service_call_at
+service_calls_are k service ws = λ i. expect (codes "(") ws >>= λ rest. arguments_are k rest i >>= λ es. targets_at es.1 >>= λ xs.
+    expect (codes ";") xs.1 >>= λ rest. Some (tree.CallService service es.0 xs.0, rest)
 
 pub stmt_is : (k : ℕ) (ws : List Word) → stmt_read k ws ≡ stmt_at k ws
 unfolding stmt_read stmt_at stmt_with
 stmt_is k ws = λ i. either (name_at ws) (λ x. assignment_at k x.0 x.1)
-    (either (service_at ws) (λ s. requests_are k s.0 s.1 i)
+    (either (service_at ws) (λ s. service_calls_are k s.0 s.1 i)
     (either (expect (codes "work") ws) work_at
     (either (expect (codes "return") ws) (return_at k)
     (either (expect (codes "if") ws) (λ vs. branch_with (λ us. block_is k us i) k vs)

@@ -46,7 +46,7 @@ abbrev mutual
   stmt_of (code_stmt.While' test shape ss) = tree.While (expr_of test) (stmt_row ss)
   stmt_of (code_stmt.Work ticks) = tree.Work ticks
   stmt_of (code_stmt.Return value) = tree.Return (expr_of value)
-  stmt_of (code_stmt.Request service arguments targets) = tree.Request service (exprs_of arguments.items) targets.items
+  stmt_of (code_stmt.CallService service arguments targets) = tree.CallService service (exprs_of arguments.items) targets.items
 
   pub stmt_row : {m : _} → code_stmt.Row_of-Stmt m → tree.Block
   stmt_row code_stmt.end_of-Stmt = tree.NoStmt

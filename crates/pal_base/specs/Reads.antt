@@ -32,13 +32,13 @@ unfoldable pub arguments_read : ℕ → Reading tree.Exprs
 arguments_read k ws = if k == 0 then None else arguments_within (k - 1) ws
 
 -- a request of a service, and a statement, where so many levels may still be opened
-unfoldable pub request_read : ℕ → Service → Reading tree.Stmt
-request_read k service ws = expect (codes "(") ws >>= λ rest. arguments_read k rest >>= λ es. targets_at es.1 >>= λ xs.
-    expect (codes ";") xs.1 >>= λ rest. Some (tree.Request service es.0 xs.0, rest)
+unfoldable pub service_call_read : ℕ → Service → Reading tree.Stmt
+service_call_read k service ws = expect (codes "(") ws >>= λ rest. arguments_read k rest >>= λ es. targets_at es.1 >>= λ xs.
+    expect (codes ";") xs.1 >>= λ rest. Some (tree.CallService service es.0 xs.0, rest)
 
 unfoldable pub stmt_read : ℕ → Reading tree.Stmt
 stmt_read k ws = either (name_at ws) (λ x. assignment_at k x.0 x.1)
-    (either (service_at ws) (λ s. request_read k s.0 s.1)
+    (either (service_at ws) (λ s. service_call_read k s.0 s.1)
     (either (expect (codes "work") ws) work_at
     (either (expect (codes "return") ws) (return_at k)
     (either (expect (codes "if") ws) (branch_with (block_read k) k)

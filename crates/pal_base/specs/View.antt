@@ -84,7 +84,7 @@ abbrev mutual
   kind_of names (code_kind.While' e shape ss) = tree.While (expr_of names e) (stmt_row names ss)
   kind_of names (code_kind.Work n) = tree.Work (number_of n)
   kind_of names (code_kind.Return e) = tree.Return (expr_of names e)
-  kind_of names (code_kind.Request s es xs) = tree.Request s (exprs_of names es.items) (map (name_of names) xs.items)
+  kind_of names (code_kind.CallService s es xs) = tree.CallService s (exprs_of names es.items) (map (name_of names) xs.items)
 
   pub stmt_row : {m : _} → List (List ℕ) → code_kind.Row_of-Stmt m → tree.Block
   stmt_row names code_kind.end_of-Stmt = tree.NoStmt

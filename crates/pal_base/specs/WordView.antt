@@ -11,7 +11,7 @@ use Rattle.apex_meaning.specs.GrammarWords as grammar
 abbrev pub word_of : List (List ℕ) → Word → grammar.Word
 word_of names (word.Name x) = grammar.Name (id_text names x)
 word_of names (word.Number n) = grammar.Number (natural_of n)
-word_of names (word.Service s) = grammar.Request s
+word_of names (word.Service s) = grammar.ServiceWord s
 word_of names (word.Mark m) = grammar.Mark (mark_text m)
 word_of names word.Stray = grammar.Stray
 

@@ -137,7 +137,7 @@ fn cost_of_stmt(stmt: &Stmt) -> Cost
         Stmt::While(test, block) => cost_of_expr(test).joined_by(1, cost_of_block(block)).and(1),
         Stmt::Work(ticks) => Cost::one(*ticks),
         Stmt::Return(value) => cost_of_expr(value).and(2),
-        Stmt::Request(service, arguments, targets) => {
+        Stmt::CallService(service, arguments, targets) => {
             cost_of_service(*service, arguments, targets)
         }
     }

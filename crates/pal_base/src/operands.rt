@@ -63,7 +63,7 @@ fn operands_of_stmt(stmt: &Stmt) -> u64
             .max(operands_of_block(block))
             .max(operands_of_block(other)),
         Stmt::Work(_) => 0,
-        Stmt::Request(service, arguments, _) => {
+        Stmt::CallService(service, arguments, _) => {
             u64::from(service.answer_words()).max(operands_of_exprs(arguments))
         }
     }

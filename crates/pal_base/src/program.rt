@@ -38,7 +38,7 @@ pub enum Stmt {
     Work(u32),
     Return(Expr),
     /// A name among the arguments is its number, an array its place and its size.
-    Request(Service, Vec<Expr>, Vec<Place>),
+    CallService(Service, Vec<Expr>, Vec<Place>),
 }
 
 #[derive(Drop)]

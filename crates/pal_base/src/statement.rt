@@ -2,7 +2,7 @@
 
 ghost use Rattle.std.specs.Prelude.{◌<◌, ◌≤◌, length, map, codes, IfOk};
 ghost use Rattle.apex_meaning.specs.GrammarReading as reading;
-ghost use Rattle.pal_base.specs.Reads.{and_more, listed, request_read, stmt_read};
+ghost use Rattle.pal_base.specs.Reads.{and_more, listed, service_call_read, stmt_read};
 ghost use Rattle.pal_base.specs.Seen.{seen, names_of, Gives};
 ghost use Rattle.pal_base.specs.View.{name_of, kind_of, stmt_of, block_of, body_of};
 
@@ -126,7 +126,7 @@ impl Source {
             return self.assignment(alloc, name, levels, rest);
         }
         if let Some((service, rest)) = self.service_at(tokens) {
-            return self.request(alloc, service, levels, tokens, rest);
+            return self.service_call(alloc, service, levels, tokens, rest);
         }
         if let Some(rest) = self.behind(tokens, Mark::Work) {
             return self.work(rest);
@@ -222,9 +222,9 @@ impl Source {
         Ok((StmtKind::Assign(name, value), rest))
     }
 
-    #[tactic(auto, unfolding(crate::specs::Reads::request_read))]
+    #[tactic(auto, unfolding(crate::specs::Reads::service_call_read))]
     /// What follows the name of a service, `opening`.
-    fn request<'a>(
+    fn service_call<'a>(
         &self,
         alloc: Global,
         service: Service,
@@ -233,7 +233,7 @@ impl Source {
         tokens: &'a [Token],
     ) -> Read<'a, StmtKind>
         ensures shorter { IfOk result (λ x. length x.1.now < length tokens.now) }
-        ensures exact { Gives (λ x. (kind_of (names_of self.now) x.0, seen self.now x.1.now)) result (request_read levels service (seen self.now tokens.now)) }
+        ensures exact { Gives (λ x. (kind_of (names_of self.now) x.0, seen self.now x.1.now)) result (service_call_read levels service (seen self.now tokens.now)) }
     {
         if levels == 0 {
             return Err(self.refused(opening));
@@ -242,7 +242,7 @@ impl Source {
         let (arguments, rest) = self.arguments(alloc, levels, tokens, rest)?;
         let (targets, rest) = self.targets(alloc, rest)?;
         let rest = self.expect(rest, Mark::Semicolon)?;
-        Ok((StmtKind::Request(service, arguments, targets), rest))
+        Ok((StmtKind::CallService(service, arguments, targets), rest))
     }
 
     #[tactic(auto, unfolding(apex_meaning::specs::GrammarReading::targets_at))]

@@ -68,7 +68,7 @@ pub enum StmtKind {
     While(Expr, Vec<Stmt>),
     Work(Numeral),
     Return(Expr),
-    Request(Service, Vec<Expr>, Vec<Identifier>),
+    CallService(Service, Vec<Expr>, Vec<Identifier>),
 }
 
 /// The locals and the statements of a body, and the line of its first brace.

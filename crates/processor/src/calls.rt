@@ -38,7 +38,7 @@ fn save(stack: &mut Vec<i64>, frame: u32, routine: &RoutineRow, next: u32, calle
 
 impl Context {
     ghost use Rattle.std.specs.Prelude.{◌≡◌, ◌+◌, ◌-◌, ◌<◌, ◌≤◌, ◌^◌, [], length, slice_get, ℕ, Option};
-    ghost use Rattle.apex_meaning.specs.MachineControl.{executes, enters_at, enters, saved_within, gives_back, popped, arguments, calls, requests, with_operands, code_limit};
+    ghost use Rattle.apex_meaning.specs.MachineControl.{executes, enters_at, enters, saved_within, gives_back, popped, arguments, calls, calls_numbered, with_operands, code_limit};
     ghost use Rattle.processor.specs.Views.{control_of, outcome_of};
     ghost use Rattle.apex_types.specs.declared.instruction.Instr.{Instr};
     ghost use Rattle.apex_meaning.specs.ServiceTable.{argument_words, answer_words, call_of};
@@ -66,8 +66,8 @@ impl Context {
     /// CALL: the routine of that number, from 0.
     pub(crate) fn enter(&mut self, code: &Code, x: u32) -> Outcome
         requires next { self.old.pc + 1 < 2 ^ 32 }
-        ensures control { control_of self.new ≡ (executes code.now.routines.items (Instr.Enter x) (control_of self.old) []).control }
-        ensures outcome { result ≡ outcome_of (executes code.now.routines.items (Instr.Enter x) (control_of self.old) []).asks }
+        ensures control { control_of self.new ≡ (executes code.now.routines.items (Instr.Call x) (control_of self.old) []).control }
+        ensures outcome { result ≡ outcome_of (executes code.now.routines.items (Instr.Call x) (control_of self.old) []).asks }
     {
         match code.routines.get(x as usize) {
             Some(routine) => {
@@ -94,8 +94,8 @@ impl Context {
 
     /// RET: gives the top operand back to the frame and the instruction that were saved behind `x` words.
     pub(crate) fn give_back(&mut self, x: u32) -> Outcome
-        ensures control { control_of self.new ≡ (executes [] (Instr.GiveBack x) (control_of self.old) []).control }
-        ensures outcome { result ≡ outcome_of (executes [] (Instr.GiveBack x) (control_of self.old) []).asks }
+        ensures control { control_of self.new ≡ (executes [] (Instr.Return x) (control_of self.old) []).control }
+        ensures outcome { result ≡ outcome_of (executes [] (Instr.Return x) (control_of self.old) []).asks }
     {
         if self.operands() < 1 {
             return Outcome::Fault(ErrorKind::IllegalRequest);
@@ -149,10 +149,10 @@ impl Context {
     }
 
     /// SVC: the service of that number.
-    pub(crate) fn request(&mut self, memory: &Data, x: u32) -> Outcome
+    pub(crate) fn call_numbered(&mut self, memory: &Data, x: u32) -> Outcome
         requires next { self.old.pc + 1 < 2 ^ 32 }
-        ensures control { control_of self.new ≡ (executes [] (Instr.Request x) (control_of self.old) memory.now.words.items).control }
-        ensures outcome { result ≡ outcome_of (executes [] (Instr.Request x) (control_of self.old) memory.now.words.items).asks }
+        ensures control { control_of self.new ≡ (executes [] (Instr.Service x) (control_of self.old) memory.now.words.items).control }
+        ensures outcome { result ≡ outcome_of (executes [] (Instr.Service x) (control_of self.old) memory.now.words.items).asks }
     {
         match Service::from_number(x) {
             Some(service) => {

@@ -54,10 +54,10 @@ fn opcode(instruction: Instr) -> u32
         Instr::Unary(operator) => unary_opcode(operator),
         Instr::Jump(_) => 23,
         Instr::JumpIfZero(_) => 24,
-        Instr::Enter(_) => 25,
-        Instr::GiveBack(_) => 26,
+        Instr::Call(_) => 25,
+        Instr::Return(_) => 26,
         Instr::Work(_) => 27,
-        Instr::Request(_) => 28,
+        Instr::Service(_) => 28,
         Instr::End => 29,
         Instr::LoadRegion(_) => 30,
         Instr::StoreRegion(_) => 31,
@@ -77,9 +77,9 @@ fn field_x(instruction: Instr) -> u32
         | Instr::StoreElement(x, _)
         | Instr::Jump(x)
         | Instr::JumpIfZero(x)
-        | Instr::Enter(x)
-        | Instr::GiveBack(x)
-        | Instr::Request(x)
+        | Instr::Call(x)
+        | Instr::Return(x)
+        | Instr::Service(x)
         | Instr::LoadRegion(x)
         | Instr::StoreRegion(x) => x,
         _ => 0,
@@ -212,10 +212,10 @@ fn instruction(op: u32, x: u32, v: i64) -> Option<Instr>
         7 => Some(Instr::StoreElement(x, v)),
         23 => with_x(v, Instr::Jump(x)),
         24 => with_x(v, Instr::JumpIfZero(x)),
-        25 => with_x(v, Instr::Enter(x)),
-        26 => with_x(v, Instr::GiveBack(x)),
+        25 => with_x(v, Instr::Call(x)),
+        26 => with_x(v, Instr::Return(x)),
         27 => with_v(x, Instr::Work(v)),
-        28 => with_x(v, Instr::Request(x)),
+        28 => with_x(v, Instr::Service(x)),
         29 => with_none(x, v, Instr::End),
         30 => with_x(v, Instr::LoadRegion(x)),
         31 => with_x(v, Instr::StoreRegion(x)),

@@ -1,7 +1,7 @@
 //! One tick of a process: operators, jumps, and the instruction table.
 
 ghost use Rattle.std.specs.Prelude.{◌≡◌, ◌≤◌, pos};
-ghost use Rattle.apex_meaning.specs.Instructions.{cost_of, cost_of_work, cost_of_request, is_work};
+ghost use Rattle.apex_meaning.specs.Instructions.{cost_of, cost_of_work, cost_of_service_call, is_work};
 ghost use Rattle.apex_meaning.specs.ServiceTable.{service_of};
 ghost use Rattle.apex_meaning.specs.MachineControl.{machine_tick};
 ghost use Rattle.processor.specs.Views.{control_of, asks_of, is_busy, only_counts};
@@ -29,8 +29,8 @@ fn cost_of_work(v: i64) -> u32
 }
 
 /// Ticks of SVC: those of the service, or 1 where there is none of that number.
-fn cost_of_request(x: u32) -> u32
-    ensures { result ≡ cost_of_request (service_of x) }
+fn cost_of_service_call(x: u32) -> u32
+    ensures { result ≡ cost_of_service_call (service_of x) }
 {
     match Service::from_number(x) {
         Some(service) => service.cost(),
@@ -45,10 +45,10 @@ fn cost_of(instruction: Instr) -> u32
     match instruction {
         Instr::LoadElement(_, _) | Instr::StoreElement(_, _) => 2,
         Instr::Binary(operator) => operator.cost(),
-        Instr::Enter(_) => 3,
-        Instr::GiveBack(_) => 2,
+        Instr::Call(_) => 3,
+        Instr::Return(_) => 2,
         Instr::Work(v) => cost_of_work(v),
-        Instr::Request(x) => cost_of_request(x),
+        Instr::Service(x) => cost_of_service_call(x),
         Instr::End => 4,
         Instr::LoadRegion(_) | Instr::StoreRegion(_) => 2,
         _ => 1,
@@ -149,10 +149,10 @@ impl Context {
             Instr::Unary(operator) => self.unary(operator),
             Instr::Jump(x) => self.jump(x),
             Instr::JumpIfZero(x) => self.jump_if_zero(x),
-            Instr::Enter(x) => self.enter(code, x),
-            Instr::GiveBack(x) => self.give_back(x),
+            Instr::Call(x) => self.enter(code, x),
+            Instr::Return(x) => self.give_back(x),
             Instr::Work(v) => self.work(v),
-            Instr::Request(x) => self.request(memory, x),
+            Instr::Service(x) => self.call_numbered(memory, x),
             Instr::End => Outcome::End,
             Instr::LoadRegion(x) => self.load_region(memory, x),
             Instr::StoreRegion(x) => self.store_region(memory, x),

@@ -4,21 +4,21 @@ ghost use Rattle.std.specs.Prelude.{◌≡◌, ◌∷◌, [], Some, None, codes,
 ghost use Rattle.apex_types.specs.declared.place.Place.TheVariants.{Slot};
 ghost use Rattle.apex_types.specs.declared.service.Service.TheVariants.{GetTime, SetPartitionMode};
 ghost use Rattle.apex_meaning.specs.GrammarReading.{program_at};
-ghost use Rattle.apex_meaning.specs.GrammarWords.{Mark, Name, Number, Request, Stray, words_of};
+ghost use Rattle.apex_meaning.specs.GrammarWords.{Mark, Name, Number, ServiceWord, Stray, words_of};
 ghost use Rattle.apex_meaning.specs.Program as program;
 ghost use Rattle.apex_meaning.specs.Rows.{plain_partition, program_of};
 ghost use Rattle.apex_meaning.specs.Syntax as written;
 
 /// From bytes to words, from words to a tree, and from that to a program.
 fn a_source_is_read()
-    ensures words { words_of (codes "x1:=-2>=y;#:=\n GET_TIME 9223372036854775808 A!") ≡ Name (codes "x1") ∷ Mark (codes ":=") ∷ Mark (codes "-") ∷ Number (Some 2) ∷ Mark (codes ">=") ∷ Name (codes "y") ∷ Mark (codes ";") ∷ Request GetTime ∷ Number None ∷ Stray ∷ Stray ∷ [] }
+    ensures words { words_of (codes "x1:=-2>=y;#:=\n GET_TIME 9223372036854775808 A!") ≡ Name (codes "x1") ∷ Mark (codes ":=") ∷ Mark (codes "-") ∷ Number (Some 2) ∷ Mark (codes ">=") ∷ Name (codes "y") ∷ Mark (codes ";") ∷ ServiceWord GetTime ∷ Number None ∷ Stray ∷ Stray ∷ [] }
     ensures tree { program_at (words_of (codes "init stack 16 { local r; SET_PARTITION_MODE(3) -> r; }")) ≡ Some (record {
       declarations = [];
       init = record {
         stack = Some 16;
         body = record {
           locals = codes "r" ∷ [];
-          block = written.MoreStmts (written.Request SetPartitionMode (written.MoreExprs (written.Number (Some 3)) written.NoExpr) (codes "r" ∷ [])) written.NoStmt;
+          block = written.MoreStmts (written.CallService SetPartitionMode (written.MoreExprs (written.Number (Some 3)) written.NoExpr) (codes "r" ∷ [])) written.NoStmt;
         };
       };
       handler = None;
@@ -34,7 +34,7 @@ fn a_source_is_read()
       init = record {
         stack = 16;
         locals = 1;
-        block = program.MoreStmts (program.Request SetPartitionMode (program.MoreExprs (program.Literal (pos 3)) program.NoExpr) (Slot 0 ∷ [])) program.NoStmt;
+        block = program.MoreStmts (program.CallService SetPartitionMode (program.MoreExprs (program.Literal (pos 3)) program.NoExpr) (Slot 0 ∷ [])) program.NoStmt;
       };
       handler = None;
       processes = [];

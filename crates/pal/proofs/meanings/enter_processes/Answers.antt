@@ -1,7 +1,7 @@
 use Rattle.std.proofs.Common.{◌≡◌, ◌∙◌, ◌+◌, ◌&&◌, [], map, drop, ap, is_none}
 use Rattle.std.specs.Option.{unwrap_or}
-use Rattle.apex_types.specs.declared.meaning.Meaning.TheVariants.{Object}
-use Rattle.apex_types.specs.declared.meaning.ObjectKind.TheVariants as object
+use Rattle.apex_types.specs.declared.denotation.Denotation.TheVariants.{Object}
+use Rattle.apex_types.specs.declared.denotation.ObjectKind.TheVariants as object
 use Rattle.apex_meaning.specs.Resolve.{Entry, process_entries}
 use Rattle.pal_base.specs.View.{texts, process_of}
 use Rattle.pal.specs.Tables.{entries_of}

@@ -1,6 +1,6 @@
 use Rattle.std.proofs.Common.{◌≡◌, ◌∙◌, ◌+◌, ◌&&◌, not, map, drop, ap, is_none, is_some}
 use Rattle.apex_types.specs.declared.place.Place.TheVariants.{Slot}
-use Rattle.apex_types.specs.declared.meaning.Meaning.TheVariants.{Scalar}
+use Rattle.apex_types.specs.declared.denotation.Denotation.TheVariants.{Scalar}
 use Rattle.apex_meaning.specs.Resolve.{Entry, own_entries, find}
 use Rattle.pal_base.specs.View.{texts, name_of}
 use Rattle.pal.specs.Tables.{entries_of}

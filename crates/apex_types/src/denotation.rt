@@ -1,4 +1,4 @@
-//! What the names of a program stand for, and what the arguments of services have to be.
+//! What the names of a program stand for.
 
 use crate::place::Place;
 
@@ -15,7 +15,7 @@ pub enum ObjectKind {
 
 /// What a name of a program stands for.
 #[derive(Clone, Copy, Debug, PartialEq, Eq)]
-pub enum Meaning {
+pub enum Denotation {
     /// A variable, a parameter or a local.
     Scalar(Place),
     /// An array: the place of its first word in the data, and its size in words.
@@ -24,15 +24,4 @@ pub enum Meaning {
     Object(ObjectKind, u32),
     /// A procedure by its number, from 0, and how many parameters it has.
     Procedure(u32, usize),
-}
-
-/// What an argument of a service has to be.
-#[derive(Clone, Copy, Debug, PartialEq, Eq)]
-pub enum ArgumentKind {
-    /// An expression.
-    Word,
-    /// The name of an array.
-    Array,
-    /// The name of an object, a port or a process of that kind.
-    Object(ObjectKind),
 }
