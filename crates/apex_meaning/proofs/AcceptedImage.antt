@@ -1,5 +1,5 @@
 -- An accepted table with lawful sections is a lawful image.
-use Rattle.std.proofs.Common.{◌≡◌, ℕ, ◌+◌, ◌≤◌, Bool, true, false, not, List, [], ◌∷◌, length, map, Ok, refl, sym, subst}
+use Rattle.std.proofs.Common.{◌≡◌, ℕ, ◌+◌, ◌≤◌, true, false, List, [], ◌∷◌, length, map, Ok, refl, sym, subst}
 use Rattle.std.specs.List.{list_any, AllByRecursion, All}
 use Rattle.std.proofs.lemmas.Bool.{and_from, or_from, not_from_false, le-ltb}
 use Rattle.apex_types.specs.declared.row.WindowRow.{WindowRow}

@@ -16,7 +16,7 @@ reading_texts = tt
 
 -- the bytes of an image, and what they are read as
 unfoldable pub image_bytes : ⊤
-unfolding spelling.name spelling.list spelling.health spelling.port_fields spelling.port spelling.partition spelling.semaphore spelling.buffer spelling.blackboard spelling.routine spelling.body spelling.duration spelling.process spelling.handler spelling.instruction spelling.objects spelling.bodies spelling.section spelling.window spelling.channel_end spelling.channel spelling.item spelling.head spelling.spelling reading.word_at reading.limited_at reading.small_at reading.bytes_at reading.name_at reading.fresh_name_at reading.choice_at reading.items_at reading.list_at reading.health_at reading.sampling_at reading.queuing_at reading.kind_at reading.port_at reading.partition_at reading.semaphore_at reading.buffer_at reading.blackboard_at reading.routine_at reading.body_at reading.duration_at reading.period_at reading.process_at reading.handler_at reading.objects_at reading.bodies_at reading.code_at reading.section_at reading.item_at reading.offset_at reading.window_at reading.channel_end_at reading.channel_at reading.magic_at reading.version_at reading.fields_at reading.image_at rules.overlaps_after rules.offered rules.falls_short rules.falls_short_from rules.lacks_release_from
+unfolding spelling.name spelling.list spelling.health spelling.port_fields spelling.port spelling.partition spelling.semaphore spelling.buffer spelling.blackboard spelling.routine spelling.body spelling.duration spelling.process spelling.handler spelling.instruction spelling.objects spelling.bodies spelling.section spelling.window spelling.channel_end spelling.channel spelling.item spelling.head spelling.spelling reading.word_at reading.limited_at reading.small_at reading.bytes_at reading.name_at reading.fresh_name_at reading.choice_at reading.items_at reading.list_at reading.health_at reading.sampling_at reading.queuing_at reading.kind_at reading.port_at reading.partition_at reading.semaphore_at reading.buffer_at reading.blackboard_at reading.routine_at reading.body_at reading.duration_at reading.period_at reading.process_at reading.handler_at reading.objects_at reading.bodies_at reading.code_at reading.section_at reading.item_at reading.offset_at reading.window_at reading.channel_end_at reading.channel_at reading.magic_at reading.version_at reading.fields_at reading.image_at rules.has_twice rules.overlaps_after rules.offered rules.falls_short rules.falls_short_from rules.lacks_release_from rules.has_two_devices rules.is_wrong
 image_bytes = tt
 
 -- the verdict on the text of a module table

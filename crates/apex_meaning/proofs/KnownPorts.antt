@@ -1,17 +1,16 @@
 -- An end of a channel that a text names is a port of one of the table's partitions, or the device.
 use Rattle.std.proofs.Common.{◌≡◌, ℕ, zero, suc, ◌+◌, ◌-◌, ◌≤◌, ◌<◌, Bool, true, false, cond, List, [], ◌∷◌, ◌++◌, length, map, Option, Some, None, refl, sym, ap, ◌∙◌, arith, length-append, append_assoc, subst}
-use Rattle.std.specs.Prelude.{◌||◌, ◌==◌, slice_get, is_none, codes, unwrap_or}
+use Rattle.std.specs.Prelude.{◌==◌, slice_get, is_none, codes, unwrap_or}
 use Rattle.std.specs.List.{list_any}
 use Rattle.std.specs.Option.{option_map}
 use Rattle.std.proofs.lemmas.Bool.{or_from, ne_eqb}
 use Rattle.std.proofs.lemmas.List.{length-map}
 use Rattle.std.proofs.lemmas.Option.{slice_get-map}
-use Rattle.apex_types.specs.declared.row.PortRow.{PortRow}
 use Rattle.apex_types.specs.declared.row.ChannelEnd.{ChannelEnd}
 use Rattle.apex_types.specs.declared.row.ChannelEnd.TheVariants as ends
-use Rattle.apex_meaning.specs.Image.{Partition, Channel}
+use Rattle.apex_meaning.specs.Image.{Partition}
 use Rattle.apex_meaning.specs.TableText.{same, ◌>>=◌, PartitionText, ChannelText}
-use Rattle.apex_meaning.specs.TableRules.{number_from, port_number, port_from, end_of, channel_row, port_row, partition_row, port_at, ends_of, is_unknown_port, has_unknown_port}
+use Rattle.apex_meaning.specs.TableRules.{port_number, port_from, end_of, channel_row, port_row, partition_row, is_unknown_port, has_unknown_port}
 use Rattle.apex_meaning.proofs.WellFormedFits.{at_seam}
 use Rattle.apex_meaning.proofs.AcceptedTable.{number_small}
 

@@ -1,5 +1,5 @@
 -- Each partition of an accepted table, and of a lawful image, has a next release.
-use Rattle.std.proofs.Common.{◌≡◌, ℕ, suc, ◌+◌, ◌-◌, ◌≤◌, ◌<◌, Bool, true, false, not, nat_le, List, [], ◌∷◌, length, map, Ok, refl, sym, ap, ◌∙◌, arith, inl, inr, ◌⊎◌, subst}
+use Rattle.std.proofs.Common.{◌≡◌, ℕ, suc, ◌+◌, ◌≤◌, ◌<◌, Bool, true, false, not, nat_le, List, [], ◌∷◌, length, Ok, refl, arith, inl, inr, ◌⊎◌, subst}
 use Rattle.std.specs.Prelude.{◌||◌, ◌&&◌, nat_lt}
 use Rattle.std.specs.List.{list_any}
 use Rattle.std.proofs.lemmas.Bool.{or_parts, or_from, and_parts, not-false, not-true, ltb-false, leb-true, leb-false, lt-leb}
@@ -11,7 +11,7 @@ use Rattle.apex_meaning.specs.Image.{Table, Partition, Item, Image}
 use Rattle.apex_meaning.specs.ImageReading.{partitions_in}
 use Rattle.apex_meaning.specs.ImageLimits.{EachBeside, IsWindow, IsLawful}
 use Rattle.apex_meaning.specs.TableRules.{is_wrong_window, has_wrong_window, has_odd_period, has_short_period, lacks_release_from, lacks_release, has_unknown_port, has_wrong_ends, verdict}
-use Rattle.apex_meaning.specs.Windows.{Schedule, has_release, IsNextRelease, next_release, begins_late, BeginWithin}
+use Rattle.apex_meaning.specs.Windows.{has_release, IsNextRelease, next_release, begins_late, BeginWithin}
 use Rattle.apex_meaning.proofs.AcceptedTable.{accepted_table, table_begins}
 use Rattle.apex_meaning.proofs.NextRelease.{is_next_release}
 

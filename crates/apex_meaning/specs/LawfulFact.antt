@@ -1,12 +1,7 @@
 -- That an image is lawful is one fact: it has at most one proof, so that a struct can carry it.
-use Rattle.std.specs.Prelude.{ℕ, List, [], ◌∷◌, ◌++◌, Option, Some, None, FitsSigned}
+use Rattle.std.specs.Prelude.{ℕ, List, [], ◌∷◌, ◌++◌, Option, Some, None}
 use Rattle.std.specs.Coded.{×_prop, Unit-prop}
-use Rattle.std.specs.Int.{w64}
 use Rattle.std.proofs.Props.{props}
-use Rattle.apex_types.specs.declared.row.SemaphoreRow.{SemaphoreRow}
-use Rattle.apex_types.specs.declared.row.BufferRow.{BufferRow}
-use Rattle.apex_types.specs.declared.row.BlackboardRow.{BlackboardRow}
-use Rattle.apex_types.specs.declared.row.RoutineRow.{RoutineRow}
 use Rattle.apex_types.specs.declared.row.BodyRow.{BodyRow}
 use Rattle.apex_types.specs.declared.row.ProcessRow.{ProcessRow}
 use Rattle.apex_types.specs.declared.row.PortRow.{PortRow}
@@ -17,7 +12,7 @@ use Rattle.apex_types.specs.declared.row.ChannelEnd.{ChannelEnd}
 use Rattle.apex_types.specs.declared.row.ChannelEnd.TheVariants.{Device, Port}
 use Rattle.apex_meaning.specs.Image.{Section, Partition, Channel, Item, Image}
 use Rattle.apex_meaning.specs.ImageSpelling.{Objects, Bodies}
-use Rattle.apex_meaning.specs.ImageLimits.{IsFrom, EachBeside, IsSemaphore, IsBuffer, IsBlackboard, AreObjects, IsRoutine, IsBody, IsDuration, IsProcess, IsHandler, AreBodies, IsCode, IsSection, IsPortKind, IsPort, IsPartition, IsItem, IsWindow, IsEnd, IsChannel, IsWithinLimits, IsLawful}
+use Rattle.apex_meaning.specs.ImageLimits.{IsFrom, EachBeside, AreObjects, IsBody, IsDuration, IsProcess, IsHandler, AreBodies, IsCode, IsSection, IsPortKind, IsPort, IsPartition, IsItem, IsWindow, IsEnd, IsChannel, IsWithinLimits, IsLawful}
 
 from_prop : (low high n : ℕ) → IsProp (IsFrom low high n)
 from_prop low high n = hlevel props

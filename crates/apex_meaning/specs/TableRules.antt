@@ -1,12 +1,10 @@
 -- The rules that a module table keeps, in the order in which they are asked, and its verdict: the
 -- table itself, or the first rule that it breaks.
-use Rattle.std.specs.Prelude.{ℕ, zero, suc, ◌+◌, ◌-◌, ◌*◌, ◌/◌, ◌%◌, ◌^◌, min, max, ℤ, pos, ◌+ℤ◌, nat_abs, codes, Bool, true, false, not, ◌&&◌, ◌||◌, ◌==◌, nat_lt, int_lt, is_none, if◌then◌else◌, List, [], ◌∷◌, ◌++◌, length, map, slice_get, flat_map, sum_by, count_by, Option, Some, None, unwrap_or, Result, Ok, Err}
+use Rattle.std.specs.Prelude.{ℕ, zero, suc, ◌+◌, ◌-◌, ◌*◌, ◌/◌, ◌%◌, ◌^◌, min, max, ℤ, pos, ◌+ℤ◌, nat_abs, codes, Bool, true, false, not, ◌&&◌, ◌||◌, ◌==◌, nat_lt, int_lt, is_none, if◌then◌else◌, List, [], ◌∷◌, ◌++◌, length, map, slice_get, flat_map, sum_by, Option, Some, None, unwrap_or, Result, Ok, Err}
 use Rattle.std.specs.List.{list_any}
 use Rattle.apex_types.specs.NameText.{is_name}
 use Rattle.apex_types.specs.declared.codes.ModuleAction.TheVariants as module_action
 use Rattle.apex_types.specs.declared.codes.PartitionAction.TheVariants as partition_action
-use Rattle.apex_types.specs.declared.identity.PartitionId.{PartitionId}
-use Rattle.apex_types.specs.declared.identity.PortId.{PortId}
 use Rattle.apex_types.specs.declared.row.HealthTable.{HealthTable}
 use Rattle.apex_types.specs.declared.row.PortDirection.{PortDirection}
 use Rattle.apex_types.specs.declared.row.PortDirection.TheVariants as directions

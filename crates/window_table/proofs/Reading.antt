@@ -1,8 +1,8 @@
 -- Reading a list of tables one by one: what was read stands before what is still to be read.
-use Rattle.std.proofs.Common.{◌≡◌, ℕ, Bool, false, cond, List, [], ◌∷◌, ◌++◌, length, map, Option, Some, None, Result, Ok, Err, is_ok, is_err, refl, sym, ap, ◌∙◌, append_assoc, arith}
-use Rattle.std.proofs.lemmas.List.{map-append, append-nil}
+use Rattle.std.proofs.Common.{◌≡◌, ℕ, false, cond, List, [], ◌∷◌, ◌++◌, length, map, Option, Some, None, Result, Ok, Err, is_ok, is_err, refl, sym, ap, ◌∙◌, append_assoc, ◌+◌, ◌≤◌, ◌<◌, drop, get_or, length-drop, arith}
+use Rattle.std.proofs.lemmas.List.{map-append, append-nil, drop_more}
 use Rattle.std.proofs.lemmas.Bool.{false≢true}
-use Rattle.toml.specs.Data.{Data, Items, no_items, item, Members, as_table, as_str}
+use Rattle.toml.specs.Data.{Members, as_table, as_str}
 use Rattle.toml.specs.View.{view as value_view, items_view}
 use Rattle.toml.specs.declared.value.Value.{Value}
 use Rattle.apex_meaning.specs.TableText.{◌>>=◌, tables_of, texts_of}
@@ -29,6 +29,13 @@ pushed (Err e) new old more good items = absurd (false≢true good)
 pub none-left : {X : Type 0} (xs : List X) → length xs ≡ 0 → xs ≡ []
 none-left [] h = refl
 none-left (x ∷ xs) h = absurd (omega arith)
+
+-- the next of several values, and what is left after the last
+pub next-value : (vs : List Value) (i : ℕ) (v : Value) → v ≡ get_or vs i v → i < length vs → drop i vs ≡ v ∷ drop (i + 1) vs
+next-value vs i v is here = drop_more vs i v here ∙ ap (λ (x : Value). x ∷ drop (i + 1) vs) (sym is)
+
+pub all-seen : (vs : List Value) (i : ℕ) → length vs ≤ i → length (drop i vs) ≡ 0
+all-seen vs i h = omega (arith, length-drop i vs)
 
 pub no-table : {R A : Type 0} (view : R → A) (read : Members → Option A) (all : Option (List A)) (rows : List R) (es : List Value) (v : Value) (vs : List Value) → all ≡ behind (map view rows) (tables_of read (items_view es)) → es ≡ v ∷ vs → None ≡ as_table (value_view v) → all ≡ None
 unfolding tables_of

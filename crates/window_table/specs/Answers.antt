@@ -2,7 +2,6 @@
 use Rattle.std.specs.Prelude.{◌≡◌, ℕ, Bool, true, List, Option, Some, None, Result, Ok, Err, IsUtf8}
 use Rattle.toml.specs.Data.{Members}
 use Rattle.toml.specs.Parse.{parse_document}
-use Rattle.apex_meaning.specs.Image.{Table}
 use Rattle.apex_meaning.specs.TableRules.{Refusal, verdict}
 use Rattle.apex_meaning.specs.TableRules as rule
 use Rattle.window_table.specs.declared.fault.TableFault.{TableFault}

@@ -1,5 +1,5 @@
 -- What the code's rows stand for in the definitions.
-use Rattle.std.specs.Prelude.{ℕ, List, map}
+use Rattle.std.specs.Prelude.{map}
 use Rattle.apex_meaning.specs.Image.{Table, Partition, Channel}
 use Rattle.apex_meaning.specs.TableText.{KindText, Sampling, Queuing, PortText, PartitionText, WindowText, ChannelText, TableText}
 use Rattle.window_table.specs.Schedules.{schedule_of}

@@ -1,7 +1,6 @@
 //! Worked tables: one text for each refusal, with a later fault in the same text.
 
-use crate::{next_release, owner, read_table};
-use apex_types::{PartitionId, Ticks};
+use crate::read_table;
 use std::alloc::Global;
 
 /// A text in four parts, so that a case tells only what is its own.

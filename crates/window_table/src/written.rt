@@ -145,8 +145,7 @@ fn read_ports(alloc: Global, values: &[Value]) -> Result<Vec<WrittenPort<'_>>, T
     ensures { Reads (λ v. map port_text v.items) result (tables_of port_of (items_view values.now)) }
 {
     let mut ports = Vec::new(alloc);
-    let mut rest = values;
-    while let Some((value, others)) = rest.split_first() {
+    for value in values {
         let Some(table) = value.as_table() else {
             return Err(TableFault::Shape)
         };
@@ -156,7 +155,6 @@ fn read_ports(alloc: Global, values: &[Value]) -> Result<Vec<WrittenPort<'_>>, T
         if ports.push(port).is_err() {
             return Err(TableFault::Memory);
         }
-        rest = others;
     }
     Ok(ports)
 }
@@ -188,8 +186,7 @@ fn read_partitions(alloc: Global, values: &[Value]) -> Result<Vec<WrittenPartiti
     ensures { Reads (λ v. map partition_text v.items) result (tables_of partition_of (items_view values.now)) }
 {
     let mut partitions = Vec::new(alloc);
-    let mut rest = values;
-    while let Some((value, others)) = rest.split_first() {
+    for value in values {
         let Some(table) = value.as_table() else {
             return Err(TableFault::Shape)
         };
@@ -200,7 +197,6 @@ fn read_partitions(alloc: Global, values: &[Value]) -> Result<Vec<WrittenPartiti
         if partitions.push(partition).is_err() {
             return Err(TableFault::Memory);
         }
-        rest = others;
     }
     Ok(partitions)
 }
@@ -225,8 +221,7 @@ fn read_windows(alloc: Global, values: &[Value]) -> Result<Vec<WrittenWindow<'_>
     ensures { Reads (λ v. map window_text v.items) result (tables_of window_of (items_view values.now)) }
 {
     let mut windows = Vec::new(alloc);
-    let mut rest = values;
-    while let Some((value, others)) = rest.split_first() {
+    for value in values {
         let Some(table) = value.as_table() else {
             return Err(TableFault::Shape)
         };
@@ -236,7 +231,6 @@ fn read_windows(alloc: Global, values: &[Value]) -> Result<Vec<WrittenWindow<'_>
         if windows.push(window).is_err() {
             return Err(TableFault::Memory);
         }
-        rest = others;
     }
     Ok(windows)
 }
@@ -245,15 +239,13 @@ fn read_destinations(alloc: Global, values: &[Value]) -> Result<Vec<&str>, Table
     ensures { Reads (λ v. map (λ d. d.now) v.items) result (texts_of (items_view values.now)) }
 {
     let mut destinations = Vec::new(alloc);
-    let mut rest = values;
-    while let Some((value, others)) = rest.split_first() {
+    for value in values {
         let Some(end) = value.as_str() else {
             return Err(TableFault::Shape)
         };
         if destinations.push(end).is_err() {
             return Err(TableFault::Memory);
         }
-        rest = others;
     }
     Ok(destinations)
 }
@@ -280,8 +272,7 @@ fn read_channels(alloc: Global, values: &[Value]) -> Result<Vec<WrittenChannel<'
     ensures { Reads (λ v. map channel_text v.items) result (tables_of channel_of (items_view values.now)) }
 {
     let mut channels = Vec::new(alloc);
-    let mut rest = values;
-    while let Some((value, others)) = rest.split_first() {
+    for value in values {
         let Some(table) = value.as_table() else {
             return Err(TableFault::Shape)
         };
@@ -292,7 +283,6 @@ fn read_channels(alloc: Global, values: &[Value]) -> Result<Vec<WrittenChannel<'
         if channels.push(channel).is_err() {
             return Err(TableFault::Memory);
         }
-        rest = others;
     }
     Ok(channels)
 }

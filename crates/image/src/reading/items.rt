@@ -6,11 +6,11 @@ ghost use Rattle.image.specs.Items.{section_of, item_of, items_of};
 ghost use Rattle.image.specs.Views.{Gives};
 
 use crate::fault::ImageFault;
+use crate::item::PartitionItem;
 use crate::reading::bodies::{bodies_at, code_at};
 use crate::reading::numbers::u32_within;
 use crate::reading::objects::objects_at;
 use crate::reading::partitions::partition_at;
-use crate::item::PartitionItem;
 use apex_types::Section;
 use std::alloc::Global;
 

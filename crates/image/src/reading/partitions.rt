@@ -8,10 +8,10 @@ ghost use Rattle.image.specs.Items.{items_of, partition_of};
 ghost use Rattle.image.specs.Views.{Gives};
 
 use crate::fault::ImageFault;
+use crate::item::PartitionItem;
 use crate::reading::choices::{direction_at, discipline_at, partition_action_at};
 use crate::reading::numbers::{name_at, same_name, u8_within, u32_within, u64_within};
 use crate::reading::rows::{Row, list_at};
-use crate::item::PartitionItem;
 use apex_types::{HealthTable, Name, PortKind, PortRow};
 use std::alloc::Global;
 use window_table::PartitionRow;

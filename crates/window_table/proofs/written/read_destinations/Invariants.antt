@@ -1,11 +1,8 @@
-use Rattle.std.proofs.Common.{◌≡◌, length, map}
+use Rattle.std.proofs.Common.{◌≡◌, drop, map}
 use Rattle.toml.specs.View.{items_view}
 use Rattle.apex_meaning.specs.TableText.{texts_of}
 use Rattle.window_table.proofs.Reading.{behind}
 use Rattle.window_table.proofs.written.read_destinations.Given as goal
 
 abbrev pub invariant-loop-value : goal.invariant-loop-value
-invariant-loop-value l = texts_of (items_view l.values) ≡ behind (map (λ d. d.now) l.destinations.items) (texts_of (items_view l.rest))
-
-abbrev pub decreases-loop-value : goal.decreases-loop-value
-decreases-loop-value l = length l.rest
+invariant-loop-value l = texts_of (items_view l.values) ≡ behind (map (λ d. d.now) l.destinations.items) (texts_of (items_view (drop l.value-index l.values)))

@@ -1,4 +1,4 @@
-use Rattle.std.proofs.Common.{◌≡◌, length, map}
+use Rattle.std.proofs.Common.{◌≡◌, drop, map}
 use Rattle.toml.specs.View.{items_view}
 use Rattle.apex_meaning.specs.TableText.{tables_of, port_of}
 use Rattle.window_table.specs.Views.{port_text}
@@ -6,7 +6,4 @@ use Rattle.window_table.proofs.Reading.{behind}
 use Rattle.window_table.proofs.written.read_ports.Given as goal
 
 abbrev pub invariant-loop-value : goal.invariant-loop-value
-invariant-loop-value l = tables_of port_of (items_view l.values) ≡ behind (map port_text l.ports.items) (tables_of port_of (items_view l.rest))
-
-abbrev pub decreases-loop-value : goal.decreases-loop-value
-decreases-loop-value l = length l.rest
+invariant-loop-value l = tables_of port_of (items_view l.values) ≡ behind (map port_text l.ports.items) (tables_of port_of (items_view (drop l.value-index l.values)))
