@@ -29,7 +29,6 @@ pub mod AcceptedTable
 pub mod AcceptedImage
 pub mod Spelled
 pub mod Choosing
-pub mod Computing
 pub mod Shaped
 pub mod Longer
 pub mod Followed

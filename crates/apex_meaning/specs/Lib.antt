@@ -33,4 +33,3 @@ pub mod WellFormed
 pub mod GrammarWords
 pub mod GrammarReading
 pub mod Grammar
-pub mod Rows
