@@ -41,7 +41,7 @@ pub fn resolve(
     Ok(program::Program {
         initial: initial_of(alloc, declarations)?,
         semaphores: semaphores_of(alloc, declarations)?,
-        events: events_of(declarations)?,
+        events: events_of(declarations),
         buffers: buffers_of(alloc, declarations)?,
         blackboards: blackboards_of(alloc, declarations)?,
         procedures: resolve_procedures(alloc, names, declared, declarations)?,
@@ -97,10 +97,8 @@ fn push_values(words: &mut Vec<i64>, values: &[Numeral]) -> Result<(), AllocErro
 fn push_zeros(words: &mut Vec<i64>, count: usize) -> Result<(), AllocError>
     ensures { OnOk result (words.new.items ≡ words.old.items ++ replicate count (pos 0)) }
 {
-    let Some(end) = words.len().checked_add(count) else {
-        return Err(AllocError);
-    };
-    words.resize(end, 0)?;
+    words.reserve(count)?;
+    words.resize(words.len() + count, 0)?;
     Ok(())
 }
 
@@ -137,17 +135,14 @@ fn semaphores_of(
 }
 
 /// How many events are declared, up to 16.
-fn events_of(declarations: &[Declaration]) -> Result<u8, AllocError>
-    ensures { IfOk result (λ events. (names : List (List ℕ)) → events ≡ (counts_of no_counts (map (view.declaration_of names) declarations.now)).events) }
+fn events_of(declarations: &[Declaration]) -> u8
+    ensures { (names : List (List ℕ)) → result ≡ (counts_of no_counts (map (view.declaration_of names) declarations.now)).events }
 {
     let mut counts = Counts::NONE;
     for declaration in declarations {
         counts = counts.after(&declaration.kind).unwrap_or(counts);
     }
-    match u8::try_from(counts.events) {
-        Ok(events) => Ok(events),
-        Err(_) => Err(AllocError),
-    }
+    counts.events
 }
 
 fn buffers_of(alloc: Global, declarations: &[Declaration]) -> Result<Vec<BufferRow>, AllocError>
