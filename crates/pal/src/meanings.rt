@@ -99,7 +99,10 @@ impl Counts {
             DeclarationKind::Semaphore { .. } => {
                 Meaning::Object(ObjectKind::Semaphore, next(16, self.semaphores))
             }
-            DeclarationKind::Event => Meaning::Object(ObjectKind::Event, next(16, u32::from(self.events))),
+            DeclarationKind::Event => Meaning::Object(
+                ObjectKind::Event,
+                next(16, u32::from(self.events)),
+            ),
             DeclarationKind::Buffer { .. } => {
                 Meaning::Object(ObjectKind::Buffer, next(16, self.buffers))
             }
