@@ -8,7 +8,6 @@ mod many;
 mod memory;
 mod pages;
 mod processes;
-mod refusals;
 mod shelf;
 mod sinks;
 mod smallest;
