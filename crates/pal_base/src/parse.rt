@@ -156,13 +156,9 @@ impl Source {
         let mut processes = Vec::new(alloc);
         let mut rest = tokens;
         while let Some(behind) = self.behind(rest, Mark::Process) {
-            match self.process(alloc, self.line_of(rest), behind) {
-                Ok((process, after)) => {
-                    processes.push(process)?;
-                    rest = after;
-                }
-                Err(error) => return Err(error),
-            }
+            let (process, after) = self.process(alloc, self.line_of(rest), behind)?;
+            processes.push(process)?;
+            rest = after;
         }
         Ok((processes, rest))
     }

@@ -257,13 +257,11 @@ fn natural(digits: &[u8]) -> Natural
     ensures { natural_of result ≡ grammar.within (grammar.decimal_value digits.now) }
 {
     let mut value = 0;
-    let mut rest = digits;
-    while let Some((digit, others)) = rest.split_first() {
+    for digit in digits {
         match with_digit(value, *digit) {
             Some(larger) => value = larger,
             None => return Natural::TooLarge,
         }
-        rest = others;
     }
     Natural::Within(value as i64)
 }
