@@ -1,6 +1,6 @@
-//! The rows that stand as files: tables and sources whose verdict is known from the rules, and
-//! random modules whose traces an independent program has computed. Checks, builds and runs them,
-//! tells each row that differs, and how many are as expected.
+//! The rows that stand as files: tables and sources with their verdicts, and modules with their
+//! traces, as they follow from the rules or as an independent program has computed them. Checks,
+//! builds and runs them, tells each row that differs, and how many are as expected.
 //!
 //! The file `rows` lists them, one a line: `check FOLDER SOURCE..` for the verdict on a table and
 //! its sources, `run FOLDER TICKS SOURCE..` for the trace of their image. In the folder lie the

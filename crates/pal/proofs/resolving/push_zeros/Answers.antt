@@ -1,4 +1,4 @@
-use Rattle.std.proofs.Common.{◌∙◌, ◌+◌, ◌++◌, pos, ap, replicate, refl, vec_len, ℤ, List}
+use Rattle.std.proofs.Common.{◌∙◌, ◌+◌, ◌++◌, pos, ap, replicate, vec_len, ℤ, List}
 use Rattle.pal.proofs.Resolved.{zeros_behind}
 use Rattle.pal.proofs.resolving.push_zeros.Goals as goal
 
