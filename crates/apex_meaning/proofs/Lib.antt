@@ -32,7 +32,6 @@ pub mod NextRelease
 pub mod Releases
 pub mod Spelled
 pub mod Choosing
-pub mod Computing
 pub mod Counts
 pub mod Shaped
 pub mod Longer

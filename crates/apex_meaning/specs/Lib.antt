@@ -39,4 +39,3 @@ pub mod WellFormed
 pub mod GrammarWords
 pub mod GrammarReading
 pub mod Grammar
-pub mod Rows

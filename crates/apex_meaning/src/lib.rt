@@ -4,5 +4,3 @@
 
 pub mod compilation;
 pub mod laws;
-#[cfg(test)]
-mod tests;

@@ -1,10 +1,8 @@
 //! Builds ARINC 653 modules and runs them.
 #![tactic(auto)]
 
-mod files;
-
 use command_line::command;
-use files::HostFiles;
+use host_files::HostFiles;
 use std::alloc::AllocGlobal;
 use std::env;
 use std::io::{self, ErrorKind, Write};

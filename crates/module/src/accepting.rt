@@ -39,9 +39,7 @@ pub fn accept_sources(
 {
     let mut accepted = Vec::with_capacity(alloc, rows.len())?;
     for row in rows {
-        let Some(source) = sources.get(accepted.len()) else {
-            return Err(BuildFault::Sources);
-        };
+        let source = sources[accepted.len()];
         accepted.push(accept(alloc, row, source)?)?;
     }
     Ok(accepted)

@@ -129,9 +129,7 @@ fn build_items(
     let mut items = Vec::with_capacity(alloc, sources.len())?;
     let mut place = 0usize;
     for row in rows {
-        let Some(source) = sources.get(place) else {
-            return Err(BuildFault::Sources);
-        };
+        let source = &sources[place];
         items.push(build_item(alloc, row, &source.program)?)?;
         place += 1;
     }

@@ -22,7 +22,7 @@ use std::alloc::{AllocError, Global};
 pub struct Counts {
     pub words: u32,
     pub semaphores: u32,
-    pub events: u32,
+    pub events: u8,
     pub buffers: u32,
     pub blackboards: u32,
     pub ports: u32,
@@ -99,7 +99,10 @@ impl Counts {
             DeclarationKind::Semaphore { .. } => {
                 Denotation::Object(ObjectKind::Semaphore, next(16, self.semaphores))
             }
-            DeclarationKind::Event => Denotation::Object(ObjectKind::Event, next(16, self.events)),
+            DeclarationKind::Event => Denotation::Object(
+                ObjectKind::Event,
+                next(16, u32::from(self.events)),
+            ),
             DeclarationKind::Buffer { .. } => {
                 Denotation::Object(ObjectKind::Buffer, next(16, self.buffers))
             }
@@ -127,7 +130,9 @@ impl Counts {
             DeclarationKind::Semaphore { .. } => {
                 counts.semaphores = counted(16, self.semaphores, 1)?;
             }
-            DeclarationKind::Event => counts.events = counted(16, self.events, 1)?,
+            DeclarationKind::Event => {
+                counts.events = counted(16, u32::from(self.events), 1)? as u8;
+            }
             DeclarationKind::Buffer { .. } => counts.buffers = counted(16, self.buffers, 1)?,
             DeclarationKind::Blackboard { .. } => {
                 counts.blackboards = counted(16, self.blackboards, 1)?;

@@ -1,16 +1,19 @@
 //! The program with its names resolved. What is refused elsewhere stands as 0 here: a number beyond
 //! its limit, and a name that is not of the kind that is wanted.
 
-ghost use Rattle.std.specs.Prelude.{◌≡◌, ◌++◌, ◌-◌, ◌^◌, List, ℕ, pos, map, length, replicate, flat_map, filter_map, option_map, IfOk, OnOk};
+ghost use Rattle.std.specs.Prelude.{◌≡◌, ◌++◌, ◌-◌, ◌^◌, List, ℕ, pos, map, length, replicate, flat_map, filter_map, option_map, true, IfOk, OnOk};
+ghost use Rattle.std.specs.List.{list_all};
+ghost use Rattle.apex_types.specs.NameText.{is_name};
 ghost use Rattle.apex_meaning.specs.Program as tree;
 ghost use Rattle.apex_meaning.specs.Resolve as meant;
 ghost use Rattle.apex_meaning.specs.Resolve.{no_counts, counts_of, words_of, array_words, semaphore_of, buffer_of, blackboard_of, resolve_expr, resolve_exprs, resolve_links, resolve_stmt, resolve_block};
+ghost use Rattle.apex_meaning.specs.WellFormed.{keeps_declaration, keeps_process};
 ghost use Rattle.pal_base.specs.View as view;
 ghost use Rattle.pal_base.specs.View.{texts, name_of, number_of, integer_of};
 ghost use Rattle.pal_base.specs.ProgramView as shown;
 ghost use Rattle.pal.specs.Tables.{entries_of};
 ghost use Rattle.pal.specs.Scopes.{names_of, sees};
-ghost use Rattle.pal.specs.Parts.{resolve_among, exprs_onto};
+ghost use Rattle.pal.specs.Parts.{limits_hold_among, resolve_among, exprs_onto};
 
 use crate::meanings::Counts;
 use crate::numbers::{limited, signed_word_of, word_of};
@@ -27,12 +30,13 @@ use pal_base::syntax::{
 };
 use std::alloc::{AllocError, Global};
 
-/// The program with its names resolved.
+/// The program with its names resolved, where no limit is passed.
 pub fn resolve(
     alloc: Global,
     declared: &NameTable,
     program: &Program,
 ) -> Result<program::Program, AllocError>
+    requires { limits_hold_among (entries_of declared.now) (view.program_of program.now) ≡ true }
     ensures { IfOk result (λ resolved. shown.program_of resolved ≡ resolve_among (entries_of declared.now) (view.program_of program.now)) }
 {
     let names = &program.names;
@@ -40,7 +44,7 @@ pub fn resolve(
     Ok(program::Program {
         initial: initial_of(alloc, declarations)?,
         semaphores: semaphores_of(alloc, declarations)?,
-        events: events_of(declarations)?,
+        events: events_of(declarations),
         buffers: buffers_of(alloc, declarations)?,
         blackboards: blackboards_of(alloc, declarations)?,
         procedures: resolve_procedures(alloc, names, declared, declarations)?,
@@ -96,10 +100,8 @@ fn push_values(words: &mut Vec<i64>, values: &[Numeral]) -> Result<(), AllocErro
 fn push_zeros(words: &mut Vec<i64>, count: usize) -> Result<(), AllocError>
     ensures { OnOk result (words.new.items ≡ words.old.items ++ replicate count (pos 0)) }
 {
-    let Some(end) = words.len().checked_add(count) else {
-        return Err(AllocError);
-    };
-    words.resize(end, 0)?;
+    words.reserve(count)?;
+    words.resize(words.len() + count, 0)?;
     Ok(())
 }
 
@@ -136,17 +138,14 @@ fn semaphores_of(
 }
 
 /// How many events are declared, up to 16.
-fn events_of(declarations: &[Declaration]) -> Result<u8, AllocError>
-    ensures { IfOk result (λ events. (names : List (List ℕ)) → events ≡ (counts_of no_counts (map (view.declaration_of names) declarations.now)).events) }
+fn events_of(declarations: &[Declaration]) -> u8
+    ensures { (names : List (List ℕ)) → result ≡ (counts_of no_counts (map (view.declaration_of names) declarations.now)).events }
 {
     let mut counts = Counts::NONE;
     for declaration in declarations {
         counts = counts.after(&declaration.kind).unwrap_or(counts);
     }
-    match u8::try_from(counts.events) {
-        Ok(events) => Ok(events),
-        Err(_) => Err(AllocError),
-    }
+    counts.events
 }
 
 fn buffers_of(alloc: Global, declarations: &[Declaration]) -> Result<Vec<BufferRow>, AllocError>
@@ -187,11 +186,12 @@ fn blackboards_of(
     Ok(rows)
 }
 
-/// The name of a process or a procedure. It has the form of a name where no limit is passed.
-fn name_at(names: &IndexSet<String>, name: Identifier) -> Result<Name, AllocError>
-    ensures { IfOk result (λ found. found ≡ name_of (texts names.now.keys) name) }
+/// The name of a process or a procedure.
+fn name_at(names: &IndexSet<String>, name: Identifier) -> Name
+    requires { is_name (name_of (texts names.now.keys) name) ≡ true }
+    ensures { result ≡ name_of (texts names.now.keys) name }
 {
-    Name::new(text_of(names, name.name).as_bytes()).ok_or(AllocError)
+    Name::new(text_of(names, name.name).as_bytes()).unwrap()
 }
 
 /// A count up to a limit; beyond that it is 0.
@@ -211,12 +211,13 @@ fn resolve_procedures(
     declared: &NameTable,
     declarations: &[Declaration],
 ) -> Result<Vec<program::Procedure>, AllocError>
+    requires { list_all (keeps_declaration (entries_of declared.now)) (map (view.declaration_of (texts names.now.keys)) declarations.now) ≡ true }
     ensures { IfOk result (λ procedures. map shown.procedure_of procedures.items ≡ filter_map (λ d. meant.procedure_of (entries_of declared.now) d.kind) (map (view.declaration_of (texts names.now.keys)) declarations.now)) }
 {
     let mut procedures = Vec::new(alloc);
     for declaration in declarations {
         if let DeclarationKind::Procedure { parameters, body } = &declaration.kind {
-            let name = name_at(names, declaration.name)?;
+            let name = name_at(names, declaration.name);
             procedures.push(program::Procedure {
                 name,
                 parameters: limited_count(8, parameters.len()),
@@ -268,6 +269,7 @@ fn resolve_processes(
     declared: &NameTable,
     processes: &[Process],
 ) -> Result<Vec<program::Process>, AllocError>
+    requires { list_all (keeps_process (entries_of declared.now)) (map (view.process_of (texts names.now.keys)) processes.now) ≡ true }
     ensures { IfOk result (λ resolved. map shown.process_of resolved.items ≡ map (meant.resolve_process (entries_of declared.now)) (map (view.process_of (texts names.now.keys)) processes.now)) }
 {
     let mut resolved = Vec::new(alloc);
@@ -283,10 +285,11 @@ fn resolve_process(
     declared: &NameTable,
     process: &Process,
 ) -> Result<program::Process, AllocError>
+    requires { keeps_process (entries_of declared.now) (view.process_of (texts names.now.keys) process.now) ≡ true }
     ensures { IfOk result (λ resolved. shown.process_of resolved ≡ meant.resolve_process (entries_of declared.now) (view.process_of (texts names.now.keys) process.now)) }
 {
     Ok(program::Process {
-        name: name_at(names, process.name)?,
+        name: name_at(names, process.name),
         priority: Priority(limited(239, &process.priority) as u8),
         period: time_of(&process.period),
         capacity: time_of(&process.capacity),

@@ -53,7 +53,7 @@ impl<'a> NameTable<'a> {
 pub fn text_of(names: &IndexSet<String>, name: NameId) -> &str
     ensures { result.now ≡ id_text (texts names.now.keys) name }
 {
-    match names.get_index(name.0 as usize) {
+    match names.get_index(name.0) {
         Some(text) => text.as_str(),
         None => "",
     }

@@ -5,6 +5,7 @@ use Rattle.apex_meaning.specs.GrammarWords.{Word}
 use Rattle.apex_meaning.specs.GrammarReading.{Reading, repeat, each, until, expect, ◌>>=◌}
 use Rattle.apex_meaning.proofs.Repeats.{repeat_ends, repeat_fails, repeat_goes_on, after}
 use Rattle.pal_base.specs.Reads.{listed, up_to}
+use Rattle.std.specs.Result.{IsErr, IsErrAnd}
 use Rattle.pal_base.specs.Seen.{Refuses, Gives}
 use Rattle.pal_base.specs.declared.source.ReadError.{ReadError}
 use Rattle.pal_base.specs.declared.source.ReadError.TheVariants.{Memory, Refused}
@@ -117,3 +118,8 @@ pub up_to_fails : {A X : Type 0} (view : A → X) (mark : List ℕ) (read : Read
     whole ≡ after (map view found) (up_to mark read ws) → t ≡ is_some (expect mark ws) → t ≡ false → Refuses error (read ws) → Refuses error whole
 up_to_fails view mark read whole found ws t error so_far stands not given =
     refused_by error (read ws) whole (λ failed. turn_fails view (λ ws. until (expect mark ws) (read ws)) whole found ws so_far (until_fails (expect mark ws) (read ws) (is_nothing t (expect mark ws) stands not) failed)) given
+
+-- a refusal that is passed up
+pub passed_refusal : {X Y : Type 0} (view : X → Y) (error : ReadError) (answer : Result X ReadError) (r : Option Y) → IsErr answer × IsErrAnd answer (λ e. e ≡ error) → Refuses error r → Gives view answer r
+passed_refusal view error (Ok x) r passed given = let unlike : false ≡ true = passed.0 in cc
+passed_refusal view error (Err e) r passed given = subst (λ f. Refuses f r) (sym passed.1) given

@@ -21,13 +21,9 @@ impl Source {
         let mut declarations = Vec::new(alloc);
         let mut rest = tokens;
         while !self.stands(rest, Mark::Init) {
-            match self.declaration(alloc, rest) {
-                Ok((declaration, after)) => {
-                    declarations.push(declaration)?;
-                    rest = after;
-                }
-                Err(error) => return Err(error),
-            }
+            let (declaration, after) = self.declaration(alloc, rest)?;
+            declarations.push(declaration)?;
+            rest = after;
         }
         Ok((declarations, rest))
     }
@@ -148,13 +144,9 @@ impl Source {
         values.push(first)?;
         let mut rest = tokens;
         while !self.stands(rest, Mark::Semicolon) {
-            match self.integer(rest) {
-                Ok((value, after)) => {
-                    values.push(value)?;
-                    rest = after;
-                }
-                Err(error) => return Err(error),
-            }
+            let (value, after) = self.integer(rest)?;
+            values.push(value)?;
+            rest = after;
         }
         Ok((values, rest))
     }

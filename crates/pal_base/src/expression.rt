@@ -118,13 +118,9 @@ impl Source {
         let mut links = Vec::new(alloc);
         let mut rest = tokens;
         while let Some((operator, behind)) = self.operator_at(rest, rank) {
-            match self.operand(alloc, rank, levels, behind) {
-                Ok((operand, after)) => {
-                    links.push(Link { operator, operand })?;
-                    rest = after;
-                }
-                Err(error) => return Err(error),
-            }
+            let (operand, after) = self.operand(alloc, rank, levels, behind)?;
+            links.push(Link { operator, operand })?;
+            rest = after;
         }
         Ok((links, rest))
     }
@@ -261,13 +257,9 @@ impl Source {
         arguments.push(first)?;
         let mut rest = tokens;
         while let Some(behind) = self.behind(rest, Mark::Comma) {
-            match self.chain(alloc, Rank::Disjunction, levels, behind) {
-                Ok((argument, after)) => {
-                    arguments.push(argument)?;
-                    rest = after;
-                }
-                Err(error) => return Err(error),
-            }
+            let (argument, after) = self.chain(alloc, Rank::Disjunction, levels, behind)?;
+            arguments.push(argument)?;
+            rest = after;
         }
         Ok((arguments, rest))
     }

@@ -1,6 +1,6 @@
 //! The tree of a source text.
 
-ghost use Rattle.std.specs.Prelude.{◌≡◌, ◌<◌, ◌≤◌, length, map, option_map, Some, IfOk, IfErr, MatchOption};
+ghost use Rattle.std.specs.Prelude.{◌≡◌, ◌<◌, ◌≤◌, length, map, option_map, Some, IfOk, IfErr, MatchOption, OnOk};
 ghost use Rattle.std.specs.Str.{IsAscii};
 ghost use Rattle.apex_meaning.specs.GrammarReading as reading;
 ghost use Rattle.apex_meaning.specs.GrammarWords as grammar;
@@ -29,10 +29,7 @@ pub fn parse(alloc: Global, text: &[u8]) -> Result<Program, PalFault>
     ensures tree { IfOk result (λ program. IsProgramOf text.now (program_of program)) }
     ensures refusal { IfErr result (λ fault. IsRefused fault.refusal text.now) }
 {
-    if let Some(line) = fault_of_text(text) {
-        let refusal = Refusal::Text;
-        return Err(PalFault { refusal, line });
-    }
+    judge_text(text)?;
     let Words {
         names,
         tokens,
@@ -50,18 +47,22 @@ pub fn parse(alloc: Global, text: &[u8]) -> Result<Program, PalFault>
     })
 }
 
-/// The line of the first byte that is no ASCII, else that of the first byte too many.
-fn fault_of_text(text: &[u8]) -> Option<u32>
-    ensures { MatchOption result (IsText text.now) (λ line. IsText text.now → ⊥) }
+/// Refuses what is no source text, in the line of the first byte that is no ASCII, else of the
+/// first byte too many.
+fn judge_text(text: &[u8]) -> Result<(), PalFault>
+    ensures text { OnOk result (IsText text.now) }
+    ensures refusal { IfErr result (λ fault. IsRefused fault.refusal text.now) }
 {
+    let refusal = Refusal::Text;
     if let Some(line) = line_beyond_ascii(text) {
-        return Some(line);
+        return Err(PalFault { refusal, line });
     }
-    if text.len() <= GREATEST_LENGTH {
-        return None;
+    if GREATEST_LENGTH < text.len() {
+        let (front, _) = text.split_at(GREATEST_LENGTH);
+        let line = line_behind(front);
+        return Err(PalFault { refusal, line });
     }
-    let (front, _) = text.split_at(GREATEST_LENGTH);
-    Some(line_behind(front))
+    Ok(())
 }
 
 /// The line of the first byte that is no ASCII.
@@ -156,13 +157,9 @@ impl Source {
         let mut processes = Vec::new(alloc);
         let mut rest = tokens;
         while let Some(behind) = self.behind(rest, Mark::Process) {
-            match self.process(alloc, self.line_of(rest), behind) {
-                Ok((process, after)) => {
-                    processes.push(process)?;
-                    rest = after;
-                }
-                Err(error) => return Err(error),
-            }
+            let (process, after) = self.process(alloc, self.line_of(rest), behind)?;
+            processes.push(process)?;
+            rest = after;
         }
         Ok((processes, rest))
     }

@@ -43,13 +43,9 @@ impl Source {
         let mut locals = Vec::new(alloc);
         let mut rest = tokens;
         while let Some(behind) = self.behind(rest, Mark::Local) {
-            match self.local(behind) {
-                Ok((name, after)) => {
-                    locals.push(name)?;
-                    rest = after;
-                }
-                Err(error) => return Err(error),
-            }
+            let (name, after) = self.local(behind)?;
+            locals.push(name)?;
+            rest = after;
         }
         Ok((locals, rest))
     }
@@ -88,13 +84,9 @@ impl Source {
         let mut statements = Vec::new(alloc);
         let mut rest = tokens;
         while !self.stands(rest, Mark::BraceCloses) {
-            match self.statement(alloc, levels, rest) {
-                Ok((statement, after)) => {
-                    statements.push(statement)?;
-                    rest = after;
-                }
-                Err(error) => return Err(error),
-            }
+            let (statement, after) = self.statement(alloc, levels, rest)?;
+            statements.push(statement)?;
+            rest = after;
         }
         let rest = self.expect(rest, Mark::BraceCloses)?;
         Ok((statements, rest))
@@ -281,13 +273,9 @@ impl Source {
         names.push(first)?;
         let mut rest = tokens;
         while let Some(behind) = self.behind(rest, Mark::Comma) {
-            match self.name(behind) {
-                Ok((name, after)) => {
-                    names.push(name)?;
-                    rest = after;
-                }
-                Err(error) => return Err(error),
-            }
+            let (name, after) = self.name(behind)?;
+            names.push(name)?;
+            rest = after;
         }
         Ok((names, rest))
     }

@@ -5,7 +5,7 @@ use indexmap::IndexSet;
 
 /// A name of the source, by its place among the names in the order in which they are first seen.
 #[derive(Clone, Copy, Debug, PartialEq, Eq)]
-pub struct NameId(pub u32);
+pub struct NameId(pub usize);
 
 /// A name where it stands in the text.
 #[derive(Clone, Copy, Debug, PartialEq, Eq)]

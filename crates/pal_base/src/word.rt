@@ -212,14 +212,11 @@ fn name_of(alloc: Global, names: &mut IndexSet<String>, run: &[u8]) -> Result<Wo
     ensures memory { IfErr result (λ e. e.refusal ≡ Memory) }
 {
     let Ok(text) = str::from_utf8(run) else {
-        return Err(PalFault::MEMORY);
+        unreachable!()
     };
     let key = String::from_str(alloc, text)?;
     let (number, _) = names.insert_full(key)?;
-    match u32::try_from(number) {
-        Ok(number) => Ok(Word::Name(NameId(number))),
-        Err(_) => Err(PalFault::MEMORY),
-    }
+    Ok(Word::Name(NameId(number)))
 }
 
 /// The service of this name, if it is one.
@@ -259,13 +256,11 @@ fn natural(digits: &[u8]) -> Natural
     ensures { natural_of result ≡ grammar.within (grammar.decimal_value digits.now) }
 {
     let mut value = 0;
-    let mut rest = digits;
-    while let Some((digit, others)) = rest.split_first() {
+    for digit in digits {
         match with_digit(value, *digit) {
             Some(larger) => value = larger,
             None => return Natural::TooLarge,
         }
-        rest = others;
     }
     Natural::Within(value as i64)
 }

@@ -1,8 +1,8 @@
-use Rattle.std.proofs.Common.{rules, ◌≡◌, ◌∷◌, ◌+◌, [], ◌++◌, List, length, map, drop, Some, refl, sym, subst, ap, ◌∙◌, arith}
+use Rattle.std.proofs.Common.{rules, ◌≡◌, ◌∷◌, ◌+◌, [], ◌++◌, List, length, map, drop, get_or, Some, sym, subst, ap, ◌∙◌, arith}
 use Rattle.std.specs.Prelude.{slice_get}
 use Rattle.std.specs.Option.{option_map}
 use Rattle.std.proofs.lemmas.List.{length-map, drop_more}
-use Rattle.std.proofs.lemmas.Option.{slice_get-map, slice_get_read}
+use Rattle.std.proofs.lemmas.Option.{slice_get-map, slice_get-get_or}
 use Rattle.image.specs.Items.{partition_of}
 use Rattle.window_table.specs.declared.table.PartitionRow.{PartitionRow}
 use Rattle.module.specs.Sources.{AreSources}
@@ -19,20 +19,17 @@ loop-row-init c =
       refused = λ name r h. h;
     }
 
-pub returns-in_default-clause-refused : goal.returns-in_default-clause-refused
-returns-in_default-clause-refused c = search rules
-
 pub returns-in_err-accept-clause-refused : goal.returns-in_err-accept-clause-refused
 returns-in_err-accept-clause-refused c =
     let i = c.loop-row.row-index in
     let rows_are : drop i c.args.rows.now ≡ c.row-item.result ∷ drop (i + 1) c.args.rows.now =
     drop_more c.args.rows.now i c.row-item.result c.loop-row-test.true ∙ ap (λ (x : PartitionRow). x ∷ drop (i + 1) c.args.rows.now) (sym c.row-item.is) in
-    let read = c.in-Some.ensures.lookup in
     let at : c.len.result ≡ i = search rules in
-    let source_got : slice_get (map (λ s. s.now) c.args.sources.now) i ≡ Some c.in-Some.source.now.now =
-    ap (slice_get (map (λ s. s.now) c.args.sources.now)) (sym at) ∙ slice_get-map _ c.args.sources.now c.len.result ∙ ap (option_map (λ s. s.now)) (slice_get_read c.args.sources.now _ c.len.result c.in-Some.source.now refl read.3.0 read.1) in
+    let source = (get_or c.args.sources.now c.len.result (record { ref_ptr = (0, 0); now = [] })).now in
+    let source_got : slice_get (map (λ s. s.now) c.args.sources.now) i ≡ Some source =
+    ap (slice_get (map (λ s. s.now) c.args.sources.now)) (sym at) ∙ slice_get-map _ c.args.sources.now c.len.result ∙ ap (option_map (λ s. s.now)) (slice_get-get_or c.args.sources.now c.len.result _ (search rules)) in
     passed_on _ _ c.in_err-accept.field-0.0 c.from_residual-in_err-accept.result c.from_residual-in_err-accept.ensures
-    (here_refused c.args.rows.now (map (λ s. s.now) c.args.sources.now) i c.row-item.result c.in-Some.source.now.now rows_are (drop_next (map (λ s. s.now) c.args.sources.now) i c.in-Some.source.now.now source_got) c.loop-row.invariant.refused) c.in_err-accept.ensures.refused
+    (here_refused c.args.rows.now (map (λ s. s.now) c.args.sources.now) i c.row-item.result source rows_are (drop_next (map (λ s. s.now) c.args.sources.now) i source source_got) c.loop-row.invariant.refused) c.in_err-accept.ensures.refused
 
 pub loop-row-preserved : goal.loop-row-preserved
 loop-row-preserved c =
@@ -40,14 +37,14 @@ loop-row-preserved c =
     let rows_are : drop i c.args.rows.now ≡ c.row-item.result ∷ drop (i + 1) c.args.rows.now =
     drop_more c.args.rows.now i c.row-item.result c.loop-row-test.true ∙ ap (λ (x : PartitionRow). x ∷ drop (i + 1) c.args.rows.now) (sym c.row-item.is) in
     let pushed : c.push.new.self.items ≡ c.loop-row.accepted.items ++ c.in_ok-accept.field-0 ∷ [] = search rules in
-    let read = c.in-Some.ensures.lookup in
     let at : c.len.result ≡ i = search rules in
-    let source_got : slice_get (map (λ s. s.now) c.args.sources.now) i ≡ Some c.in-Some.source.now.now =
-    ap (slice_get (map (λ s. s.now) c.args.sources.now)) (sym at) ∙ slice_get-map _ c.args.sources.now c.len.result ∙ ap (option_map (λ s. s.now)) (slice_get_read c.args.sources.now _ c.len.result c.in-Some.source.now refl read.3.0 read.1) in
+    let source = (get_or c.args.sources.now c.len.result (record { ref_ptr = (0, 0); now = [] })).now in
+    let source_got : slice_get (map (λ s. s.now) c.args.sources.now) i ≡ Some source =
+    ap (slice_get (map (λ s. s.now) c.args.sources.now)) (sym at) ∙ slice_get-map _ c.args.sources.now c.len.result ∙ ap (option_map (λ s. s.now)) (slice_get-get_or c.args.sources.now c.len.result _ (search rules)) in
     record {
       place = ap length pushed ∙ sym (one_longer c.loop-row.accepted.items c.in_ok-accept.field-0 i (sym c.loop-row.invariant.place));
-      accepted = next_accepted c.args.rows.now (map (λ s. s.now) c.args.sources.now) i c.loop-row.accepted.items c.push.new.self.items c.row-item.result c.in-Some.source.now.now c.in_ok-accept.field-0 rows_are (drop_next (map (λ s. s.now) c.args.sources.now) i c.in-Some.source.now.now source_got) pushed c.in_ok-accept.ensures.accepted c.loop-row.invariant.accepted;
-      refused = next_refused c.args.rows.now (map (λ s. s.now) c.args.sources.now) i c.row-item.result c.in-Some.source.now.now c.in_ok-accept.field-0 rows_are (drop_next (map (λ s. s.now) c.args.sources.now) i c.in-Some.source.now.now source_got) c.in_ok-accept.ensures.accepted c.loop-row.invariant.refused;
+      accepted = next_accepted c.args.rows.now (map (λ s. s.now) c.args.sources.now) i c.loop-row.accepted.items c.push.new.self.items c.row-item.result source c.in_ok-accept.field-0 rows_are (drop_next (map (λ s. s.now) c.args.sources.now) i source source_got) pushed c.in_ok-accept.ensures.accepted c.loop-row.invariant.accepted;
+      refused = next_refused c.args.rows.now (map (λ s. s.now) c.args.sources.now) i c.row-item.result source c.in_ok-accept.field-0 rows_are (drop_next (map (λ s. s.now) c.args.sources.now) i source source_got) c.in_ok-accept.ensures.accepted c.loop-row.invariant.refused;
     }
 
 pub returns-clause-accepted : goal.returns-clause-accepted

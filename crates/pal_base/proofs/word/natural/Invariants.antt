@@ -1,10 +1,7 @@
-use Rattle.std.proofs.Common.{◌≡◌, ℕ, ◌+◌, ◌-◌, ◌*◌, ◌<◌, ◌^◌, length}
+use Rattle.std.proofs.Common.{◌≡◌, ℕ, ◌+◌, ◌-◌, ◌*◌, ◌<◌, ◌^◌, drop}
 use Rattle.std.specs.Prelude.{fold}
 use Rattle.apex_meaning.specs.GrammarWords.{decimal_value}
 use Rattle.pal_base.proofs.word.natural.Given as goal
 
 abbrev pub invariant-loop-digit : goal.invariant-loop-digit
-invariant-loop-digit l = (l.value < 2 ^ 63) × (decimal_value l.digits ≡ fold (λ (n d : ℕ). n * 10 + (d - 48)) l.value l.rest)
-
-abbrev pub decreases-loop-digit : goal.decreases-loop-digit
-decreases-loop-digit l = length l.rest
+invariant-loop-digit l = (l.value < 2 ^ 63) × (decimal_value l.digits ≡ fold (λ (n d : ℕ). n * 10 + (d - 48)) l.value (drop l.digit-index l.digits))

@@ -11,7 +11,7 @@ use Rattle.pal_base.specs.Seen.{seen, names_of, rank_of}
 use Rattle.pal_base.specs.View.{name_of, expr_of, links_of}
 use Rattle.pal_base.specs.WordView.{token_of}
 use Rattle.pal_base.proofs.Cuts.{arguments_are, unary_is, all_links_are, link_finds, link_ends, link_fails, chain_reads, call_reads, operated_reads}
-use Rattle.pal_base.proofs.Turns.{turn_finds, turn_ends, turn_fails, listed_finds, listed_ends, listed_fails, fewer, refused_by, gives_same, gives_more}
+use Rattle.pal_base.proofs.Turns.{passed_refusal, turn_finds, turn_ends, turn_fails, listed_finds, listed_ends, listed_fails, fewer, refused_by, gives_same, gives_more}
 use Rattle.pal_base.proofs.Views.{exprs_are, links_are, chain_made, view_apply}
 use Rattle.pal_base.proofs.source.Source.+expression.Goals as goal
 
@@ -20,25 +20,25 @@ all_links-loop-operator-preserved t c =
     let self = c.args.self.now in
     let rank = rank_of c.args.rank in
     let operand = reading.operand_with (reading.unary_at c.args.levels) rank in
-    let link : Link = record { operator = c.in-Some.operator; operand = c.in-Ok.operand } in
-    let shorter : length c.in-Ok.after.now < length c.loop-operator.rest.now = omega (arith, c.in-Ok.ensures.shorter, c.in-Some.ensures.shorter) in (
+    let link : Link = record { operator = c.in-Some.operator; operand = c.in_ok-operand.operand } in
+    let shorter : length c.in_ok-operand.after.now < length c.loop-operator.rest.now = omega (arith, c.in_ok-operand.ensures.shorter, c.in-Some.ensures.shorter) in (
       omega arith,
       turn_finds (pair_of (names_of self)) (reading.link_at operand rank) (reading.repeat (reading.link_at operand rank) (seen self c.args.tokens.now))
-          c.loop-operator.links.items c.push.new.self.items link (seen self c.loop-operator.rest.now) (seen self c.in-Ok.after.now)
-          c.loop-operator.invariant.1 (link_finds operand rank _ (seen self c.in-Some.behind.now) _ c.in-Some.operator (expr_of (names_of self) c.in-Ok.operand) c.in-Some.ensures.exact c.in-Ok.ensures.exact)
-          (fewer (token_of (names_of self)) c.in-Ok.after.now c.loop-operator.rest.now shorter) c.in_ok-push-in-Ok.ensures.items,
+          c.loop-operator.links.items c.push.new.self.items link (seen self c.loop-operator.rest.now) (seen self c.in_ok-operand.after.now)
+          c.loop-operator.invariant.1 (link_finds operand rank _ (seen self c.in-Some.behind.now) _ c.in-Some.operator (expr_of (names_of self) c.in_ok-operand.operand) c.in-Some.ensures.exact c.in_ok-operand.ensures.exact)
+          (fewer (token_of (names_of self)) c.in_ok-operand.after.now c.loop-operator.rest.now shorter) c.in_ok-push.ensures.items,
     )
 
-pub all_links-returns-in-Err-clause-exact : goal.all_links-returns-in-Err-clause-exact
-all_links-returns-in-Err-clause-exact t c =
+pub all_links-returns-in_err-operand-clause-exact : goal.all_links-returns-in_err-operand-clause-exact
+all_links-returns-in_err-operand-clause-exact t c =
     let self = c.args.self.now in
     let rank = rank_of c.args.rank in
     let operand = reading.operand_with (reading.unary_at c.args.levels) rank in
     let whole = reading.repeat (reading.link_at operand rank) (seen self c.args.tokens.now) in
-    refused_by c.in-Err.error (operand (seen self c.in-Some.behind.now)) whole
+    passed_refusal _ c.in_err-operand.field-0.0 c.from_residual.result _ c.from_residual.ensures (refused_by c.in_err-operand.field-0.0 (operand (seen self c.in-Some.behind.now)) whole
     (λ failed. turn_fails (pair_of (names_of self)) (reading.link_at operand rank) whole c.loop-operator.links.items (seen self c.loop-operator.rest.now) c.loop-operator.invariant.1
     (link_fails operand rank _ (seen self c.in-Some.behind.now) c.in-Some.operator c.in-Some.ensures.exact failed))
-    c.in-Err.ensures.exact
+    c.in_err-operand.ensures.exact)
 
 pub all_links-returns-clause-exact : goal.all_links-returns-clause-exact
 all_links-returns-clause-exact t c =
@@ -82,21 +82,21 @@ pub more_arguments-loop-behind-preserved : goal.more_arguments-loop-behind-prese
 more_arguments-loop-behind-preserved t c =
     let self = c.args.self.now in
     let view = expr_of (names_of self) in
-    let shorter : length c.in-Ok.after.now < length c.loop-behind.rest.now = omega (arith, c.in-Ok.ensures.shorter, c.in-Some.ensures.shorter) in (
+    let shorter : length c.in_ok-argument.after.now < length c.loop-behind.rest.now = omega (arith, c.in_ok-argument.ensures.shorter, c.in-Some.ensures.shorter) in (
       omega arith,
       listed_finds view (codes ",") (reading.expr_at c.args.levels) (and_more (view c.args.first) (listed (codes ",") (reading.expr_at c.args.levels) (seen self c.args.tokens.now)))
-          c.loop-behind.arguments.items c.push-in-Ok.new.self.items c.in-Ok.argument (seen self c.loop-behind.rest.now) (seen self c.in-Some.behind.now) (seen self c.in-Ok.after.now)
-          c.loop-behind.invariant.1 c.in-Some.ensures.exact (unfold reading.expr_at in c.in-Ok.ensures.exact) (fewer (token_of (names_of self)) c.in-Ok.after.now c.loop-behind.rest.now shorter) c.in_ok-push-in-Ok.ensures.items,
+          c.loop-behind.arguments.items c.push-in-Some.new.self.items c.in_ok-argument.argument (seen self c.loop-behind.rest.now) (seen self c.in-Some.behind.now) (seen self c.in_ok-argument.after.now)
+          c.loop-behind.invariant.1 c.in-Some.ensures.exact (unfold reading.expr_at in c.in_ok-argument.ensures.exact) (fewer (token_of (names_of self)) c.in_ok-argument.after.now c.loop-behind.rest.now shorter) c.in_ok-push-2.ensures.items,
     )
 
-pub more_arguments-returns-in-Err-clause-exact : goal.more_arguments-returns-in-Err-clause-exact
+pub more_arguments-returns-in_err-argument-clause-exact : goal.more_arguments-returns-in_err-argument-clause-exact
 unfolding reading.expr_at
-more_arguments-returns-in-Err-clause-exact t c =
+more_arguments-returns-in_err-argument-clause-exact t c =
     let self = c.args.self.now in
     let view = expr_of (names_of self) in
-    listed_fails view (codes ",") (reading.expr_at c.args.levels) (and_more (view c.args.first) (listed (codes ",") (reading.expr_at c.args.levels) (seen self c.args.tokens.now)))
-    c.loop-behind.arguments.items (seen self c.loop-behind.rest.now) (seen self c.in-Some.behind.now) c.in-Err.error
-    c.loop-behind.invariant.1 c.in-Some.ensures.exact c.in-Err.ensures.exact
+    passed_refusal _ c.in_err-argument.field-0.0 c.from_residual-in_err-argument.result _ c.from_residual-in_err-argument.ensures (listed_fails view (codes ",") (reading.expr_at c.args.levels) (and_more (view c.args.first) (listed (codes ",") (reading.expr_at c.args.levels) (seen self c.args.tokens.now)))
+    c.loop-behind.arguments.items (seen self c.loop-behind.rest.now) (seen self c.in-Some.behind.now) c.in_err-argument.field-0.0
+    c.loop-behind.invariant.1 c.in-Some.ensures.exact c.in_err-argument.ensures.exact)
 
 pub more_arguments-returns-clause-exact : goal.more_arguments-returns-clause-exact
 more_arguments-returns-clause-exact t c =

@@ -6,7 +6,7 @@ use Rattle.pal_base.specs.Seen.{seen, names_of}
 use Rattle.pal_base.specs.View.{expr_of, stmt_of, block_of}
 use Rattle.pal_base.specs.WordView.{token_of}
 use Rattle.pal_base.proofs.Cuts.{stmt_is, no_statement, if_reads, if_else_reads, while_reads, statements_read, no_statements}
-use Rattle.pal_base.proofs.Turns.{up_to_finds, up_to_ends, up_to_fails, fewer, refused_by, refuses}
+use Rattle.pal_base.proofs.Turns.{passed_refusal, up_to_finds, up_to_ends, up_to_fails, fewer, refused_by, refuses}
 use Rattle.pal_base.proofs.Views.{block_is_list, view_if, view_if_else, view_while}
 use Rattle.pal_base.proofs.source.Source.+statement.Goals as goal
 
@@ -51,23 +51,23 @@ statements-loop-alloc-preserved t c =
     let self = c.args.self.now in
     let k = c.args.levels in
     let ws = seen self c.loop-alloc.rest.now in
-    let shorter : length c.in-Ok.after.now < length c.loop-alloc.rest.now = omega (arith, c.in-Ok.ensures.shorter) in (
+    let shorter : length c.in_ok-statement.after.now < length c.loop-alloc.rest.now = omega (arith, c.in_ok-statement.ensures.shorter) in (
       omega arith,
       up_to_finds (stmt_of (names_of self)) (codes "}") (reading.stmt_at k) (up_to (codes "}") (reading.stmt_at k) (seen self c.args.tokens.now))
-          c.loop-alloc.statements.items c.push.new.self.items c.in-Ok.statement ws (seen self c.in-Ok.after.now) c.stands.result
-          c.loop-alloc.invariant.1 c.stands.ensures c.loop-alloc-test.true (sym (stmt_is k ws) ∙ c.in-Ok.ensures.exact) (fewer (token_of (names_of self)) c.in-Ok.after.now c.loop-alloc.rest.now shorter) c.in_ok-push-in-Ok.ensures.items,
+          c.loop-alloc.statements.items c.push.new.self.items c.in_ok-statement.statement ws (seen self c.in_ok-statement.after.now) c.stands.result
+          c.loop-alloc.invariant.1 c.stands.ensures c.loop-alloc-test.true (sym (stmt_is k ws) ∙ c.in_ok-statement.ensures.exact) (fewer (token_of (names_of self)) c.in_ok-statement.after.now c.loop-alloc.rest.now shorter) c.in_ok-push.ensures.items,
     )
 
-pub statements-returns-in-Err-clause-exact : goal.statements-returns-in-Err-clause-exact
-statements-returns-in-Err-clause-exact t c =
+pub statements-returns-in_err-statement-clause-exact : goal.statements-returns-in_err-statement-clause-exact
+statements-returns-in_err-statement-clause-exact t c =
     let self = c.args.self.now in
     let k = c.args.levels in
     let ws = seen self c.loop-alloc.rest.now in
     let whole = up_to (codes "}") (reading.stmt_at k) (seen self c.args.tokens.now) in
-    refused_by c.in-Err.error whole (reading.statements_at k (seen self c.args.tokens.now)) (no_statements k (seen self c.args.tokens.now))
+    passed_refusal _ c.in_err-statement.field-0.0 c.from_residual.result _ c.from_residual.ensures (refused_by c.in_err-statement.field-0.0 whole (reading.statements_at k (seen self c.args.tokens.now)) (no_statements k (seen self c.args.tokens.now))
     (up_to_fails (stmt_of (names_of self)) (codes "}") (reading.stmt_at k) whole
-    c.loop-alloc.statements.items ws c.stands.result c.in-Err.error c.loop-alloc.invariant.1 c.stands.ensures c.loop-alloc-test.true
-    (refused_by c.in-Err.error _ _ (λ failed. sym (stmt_is k ws) ∙ failed) c.in-Err.ensures.exact))
+    c.loop-alloc.statements.items ws c.stands.result c.in_err-statement.field-0.0 c.loop-alloc.invariant.1 c.stands.ensures c.loop-alloc-test.true
+    (refused_by c.in_err-statement.field-0.0 _ _ (λ failed. sym (stmt_is k ws) ∙ failed) c.in_err-statement.ensures.exact)))
 
 pub statements-returns-clause-exact : goal.statements-returns-clause-exact
 statements-returns-clause-exact t c =

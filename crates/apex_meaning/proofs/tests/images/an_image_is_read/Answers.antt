@@ -1,7 +1,0 @@
-use Rattle.std.proofs.Common.{refl}
-use Rattle.apex_meaning.proofs.Computing.{image_bytes, reading_texts}
-use Rattle.apex_meaning.proofs.tests.images.an_image_is_read.Goals as goal
-
-pub returns : goal.returns
-unfolding reading_texts image_bytes
-returns c = refl

@@ -1,7 +1,0 @@
-use Rattle.std.proofs.Common.{refl}
-use Rattle.apex_meaning.proofs.Computing.{reading_texts}
-use Rattle.apex_meaning.proofs.tests.processor.windows.Goals as goal
-
-pub returns : goal.returns
-unfolding reading_texts
-returns c = refl

@@ -1,0 +1,32 @@
+//! The rows that stand as files: tables and sources with their verdicts, and modules with their
+//! traces, as they follow from the rules or as an independent program has computed them. Checks,
+//! builds and runs them, tells each row that differs, and how many are as expected.
+//!
+//! The file `rows` lists them, one a line: `check FOLDER SOURCE..` for the verdict on a table and
+//! its sources, `run FOLDER TICKS SOURCE..` for the trace of their image. In the folder lie the
+//! table, the sources, and what is expected: `answer` or `trace`.
+#![tactic(auto)]
+
+mod answer;
+mod row;
+
+use row::Row;
+use std::fs::File;
+use std::io::{self, BufRead, BufReader};
+
+fn main(rt: HostRuntime) -> io::Result<()> {
+    let list = BufReader::new(rt.alloc(), File::open(&rt, "rows")?)?;
+    let mut alike = 0u64;
+    for line in list.lines(rt.alloc()) {
+        let line = line?;
+        let Some(row) = Row::of_line(rt.alloc(), line.as_str())? else {
+            continue;
+        };
+        if row.is_as_expected(&rt)? {
+            alike = alike.saturating_add(1);
+        } else {
+            println!(rt; "{} differs", row.folder)?;
+        }
+    }
+    println!(rt; "{alike} rows are as expected")
+}

@@ -1,0 +1,118 @@
+//! A row of the list.
+
+use crate::answer::Answer;
+use std::alloc::{AllocError, AllocGlobal, Global};
+use std::rt::Files;
+use std::{fs, io};
+
+/// A table and its sources, which lie in a folder, and what is asked of them.
+#[derive(Drop)]
+pub struct Row<'a> {
+    pub folder: &'a str,
+    asked: Asked<'a>,
+    sources: Vec<&'a str>,
+}
+
+/// What is compared.
+#[derive(Clone, Copy)]
+enum Asked<'a> {
+    /// The answer to `check`, which `build` repeats where it refuses.
+    Verdict,
+    /// The trace of so many ticks of the image.
+    Trace(&'a str),
+}
+
+impl<'a> Row<'a> {
+    /// The row of a line of the list. A line that begins with no command is none.
+    pub fn of_line(alloc: Global, line: &'a str) -> Result<Option<Self>, AllocError> {
+        let mut words = line.split_whitespace();
+        let (Some(command), Some(folder)) = (words.next(), words.next()) else {
+            return Ok(None);
+        };
+        let asked = match command {
+            "check" => Asked::Verdict,
+            "run" => match words.next() {
+                Some(ticks) => Asked::Trace(ticks),
+                None => return Ok(None),
+            },
+            _ => return Ok(None),
+        };
+        let sources = words.collect(alloc)?;
+        Ok(Some(Row {
+            folder,
+            asked,
+            sources,
+        }))
+    }
+
+    pub fn is_as_expected<R: Files + AllocGlobal>(&self, rt: &R) -> io::Result<bool> {
+        match self.asked {
+            Asked::Verdict => self.has_verdict(rt),
+            Asked::Trace(ticks) => self.has_trace(rt, ticks),
+        }
+    }
+
+    /// Whether `check` answers what is expected, and `build` writes an image where the module is
+    /// accepted, and else refuses it with the same line and writes none.
+    fn has_verdict<R: Files + AllocGlobal>(&self, rt: &R) -> io::Result<bool> {
+        let expected = self.read(rt, "answer")?;
+        let checked = Answer::to(rt, self.words(rt.alloc(), "check", None)?.as_slice());
+        let built = self.build(rt)?;
+        let is_written = self.read(rt, "image").is_ok();
+        if expected.as_slice() == b"accepted\n".as_slice() {
+            Ok(checked.is_done_with(expected.as_slice()) && built.is_done() && is_written)
+        } else {
+            Ok(
+                checked.is_refused_with(expected.as_slice())
+                    && built.is_refused_with(expected.as_slice())
+                    && !is_written,
+            )
+        }
+    }
+
+    /// Whether the image is built, and its trace of so many ticks is the expected one.
+    fn has_trace<R: Files + AllocGlobal>(&self, rt: &R, ticks: &str) -> io::Result<bool> {
+        let expected = self.read(rt, "trace")?;
+        if !self.build(rt)?.is_done() {
+            return Ok(false);
+        }
+        let image = self.path(rt.alloc(), "image")?;
+        let ran = Answer::to(rt, &["mb", "run", image.as_str(), "devices", ticks]);
+        Ok(ran.is_done_with(expected.as_slice()))
+    }
+
+    fn build<R: Files + AllocGlobal>(&self, rt: &R) -> Result<Answer, AllocError> {
+        let words = self.words(rt.alloc(), "build", Some("image"))?;
+        Ok(Answer::to(rt, words.as_slice()))
+    }
+
+    /// The words of a command over the table, the image that it writes, and the sources.
+    fn words(
+        &self,
+        alloc: Global,
+        command: &str,
+        image: Option<&str>,
+    ) -> Result<Vec<String>, AllocError> {
+        let mut words = Vec::new(alloc);
+        words.push(String::from_str(alloc, "mb")?)?;
+        words.push(String::from_str(alloc, command)?)?;
+        words.push(self.path(alloc, "table")?)?;
+        if let Some(image) = image {
+            words.push(self.path(alloc, image)?)?;
+        }
+        for source in &self.sources {
+            words.push(self.path(alloc, source)?)?;
+        }
+        Ok(words)
+    }
+
+    /// The bytes of a file of the row.
+    fn read<R: Files + AllocGlobal>(&self, rt: &R, name: &str) -> io::Result<Vec<u8>> {
+        fs::read(rt, self.path(rt.alloc(), name)?.as_str())
+    }
+
+    /// The path of a file of the row.
+    fn path(&self, alloc: Global, name: &str) -> Result<String, AllocError> {
+        format!(in alloc; "{}/{name}", self.folder)
+    }
+}
