@@ -3,7 +3,7 @@
 use crate::codes::{ErrorKind, ProcessState};
 use crate::event::{Subject, Words};
 use crate::identity::{Priority, ProcessIndex, Runner, Ticks};
-use crate::meaning::ObjectKind;
+use crate::denotation::ObjectKind;
 use crate::service::{ArrayPlace, Service};
 
 /// What a waiting process waits for.
