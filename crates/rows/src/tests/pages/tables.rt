@@ -50,7 +50,7 @@ release = true
 
 [[window]]
 partition = \"flight\"
-offset = 12                 # ticks 12 to 17; 10, 11, 18 and 19 are nobody's
+offset = 12                 # ticks 12 to 17; 10, 11, 18 and 19 have no owner
 length = 6
 release = false             # flight goes on, but nothing is released here
 ";
@@ -110,7 +110,7 @@ duration = 4
 port = [
   # At most 8 messages of at most 2 words wait here until a window of flight ends.
   { name = \"commands\", kind = \"QUEUING\", direction = \"SOURCE\", words = 2, depth = 8, discipline = \"FIFO\" },
-  # The last message that arrived; valid for 20 ticks.
+  # The last message that arrived; it is valid for 20 ticks.
   { name = \"seen\", kind = \"SAMPLING\", direction = \"DESTINATION\", words = 1, refresh = 20 },
 ]
 [partition.hm]
@@ -127,7 +127,7 @@ name = \"display\"
 period = 20
 duration = 6
 port = [
-  # As many words as at the other end. Of those who wait the highest priority goes first.
+  # As many words as at the other end. The waiting process of the highest priority goes first.
   { name = \"orders\", kind = \"QUEUING\", direction = \"DESTINATION\", words = 2, depth = 16, discipline = \"PRIORITY\" },
   { name = \"height\", kind = \"SAMPLING\", direction = \"DESTINATION\", words = 1, refresh = 40 },
   { name = \"shown\", kind = \"SAMPLING\", direction = \"SOURCE\", words = 1, refresh = 0 },
