@@ -1,5 +1,5 @@
-//! How many instructions a program's parts become. What does not fit 32 bits is the greatest number
-//! that does.
+//! How many instructions each part of a program becomes. A number that does not fit 32 bits is the
+//! greatest number of 32 bits.
 
 ghost use Rattle.std.specs.Prelude.{◌≡◌, ◌+◌, min, length, map};
 ghost use Rattle.std.specs.List.{sum_by};
@@ -49,7 +49,7 @@ fn size_of_exprs(exprs: &[Expr]) -> u32
     size
 }
 
-/// The instructions of a request of a service.
+/// The instructions of a service call.
 fn size_of_request(arguments: &[Expr], targets: &[Place]) -> u32
     ensures { result ≡ min (cost.size_of_exprs (exprs_of arguments.now) + 1 + length targets.now) u32.MAX }
 {

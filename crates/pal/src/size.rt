@@ -1,5 +1,5 @@
-//! How many instructions a program's parts become. What does not fit 64 bits is the greatest number
-//! that does.
+//! How many instructions each part of a program becomes. A number that does not fit 64 bits is the
+//! greatest number of 64 bits.
 
 ghost use Rattle.std.specs.Prelude.{◌≡◌, ◌+◌, min, length};
 ghost use Rattle.apex_meaning.specs.Cost as cost;
@@ -47,7 +47,7 @@ fn size_of_exprs(exprs: &[Expr]) -> u64
     size
 }
 
-/// The instructions of a request of a service.
+/// The instructions of a service call.
 fn size_of_request(arguments: &[Expr], targets: &[Place]) -> u64
     ensures { result ≡ min (cost.size_of_exprs (exprs_of arguments.now) + 1 + length targets.now) u64.MAX }
 {

@@ -34,8 +34,7 @@ impl<'a> NameTable<'a> {
         self.entries.get(text).copied()
     }
 
-    /// Lets the name stand for a meaning, unless it stands for one already; answers whether it is
-    /// new.
+    /// Gives the name a meaning, unless it has one already; answers whether the name is new.
     pub fn enter(&mut self, text: &'a str, meaning: Meaning) -> Result<bool, AllocError>
         ensures sees { OnOk result ((name : List ℕ) (rest : List Entry) → find name (entries_of self.new ++ rest) ≡ find name (entries_of self.old ++ record { name = text.now; meaning = meaning } ∷ rest)) }
         ensures fresh { IfOk result (λ is_new. (declared rest : List Entry) → (is_new && not (is_some (find text.now declared)) && are_new declared (entries_of self.new) rest) ≡ are_new declared (entries_of self.old) (record { name = text.now; meaning = meaning } ∷ rest)) }
@@ -49,7 +48,7 @@ impl<'a> NameTable<'a> {
     }
 }
 
-/// The text of a name; of a number beyond those of the names it is empty.
+/// The text of a name; empty if no name has this number.
 pub fn text_of(names: &IndexSet<String>, name: NameId) -> &str
     ensures { result.now ≡ id_text (texts names.now.keys) name }
 {

@@ -14,14 +14,14 @@ use crate::outcome::Outcome;
 use crate::service_table::cost_of_service;
 use apex_types::{BinaryOperator, ErrorKind, Instr, Service, UnaryOperator};
 
-/// Whether WORK takes so many ticks.
+/// Whether WORK may take this many ticks.
 fn is_work(v: i64) -> bool
     ensures { result ≡ is_work v }
 {
     0 < v && v <= 1_000_000
 }
 
-/// Ticks of WORK: those asked for, or 1 where they are refused.
+/// Ticks of WORK: the number that it names, or 1 if this number is not allowed.
 fn cost_of_work(v: i64) -> u32
     ensures cost { result ≡ cost_of_work v }
     ensures limit { result ≤ 1_000_000 }
@@ -29,7 +29,7 @@ fn cost_of_work(v: i64) -> u32
     if is_work(v) { v as u32 } else { 1 }
 }
 
-/// Ticks of SVC: those of the service, or 1 where there is none of that number.
+/// Ticks of SVC: those of the service, or 1 if there is no service of this number.
 fn cost_of_request(x: u32) -> u32
     ensures { result ≡ cost_of_request (service_of x) }
 {
@@ -39,7 +39,7 @@ fn cost_of_request(x: u32) -> u32
     }
 }
 
-/// The ticks that an instruction takes, those of a refused one among them.
+/// The ticks that an instruction takes, also if it faults.
 fn cost_of(instruction: Instr) -> u32
     ensures { result ≡ cost_of instruction }
 {
@@ -160,7 +160,7 @@ impl Context {
         }
     }
 
-    /// Counts a tick of an instruction, and does it in its last.
+    /// Counts a tick of an instruction, and makes its effect in the last one.
     fn spend(&mut self, memory: &mut Data, code: &Code, instruction: Instr) -> Outcome
         requires next { self.old.pc + 1 < 2 ^ 32 }
         ensures control { control_of self.new ≡ (spends code.now.routines.items instruction (control_of self.old) memory.old.words.items).control }
