@@ -1,5 +1,5 @@
-//! The program with its names resolved. A number above its limit, and a name of the wrong kind,
-//! become 0 here; other modules refuse them.
+//! The program with its names resolved. What is refused elsewhere stands as 0 here: a number beyond
+//! its limit, and a name that is not of the kind that is wanted.
 
 ghost use Rattle.std.specs.Prelude.{◌≡◌, ◌++◌, ◌-◌, ◌^◌, List, ℕ, pos, map, length, replicate, flat_map, filter_map, option_map, IfOk, OnOk};
 ghost use Rattle.apex_meaning.specs.Program as tree;
@@ -188,14 +188,14 @@ fn blackboards_of(
     Ok(rows)
 }
 
-/// The name of a process or a procedure. It has the form of a name if it is within the limits.
+/// The name of a process or a procedure. It has the form of a name where no limit is passed.
 fn name_at(names: &IndexSet<String>, name: Identifier) -> Result<Name, AllocError>
     ensures { IfOk result (λ found. found ≡ name_of (texts names.now.keys) name) }
 {
     Name::new(text_of(names, name.name).as_bytes()).ok_or(AllocError)
 }
 
-/// A count up to a limit; 0 above the limit.
+/// A count up to a limit; beyond that it is 0.
 pub fn limited_count(limit: u8, count: usize) -> u8
     ensures { result ≡ meant.count_within limit count }
 {

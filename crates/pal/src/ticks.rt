@@ -1,5 +1,5 @@
-//! What the constructs in each part of a program cost in ticks, each construct once. A number that
-//! does not fit 64 bits is the greatest number of 64 bits.
+//! What the constructs of a program's parts cost in ticks, each once. What does not fit 64 bits is
+//! the greatest number that does.
 
 ghost use Rattle.std.specs.Prelude.{◌≡◌, ◌+◌, min, length};
 ghost use Rattle.apex_meaning.specs.Cost as cost;
@@ -49,7 +49,7 @@ fn cost_of_exprs(exprs: &[Expr]) -> u64
     ticks
 }
 
-/// The ticks of a service call, and of writing each target.
+/// The ticks of a request of a service, and of the write of each target.
 fn cost_of_request(service: Service, arguments: &[Expr], targets: &[Place]) -> u64
     ensures { result ≡ min (cost.cost_of_exprs (exprs_of arguments.now) + services.cost_of_service service + length targets.now) u64.MAX }
 {
@@ -111,7 +111,7 @@ fn cost_of_binary(operator: BinaryOperator) -> u64
     }
 }
 
-/// The ticks of a service: 8 if it creates something, 6 if it has an array argument, 4 otherwise.
+/// The ticks of a service: 8 for a creation, 6 with an array argument, else 4.
 fn cost_of_service(service: Service) -> u64
     ensures { result ≡ services.cost_of_service service }
 {

@@ -239,7 +239,7 @@ pub fn call_of(service: Service, words: &[i64]) -> Call
     }
 }
 
-/// The array argument of a call, if it has one.
+/// The array argument of a call, where it has one.
 pub fn array_of(call: Call) -> Option<ArrayPlace>
     ensures { result ≡ array_of call }
 {
@@ -259,7 +259,7 @@ pub fn array_of(call: Call) -> Option<ArrayPlace>
     }
 }
 
-/// Each service has its own number, from 1 to 57, and no other number has a service.
+/// Each service has its own number, from 1 to 57, and there is none of another number.
 pub fn services_are_numbered()
     ensures each { (service : Service) → service_of (number_of service) ≡ Some service }
     ensures others { (number : ℕ) → 57 < number → service_of number ≡ None }
