@@ -16,7 +16,7 @@ fn expect_number(rt: &impl Abort, alloc: Global, number: u8, sources: &[&str]) -
     Ok(())
 }
 
-/// The text is none.
+/// Not ASCII.
 static TEXT: [&str; 1] = ["init stack 16 { } # température"];
 
 /// Not in the grammar.
@@ -41,7 +41,7 @@ static GRAMMAR: [&str; 18] = [
     "var x; init stack 16 { x := ----------------------------------------------------------------1; }",
 ];
 
-/// A name is unknown, or is not new.
+/// A name is unknown, or is declared again.
 static NAMES: [&str; 6] = [
     "init stack 16 { x := 1; }",
     "init stack 16 { local r; CREATE_PROCESS(p) -> r, r; }",
@@ -51,7 +51,7 @@ static NAMES: [&str; 6] = [
     "proc f(a) { local a; } init stack 16 { }",
 ];
 
-/// A wrong kind, or a wrong count of arguments or targets.
+/// A wrong kind, or a wrong number of arguments or targets.
 static KINDS: [&str; 16] = [
     "array m[2]; init stack 16 { m := 1; }",
     "array m[2]; var x; init stack 16 { x := m; }",
@@ -71,7 +71,7 @@ static KINDS: [&str; 16] = [
     "array m[2]; init stack 16 { local r; REPORT_APPLICATION_MESSAGE(m[0], 1) -> r; }",
 ];
 
-/// A limit is passed.
+/// Something is outside a limit.
 static LIMITS: [&str; 21] = [
     "var a_name_of_thirty_one_characters; init stack 16 { }",
     "var x = 9223372036854775808; init stack 16 { }",
@@ -96,7 +96,7 @@ static LIMITS: [&str; 21] = [
     "init stack 16 { } process p priority 1 period -1 capacity 1099511627777 stack 16 { }",
 ];
 
-/// A period is no multiple.
+/// A period is not a multiple of the partition's.
 static PERIODS: [&str; 2] = [
     "init stack 16 { } process p priority 1 period 100 capacity -1 stack 16 { }",
     "init stack 16 { } process p priority 1 period 64 capacity -1 stack 16 { }",

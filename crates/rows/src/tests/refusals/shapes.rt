@@ -1,4 +1,4 @@
-//! Tables that are no documents, have another shape, or are outside a limit.
+//! Tables that are not TOML, have a wrong shape, or are outside a limit.
 
 use super::{Case, SMALL, Verdict, expect_verdicts};
 use std::test::Fail;

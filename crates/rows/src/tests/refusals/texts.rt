@@ -1,4 +1,4 @@
-//! Sources that are no text or not in the grammar.
+//! Sources that are not ASCII, or not in the grammar.
 
 use super::{Case, SMALL, Verdict, expect_verdicts};
 use std::test::Fail;
