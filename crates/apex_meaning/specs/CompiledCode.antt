@@ -44,9 +44,9 @@ abbrev mutual
   exprs_code NoExpr = []
   exprs_code (MoreExprs first rest) = expr_code first ++ exprs_code rest
 
--- A statement at a place of the code, in a body with so many slots. An if leads past its block
--- where the test is 0; with an else its block ends with a jump past the other. A while ends with a
--- jump back to its test.
+-- A statement at a place of the code, in a body with this many slots. If the test is 0, an if jumps
+-- past its block; with an else its block ends with a jump past the other. A while ends with a jump
+-- back to its test.
 abbrev mutual
   pub stmt_code : ℕ → ℕ → Stmt → List Instr
   stmt_code slots at (Assign place value) = expr_code value ++ (store place ∷ [])

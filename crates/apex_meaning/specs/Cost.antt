@@ -59,7 +59,7 @@ abbrev mutual
   costs_of_exprs NoExpr = []
   costs_of_exprs (MoreExprs first rest) = costs_of_expr first ++ costs_of_exprs rest
 
--- The same of a statement: a service costs by its kind, and the write of each target as a scalar's.
+-- The same for a statement. A service costs by its kind, and writing a target as much as a scalar.
 abbrev mutual
   pub costs_of_stmt : Stmt → List ℕ
   costs_of_stmt (Assign place value) = costs_of_expr value ++ (scalar_cost ∷ [])

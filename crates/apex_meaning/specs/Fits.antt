@@ -22,11 +22,12 @@ abbrev pub ArePlacesWithin : ℕ → List Place → Type 0
 ArePlacesWithin slots [] = Unit {0}
 ArePlacesWithin slots (place ∷ places) = IsPlaceWithin slots place × ArePlacesWithin slots places
 
--- there is a procedure of that number, and it has so many parameters
+-- there is a procedure of this number, and it has this many parameters
 abbrev pub HasParameters : List Procedure → ℕ → ℕ → Type 0
 HasParameters procedures f n = (p : Procedure) × (slice_get procedures f ≡ Some p) × (p.parameters ≡ n)
 
--- in a body with so many slots: locals are slots, and calls hand on what the procedure takes
+-- in a body with this many slots: locals are slots, and a call has as many arguments as its procedure
+-- has parameters
 abbrev mutual
   pub FitsExpr : List Procedure → ℕ → Expr → Type 0
   FitsExpr procedures slots (Literal value) = Unit {0}
@@ -48,7 +49,7 @@ abbrev mutual
 abbrev pub IsWork : ℕ → Type 0
 IsWork ticks = (1 ≤ ticks) × (ticks ≤ 1_000_000)
 
--- the same of statements; a return stands in a procedure alone, a service has as many arguments and
+-- the same for statements; only procedures have a return, and a service has as many arguments and
 -- targets as its row says
 abbrev mutual
   pub FitsStmt : List Procedure → ℕ → Bool → Stmt → Type 0
@@ -78,7 +79,7 @@ abbrev pub FitsHandler : List Procedure → Option Body → Type 0
 FitsHandler procedures None = Unit {0}
 FitsHandler procedures (Some b) = FitsBody procedures b
 
--- a program that its compiled code does exactly
+-- a program whose compiled code behaves exactly like it
 pub record Fits (program : Program) : Type 0 where
   pub init : FitsBody program.procedures program.init
   pub handler : FitsHandler program.procedures program.handler

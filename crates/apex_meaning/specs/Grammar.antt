@@ -15,7 +15,7 @@ use Rattle.apex_meaning.specs.Syntax as tree
 abbrev pub integer_words : tree.Integer → List Word → List Word
 integer_words n rest = if n.negative then Mark (codes "-") ∷ Number n.magnitude ∷ rest else Number n.magnitude ∷ rest
 
--- things one after another, each written so
+-- several things, one after another, each written in this way
 abbrev pub all_words : {X : Type 0} → (X → List Word → List Word) → List X → List Word → List Word
 all_words words [] rest = rest
 all_words words (x ∷ xs) rest = words x (all_words words xs rest)
@@ -150,7 +150,7 @@ looseness Comparison = 3
 looseness Sum = 2
 looseness Product = 1
 
--- that there is an operator, and of comparisons no second one
+-- there is an operator; comparisons have no second one
 abbrev pub HasLink : tree.Links → Type 0
 HasLink tree.NoLink = ⊥
 HasLink (tree.MoreLinks operator operand links) = Unit {0}
@@ -167,9 +167,9 @@ IsFew Comparison links = IsSingle links
 IsFew Sum links = Unit {0}
 IsFew Product links = Unit {0}
 
--- An expression where levels may still be opened, and where no operator may stand outside parentheses
--- that binds more loosely. The operands of a chain bind more tightly than its operators, which are of
--- one rank.
+-- An expression in which this many levels may still be opened, and whose operators outside parentheses
+-- bind no more loosely than `loosest`. The operators of a chain have one rank, and its operands bind
+-- more tightly.
 abbrev mutual
   pub IsExpr : tree.Expr → ℕ → ℕ → Type 0
   IsExpr (tree.Number value) levels loosest = Unit {0}
@@ -189,7 +189,7 @@ abbrev mutual
   AreArguments tree.NoExpr levels = Unit {0}
   AreArguments (tree.MoreExprs e es) levels = IsExpr e levels 5 × AreArguments es levels
 
--- statements and blocks where levels may still be opened
+-- statements and blocks in which this many levels may still be opened
 abbrev mutual
   pub IsStmt : tree.Stmt → ℕ → Type 0
   IsStmt (tree.Assign x e) levels = IsExpr e levels 5
@@ -219,7 +219,7 @@ IsKind (tree.Buffer words messages d) = Unit {0}
 IsKind (tree.Blackboard words) = Unit {0}
 IsKind tree.Port = Unit {0}
 
--- each of these is so
+-- P holds for each of these
 abbrev pub Each : {X : Type 0} → (X → Type 0) → List X → Type 0
 Each P [] = Unit {0}
 Each P (x ∷ xs) = P x × Each P xs
@@ -231,6 +231,6 @@ IsHandler (Some b) = IsBody b.body
 abbrev pub IsProgram : tree.Program → Type 0
 IsProgram p = Each (λ d. IsKind d.kind) p.declarations × IsBody p.init.body × IsHandler p.handler × Each (λ q. IsBody q.body) p.processes
 
--- the grammar: these words are written as this program
+-- the grammar: it writes this program with these words
 abbrev pub IsWritten : List Word → tree.Program → Type 0
 IsWritten words program = IsProgram program × (words ≡ program_words program)

@@ -1,5 +1,5 @@
--- Reading of a program from its words, from the left, with no way back. That this finds the one tree
--- that the grammar gives to the words is a law.
+-- Reading a program from its words, from left to right and without backtracking. A law says that this
+-- finds the one program that the grammar writes with these words.
 use Rattle.std.specs.Prelude.{ℕ, zero, suc, ◌+◌, ◌-◌, ◌==◌, nat_eq, nat_lt, Bool, true, false, if◌then◌else◌, List, [], ◌∷◌, ◌++◌, length, map, Option, Some, None, codes}
 use Rattle.apex_types.specs.declared.instruction.BinaryOperator.{BinaryOperator}
 use Rattle.apex_types.specs.declared.instruction.BinaryOperator.TheVariants as binary
@@ -20,7 +20,7 @@ abbrev pub ◌>>=◌ : {A B : Type 0} → Option A → (A → Option B) → Opti
 (Some x) >>= f = f x
 None >>= f = None
 
--- one of two ways, as something was found or not
+-- one way if something was found, the other if not
 abbrev pub either : {A B : Type 0} → Option A → (A → B) → B → B
 either (Some x) found none = found x
 either None found none = none
@@ -68,8 +68,8 @@ discipline_at ws = either (expect (codes "fifo") ws)
     (λ rest. Some (discipline.Fifo, rest))
     (expect (codes "priority") ws >>= λ rest. Some (discipline.Priority, rest))
 
--- One thing after another, as long as the turn finds one. A turn finds nothing more, or one thing
--- with the words behind it, of which there are fewer; or there is no reading.
+-- Things one after another, as long as a turn finds one. A turn finds one thing, with fewer words
+-- behind it, or finds no more; if it fails, there is no reading.
 abbrev pub turned : {X : Type 0} → (List Word → Option (List X × List Word)) → List Word → Option (Option (X × List Word)) → Option (List X × List Word)
 turned go ws None = None
 turned go ws (Some None) = Some ([], ws)
@@ -82,17 +82,17 @@ repeat_within (suc n) turn ws = turned (repeat_within n turn) ws (turn ws)
 unfoldable pub repeat : {X : Type 0} → (List Word → Option (Option (X × List Word))) → Reading (List X)
 repeat turn ws = repeat_within (suc (length ws)) turn ws
 
--- one thing for each time that the words begin so
+-- a turn: one thing if its beginning was found, no more if not
 abbrev pub each : {A X : Type 0} → Option A → (A → Option (X × List Word)) → Option (Option (X × List Word))
 each (Some a) read = read a >>= λ x. Some (Some x)
 each None read = Some None
 
--- one thing as long as the words do not begin so
+-- a turn: no more if the end was found, one thing if not
 abbrev pub until : {A X : Type 0} → Option A → Option (X × List Word) → Option (Option (X × List Word))
 until (Some a) read = Some None
 until None read = read >>= λ x. Some (Some x)
 
--- the ranks of operators, from the one that binds least
+-- the ranks of operators, the weakest first
 pub data Rank : Type 0 where
   Disjunction : Rank
   Conjunction : Rank
@@ -150,7 +150,7 @@ block_of (s ∷ ss) = tree.MoreStmts s (block_of ss)
 unfoldable pub link_at : Reading tree.Expr → Rank → List Word → Option (Option ((BinaryOperator × tree.Expr) × List Word))
 link_at operand rank ws = each (operator_at rank ws) (λ op. operand op.1 >>= λ e. Some ((op.0, e.0), e.1))
 
--- all of them, but of comparisons one at most
+-- all of them; of comparisons at most one
 abbrev pub one_or_none : {X : Type 0} → List Word → Option (X × List Word) → List X × List Word
 one_or_none ws (Some x) = (x.0 ∷ [], x.1)
 one_or_none ws None = ([], ws)
@@ -164,7 +164,7 @@ unfoldable pub chain_with : Reading tree.Expr → Rank → Reading tree.Expr
 chain_with operand rank ws =
     operand ws >>= λ first. links_at operand rank first.1 >>= λ ls. Some (chain_of first.0 ls.0, ls.1)
 
--- operands of each rank with its operators between them, where operands that are no chains are read so
+-- the same for each rank, where u reads an operand that is not a chain
 unfoldable pub products_with : Reading tree.Expr → Reading tree.Expr
 products_with u ws = chain_with u Product ws
 
@@ -203,7 +203,7 @@ named_with inside arguments x ws = either (expect (codes "[") ws)
     (λ rest. arguments rest >>= λ es. Some (tree.Apply x es.0, es.1))
     (Some (tree.Name x, ws)))
 
--- an operand that is no chain
+-- an operand that is not a chain
 unfoldable pub unary_with : Reading tree.Expr → Reading tree.Expr → Reading tree.Exprs → Reading tree.Expr
 unary_with deeper inside arguments ws = either (expect (codes "-") ws)
     (λ rest. deeper rest >>= λ e. Some (tree.Unary unary.Negate e.0, e.1))
@@ -215,7 +215,7 @@ unary_with deeper inside arguments ws = either (expect (codes "-") ws)
     (λ x. named_with inside arguments x.0 x.1)
     (expect (codes "(") ws >>= λ rest. inside rest >>= λ e. expect (codes ")") e.1 >>= λ rest. Some (tree.Parenthesis e.0, rest)))))
 
--- an operand that is no chain, where so many levels may still be opened
+-- an operand that is not a chain, where this many levels may still be opened
 unfoldable pub unary_at : ℕ → Reading tree.Expr
 unary_at zero ws = unary_with (λ vs. None) (λ vs. None) (λ vs. None) ws
 unary_at (suc k) ws = unary_with (unary_at k) (ranked (unary_at k) Disjunction) (arguments_with (ranked (unary_at k) Disjunction)) ws
@@ -270,7 +270,7 @@ branch_with block k ws = expr_at k ws >>= λ e. block e.1 >>= λ b. either (expe
 unfoldable pub while_with : Reading tree.Block → ℕ → Reading tree.Stmt
 while_with block k ws = expr_at k ws >>= λ e. block e.1 >>= λ b. Some (tree.While e.0 b.0, b.1)
 
--- a statement, where blocks are read so
+-- a statement, with this reading of blocks
 unfoldable pub stmt_with : Reading tree.Block → ℕ → Reading tree.Stmt
 stmt_with block k ws = either (name_at ws) (λ x. assignment_at k x.0 x.1)
     (either (service_at ws) (λ s. service_call_at k s.0 s.1)
@@ -390,7 +390,7 @@ abbrev pub all_read : {X : Type 0} → X → List Word → Option X
 all_read x [] = Some x
 all_read x (w ∷ ws) = None
 
--- the program that all of these words are
+-- the program that these words spell, all of them
 unfoldable pub program_at : List Word → Option tree.Program
 program_at ws = declarations_at ws >>= λ ds. stack_body_at (codes "init") ds.1 >>= λ i. handler_at i.1 >>= λ h.
     processes_at h.1 >>= λ ps. all_read (record { declarations = ds.0; init = i.0; handler = h.0; processes = ps.0 }) ps.1

@@ -86,7 +86,7 @@ fn emit_exprs(code: &mut Vec<Instr>, exprs: &[Expr]) -> Result<(), AllocError>
     Ok(())
 }
 
-/// The targets of a service take the words of its answer from the left.
+/// Stores the words of a service's answer in its targets, from left to right.
 fn emit_targets(code: &mut Vec<Instr>, targets: &[Place]) -> Result<(), AllocError>
     ensures { OnOk result (code.new.items ≡ code.old.items ++ map code_of.store targets.now) }
 {
@@ -121,8 +121,8 @@ fn emit_service_call(
     emit_targets(code, targets)
 }
 
-/// The instructions of a statement, in a body with so many slots. A jump leads past a block whose
-/// size is known before it is written.
+/// The instructions of a statement, in a body with this many slots. The size of a block is known
+/// before it is written, so the jump past it can be written first.
 #[cycle(emit_stmt)]
 fn emit_stmt(code: &mut Vec<Instr>, slots: u16, stmt: &Stmt) -> Result<(), AllocError>
     requires { length code.old.items + size_of_stmt (stmt_of stmt.now) ≤ 65_536 }

@@ -25,7 +25,7 @@ const MOST_INSTRUCTIONS: u32 = 65_536;
 ///
 /// # Errors
 ///
-/// `TooLong` where the code would have more than 65,536 instructions, else `Memory` where there is
+/// `TooLong` if the code would have more than 65,536 instructions; otherwise `Memory` if there is
 /// no memory for the section.
 pub fn compile_program(alloc: Global, program: &Program) -> Result<Section, CompileFault>
     ensures section { IfOk result (λ section. section_view section ≡ code_of.section_of (program_of program.now)) }
@@ -92,7 +92,7 @@ fn copied<T: Copy + Drop>(alloc: Global, items: &[T]) -> Result<Vec<T>, AllocErr
     Ok(copy)
 }
 
-/// The instructions as bytes, which are read as the instructions again.
+/// The instructions as bytes. Reading these bytes gives the same instructions.
 fn encoded(alloc: Global, code: &[Instr]) -> Result<Vec<[u8; 16]>, AllocError>
     ensures bytes { IfOk result (λ bytes. bytes.items ≡ map bytes_of code.now) }
     ensures reads_back { IfOk result (λ bytes. map reading bytes.items ≡ map Some code.now) }

@@ -1,5 +1,5 @@
-//! How many instructions a program's parts become. What does not fit 32 bits is the greatest number
-//! that does.
+//! How many instructions each part of a program becomes. A number that does not fit 32 bits is the
+//! greatest number of 32 bits.
 
 ghost use Rattle.std.specs.Prelude.{◌≡◌, ◌+◌, min, map};
 ghost use Rattle.std.specs.List.{sum_by};

@@ -1,5 +1,5 @@
-//! Kinds: each name stands where its kind may, and calls and services have as many arguments and
-//! targets as they take.
+//! Tests that each name has the kind that its place asks for, and that calls and services have the
+//! right number of arguments and targets.
 
 ghost use Rattle.std.specs.Prelude.{◌≡◌, ◌&&◌, [], List, ℕ, length, nat_eq, map, is_none, false, option_map, IfOk};
 ghost use Rattle.std.specs.List.{list_all};
@@ -20,7 +20,7 @@ use pal_base::syntax::{
 };
 use std::alloc::{AllocError, Global};
 
-/// The first line at which a kind or a count is wrong, among the bodies of a program.
+/// The first line in the bodies of a program with a wrong kind or a wrong number.
 pub fn kind_fault(
     alloc: Global,
     declared: &NameTable,
@@ -172,7 +172,7 @@ fn statement_fault(scope: &Scope, returns: bool, line: u32, statement: &StmtKind
     }
 }
 
-/// The arguments of a service: as many as it takes, each of its kind.
+/// The first line at which a service has the wrong number of arguments, or one of a wrong kind.
 fn arguments_fault(
     scope: &Scope,
     line: u32,

@@ -1,4 +1,4 @@
-//! Limits: each number, count, name and frame is within its limit.
+//! Tests that each number, count, name and frame is within its limit.
 
 ghost use Rattle.std.specs.Prelude.{◌≡◌, ◌&&◌, List, ℕ, Some, map, length, nat_le, is_none, is_some, option_map, IfOk};
 ghost use Rattle.std.specs.List.{list_all};
@@ -26,7 +26,7 @@ use pal_base::syntax::{
 };
 use std::alloc::{AllocError, Global};
 
-/// The first line at which a limit is passed.
+/// The first line with something outside its limit.
 pub fn limit_fault(
     alloc: Global,
     declared: &NameTable,
@@ -45,7 +45,7 @@ pub fn limit_fault(
     Ok(earlier(earlier(bodies, processes), count))
 }
 
-/// The first declaration with which there are too many words of data or too many of a kind.
+/// The line of the first declaration that makes too many words of data, or too many of a kind.
 fn count_fault(declarations: &[Declaration]) -> Option<u32>
     ensures { (names : List (List ℕ)) → is_none result ≡ keeps_counts no_counts (map (view.declaration_of names) declarations.now) }
 {
@@ -68,7 +68,7 @@ fn process_count_fault(processes: &[Process]) -> Option<u32>
     }
 }
 
-/// The line, unless the number is within these limits.
+/// The line, if the number is outside these limits.
 fn outside(low: u64, high: u64, number: &Numeral, line: u32) -> Option<u32>
     ensures { is_none result ≡ is_between low high (number_of number.now) }
 {
@@ -78,7 +78,7 @@ fn outside(low: u64, high: u64, number: &Numeral, line: u32) -> Option<u32>
     }
 }
 
-/// The line, unless the count is at most the number.
+/// The line, if the count is above the number.
 fn count_above(count: usize, most: &Numeral, line: u32) -> Option<u32>
     ensures { is_none result ≡ value_at_most (Some count) (number_of most.now) }
 {
@@ -88,7 +88,7 @@ fn count_above(count: usize, most: &Numeral, line: u32) -> Option<u32>
     }
 }
 
-/// The line, unless the number is at most the other.
+/// The line, if the first number is above the second.
 fn above(number: &Numeral, most: &Numeral, line: u32) -> Option<u32>
     ensures { is_none result ≡ value_at_most (number_of number.now) (number_of most.now) }
 {
@@ -99,7 +99,7 @@ fn above(number: &Numeral, most: &Numeral, line: u32) -> Option<u32>
     }
 }
 
-/// The line of a number above 2^63 - 1.
+/// The line of the number, if it is above 2^63 - 1.
 fn too_large(number: &Numeral) -> Option<u32>
     ensures number { is_none result ≡ is_some (number_of number.now) }
     ensures word { is_none result ≡ is_word (integer_of number.now) }
@@ -107,7 +107,7 @@ fn too_large(number: &Numeral) -> Option<u32>
     unless(value_of(number).is_some(), number.line)
 }
 
-/// The line of a time that is neither -1 nor from 1 to 2^40 ticks.
+/// The line, if the number is not a time: -1, or 1 to 2^40 ticks.
 fn no_time(number: &Numeral, line: u32) -> Option<u32>
     ensures { is_none result ≡ is_time (integer_of number.now) }
 {
@@ -118,7 +118,7 @@ fn no_time(number: &Numeral, line: u32) -> Option<u32>
     }
 }
 
-/// The line of a word that has not the form of a name, 1 to 30 characters.
+/// The line of the word, if it does not have the form of a name, 1 to 30 characters.
 fn no_name(names: &IndexSet<String>, name: Identifier) -> Option<u32>
     ensures { is_none result ≡ name_text.is_name (name_of (texts names.now.keys) name) }
 {
@@ -242,7 +242,8 @@ fn handler_fault(
     }
 }
 
-/// A stack outside its limits or below the frame of its body, or what the body passes.
+/// The first line with a stack outside its limits or below the frame of its body, or with
+/// something outside a limit in the body.
 fn stack_fault(
     alloc: Global,
     names: &IndexSet<String>,
@@ -257,7 +258,7 @@ fn stack_fault(
     Ok(earlier(frame, body_fault(names, body)))
 }
 
-/// A stack outside its limits, or below the frame of its body.
+/// The line of a stack outside its limits, or below the frame of its body.
 fn frame_fault(
     alloc: Global,
     names: &IndexSet<String>,

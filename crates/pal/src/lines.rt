@@ -1,8 +1,8 @@
-//! The line of a fault, where there is one.
+//! The line of a fault, if there is one.
 
 ghost use Rattle.std.specs.Prelude.{◌≡◌, ◌&&◌, is_none};
 
-/// The earlier of two faults' lines.
+/// The earlier of two lines; if there is only one, that one.
 pub fn earlier(one: Option<u32>, other: Option<u32>) -> Option<u32>
     ensures { is_none result ≡ (is_none one && is_none other) }
 {
@@ -13,7 +13,7 @@ pub fn earlier(one: Option<u32>, other: Option<u32>) -> Option<u32>
     }
 }
 
-/// The line, unless what has to hold there holds.
+/// The line, if the test there failed; none if it `holds`.
 pub fn unless(holds: bool, line: u32) -> Option<u32>
     ensures { is_none result ≡ holds }
 {

@@ -29,7 +29,7 @@ pub struct Counts {
     pub procedures: u32,
 }
 
-/// A count after so many more, where that is within its limit.
+/// The count plus this many more; none if that is above its limit.
 fn counted(limit: u32, count: u32, more: u64) -> Option<u32>
     ensures { result ≡ meant.counted limit count more }
 {
@@ -39,14 +39,14 @@ fn counted(limit: u32, count: u32, more: u64) -> Option<u32>
     }
 }
 
-/// The number of the next of a kind, from 1, where it is within its limit; else 0.
+/// The number of the next object of a kind, from 1; 0 if it is above its limit.
 fn next(limit: u32, count: u32) -> u32
     ensures { result ≡ meant.next limit count }
 {
     counted(limit, count, 1).unwrap_or(0)
 }
 
-/// The slot of the parameter or local with so many before it.
+/// The slot of the parameter or local with this many before it.
 pub fn slot(before: usize, index: usize) -> u16
     ensures { result ≡ meant.slot (before + index) }
 {
@@ -116,7 +116,7 @@ impl Counts {
         }
     }
 
-    /// The counts after one more declaration, where each is within its limit.
+    /// The counts after one more declaration; none if one is above its limit.
     pub fn after(self, kind: &DeclarationKind) -> Option<Counts>
         ensures { (names : List (List ℕ)) → option_map counts_of result ≡ meant.after (counts_of self) (declared_of names kind.now) }
     {

@@ -1,4 +1,4 @@
-//! Names: each is declared, and once.
+//! Tests that each name is declared exactly once.
 
 ghost use Rattle.std.specs.Prelude.{◌≡◌, ◌&&◌, [], List, ℕ, map, is_none, is_some, option_map, IfOk};
 ghost use Rattle.std.specs.List.{list_all};
@@ -19,7 +19,7 @@ use pal_base::syntax::{
 };
 use std::alloc::{AllocError, Global};
 
-/// The first line at which a name is unknown or is not new, among the bodies of a program.
+/// The first line in the bodies of a program with a name that is unknown or declared again.
 pub fn name_fault(
     alloc: Global,
     declared: &NameTable,

@@ -6,7 +6,7 @@ ghost use Rattle.apex_meaning.specs.Resolve.{within, value_or_zero, signed_word}
 
 use pal_base::syntax::{Natural, Numeral};
 
-/// The value of a number, without its sign; none where it is above 2^63 - 1.
+/// The value of a number without its sign; none if it is above 2^63 - 1.
 pub fn value_of(number: &Numeral) -> Option<u64>
     ensures { result ≡ number_of number.now }
 {
@@ -16,7 +16,7 @@ pub fn value_of(number: &Numeral) -> Option<u64>
     }
 }
 
-/// The value of a number, without its sign, up to a limit; beyond that it is 0.
+/// The value of a number without its sign, up to a limit; 0 above the limit.
 pub fn limited(limit: u64, number: &Numeral) -> u64
     ensures small { result ≤ limit }
     ensures exact { result ≡ within limit (number_of number.now) }
@@ -27,7 +27,7 @@ pub fn limited(limit: u64, number: &Numeral) -> u64
     }
 }
 
-/// The word that a number without its sign is; beyond 2^63 - 1 it is 0.
+/// A number without its sign as a word; 0 above 2^63 - 1.
 pub fn word_of(number: &Numeral) -> i64
     ensures { result ≡ pos (value_or_zero (number_of number.now)) }
 {
@@ -37,7 +37,7 @@ pub fn word_of(number: &Numeral) -> i64
     }
 }
 
-/// The word that a number with its sign is; beyond 2^63 - 1 it is 0.
+/// A number with its sign as a word; 0 if it is above 2^63 - 1 without the sign.
 pub fn signed_word_of(number: &Numeral) -> i64
     ensures { result ≡ signed_word (integer_of number.now) }
 {

@@ -1,4 +1,4 @@
-//! Periods: a process's is a multiple of its partition's.
+//! Tests that the period of each process is a multiple of its partition's.
 
 ghost use Rattle.std.specs.Prelude.{◌≡◌, ◌&&◌, List, ℕ, map, is_none, true, if◌then◌else◌};
 ghost use Rattle.std.specs.List.{list_all};
@@ -10,7 +10,7 @@ use crate::lines::{earlier, unless};
 use crate::numbers::value_of;
 use pal_base::syntax::{Numeral, Process};
 
-/// The line of the first process with a finite period that is no multiple of the partition's.
+/// The line of the first process whose period is finite and not a multiple of the partition's.
 pub fn period_fault(processes: &[Process], partition: u32) -> Option<u32>
     ensures { (names : List (List ℕ)) → is_none result ≡ list_all (keeps_period partition) (map (view.process_of names) processes.now) }
 {

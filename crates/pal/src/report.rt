@@ -22,8 +22,8 @@ pub enum BodyName {
 }
 
 /// What a body costs: its instructions, the words of stack of its frame, and the ticks of its
-/// constructs, each once, its end among them. What does not fit 64 bits is the greatest number that
-/// does.
+/// constructs, each construct once and its end included. A number that does not fit 64 bits is the
+/// greatest number of 64 bits.
 #[derive(Clone, Copy, Debug, PartialEq, Eq)]
 pub struct BodyCost {
     pub name: BodyName,

@@ -25,7 +25,7 @@ pub struct Scope<'a> {
     pub own: NameTable<'a>,
 }
 
-/// The scope of a body, and the first line with a parameter or local that is not new.
+/// The scope of a body, and the first line that declares a name again as a parameter or local.
 #[derive(Drop)]
 pub struct Entered<'a> {
     pub scope: Scope<'a>,
@@ -58,7 +58,7 @@ pub fn enter_body<'a>(
     })
 }
 
-/// Enters parameters or locals, with so many before them.
+/// Enters parameters or locals, with this many before them.
 fn enter_names<'a>(
     names: &'a IndexSet<String>,
     declared: &NameTable<'a>,
@@ -93,14 +93,14 @@ impl<'a> Scope<'a> {
         }
     }
 
-    /// The line of the name, unless it stands for something.
+    /// The line of the name, if it stands for nothing.
     pub fn unknown(&self, name: Identifier) -> Option<u32>
         ensures { is_none result ≡ is_some (sees self.now (name_of (names_of self.now) name)) }
     {
         unless(self.get(name).is_some(), name.line)
     }
 
-    /// The line of the name, unless it is a scalar's.
+    /// The line of the name, if it is not that of a scalar.
     pub fn no_scalar(&self, name: Identifier) -> Option<u32>
         ensures { is_none result ≡ well_formed.is_scalar (sees self.now (name_of (names_of self.now) name)) }
     {
@@ -110,7 +110,7 @@ impl<'a> Scope<'a> {
         }
     }
 
-    /// The line of the name, unless it is an array's.
+    /// The line of the name, if it is not that of an array.
     pub fn no_array(&self, name: Identifier) -> Option<u32>
         ensures { is_none result ≡ well_formed.is_array (sees self.now (name_of (names_of self.now) name)) }
     {
@@ -120,7 +120,7 @@ impl<'a> Scope<'a> {
         }
     }
 
-    /// The line of the name, unless it is that of a procedure with so many parameters.
+    /// The line of the name, if it is not that of a procedure with this many parameters.
     pub fn no_procedure(&self, name: Identifier, arguments: usize) -> Option<u32>
         ensures { is_none result ≡ well_formed.is_procedure arguments (sees self.now (name_of (names_of self.now) name)) }
     {
@@ -133,7 +133,7 @@ impl<'a> Scope<'a> {
         }
     }
 
-    /// The line of the name, unless it is that of an object, a port or a process of that kind.
+    /// The line of the name, if it is not that of an object, a port or a process of this kind.
     pub fn no_object(&self, name: Identifier, kind: ObjectKind) -> Option<u32>
         ensures { is_none result ≡ well_formed.is_object kind (sees self.now (name_of (names_of self.now) name)) }
     {
@@ -143,7 +143,7 @@ impl<'a> Scope<'a> {
         }
     }
 
-    /// The place of a scalar; of any other name it is the first word of the data.
+    /// The place of a scalar; for any other name the first word of the data.
     pub fn place(&self, name: Identifier) -> Place
         ensures { result ≡ place_of (sees self.now (name_of (names_of self.now) name)) }
     {
@@ -153,7 +153,7 @@ impl<'a> Scope<'a> {
         }
     }
 
-    /// The place and the size of an array; of any other name both are 0.
+    /// The place and the size of an array; for any other name 0 and 0.
     pub fn array(&self, name: Identifier) -> (u32, i64)
         ensures place { result.0 ≡ array_place_of (sees self.now (name_of (names_of self.now) name)) }
         ensures size { result.1 ≡ array_size_of (sees self.now (name_of (names_of self.now) name)) }
@@ -164,7 +164,7 @@ impl<'a> Scope<'a> {
         }
     }
 
-    /// The number of an object, a port or a process; of any other name it is 0.
+    /// The number of an object, a port or a process; for any other name 0.
     pub fn number(&self, name: Identifier) -> u32
         ensures { result ≡ object_number_of (sees self.now (name_of (names_of self.now) name)) }
     {
@@ -174,7 +174,7 @@ impl<'a> Scope<'a> {
         }
     }
 
-    /// The number of a procedure; of any other name it is 0.
+    /// The number of a procedure; for any other name 0.
     pub fn procedure(&self, name: Identifier) -> u32
         ensures { result ≡ procedure_number_of (sees self.now (name_of (names_of self.now) name)) }
     {
@@ -185,7 +185,7 @@ impl<'a> Scope<'a> {
     }
 }
 
-/// Whether the kinds are one.
+/// Whether both kinds are the same.
 fn is_same_kind(found: ObjectKind, kind: ObjectKind) -> bool
     ensures { result ≡ well_formed.is_same_kind found kind }
 {

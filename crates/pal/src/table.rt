@@ -49,7 +49,7 @@ impl<'a> NameTable<'a> {
     }
 }
 
-/// The text of a name; of a number beyond those of the names it is empty.
+/// The text of a name; empty if no name has this number.
 pub fn text_of(names: &IndexSet<String>, name: NameId) -> &str
     ensures { result.now ≡ id_text (texts names.now.keys) name }
 {

@@ -25,15 +25,15 @@ pub struct Checked {
     pub program: program::Program,
 }
 
-/// The program with its names resolved, if it is well formed for a partition; else the refusal with
-/// the lowest number that holds, and the first line at which it does.
+/// The program with its names resolved, if it is well formed for a partition. Otherwise the refusal
+/// with the lowest number, and the first line that breaks this rule.
 pub fn check(alloc: Global, program: Program, row: &PartitionRow) -> Result<Checked, PalFault>
     ensures { Answers result (well_formed.verdict row.now.ports.items row.now.period (program_of program)) }
 {
     judged(alloc, &program, row)
 }
 
-/// The same of a program that stays.
+/// As [`check`], but keeps the program.
 fn judged(alloc: Global, program: &Program, row: &PartitionRow) -> Result<Checked, PalFault>
     ensures { Answers result (well_formed.verdict row.now.ports.items row.now.period (program_of program.now)) }
 {

@@ -7,20 +7,20 @@ ghost use Rattle.pal_base.specs.Numbers.{refusal_number};
 use std::alloc::{AllocError, AllocFailed};
 use thiserror::Error;
 
-/// Why a source text is refused. Where several reasons hold, the first of this list is answered.
+/// Why a source text is refused. If several reasons apply, the first in this list is answered.
 #[derive(Clone, Copy, Debug, PartialEq, Eq)]
 pub enum Refusal {
-    /// A byte is no ASCII, or the text is longer than 1,048,576 bytes.
+    /// A byte is not ASCII, or the text is longer than 1,048,576 bytes.
     Text = 1,
     /// The text is not in the grammar.
     Grammar = 2,
     /// A name is unknown, or is declared twice.
     Name = 3,
-    /// A count or a kind of arguments or targets is wrong, or a name stands where its kind may not.
+    /// The number or the kind of arguments or targets is wrong, or a name is of the wrong kind.
     Kind = 4,
     /// A number, a count or a frame is outside its limit.
     Limit = 5,
-    /// A process's period is no multiple of its partition's.
+    /// A process's period is not a multiple of its partition's.
     Period = 6,
     /// Memory ran out.
     Memory = 7,
@@ -37,8 +37,8 @@ impl Refusal {
     }
 }
 
-/// A refusal of a source text, and the line that it is about, from 1 on. Want of memory is about
-/// no line: there `line` is 0.
+/// A refusal of a source text, and the line that it is about, from 1. If memory ran out, `line`
+/// is 0.
 #[derive(Clone, Copy, Debug, PartialEq, Eq, Error)]
 #[error("refused by {refusal:?} in line {line}")]
 pub struct PalFault {
@@ -47,7 +47,7 @@ pub struct PalFault {
 }
 
 impl PalFault {
-    /// Want of memory.
+    /// Memory ran out.
     pub const MEMORY: Self = PalFault {
         refusal: Refusal::Memory,
         line: 0,

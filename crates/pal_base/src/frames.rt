@@ -1,4 +1,5 @@
-//! The words of stack that a body needs. What does not fit 64 bits is the greatest number that does.
+//! The words of stack that a body needs. A number that does not fit 64 bits is the greatest number
+//! of 64 bits.
 
 ghost use Rattle.std.specs.Prelude.{◌≡◌, min};
 ghost use Rattle.apex_meaning.specs.Cost as cost;

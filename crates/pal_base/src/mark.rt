@@ -1,7 +1,6 @@
 //! The fixed words of the grammar.
 
-/// A word that the grammar itself writes: one of its lower-case words, which are no names, or a
-/// sign.
+/// A fixed word of the grammar: one of its lower-case words, which are not names, or a sign.
 #[derive(Clone, Copy, Debug, PartialEq, Eq)]
 pub enum Mark {
     Var,

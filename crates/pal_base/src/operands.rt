@@ -1,5 +1,5 @@
-//! How many operands of a program's parts wait at once at most. What does not fit 64 bits is the
-//! greatest number that does.
+//! The most operands that wait at once in each part of a program. A number that does not fit 64
+//! bits is the greatest number of 64 bits.
 
 ghost use Rattle.std.specs.Prelude.{◌≡◌, ◌+◌, min, max};
 ghost use Rattle.apex_meaning.specs.Cost as cost;

@@ -24,7 +24,7 @@ const GREATEST_LENGTH: usize = 1_048_576;
 ///
 /// # Errors
 ///
-/// 1 where the text is not ASCII or too long, 2 where it is not in the grammar, or 7.
+/// 1 if the text is not ASCII or is too long, 2 if it is not in the grammar, 7 if memory ran out.
 pub fn parse(alloc: Global, text: &[u8]) -> Result<Program, PalFault>
     ensures tree { IfOk result (λ program. IsProgramOf text.now (program_of program)) }
     ensures refusal { IfErr result (λ fault. IsRefused fault.refusal text.now) }
@@ -65,7 +65,7 @@ fn judge_text(text: &[u8]) -> Result<(), PalFault>
     Ok(())
 }
 
-/// The line of the first byte that is no ASCII.
+/// The line of the first byte that is not ASCII.
 fn line_beyond_ascii(text: &[u8]) -> Option<u32>
     ensures { MatchOption result (IsAscii text.now) (λ line. IsAscii text.now → ⊥) }
 {
@@ -103,7 +103,7 @@ struct Parts {
 
 impl Source {
     #[tactic(auto, unfolding(apex_meaning::specs::GrammarReading::program_at))]
-    /// The program that all these words are.
+    /// The program that these words spell, all of them.
     fn program(&self, alloc: Global, tokens: &[Token]) -> Result<Parts, ReadError>
         ensures exact { Gives (parts_of (names_of self.now)) result (reading.program_at (seen self.now tokens.now)) }
     {

@@ -18,7 +18,7 @@ pub struct Link {
 pub enum Expr {
     Literal(i64),
     Read(Place),
-    /// An element of the array of so many words at this place of the data.
+    /// An element of the array at this place of the data; the number is the array's size in words.
     Element(u32, i64, Box<Expr>),
     Unary(UnaryOperator, Box<Expr>),
     Chain(Box<Expr>, Vec<Link>),
@@ -30,7 +30,7 @@ pub enum Expr {
 #[derive(Drop)]
 pub enum Stmt {
     Assign(Place, Expr),
-    /// An element of the array of so many words at this place: the index, then the value.
+    /// An element of the array at this place, of this many words: the index, then the value.
     AssignElement(u32, i64, Expr, Expr),
     If(Expr, Vec<Stmt>),
     IfElse(Expr, Vec<Stmt>, Vec<Stmt>),

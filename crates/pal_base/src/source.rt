@@ -14,8 +14,7 @@ use apex_types::{BinaryOperator, Discipline, Service};
 use indexmap::IndexSet;
 use std::alloc::{AllocError, AllocFailed};
 
-/// Why nothing was read: want of memory, or a word, of that line, that the grammar does not have
-/// there.
+/// Why nothing was read: memory ran out, or the grammar does not allow the word in this line.
 #[derive(Clone, Copy, Debug, PartialEq, Eq)]
 pub enum ReadError {
     Memory,
@@ -71,7 +70,7 @@ pub struct Source {
 /// What a reader found at the front of the words, and the words behind it.
 pub type Read<'a, T> = Result<(T, &'a [Token]), ReadError>;
 
-/// The ranks of the operators of chains, from the one that binds least.
+/// The ranks of the operators of chains, the weakest first.
 #[derive(Clone, Copy, Debug, PartialEq, Eq)]
 pub enum Rank {
     Disjunction,
@@ -145,13 +144,13 @@ impl Source {
         }
     }
 
-    /// That the grammar does not have the word at the front.
+    /// The error that the grammar does not allow the word at the front.
     pub fn refused(&self, tokens: &[Token]) -> ReadError {
         ReadError::Refused(self.line_of(tokens))
     }
 
     #[tactic(auto, unfolding(apex_meaning::specs::GrammarReading::expect))]
-    /// The words behind this mark, where it stands at the front.
+    /// The words behind this mark, if it stands at the front.
     pub fn behind<'a>(&self, tokens: &'a [Token], mark: Mark) -> Option<&'a [Token]>
         ensures shorter { IfSome result (λ r. length r.now < length tokens.now) }
         ensures exact { Finds (λ r. seen self.now r.now) result (reading.expect (mark_text mark) (seen self.now tokens.now)) }

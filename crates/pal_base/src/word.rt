@@ -27,7 +27,7 @@ pub enum Word {
     Number(Natural),
     Service(Service),
     Mark(Mark),
-    /// What begins no word of the grammar: it stands in no program.
+    /// A character that begins no word of the grammar. No program has one.
     Stray,
 }
 
@@ -113,7 +113,7 @@ fn is_upper(byte: u8) -> bool
     b'A' <= byte && byte <= b'Z'
 }
 
-/// What a run of bytes is: lower-case letters, digits and underscores, digits alone, or upper-case
+/// The kinds of runs of bytes: lower-case letters, digits and underscores; digits alone; upper-case
 /// letters and underscores.
 #[derive(Clone, Copy, Debug, PartialEq, Eq)]
 enum Run {
@@ -172,7 +172,7 @@ fn word_at<'a>(
     }
 }
 
-/// The longest front of bytes that may stand in such a run, and the rest.
+/// The longest run of this kind at the front of the text, and the rest.
 fn split_run(text: &[u8], run: Run) -> (&[u8], &[u8])
     ensures front { result.0.now ≡ front (member run) text.now }
     ensures behind { result.1.now ≡ behind (member run) text.now }
@@ -189,7 +189,7 @@ fn split_run(text: &[u8], run: Run) -> (&[u8], &[u8])
     text.split_at(count)
 }
 
-/// The mark that is written so.
+/// The mark with this spelling.
 fn grammar_word(run: &[u8]) -> Option<Mark>
     ensures { option_map mark_text result ≡ find (λ mark. same mark run.now) grammar.grammar_words }
 {
@@ -203,7 +203,7 @@ fn grammar_word(run: &[u8]) -> Option<Mark>
     None
 }
 
-/// The name of this text, which is put behind the others where it is new.
+/// The name with this text. A new name goes behind the others.
 fn name_of(alloc: Global, names: &mut IndexSet<String>, run: &[u8]) -> Result<Word, PalFault>
     requires { IsAscii run.now }
     ensures word { IfOk result (λ w. word_of (texts names.new.keys) w ≡ grammar.Name run.now) }

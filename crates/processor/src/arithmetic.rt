@@ -1,18 +1,18 @@
-//! What operators give.
+//! The results of operators.
 
 ghost use Rattle.std.specs.Prelude.{◌≡◌};
 ghost use Rattle.apex_meaning.specs.Operators.{apply_binary, apply_unary, truth};
 
 use apex_types::{BinaryOperator, UnaryOperator};
 
-/// What a test gives as a word: 1 where it holds, else 0.
+/// The result of a test as a word: 1 if it holds, else 0.
 fn truth(holds: bool) -> i64
     ensures { result ≡ truth holds }
 {
     if holds { 1 } else { 0 }
 }
 
-/// The quotient toward zero, none by 0 and where it is no word.
+/// The quotient, rounded toward zero; none if the divisor is 0 or the quotient is not a word.
 fn divide(a: i64, b: i64) -> Option<i64>
     ensures { result ≡ apply_binary BinaryOperator.Divide a b }
 {

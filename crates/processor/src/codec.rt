@@ -109,7 +109,7 @@ fn spell(opcode: u32, x: u32, v: i64) -> [u8; 16]
     ]
 }
 
-/// The sixteen bytes of an instruction, which are read as the instruction again.
+/// The sixteen bytes of an instruction. Reading them gives the same instruction.
 pub fn encode(instruction: &Instr) -> [u8; 16]
     ensures bytes { result ≡ bytes_of instruction.now }
     ensures reads_back { reading result ≡ Some instruction.now }
@@ -197,8 +197,8 @@ fn operator(op: u32) -> Option<Instr>
     }
 }
 
-/// The instruction of an opcode with these fields, none for an opcode that is not in the table and
-/// for a field that is not used and not 0.
+/// The instruction of an opcode with these fields; none if the opcode is not in the table, or an
+/// unused field is not 0.
 fn instruction(op: u32, x: u32, v: i64) -> Option<Instr>
     ensures { result ≡ instruction_of op x v }
 {
@@ -226,8 +226,8 @@ fn instruction(op: u32, x: u32, v: i64) -> Option<Instr>
     }
 }
 
-/// The instruction of sixteen bytes, none exactly for an opcode that is not in the table and for
-/// a field that is not used and not 0.
+/// The instruction of sixteen bytes; none exactly if the opcode is not in the table, or an unused
+/// field is not 0.
 pub fn decode(bytes: &[u8; 16]) -> Option<Instr>
     ensures { result ≡ reading bytes.now }
 {
@@ -259,8 +259,8 @@ pub fn op_name(op: u32) -> Option<&'static str>
     name_entry(&NAMES, op)
 }
 
-/// What [`encode`] writes is read as the instruction again, and sixteen bytes that are read as an
-/// instruction are those that [`encode`] writes for it.
+/// Reading what [`encode`] writes gives the same instruction, and if sixteen bytes are read as an
+/// instruction, [`encode`] writes these bytes for it.
 pub fn encode_and_decode_agree()
     ensures reads_back { (i : Instr) → HasBytes i → reading (bytes_of i) ≡ Some i }
     ensures spells_back { (i : Instr) (bytes : List ℕ) → length bytes ≡ 16 → AreBytes bytes → reading bytes ≡ Some i → bytes_of i ≡ bytes }

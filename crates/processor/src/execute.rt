@@ -13,14 +13,14 @@ use crate::data::Data;
 use crate::outcome::Outcome;
 use apex_types::{BinaryOperator, ErrorKind, Instr, Service, UnaryOperator};
 
-/// Whether WORK takes so many ticks.
+/// Whether WORK may take this many ticks.
 fn is_work(v: i64) -> bool
     ensures { result ≡ is_work v }
 {
     0 < v && v <= 1_000_000
 }
 
-/// Ticks of WORK: those asked for, or 1 where they are refused.
+/// Ticks of WORK: the number that it names, or 1 if this number is not allowed.
 fn cost_of_work(v: i64) -> u32
     ensures cost { result ≡ cost_of_work v }
     ensures limit { result ≤ 1_000_000 }
@@ -38,7 +38,7 @@ fn cost_of_service_call(x: u32) -> u32
     }
 }
 
-/// The ticks that an instruction takes, those of a refused one among them.
+/// The ticks that an instruction takes, also if it faults.
 fn cost_of(instruction: Instr) -> u32
     ensures { result ≡ cost_of instruction }
 {
@@ -159,7 +159,7 @@ impl Context {
         }
     }
 
-    /// Counts a tick of an instruction, and does it in its last.
+    /// Counts a tick of an instruction, and makes its effect in the last one.
     fn spend(&mut self, memory: &mut Data, code: &Code, instruction: Instr) -> Outcome
         requires next { self.old.pc + 1 < 2 ^ 32 }
         ensures control { control_of self.new ≡ (spends code.now.routines.items instruction (control_of self.old) memory.old.words.items).control }

@@ -7,7 +7,7 @@ use module::{build, run};
 use std::alloc::{AllocError, Global};
 use std::test::Fail;
 
-/// The source that works for one tick so many times before it sets the mode.
+/// The source that works for one tick this many times before it sets the mode.
 fn working(alloc: Global, times: usize) -> Result<Vec<u8>, AllocError> {
     let mut source = Vec::new(alloc);
     source.extend_from_slice(b"init stack 16 { local r;\n")?;
