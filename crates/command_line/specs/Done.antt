@@ -11,7 +11,7 @@ use Rattle.module.specs.declared.fault.RunFault.{RunFault}
 use Rattle.command_line.specs.Contents.{Contents, Holds, HoldAll, Spares}
 use Rattle.command_line.specs.Orders.{Order, First, Check, Build, Run}
 use Rattle.command_line.specs.States.{State}
-use Rattle.command_line.specs.declared.TheConstants.{SOURCE, TABLE, TICKS}
+use Rattle.command_line.specs.declared.first_run.TheConstants.{SOURCE, TABLE, TICKS}
 
 -- ---- the texts that are named
 

@@ -5,7 +5,7 @@ use Rattle.command_line.specs.Contents.{Contents}
 use Rattle.command_line.specs.Refusals.{IsFirstUnread}
 use Rattle.command_line.specs.declared.refusal.Refusal.{Refusal}
 use Rattle.command_line.specs.declared.refusal.Refusal.TheVariants.{Build, File, Memory}
-use Rattle.std.specs.Vec.{Vec}
+use Rattle.std.specs.Global.{Vec}
 
 -- the bytes of each
 abbrev pub texts_of : List (Vec ℕ) → List (List ℕ)

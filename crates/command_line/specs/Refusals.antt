@@ -1,5 +1,5 @@
 -- Why a command is refused, and what it has left then.
-use Rattle.std.specs.Prelude.{◌≡◌, ◌⊎◌, ℕ, List, [], ◌∷◌, Option, Err, string_bytes}
+use Rattle.std.specs.Prelude.{◌≡◌, ◌⊎◌, ℕ, List, [], ◌∷◌, true, Option, Err, string_bytes}
 use Rattle.std.specs.Str.Parse.{IsNumeral, digits_value}
 use Rattle.clap.specs.Kinds.{Kinds, IsAmong}
 use Rattle.clap.specs.Values.{kind_of}
@@ -7,10 +7,11 @@ use Rattle.clap.specs.declared.error.kind.ErrorKind.TheVariants.{ValueValidation
 use Rattle.module.specs.Building.{IsRefusal}
 use Rattle.module.specs.declared.fault.BuildAndRunFault.{BuildAndRunFault}
 use Rattle.module.specs.declared.fault.BuildAndRunFault.TheVariants as both
+use Rattle.module.specs.declared.fault.RunFault.TheVariants as faults
 use Rattle.command_line.specs.Contents.{Contents, Holds, Spares}
 use Rattle.command_line.specs.Done.{Texts, IsBuilt, Inputs, IsRunOf, IsRunDone, IsFirstRun, is_ok}
 use Rattle.command_line.specs.Orders.{Order, First as first, Check as check, Build as build, Run as run}
-use Rattle.command_line.specs.States.{State}
+use Rattle.command_line.specs.States.{Seen, State}
 use Rattle.command_line.specs.declared.refusal.Refusal.{Refusal}
 use Rattle.command_line.specs.declared.refusal.Refusal.TheVariants.{Build, Run, File, Memory, Write}
 use Rattle.command_line.specs.declared.refusal.Failure.{Failure}
@@ -53,12 +54,12 @@ abbrev pub IsUntouched : State → State → Type 0
 IsUntouched before after = (after.files ≡ before.files) × (after.out.bytes ≡ before.out.bytes)
 
 abbrev pub IsCheckRefused : List ℕ → List (List ℕ) → State → State → Refusal → Type 0
-IsCheckRefused table sources before after Write = (after.files ≡ before.files) × ((image : List ℕ) × IsBuilt before.files table sources image)
+IsCheckRefused table sources before after Write = (after.out.failed ≡ true) × (after.files ≡ before.files) × ((image : List ℕ) × IsBuilt before.files table sources image)
 IsCheckRefused table sources before after r = IsUntouched before after × IsNotBuilt before.files table sources r
 
 abbrev pub IsBuildRefused : List ℕ → List ℕ → List (List ℕ) → State → State → Refusal → Type 0
 IsBuildRefused table name sources before after Write =
-    (image : List ℕ) × IsBuilt before.files table sources image × Holds after.files name image × Spares name before.files after.files
+    (after.out.failed ≡ true) × (image : List ℕ) × IsBuilt before.files table sources image × Holds after.files name image × Spares name before.files after.files
 IsBuildRefused table name sources before after r =
     (after.out.bytes ≡ before.out.bytes)
     × (((after.files ≡ before.files) × IsNotBuilt before.files table sources r) ⊎ IsNotWritten table sources name before after r)
@@ -67,21 +68,22 @@ IsBuildRefused table name sources before after r =
 abbrev pub IsRunRefused : List ℕ → List ℕ → ℕ → State → State → Refusal → Type 0
 IsRunRefused image devices n before after (File name) = IsUntouched before after × IsFirstUnread before.files (image ∷ devices ∷ []) (string_bytes name)
 IsRunRefused image devices n before after (Run fault) =
-    (after.files ≡ before.files) × (inputs : Inputs before.files image devices) × IsRunOf inputs n before.out.bytes after.out.bytes (Err fault)
+    (fault ≡ faults.Write → after.out.failed ≡ true) × (after.files ≡ before.files)
+    × (inputs : Inputs before.files image devices) × IsRunOf inputs n before.out.bytes after.out.bytes (Err fault)
 IsRunRefused image devices n before after Memory = IsUntouched before after
-IsRunRefused image devices n before after Write = IsRunDone image devices n before after
+IsRunRefused image devices n before after Write = (after.out.failed ≡ true) × IsRunDone image devices n before after
 IsRunRefused image devices n before after (Build fault) = ⊥
 
 -- of the run of the stored module, over standard output
-abbrev pub IsStoredRefused : Option (List ℕ) → Option (List ℕ) → Refusal → Type 0
-IsStoredRefused old new (Build fault) = IsFirstRun old new (Err (both.Build fault))
-IsStoredRefused old new (Run fault) = IsFirstRun old new (Err (both.Run fault))
-IsStoredRefused old new Memory = new ≡ old
-IsStoredRefused old new Write = IsFirstRun old new is_ok
+abbrev pub IsStoredRefused : Seen → Seen → Refusal → Type 0
+IsStoredRefused old new (Build fault) = IsFirstRun old.bytes new.bytes (Err (both.Build fault))
+IsStoredRefused old new (Run fault) = (fault ≡ faults.Write → new.failed ≡ true) × IsFirstRun old.bytes new.bytes (Err (both.Run fault))
+IsStoredRefused old new Memory = new.bytes ≡ old.bytes
+IsStoredRefused old new Write = (new.failed ≡ true) × IsFirstRun old.bytes new.bytes is_ok
 IsStoredRefused old new (File name) = ⊥
 
 abbrev pub IsRefused : Order → State → State → Refusal → Type 0
-IsRefused first before after r = (after.files ≡ before.files) × IsStoredRefused before.out.bytes after.out.bytes r
+IsRefused first before after r = (after.files ≡ before.files) × IsStoredRefused before.out after.out r
 IsRefused (check table sources) before after r = IsCheckRefused table sources before after r
 IsRefused (build table image sources) before after r = IsBuildRefused table image sources before after r
 IsRefused (run image devices ticks) before after r =

@@ -12,7 +12,7 @@ pub record Seen : Type 0 where
   pub flushed : Bool
 
 abbrev pub seen : {W : Type 0} → (W → Option (List ℕ)) → Stream W → Seen
-seen contents s = record { bytes = contents s.writer; failed = s.failed; flushed = s.flushed }
+seen contents s = record { bytes = contents s.sink.writer; failed = s.failed; flushed = s.flushed }
 
 -- The files and standard output.
 pub record State : Type 0 where

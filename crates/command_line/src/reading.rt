@@ -9,7 +9,7 @@ ghost use Rattle.command_line.specs.Refusals.{IsNotBuilt};
 
 use crate::files::Files;
 use crate::refusal::Refusal;
-use std::alloc::Global;
+use std::alloc::{AllocError, Global};
 
 /// The bytes of the file of that name.
 pub fn read<F: Files>(alloc: Global, name: &str, files: &mut F) -> Result<Vec<u8>, Refusal>
@@ -34,10 +34,8 @@ fn read_all<F: Files>(
     ensures unchanged { F.contents files.new ≡ F.contents files.old }
 {
     let mut texts = Vec::new(alloc);
-    let mut rest = names;
-    while let Some((name, others)) = rest.split_first() {
+    for name in names {
         texts.push(read(alloc, name, files)?)?;
-        rest = others;
     }
     Ok(texts)
 }
@@ -63,9 +61,17 @@ fn build_texts(alloc: Global, table: &[u8], sources: &[Vec<u8>]) -> Result<Vec<u
     ensures built { IfOk result (λ image. IsImageOf table.now (texts_of sources.now) image.items) }
     ensures refused { IfErr result (λ r. IsRefusedText table.now (texts_of sources.now) r) }
 {
-    let texts: Vec<&[u8]> = sources
-        .iter()
-        .map(|source| source.as_slice())
-        .collect(alloc)?;
+    let texts = slices(alloc, sources)?;
     Ok(module::build(alloc, table, texts.as_slice())?)
+}
+
+/// Each of them as a slice.
+fn slices<'a>(alloc: Global, sources: &'a [Vec<u8>]) -> Result<Vec<&'a [u8]>, AllocError>
+    ensures { IfOk result (λ slices. map (λ s. s.now) slices.items ≡ texts_of sources.now) }
+{
+    let mut slices = Vec::with_capacity(alloc, sources.len())?;
+    for source in sources {
+        slices.push(source.as_slice())?;
+    }
+    Ok(slices)
 }

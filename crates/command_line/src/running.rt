@@ -1,6 +1,6 @@
 //! Runs, of an image and of the stored module.
 
-ghost use Rattle.std.specs.Prelude.{◌≡◌, true, IfErr, OnOk};
+ghost use Rattle.std.specs.Prelude.{◌≡◌, true, IfErr, IsErrOf, OnOk};
 ghost use Rattle.apex_meaning.specs.ImageReading.{image_at};
 ghost use Rattle.module.specs.Promises.{Runs};
 ghost use Rattle.command_line.specs.Done.{IsDone, IsFirstRun, IsRunDone, is_ok};
@@ -14,7 +14,6 @@ use crate::grammar::{bad_ticks, ticks_of};
 use crate::reading::read;
 use crate::refusal::{Failure, Refusal};
 use crate::stream::Stream;
-use apex_types::WriterSink;
 use module::{BuildAndRunFault, RunFault};
 use std::alloc::Global;
 use std::io::Write;
@@ -69,17 +68,20 @@ fn trace<O: Write>(
     ticks: u64,
     out: &mut Stream<O>,
 ) -> Result<(), RunFault>
-    ensures { Runs (image_at image.now) devices.now ticks (O.contents out.old.writer) (O.contents out.new.writer) result }
+    ensures trace { Runs (image_at image.now) devices.now ticks (O.contents out.old.sink.writer) (O.contents out.new.sink.writer) result }
+    ensures failed { IsErrOf result RunFault.Write → out.new.failed ≡ true }
 {
-    let mut sink = WriterSink::new(out);
-    module::run(alloc, image, devices, ticks, &mut sink)
+    out.open();
+    let outcome = module::run(alloc, image, devices, ticks, &mut out.sink);
+    out.close();
+    outcome
 }
 
 /// Runs the stored module.
 pub fn run_stored<O: Write>(alloc: Global, out: &mut Stream<O>) -> Result<(), Refusal>
-    ensures done { OnOk result (IsFirstRun (O.contents out.old.writer) (O.contents out.new.writer) is_ok) }
+    ensures done { OnOk result (IsFirstRun (O.contents out.old.sink.writer) (O.contents out.new.sink.writer) is_ok) }
     ensures flushed { OnOk result (out.new.flushed ≡ true) }
-    ensures refused { IfErr result (λ r. IsStoredRefused (O.contents out.old.writer) (O.contents out.new.writer) r) }
+    ensures refused { IfErr result (λ r. IsStoredRefused (seen O.contents out.old) (seen O.contents out.new) r) }
 {
     trace_stored(alloc, out)?;
     Ok(out.flush()?)
@@ -87,9 +89,19 @@ pub fn run_stored<O: Write>(alloc: Global, out: &mut Stream<O>) -> Result<(), Re
 
 /// Writes the trace of the stored module.
 fn trace_stored<O: Write>(alloc: Global, out: &mut Stream<O>) -> Result<(), BuildAndRunFault>
-    ensures { IsFirstRun (O.contents out.old.writer) (O.contents out.new.writer) result }
+    ensures trace { IsFirstRun (O.contents out.old.sink.writer) (O.contents out.new.sink.writer) result }
+    ensures failed { IsErrOf result (BuildAndRunFault.Run RunFault.Write) → out.new.failed ≡ true }
 {
     let sources = [SOURCE.as_bytes()];
-    let mut sink = WriterSink::new(out);
-    module::build_and_run(alloc, TABLE.as_bytes(), &sources, &[], TICKS, &mut sink)
+    out.open();
+    let outcome = module::build_and_run(
+        alloc,
+        TABLE.as_bytes(),
+        &sources,
+        &[],
+        TICKS,
+        &mut out.sink,
+    );
+    out.close();
+    outcome
 }
