@@ -6,7 +6,7 @@ ghost use Rattle.clap.specs.Matches.{found_of};
 ghost use Rattle.clap.specs.Simple.{subcommand_of, subcommand_rows_of};
 ghost use Rattle.clap.specs.Walk.{rows_of};
 ghost use Rattle.command_line.specs.Done.{IsDone};
-ghost use Rattle.command_line.specs.Orders.{Build, Check, order_of, word_at, words_at};
+ghost use Rattle.command_line.specs.Orders.{Build, Check, order_of, word_at};
 ghost use Rattle.command_line.specs.Refusals.{IsBuildRefused, IsCheckRefused, IsFailure, IsFailureOfWords};
 ghost use Rattle.command_line.specs.States.{seen, state};
 ghost use Rattle.command_line.specs.Words.{mb_app};
@@ -55,12 +55,14 @@ fn obey<F: Files, O: Write>(
 {
     match matches.subcommand() {
         Some(("check", found)) => {
-            let (table, sources) = (word(found, "TABLE"), words(found, "SOURCE"));
+            let table = word(found, "TABLE");
+            let sources = found.get_strs("SOURCE").unwrap_or(&[]);
             Ok(check(alloc, table, sources, files, out)?)
         }
         Some(("build", found)) => {
             let (table, image) = (word(found, "TABLE"), word(found, "IMAGE"));
-            Ok(build(alloc, table, image, words(found, "SOURCE"), files, out)?)
+            let sources = found.get_strs("SOURCE").unwrap_or(&[]);
+            Ok(build(alloc, table, image, sources, files, out)?)
         }
         Some(("run", found)) => {
             let (image, devices) = (word(found, "IMAGE"), word(found, "DEVICES"));
@@ -75,13 +77,6 @@ fn word<'a>(found: &ArgMatches<'a>, name: &str) -> &'a str
     ensures { result.now ≡ word_at name.now (rows_of (found_of found.now)) }
 {
     found.get_str(name).unwrap_or("")
-}
-
-/// A required argument of several words. The parse has found it.
-fn words<'m, 'a>(found: &'m ArgMatches<'a>, name: &str) -> &'m [&'a str]
-    ensures { map (λ s. s.now) result.now ≡ words_at name.now (rows_of (found_of found.now)) }
-{
-    found.get_strs(name).unwrap_or(&[])
 }
 
 /// Builds, and drops the image.
