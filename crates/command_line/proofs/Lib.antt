@@ -1,1 +1,4 @@
-pub mod Performed
+pub mod Answered
+pub mod Found
+pub mod Ran
+pub mod Read

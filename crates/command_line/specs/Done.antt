@@ -1,19 +1,71 @@
--- What a command that is done has written between two states of standard output.
-use Rattle.std.specs.Prelude.{◌≡◌, ℕ, List, [], ◌∷◌, ◌++◌, Option, None, Some, codes}
+-- What a command that is done has left.
+use Rattle.std.specs.Prelude.{◌≡◌, ℕ, List, [], ◌∷◌, ◌++◌, length, Option, Result, Ok, codes}
 use Rattle.std.specs.Fmt.{decimal}
 use Rattle.std.specs.Io.KnownBytes.{Appends}
-use Rattle.clap.specs.Walk.{Row}
+use Rattle.std.specs.Str.Parse.{IsNumeral, digits_value}
+use Rattle.apex_meaning.specs.ImageReading.{image_at}
+use Rattle.module.specs.Building.{IsImageOf}
+use Rattle.module.specs.Promises.{Means, Runs}
+use Rattle.module.specs.declared.fault.BuildAndRunFault.{BuildAndRunFault}
+use Rattle.module.specs.declared.fault.RunFault.{RunFault}
+use Rattle.command_line.specs.Contents.{Contents, Holds, HoldAll, Spares}
+use Rattle.command_line.specs.Orders.{Order, First, Check, Build, Run}
+use Rattle.command_line.specs.States.{State}
+use Rattle.command_line.specs.declared.first_run.TheConstants.{SOURCE, TABLE, TICKS}
+
+-- ---- the texts that are named
+
+-- The texts of a module, in the files of these names.
+pub record Texts (files : Option Contents) (table : List ℕ) (sources : List (List ℕ)) : Type 0 where
+  pub table_text : List ℕ
+  pub source_texts : List (List ℕ)
+  pub in_table : Holds files table table_text
+  pub in_sources : HoldAll files sources source_texts
+
+-- They are accepted, and this is their image.
+pub record IsBuilt (files : Option Contents) (table : List ℕ) (sources : List (List ℕ)) (image : List ℕ) : Type 0 where
+  pub texts : Texts files table sources
+  pub built : IsImageOf texts.table_text texts.source_texts image
+
+-- An image and a device text, in the files of these names.
+pub record Inputs (files : Option Contents) (image devices : List ℕ) : Type 0 where
+  pub image_bytes : List ℕ
+  pub device_text : List ℕ
+  pub in_image : Holds files image image_bytes
+  pub in_devices : Holds files devices device_text
+
+-- ---- what is written
 
 abbrev pub accepted_text : List ℕ
 accepted_text = codes "accepted" ++ 10 ∷ []
 
--- how long the image is that was built
-abbrev pub TellsSize : Option (List ℕ) → Option (List ℕ) → Type 0
-TellsSize old new = (n : ℕ) × Appends old new (codes "built " ++ decimal n ++ codes " bytes" ++ 10 ∷ [])
+-- how long the image is
+abbrev pub size_text : ℕ → List ℕ
+size_text n = codes "built " ++ decimal n ++ codes " bytes" ++ 10 ∷ []
 
--- the command of these words, its name and its arguments, is done
-abbrev pub IsDone : Option (List ℕ × List Row) → Option (List ℕ) → Option (List ℕ) → Type 0
-IsDone None old new = Unit {0}
-IsDone (Some found) old new =
-    (found.0 ≡ codes "check" → Appends old new accepted_text)
-    × (found.0 ≡ codes "build" → TellsSize old new)
+-- what a run of n ticks with this answer has written
+abbrev pub IsRunOf : {files : Option Contents} {image devices : List ℕ} → Inputs files image devices → ℕ → Option (List ℕ) → Option (List ℕ) → Result (Unit {0}) RunFault → Type 0
+IsRunOf inputs n old new answer = Runs (image_at inputs.image_bytes) inputs.device_text n old new answer
+
+-- what the run of the stored module with this answer has written
+abbrev pub IsFirstRun : Option (List ℕ) → Option (List ℕ) → Result (Unit {0}) BuildAndRunFault → Type 0
+IsFirstRun old new answer = Means TABLE.now (SOURCE.now ∷ []) [] TICKS old new answer
+
+-- ---- the commands
+
+abbrev pub is_ok : {E : Type 0} → Result (Unit {0}) E
+is_ok = Ok tt
+
+-- an image was run for n ticks
+abbrev pub IsRunDone : List ℕ → List ℕ → ℕ → State → State → Type 0
+IsRunDone image devices n before after =
+    (after.files ≡ before.files) × (inputs : Inputs before.files image devices) × IsRunOf inputs n before.out.bytes after.out.bytes is_ok
+
+abbrev pub IsDone : Order → State → State → Type 0
+IsDone First before after = (after.files ≡ before.files) × IsFirstRun before.out.bytes after.out.bytes is_ok
+IsDone (Check table sources) before after =
+    (after.files ≡ before.files) × ((image : List ℕ) × IsBuilt before.files table sources image) × Appends before.out.bytes after.out.bytes accepted_text
+IsDone (Build table name sources) before after =
+    (image : List ℕ) × IsBuilt before.files table sources image × Holds after.files name image × Spares name before.files after.files
+    × Appends before.out.bytes after.out.bytes (size_text (length image))
+IsDone (Run image devices ticks) before after = IsNumeral 10 ticks × IsRunDone image devices (digits_value 10 ticks) before after

@@ -1,5 +1,10 @@
+pub mod Answers
+pub mod Contents
 pub mod Done
 pub mod Lines
+pub mod Orders
+pub mod Reading
 pub mod Refusals
-pub mod Status
+pub mod States
+pub mod Ticks
 pub mod Words

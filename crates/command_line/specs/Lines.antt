@@ -1,37 +1,8 @@
 -- The line of each refusal, without its line feed.
-use Rattle.std.specs.Prelude.{ℕ, List, [], ◌∷◌, ◌++◌, codes, string_bytes}
-use Rattle.std.specs.Fmt.{decimal}
-use Rattle.pal_base.specs.Numbers.{refusal_number}
-use Rattle.pal_base.specs.declared.fault.PalFault.{PalFault}
-use Rattle.pal_base.specs.declared.fault.Refusal.{Refusal as SourceRefusal}
-use Rattle.pal_base.specs.declared.fault.Refusal.TheVariants as source
-use Rattle.window_table.specs.Answers.{number_of}
-use Rattle.window_table.specs.declared.fault.TableFault.TheVariants as table
-use Rattle.module.specs.declared.fault.BuildFault.{BuildFault}
-use Rattle.module.specs.declared.fault.BuildFault.TheVariants as build
-use Rattle.module.specs.declared.fault.RunFault.{RunFault}
-use Rattle.module.specs.declared.fault.RunFault.TheVariants as run
+use Rattle.std.specs.Prelude.{ℕ, List, ◌++◌, codes, string_bytes}
+use Rattle.module.specs.Lines.{build_line, run_line}
 use Rattle.command_line.specs.declared.refusal.Refusal.{Refusal}
 use Rattle.command_line.specs.declared.refusal.Refusal.TheVariants.{Build, Run, File, Memory, Write}
-
--- the partition, the number and the line of a source that is refused
-abbrev pub source_line : List ℕ → SourceRefusal → ℕ → List ℕ
-source_line partition source.Memory line = codes "memory"
-source_line partition refusal line = codes "pal " ++ partition ++ codes " " ++ decimal (refusal_number refusal) ++ codes " line " ++ decimal line
-
-abbrev pub build_line : BuildFault → List ℕ
-build_line (build.Table table.Memory) = codes "memory"
-build_line (build.Table fault) = codes "table " ++ decimal (number_of fault)
-build_line build.Sources = codes "sources"
-build_line (build.Pal partition fault) = source_line partition fault.refusal fault.line
-build_line build.NotYet = codes "not yet"
-build_line build.Memory = codes "memory"
-
-abbrev pub run_line : RunFault → List ℕ
-run_line run.Ticks = codes "ticks"
-run_line run.NotYet = codes "not yet"
-run_line run.Memory = codes "memory"
-run_line run.Write = codes "write"
 
 abbrev pub line_of : Refusal → List ℕ
 line_of (Build fault) = codes "mb: " ++ build_line fault

@@ -1,13 +1,19 @@
--- The refusal of a command that a fault becomes.
-use Rattle.std.specs.Prelude.{◌≡◌, ℕ, List, string_bytes}
+-- Why a command is refused, and what it has left then.
+use Rattle.std.specs.Prelude.{◌≡◌, ◌⊎◌, ℕ, List, [], ◌∷◌, true, Option, Err, string_bytes}
+use Rattle.std.specs.Str.Parse.{IsNumeral, digits_value}
+use Rattle.clap.specs.Kinds.{Kinds, IsAmong}
 use Rattle.clap.specs.Values.{kind_of}
 use Rattle.clap.specs.declared.error.kind.ErrorKind.TheVariants.{ValueValidation}
+use Rattle.module.specs.Building.{IsRefusal}
 use Rattle.module.specs.declared.fault.BuildAndRunFault.{BuildAndRunFault}
 use Rattle.module.specs.declared.fault.BuildAndRunFault.TheVariants as both
-use Rattle.command_line.specs.declared.files.FileFault.{FileFault}
-use Rattle.command_line.specs.declared.files.FileFault.TheVariants as file
+use Rattle.module.specs.declared.fault.RunFault.TheVariants as faults
+use Rattle.command_line.specs.Contents.{Contents, Holds, Spares}
+use Rattle.command_line.specs.Done.{Texts, IsBuilt, Inputs, IsRunOf, IsRunDone, IsFirstRun, is_ok}
+use Rattle.command_line.specs.Orders.{Order, First as first, Check as check, Build as build, Run as run}
+use Rattle.command_line.specs.States.{Seen, State}
 use Rattle.command_line.specs.declared.refusal.Refusal.{Refusal}
-use Rattle.command_line.specs.declared.refusal.Refusal.TheVariants.{Build, Run, File, Memory}
+use Rattle.command_line.specs.declared.refusal.Refusal.TheVariants.{Build, Run, File, Memory, Write}
 use Rattle.command_line.specs.declared.refusal.Failure.{Failure}
 use Rattle.command_line.specs.declared.refusal.Failure.TheVariants.{Refused, Usage}
 
@@ -15,18 +21,90 @@ abbrev pub refusal_of_both : BuildAndRunFault → Refusal
 refusal_of_both (both.Build fault) = Build fault
 refusal_of_both (both.Run fault) = Run fault
 
--- the file's name, unless memory ran out
-abbrev pub IsRefusalOfFile : List ℕ → FileFault → Refusal → Type 0
-IsRefusalOfFile name file.Unavailable (File shown) = string_bytes shown ≡ name
-IsRefusalOfFile name fault Memory = Unit {0}
-IsRefusalOfFile name fault _ = ⊥
+-- the file of this name was not read or not written, or memory ran out
+abbrev pub IsRefusalOfFile : List ℕ → Refusal → Type 0
+IsRefusalOfFile name (File shown) = string_bytes shown ≡ name
+IsRefusalOfFile name Memory = Unit {0}
+IsRefusalOfFile name _ = ⊥
 
--- the words are no command, or ask for help
-abbrev pub IsUsage : Failure → Type 0
-IsUsage (Refused refusal) = ⊥
-IsUsage (Usage error) = Unit {0}
+-- ---- the steps of a command
 
--- where the words are a command, what is wrong with them is no asking for help
-abbrev pub IsNoHelp : Failure → Type 0
-IsNoHelp (Refused refusal) = Unit {0}
-IsNoHelp (Usage error) = kind_of error ≡ ValueValidation
+-- the first of these files that is not read is that of this name; those before it are read
+abbrev pub IsFirstUnread : Option Contents → List (List ℕ) → List ℕ → Type 0
+IsFirstUnread files [] name = ⊥
+IsFirstUnread files (next ∷ rest) name = (name ≡ next) ⊎ (((text : List ℕ) × Holds files next text) × IsFirstUnread files rest name)
+
+-- why no image is built of the texts in these files
+abbrev pub IsNotBuilt : Option Contents → List ℕ → List (List ℕ) → Refusal → Type 0
+IsNotBuilt files table sources (File name) = IsFirstUnread files (table ∷ sources) (string_bytes name)
+IsNotBuilt files table sources (Build fault) = (texts : Texts files table sources) × IsRefusal texts.table_text texts.source_texts fault
+IsNotBuilt files table sources (Run fault) = ⊥
+IsNotBuilt files table sources Memory = Unit {0}
+IsNotBuilt files table sources Write = ⊥
+
+-- an image is built, which is not written
+abbrev pub IsNotWritten : List ℕ → List (List ℕ) → List ℕ → State → State → Refusal → Type 0
+IsNotWritten table sources name before after r =
+    ((image : List ℕ) × IsBuilt before.files table sources image) × Spares name before.files after.files × IsRefusalOfFile name r
+
+-- ---- the commands; want of memory may come at every step
+
+-- neither the files nor standard output were touched
+abbrev pub IsUntouched : State → State → Type 0
+IsUntouched before after = (after.files ≡ before.files) × (after.out.bytes ≡ before.out.bytes)
+
+abbrev pub IsCheckRefused : List ℕ → List (List ℕ) → State → State → Refusal → Type 0
+IsCheckRefused table sources before after Write = (after.out.failed ≡ true) × (after.files ≡ before.files) × ((image : List ℕ) × IsBuilt before.files table sources image)
+IsCheckRefused table sources before after r = IsUntouched before after × IsNotBuilt before.files table sources r
+
+abbrev pub IsBuildRefused : List ℕ → List ℕ → List (List ℕ) → State → State → Refusal → Type 0
+IsBuildRefused table name sources before after Write =
+    (after.out.failed ≡ true) × (image : List ℕ) × IsBuilt before.files table sources image × Holds after.files name image × Spares name before.files after.files
+IsBuildRefused table name sources before after r =
+    (after.out.bytes ≡ before.out.bytes)
+    × (((after.files ≡ before.files) × IsNotBuilt before.files table sources r) ⊎ IsNotWritten table sources name before after r)
+
+-- of a run of n ticks
+abbrev pub IsRunRefused : List ℕ → List ℕ → ℕ → State → State → Refusal → Type 0
+IsRunRefused image devices n before after (File name) = IsUntouched before after × IsFirstUnread before.files (image ∷ devices ∷ []) (string_bytes name)
+IsRunRefused image devices n before after (Run fault) =
+    (fault ≡ faults.Write → after.out.failed ≡ true) × (after.files ≡ before.files)
+    × (inputs : Inputs before.files image devices) × IsRunOf inputs n before.out.bytes after.out.bytes (Err fault)
+IsRunRefused image devices n before after Memory = IsUntouched before after
+IsRunRefused image devices n before after Write = (after.out.failed ≡ true) × IsRunDone image devices n before after
+IsRunRefused image devices n before after (Build fault) = ⊥
+
+-- of the run of the stored module, over standard output
+abbrev pub IsStoredRefused : Seen → Seen → Refusal → Type 0
+IsStoredRefused old new (Build fault) = IsFirstRun old.bytes new.bytes (Err (both.Build fault))
+IsStoredRefused old new (Run fault) = (fault ≡ faults.Write → new.failed ≡ true) × IsFirstRun old.bytes new.bytes (Err (both.Run fault))
+IsStoredRefused old new Memory = new.bytes ≡ old.bytes
+IsStoredRefused old new Write = (new.failed ≡ true) × IsFirstRun old.bytes new.bytes is_ok
+IsStoredRefused old new (File name) = ⊥
+
+abbrev pub IsRefused : Order → State → State → Refusal → Type 0
+IsRefused first before after r = (after.files ≡ before.files) × IsStoredRefused before.out after.out r
+IsRefused (check table sources) before after r = IsCheckRefused table sources before after r
+IsRefused (build table image sources) before after r = IsBuildRefused table image sources before after r
+IsRefused (run image devices ticks) before after r =
+    (IsNumeral 10 ticks ⊎ (r ≡ Memory)) × IsRunRefused image devices (digits_value 10 ticks) before after r
+
+-- ---- the words
+
+-- the word for the ticks is no row of digits
+abbrev pub IsWrongTicks : Order → Type 0
+IsWrongTicks (run image devices ticks) = IsNumeral 10 ticks → ⊥
+IsWrongTicks _ = ⊥
+
+-- why an order is not done
+abbrev pub IsFailure : Order → State → State → Failure → Type 0
+IsFailure order before after (Refused r) = IsRefused order before after r
+IsFailure order before after (Usage error) = IsUntouched before after × IsWrongTicks order × (kind_of error ≡ ValueValidation)
+
+-- Why words are not done, of which the library of command lines has these errors to tell: want of memory; or
+-- one of those errors; or, where there is none, why their order is not done.
+abbrev pub IsFailureOfWords : Kinds → Order → State → State → Failure → Type 0
+IsFailureOfWords kinds order before after (Refused Memory) = IsRefused order before after Memory
+IsFailureOfWords kinds order before after (Refused r) = (kinds ≡ []) × IsRefused order before after r
+IsFailureOfWords kinds order before after (Usage error) =
+    IsUntouched before after × (IsAmong (kind_of error) kinds ⊎ ((kinds ≡ []) × IsWrongTicks order × (kind_of error ≡ ValueValidation)))

@@ -1,181 +1,120 @@
 //! What each command does.
 
-ghost use Rattle.std.specs.Prelude.{◌≡◌, ◌++◌, ◌∷◌, [], map, true, IfOk, OnOk, IfErr, IfSome};
-ghost use Rattle.std.specs.Io.KnownBytes.{Appends};
-ghost use Rattle.command_line.specs.Done.{IsDone, TellsSize, accepted_text};
-ghost use Rattle.command_line.specs.Refusals.{IsUsage, IsNoHelp};
+ghost use Rattle.std.specs.Prelude.{◌≡◌, [], map, true, IfErr, OnOk};
+ghost use Rattle.clap.specs.Faults.{fault_of};
+ghost use Rattle.clap.specs.Matches.{found_of};
+ghost use Rattle.clap.specs.Simple.{subcommand_of, subcommand_rows_of};
+ghost use Rattle.clap.specs.Walk.{rows_of};
+ghost use Rattle.command_line.specs.Done.{IsDone};
+ghost use Rattle.command_line.specs.Orders.{Build, Check, order_of, word_at};
+ghost use Rattle.command_line.specs.Refusals.{IsBuildRefused, IsCheckRefused, IsFailure, IsFailureOfWords};
+ghost use Rattle.command_line.specs.States.{seen, state};
 ghost use Rattle.command_line.specs.Words.{mb_app};
-ghost use Rattle.clap.specs.Takes.{takes};
-ghost use Rattle.clap.specs.Simple.{subcommand_of};
 
 use crate::files::Files;
-use crate::first_run::{SOURCE, TABLE, TICKS};
-use crate::grammar::{bad_ticks, grammar, ticks_of};
+use crate::grammar::grammar;
+use crate::reading::build_named;
 use crate::refusal::{Failure, Refusal};
-use apex_types::WriterSink;
+use crate::running::{run, run_stored};
+use crate::stream::Stream;
 use clap::ArgMatches;
 use std::alloc::Global;
 use std::convert::AsStr;
-use std::fmt::Display;
-use std::io::{BufWriter, Write};
+use std::io::Write;
 
 /// Does what the words say.
 pub fn perform<S: AsStr, F: Files, O: Write>(
     alloc: Global,
     words: &[S],
     files: &mut F,
-    out: &mut O,
+    out: &mut Stream<O>,
 ) -> Result<(), Failure>
-    ensures untouched { IfErr result (λ failure. IsUsage failure → O.contents out.new ≡ O.contents out.old) }
-    ensures usage { takes mb_app (map S.text words.now) ≡ true → IfErr result IsNoHelp }
-    ensures done { OnOk result (IsDone (subcommand_of mb_app (map S.text words.now)) (O.contents out.old) (O.contents out.new)) }
+    ensures command { OnOk result (fault_of mb_app (map S.text words.now) ≡ []) }
+    ensures done { OnOk result (IsDone (order_of (subcommand_of mb_app (map S.text words.now)))
+        (state (F.contents files.old) (seen O.contents out.old)) (state (F.contents files.new) (seen O.contents out.new))) }
+    ensures flushed { OnOk result (out.new.flushed ≡ true) }
+    ensures failed { IfErr result (λ f. IsFailureOfWords (fault_of mb_app (map S.text words.now)) (order_of (subcommand_of mb_app (map S.text words.now)))
+        (state (F.contents files.old) (seen O.contents out.old)) (state (F.contents files.new) (seen O.contents out.new)) f) }
 {
     let matches = grammar(alloc)?.try_get_matches_from(words)?;
-    match matches.subcommand() {
-        Some(("check", found)) => Ok(check(alloc, found, files, out)?),
-        Some(("build", found)) => Ok(build(alloc, found, files, out)?),
-        Some(("run", found)) => run(alloc, found, files, out),
-        _ => Ok(run_first(alloc, out)?),
-    }
+    obey(alloc, &matches, files, out)
 }
 
-/// Runs the stored first module.
-fn run_first<O: Write>(alloc: Global, out: &mut O) -> Result<(), Refusal> {
-    let mut sink = sink_of(alloc, out)?;
-    let sources = [SOURCE.as_bytes()];
-    let table = TABLE.as_bytes();
-    let outcome = match module::build_and_run(alloc, table, &sources, &[], TICKS, &mut sink) {
-        Ok(()) => Ok(()),
-        Err(fault) => Err(Refusal::from(fault)),
-    };
-    finish(sink.writer, outcome)
-}
-
-fn check<F: Files, O: Write>(
+/// Does what was found in the words.
+fn obey<F: Files, O: Write>(
     alloc: Global,
-    found: &ArgMatches<'_>,
+    matches: &ArgMatches<'_>,
     files: &mut F,
-    out: &mut O,
-) -> Result<(), Refusal>
-    ensures { OnOk result (Appends (O.contents out.old) (O.contents out.new) accepted_text) }
-{
-    build_named(alloc, found, files)?;
-    say(out, "accepted")
-}
-
-fn build<F: Files, O: Write>(
-    alloc: Global,
-    found: &ArgMatches<'_>,
-    files: &mut F,
-    out: &mut O,
-) -> Result<(), Refusal>
-    ensures { OnOk result (TellsSize (O.contents out.old) (O.contents out.new)) }
-{
-    let image = build_named(alloc, found, files)?;
-    let name = word(found, "IMAGE");
-    files
-        .write(name, image.as_slice())
-        .map_err(|fault| Refusal::of_file(alloc, name, fault))?;
-    say(out, format_args!("built {} bytes", image.len()))
-}
-
-/// Writes a line, to its end.
-fn say<O: Write, D: Display + Drop>(out: &mut O, line: D) -> Result<(), Refusal>
-    ensures { OnOk result (IfSome (D.output line) (λ text. Appends (O.contents out.old) (O.contents out.new) (text ++ 10 ∷ []))) }
-{
-    writeln!(out, "{line}").map_err(|_| Refusal::Write)?;
-    out.flush().map_err(|_| Refusal::Write)
-}
-
-/// The image of the table and the sources that the words name.
-fn build_named<F: Files>(
-    alloc: Global,
-    found: &ArgMatches<'_>,
-    files: &mut F,
-) -> Result<Vec<u8>, Refusal> {
-    let table = read(alloc, word(found, "TABLE"), files)?;
-    let sources = read_all(alloc, found.get_strs("SOURCE").unwrap_or(&[]), files)?;
-    let texts: Vec<&[u8]> = sources
-        .iter()
-        .map(|source| source.as_slice())
-        .collect(alloc)?;
-    Ok(module::build(alloc, table.as_slice(), texts.as_slice())?)
-}
-
-fn run<F: Files, O: Write>(
-    alloc: Global,
-    found: &ArgMatches<'_>,
-    files: &mut F,
-    out: &mut O,
+    out: &mut Stream<O>,
 ) -> Result<(), Failure>
-    ensures untouched { IfErr result (λ failure. IsUsage failure → O.contents out.new ≡ O.contents out.old) }
-    ensures usage { IfErr result IsNoHelp }
+    ensures done { OnOk result (IsDone (order_of (subcommand_rows_of matches.now))
+        (state (F.contents files.old) (seen O.contents out.old)) (state (F.contents files.new) (seen O.contents out.new))) }
+    ensures flushed { OnOk result (out.new.flushed ≡ true) }
+    ensures failed { IfErr result (λ f. IsFailure (order_of (subcommand_rows_of matches.now))
+        (state (F.contents files.old) (seen O.contents out.old)) (state (F.contents files.new) (seen O.contents out.new)) f) }
 {
-    let ticks_word = word(found, "TICKS");
-    let Some(ticks) = ticks_of(ticks_word) else {
-        return Err(Failure::Usage(bad_ticks(alloc, ticks_word)?));
-    };
-    let image = read(alloc, word(found, "IMAGE"), files)?;
-    let devices = read(alloc, word(found, "DEVICES"), files)?;
-    let mut sink = sink_of(alloc, out)?;
-    let outcome = match module::run(
-        alloc,
-        image.as_slice(),
-        devices.as_slice(),
-        ticks,
-        &mut sink,
-    ) {
-        Ok(()) => Ok(()),
-        Err(fault) => Err(Refusal::from(fault)),
-    };
-    Ok(finish(sink.writer, outcome)?)
+    match matches.subcommand() {
+        Some(("check", found)) => {
+            let table = word(found, "TABLE");
+            let sources = found.get_strs("SOURCE").unwrap_or(&[]);
+            Ok(check(alloc, table, sources, files, out)?)
+        }
+        Some(("build", found)) => {
+            let (table, image) = (word(found, "TABLE"), word(found, "IMAGE"));
+            let sources = found.get_strs("SOURCE").unwrap_or(&[]);
+            Ok(build(alloc, table, image, sources, files, out)?)
+        }
+        Some(("run", found)) => {
+            let (image, devices) = (word(found, "IMAGE"), word(found, "DEVICES"));
+            run(alloc, image, devices, word(found, "TICKS"), files, out)
+        }
+        _ => Ok(run_stored(alloc, out)?),
+    }
 }
 
 /// A required argument. The parse has found it.
-fn word<'a>(found: &ArgMatches<'a>, name: &str) -> &'a str {
+fn word<'a>(found: &ArgMatches<'a>, name: &str) -> &'a str
+    ensures { result.now ≡ word_at name.now (rows_of (found_of found.now)) }
+{
     found.get_str(name).unwrap_or("")
 }
 
-fn read<F: Files>(alloc: Global, name: &str, files: &mut F) -> Result<Vec<u8>, Refusal> {
-    files
-        .read(alloc, name)
-        .map_err(|fault| Refusal::of_file(alloc, name, fault))
-}
-
-fn read_all<F: Files>(
+/// Builds, and drops the image.
+fn check<F: Files, O: Write>(
     alloc: Global,
-    names: &[&str],
+    table: &str,
+    sources: &[&str],
     files: &mut F,
-) -> Result<Vec<Vec<u8>>, Refusal> {
-    let mut texts = Vec::new(alloc);
-    for name in names {
-        texts.push(read(alloc, name, files)?)?;
-    }
-    Ok(texts)
-}
-
-/// The trace goes out by blocks.
-fn sink_of<'o, O: Write>(
-    alloc: Global,
-    out: &'o mut O,
-) -> Result<WriterSink<BufWriter<&'o mut O>>, Refusal>
-    ensures { IfOk result (λ sink. sink.failures ≡ 0) }
+    out: &mut Stream<O>,
+) -> Result<(), Refusal>
+    ensures done { OnOk result (IsDone (Check table.now (map (λ s. s.now) sources.now))
+        (state (F.contents files.old) (seen O.contents out.old)) (state (F.contents files.new) (seen O.contents out.new))) }
+    ensures flushed { OnOk result (out.new.flushed ≡ true) }
+    ensures refused { IfErr result (λ r. IsCheckRefused table.now (map (λ s. s.now) sources.now)
+        (state (F.contents files.old) (seen O.contents out.old)) (state (F.contents files.new) (seen O.contents out.new)) r) }
 {
-    match BufWriter::new(alloc, out) {
-        Ok(writer) => Ok(WriterSink::new(writer)),
-        Err(_) => Err(Refusal::Memory),
-    }
+    build_named(alloc, table, sources, files)?;
+    Ok(out.line("accepted")?)
 }
 
-/// Writes what is left of a whole trace. After a failure nothing more is written.
-fn finish<O: Write>(
-    mut writer: BufWriter<&mut O>,
-    outcome: Result<(), Refusal>,
-) -> Result<(), Refusal> {
-    let outcome = match outcome {
-        Ok(()) => writer.flush().map_err(|_| Refusal::Write),
-        Err(refusal) => Err(refusal),
-    };
-    let _ = writer.into_parts();
-    outcome
+/// Builds, and writes the image.
+fn build<F: Files, O: Write>(
+    alloc: Global,
+    table: &str,
+    name: &str,
+    sources: &[&str],
+    files: &mut F,
+    out: &mut Stream<O>,
+) -> Result<(), Refusal>
+    ensures done { OnOk result (IsDone (Build table.now name.now (map (λ s. s.now) sources.now))
+        (state (F.contents files.old) (seen O.contents out.old)) (state (F.contents files.new) (seen O.contents out.new))) }
+    ensures flushed { OnOk result (out.new.flushed ≡ true) }
+    ensures refused { IfErr result (λ r. IsBuildRefused table.now name.now (map (λ s. s.now) sources.now)
+        (state (F.contents files.old) (seen O.contents out.old)) (state (F.contents files.new) (seen O.contents out.new)) r) }
+{
+    let image = build_named(alloc, table, sources, files)?;
+    if let Err(fault) = files.write(name, image.as_slice()) {
+        return Err(Refusal::of_file(alloc, name, fault));
+    }
+    Ok(out.line(format_args!("built {} bytes", image.len()))?)
 }

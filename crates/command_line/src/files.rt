@@ -1,5 +1,8 @@
 //! Files by name.
 
+ghost use Rattle.std.specs.Prelude.{◌≡◌, ℕ, List, Option, None, IfOk, OnOk};
+ghost use Rattle.command_line.specs.Contents.{Holds, Spares};
+
 use std::alloc::Global;
 
 /// Why a file was not read or not written.
@@ -12,9 +15,18 @@ pub enum FileFault {
 
 /// What the commands read and write by name.
 pub trait Files {
-    /// The bytes of the file of that name.
-    fn read(&mut self, alloc: Global, name: &str) -> Result<Vec<u8>, FileFault>;
+    /// The bytes of each name, and none where there is no such file; nothing where the files are
+    /// not told.
+    ghost contents: { Self → Option (List ℕ → Option (List ℕ)) } = { λ _. None };
 
-    /// Makes these the bytes of the file of that name. After an error its bytes are not said.
-    fn write(&mut self, name: &str, bytes: &[u8]) -> Result<(), FileFault>;
+    /// The bytes of the file of that name. Nothing is changed.
+    fn read(&mut self, alloc: Global, name: &str) -> Result<Vec<u8>, FileFault>
+        ensures held { IfOk result (λ bytes. Holds (contents self.old) name.now bytes.items) }
+        ensures unchanged { contents self.new ≡ contents self.old };
+
+    /// Makes these the bytes of the file of that name, and touches no other. After an error its
+    /// bytes are not said.
+    fn write(&mut self, name: &str, bytes: &[u8]) -> Result<(), FileFault>
+        ensures held { OnOk result (Holds (contents self.new) name.now bytes.now) }
+        ensures others { Spares name.now (contents self.old) (contents self.new) };
 }

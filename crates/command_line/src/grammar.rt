@@ -1,9 +1,11 @@
 //! The words that the program takes.
 
-ghost use Rattle.std.specs.Prelude.{◌≡◌, IfOk, false};
+ghost use Rattle.std.specs.Prelude.{◌≡◌, ◌↔◌, IfOk, IsTrue, false};
+ghost use Rattle.std.specs.Str.Parse.{AllDigits, IsNumeral};
 ghost use Rattle.clap.specs.Values.{kind_of};
 ghost use Rattle.clap.specs.Walk.{rule_of};
 ghost use Rattle.clap.specs.declared.error.kind.ErrorKind.TheVariants.{ValueValidation};
+ghost use Rattle.command_line.specs.Ticks.{ReadsTicks};
 ghost use Rattle.command_line.specs.Words.{IsCommand, word_rule, sources_rule, check_app, build_app, run_app, mb_app};
 
 use clap::error::ErrorKind;
@@ -71,11 +73,33 @@ fn sources<'a>(alloc: Global) -> Arg<'a>
 
 /// The number that a word of one or more digits writes. One that 64 bits do not hold is taken
 /// as the greatest, which is far above every limit.
-pub fn ticks_of(word: &str) -> Option<u64> {
-    if word.is_empty() || !word.bytes().all(|byte| byte.is_ascii_digit()) {
+pub fn ticks_of(word: &str) -> Option<u64>
+    ensures { ReadsTicks word.now result }
+{
+    if !is_numeral(word.as_bytes()) {
         return None;
     }
     Some(word.parse().unwrap_or(u64::MAX))
+}
+
+/// Whether there are digits, and nothing else.
+fn is_numeral(bytes: &[u8]) -> bool
+    ensures { IsTrue result ↔ IsNumeral 10 bytes.now }
+{
+    !bytes.is_empty() && are_digits(bytes)
+}
+
+fn are_digits(bytes: &[u8]) -> bool
+    ensures { IsTrue result ↔ AllDigits 10 bytes.now }
+{
+    let mut rest = bytes;
+    while let Some((byte, others)) = rest.split_first() {
+        if !byte.is_ascii_digit() {
+            return false;
+        }
+        rest = others;
+    }
+    true
 }
 
 /// The usage error of a word that is no number of ticks.

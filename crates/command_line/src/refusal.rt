@@ -3,18 +3,17 @@
 ghost use Rattle.std.specs.Prelude.{◌≡◌, ◌≢◌, Some};
 ghost use Rattle.clap.specs.Values.{kind_of};
 ghost use Rattle.clap.specs.declared.error.kind.ErrorKind.TheVariants.{OutOfMemory};
-ghost use Rattle.command_line.specs.Lines.{line_of, build_line, run_line};
+ghost use Rattle.command_line.specs.Lines.{line_of};
 ghost use Rattle.command_line.specs.Refusals.{refusal_of_both, IsRefusalOfFile};
 ghost use Rattle.command_line.specs.declared.refusal.Refusal.TheVariants as refusal;
 ghost use Rattle.command_line.specs.declared.refusal.Failure.TheVariants as failure;
 
 use crate::files::FileFault;
+use apex_types::SinkFault;
 use clap::error::ErrorKind;
 use module::{BuildAndRunFault, BuildFault, RunFault};
-use pal_base::fault::{PalFault, Refusal as SourceRefusal};
 use std::alloc::{AllocError, AllocFailed, Global};
 use std::fmt;
-use window_table::TableFault;
 
 /// A refused command. What it shows is its line on standard error.
 #[derive(Drop)]
@@ -31,7 +30,7 @@ pub enum Refusal {
 impl Refusal {
     /// The refusal where the file of that name was not read or not written.
     pub fn of_file(alloc: Global, name: &str, fault: FileFault) -> Refusal
-        ensures { IsRefusalOfFile name.now fault result }
+        ensures { IsRefusalOfFile name.now result }
     {
         match fault {
             FileFault::Unavailable => match String::from_str(alloc, name) {
@@ -48,59 +47,11 @@ impl fmt::Display for Refusal {
 
     fn fmt<W: fmt::Write>(&self, f: &mut fmt::Formatter<W>) -> fmt::Result {
         match self {
-            Refusal::Build(fault) => write!(f, "mb: {}", BuildLine(fault)),
-            Refusal::Run(fault) => write!(f, "mb: {}", RunLine(fault)),
+            Refusal::Build(fault) => write!(f, "mb: {fault}"),
+            Refusal::Run(fault) => write!(f, "mb: {fault}"),
             Refusal::File(name) => write!(f, "mb: file {name}"),
             Refusal::Memory => write!(f, "mb: memory"),
             Refusal::Write => write!(f, "mb: write"),
-        }
-    }
-}
-
-/// What the line of a build's fault says.
-#[derive(Drop)]
-struct BuildLine<'a>(&'a BuildFault);
-
-impl fmt::Display for BuildLine<'_> {
-    ghost output = { λ line. Some (build_line line.0.now) };
-
-    fn fmt<W: fmt::Write>(&self, f: &mut fmt::Formatter<W>) -> fmt::Result {
-        match self.0 {
-            BuildFault::Table(TableFault::Memory) | BuildFault::Memory => write!(f, "memory"),
-            BuildFault::Pal {
-                fault: PalFault {
-                    refusal: SourceRefusal::Memory,
-                    ..
-                },
-                ..
-            } => { write!(f, "memory") }
-            BuildFault::Table(fault) => write!(f, "table {}", fault.number()),
-            BuildFault::Sources => write!(f, "sources"),
-            BuildFault::Pal { partition, fault } => write!(
-                f,
-                "pal {} {} line {}",
-                partition.as_str(),
-                fault.number(),
-                fault.line
-            ),
-            BuildFault::NotYet => write!(f, "not yet"),
-        }
-    }
-}
-
-/// What the line of a run's fault says.
-#[derive(Drop)]
-struct RunLine<'a>(&'a RunFault);
-
-impl fmt::Display for RunLine<'_> {
-    ghost output = { λ line. Some (run_line line.0.now) };
-
-    fn fmt<W: fmt::Write>(&self, f: &mut fmt::Formatter<W>) -> fmt::Result {
-        match self.0 {
-            RunFault::Ticks => write!(f, "ticks"),
-            RunFault::NotYet => write!(f, "not yet"),
-            RunFault::Memory => write!(f, "memory"),
-            RunFault::Write => write!(f, "write"),
         }
     }
 }
@@ -145,6 +96,14 @@ impl From<BuildAndRunFault> for Refusal {
             BuildAndRunFault::Build(fault) => Refusal::Build(fault),
             BuildAndRunFault::Run(fault) => Refusal::Run(fault),
         }
+    }
+}
+
+impl From<SinkFault> for Refusal {
+    ghost from_gives = { λ _ r. r ≡ refusal.Write };
+
+    fn from(_: SinkFault) -> Self {
+        Refusal::Write
     }
 }
 

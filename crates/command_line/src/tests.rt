@@ -4,6 +4,7 @@ use crate::command;
 use crate::files::{FileFault, Files};
 use crate::first_run::{SOURCE, TABLE};
 use crate::refusal::Refusal;
+use crate::stream::Stream;
 use apex_types::Name;
 use module::{BuildFault, RunFault};
 use pal_base::fault::{PalFault, Refusal as SourceRefusal};
@@ -117,9 +118,10 @@ static REFUSALS: [(&[&str], u8, &str); 18] = [
 fn refusals(rt: HostRuntime) -> Result<(), Fail> {
     for (words, status, line) in &REFUSALS {
         let mut files = Shelf { writes: 0 };
-        let mut out = Vec::new(rt.alloc());
-        let mut err = Vec::new(rt.alloc());
+        let mut out = Stream::new(Vec::new(rt.alloc()));
+        let mut err = Stream::new(Vec::new(rt.alloc()));
         let found = command(rt.alloc(), words, &mut files, &mut out, &mut err);
+        let (out, err) = (out.into_writer(), err.into_writer());
         assert_eq!(rt; found, *status);
         assert!(rt; out.is_empty());
         assert_eq!(rt; files.writes, 0);
@@ -135,10 +137,11 @@ fn refusals(rt: HostRuntime) -> Result<(), Fail> {
 #[test]
 fn help_goes_to_standard_output(rt: HostRuntime) -> Result<(), Fail> {
     let mut files = Shelf { writes: 0 };
-    let mut out = Vec::new(rt.alloc());
-    let mut err = Vec::new(rt.alloc());
+    let mut out = Stream::new(Vec::new(rt.alloc()));
+    let mut err = Stream::new(Vec::new(rt.alloc()));
     let words = ["mb", "help"];
     let status = command(rt.alloc(), &words, &mut files, &mut out, &mut err);
+    let (out, err) = (out.into_writer(), err.into_writer());
     assert_eq!(rt; status, 0);
     assert!(rt; !out.is_empty());
     assert!(rt; err.is_empty());
@@ -148,21 +151,23 @@ fn help_goes_to_standard_output(rt: HostRuntime) -> Result<(), Fail> {
 #[test]
 fn a_trace_that_is_not_taken(rt: HostRuntime) -> Result<(), Fail> {
     let mut files = Shelf { writes: 0 };
-    let mut err = Vec::new(rt.alloc());
+    let mut out = Stream::new(FullWriter);
+    let mut err = Stream::new(Vec::new(rt.alloc()));
     let words = ["mb"];
-    let status = command(rt.alloc(), &words, &mut files, &mut FullWriter, &mut err);
+    let status = command(rt.alloc(), &words, &mut files, &mut out, &mut err);
     assert_eq!(rt; status, 1);
-    assert_eq!(rt; err.as_slice(), b"mb: write\n".as_slice());
+    assert_eq!(rt; err.into_writer().as_slice(), b"mb: write\n".as_slice());
     Ok(())
 }
 
 #[test]
 fn what_is_checked_is_accepted(rt: HostRuntime) -> Result<(), Fail> {
     let mut files = Shelf { writes: 0 };
-    let mut out = Vec::new(rt.alloc());
-    let mut err = Vec::new(rt.alloc());
+    let mut out = Stream::new(Vec::new(rt.alloc()));
+    let mut err = Stream::new(Vec::new(rt.alloc()));
     let words = ["mb", "check", "first table", "first source"];
     let status = command(rt.alloc(), &words, &mut files, &mut out, &mut err);
+    let (out, err) = (out.into_writer(), err.into_writer());
     assert_eq!(rt; status, 0);
     assert_eq!(rt; out.as_slice(), b"accepted\n".as_slice());
     assert!(rt; err.is_empty());
@@ -173,11 +178,12 @@ fn what_is_checked_is_accepted(rt: HostRuntime) -> Result<(), Fail> {
 #[test]
 fn an_answer_that_is_not_taken(rt: HostRuntime) -> Result<(), Fail> {
     let mut files = Shelf { writes: 0 };
-    let mut err = Vec::new(rt.alloc());
+    let mut out = Stream::new(FullWriter);
+    let mut err = Stream::new(Vec::new(rt.alloc()));
     let words = ["mb", "check", "first table", "first source"];
-    let status = command(rt.alloc(), &words, &mut files, &mut FullWriter, &mut err);
+    let status = command(rt.alloc(), &words, &mut files, &mut out, &mut err);
     assert_eq!(rt; status, 1);
-    assert_eq!(rt; err.as_slice(), b"mb: write\n".as_slice());
+    assert_eq!(rt; err.into_writer().as_slice(), b"mb: write\n".as_slice());
     Ok(())
 }
 

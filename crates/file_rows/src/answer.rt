@@ -1,7 +1,7 @@
 //! What a command answers.
 
-use command_line::command;
-use host_files::HostFiles;
+use command_line::{Stream, command};
+use host::HostFiles;
 use std::alloc::AllocGlobal;
 use std::convert::AsStr;
 use std::rt::Files;
@@ -17,11 +17,15 @@ pub struct Answer {
 impl Answer {
     /// The answer to these words, over the files of the host.
     pub fn to<S: AsStr, R: Files + AllocGlobal>(rt: &R, words: &[S]) -> Self {
-        let mut out: Vec<u8> = Vec::new(rt.alloc());
-        let mut err: Vec<u8> = Vec::new(rt.alloc());
+        let mut out = Stream::new(Vec::new(rt.alloc()));
+        let mut err = Stream::new(Vec::new(rt.alloc()));
         let mut files = HostFiles::new(rt);
         let status = command(rt.alloc(), words, &mut files, &mut out, &mut err);
-        Answer { status, out, err }
+        Answer {
+            status,
+            out: out.into_writer(),
+            err: err.into_writer(),
+        }
     }
 
     /// Whether the command was done, without a line on the standard error.

@@ -64,6 +64,8 @@ module_image table sources t bytes is_table part h = record {
   rows = t;
   programs = h.programs;
   accepted = record { rows = is_table; accepted = h.accepted };
+  table_of_part = part;
+  offered = h.offered;
   image = built_image t h.programs;
   loaded = ap image_at h.spelled ∙ spelled_is_read (built_image t h.programs) (lawful_image t sources h.programs (judged_table table t is_table) h.accepted h.coded);
   part = image_of_part t h.programs part;
@@ -105,5 +107,5 @@ run_means table sources bytes devices n old new (Ok x) h (image, r, out) =
 run_means table sources bytes devices n old new (Err Write) h (image, r, out) =
     (h.rows, h.programs, accepted_run table sources bytes devices n image h r, subst (TakesBeginning old new) (same_text table sources bytes devices n image h r) out)
 run_means table sources bytes devices n old new (Err Ticks) h r = r
-run_means table sources bytes devices n old new (Err NotYet) h r = (has_devices (image_at bytes) h.image devices h.loaded h.part r.0, r.1)
+run_means table sources bytes devices n old new (Err NotYet) h r = (r.0, has_devices (image_at bytes) h.image devices h.loaded h.part r.1, r.2)
 run_means table sources bytes devices n old new (Err Memory) h r = r

@@ -2,7 +2,7 @@
 use Rattle.std.proofs.Common.{◌≡◌, ◌≢◌, ◌⊎◌, inl, inr, ℕ, zero, suc, ◌+◌, ◌≤◌, ◌<◌, Bool, true, false, List, [], ◌∷◌, ◌++◌, length, map, drop, Some, Result, Ok, Err, IfOk, IfErr, refl, sym, ap, subst, ◌∙◌, arith, append-nil}
 use Rattle.std.specs.Prelude.{IsErr, IsErrAnd, ◌&&◌, ◌||◌, not, nat_le, nat_lt, slice_get}
 use Rattle.std.specs.List.{list_all, list_any}
-use Rattle.std.proofs.lemmas.Bool.{and_parts, leb-true, le-ltb, ltb-false}
+use Rattle.std.proofs.lemmas.Bool.{and_parts, leb-true, le-leb, le-ltb, ltb-false}
 use Rattle.std.proofs.lemmas.Option.{none-some, same_Some}
 use Rattle.apex_meaning.specs.Cost.{size_of}
 use Rattle.apex_meaning.specs.GrammarWords.{words_of}
@@ -150,11 +150,38 @@ as_many (r ∷ rows) [] given h = absurd h
 as_many (r ∷ rows) (s ∷ sources) [] h = absurd h
 as_many (r ∷ rows) (s ∷ sources) (a ∷ given) h = ap suc (as_many rows sources given h.1)
 
--- the bytes of accepted sources that are compiled
+-- a source of the part, short enough, is offered
+one_offered : (row : Partition) (source : List ℕ) (a : AcceptedSource) → IsSource row source a → is_source_of_part a ≡ true → size_of (program_of a.program) ≤ 65_536 → IsOffered source (program_of a.program)
+one_offered row source a h part size =
+    let own = and_parts (not a.declares_port) (is_program_of_part (program_of a.program)) part in
+    record {
+      ports = λ tree written. ap declares_port (written_once (words_of source) tree h.tree written.1 h.written.1) ∙ sym h.port ∙ is_not a.declares_port own.0;
+      built = both (is_program_of_part (program_of a.program)) (nat_le (size_of (program_of a.program)) 65_536) own.1 (le-leb (size_of (program_of a.program)) 65_536 size);
+    }
+  where
+    is_not : (b : Bool) → not b ≡ true → b ≡ false
+    is_not true h = sym h
+    is_not false h = refl
+
+    both : (a b : Bool) → a ≡ true → b ≡ true → (a && b) ≡ true
+    both a b h k = cc
+
+are_offered : (rows : List Partition) (sources : List (List ℕ)) (given : List AcceptedSource) → AreSources rows sources given → list_all is_source_of_part given ≡ true → AreCoded (programs_of given) → AreOffered sources (programs_of given)
+are_offered [] [] [] h part coded = tt
+are_offered [] [] (a ∷ given) h part coded = absurd h
+are_offered [] (s ∷ sources) given h part coded = absurd h
+are_offered (r ∷ rows) [] given h part coded = absurd h
+are_offered (r ∷ rows) (s ∷ sources) [] h part coded = absurd h
+are_offered (r ∷ rows) (s ∷ sources) (a ∷ given) h part coded =
+    let own = and_parts (is_source_of_part a) (list_all is_source_of_part given) part in
+    (one_offered r s a h.0 own.0 coded.0.size, are_offered rows sources given h.1 own.1 coded.1)
+
+-- the bytes of accepted sources of the part that are compiled
 pub built_from : {A E : Type 0} (view : A → List ℕ) (t : Table) (sources : List (List ℕ)) (given : List AcceptedSource) (answer : Result A E)
-    → AreSources t.partitions sources given → IfOk answer (λ b. view b ≡ spelling (built_image t (programs_of given))) → IfOk answer (λ b. AreCoded (programs_of given)) → IfOk answer (λ b. IsBuiltFrom t sources (view b))
-built_from view t sources given (Ok b) a spelled coded = record { programs = programs_of given; accepted = are_accepted t.partitions sources given a; coded = coded; spelled = spelled }
-built_from view t sources given (Err e) a spelled coded = tt
+    → AreSources t.partitions sources given → list_all is_source_of_part given ≡ true → IfOk answer (λ b. view b ≡ spelling (built_image t (programs_of given))) → IfOk answer (λ b. AreCoded (programs_of given)) → IfOk answer (λ b. IsBuiltFrom t sources (view b))
+built_from view t sources given (Ok b) a part spelled coded =
+    record { programs = programs_of given; accepted = are_accepted t.partitions sources given a; offered = are_offered t.partitions sources given a part coded; coded = coded; spelled = spelled }
+built_from view t sources given (Err e) a part spelled coded = tt
 
 -- ---- what is accepted and outside the part
 

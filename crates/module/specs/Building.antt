@@ -20,17 +20,6 @@ use Rattle.module.specs.Part.{is_image_of_part, is_table_of_part, is_program_of_
 use Rattle.module.specs.declared.fault.BuildFault.{BuildFault}
 use Rattle.module.specs.declared.fault.BuildFault.TheVariants as fault
 
--- The bytes are an image's, which is run and for every number of ticks means what the accepted table and
--- sources mean.
-pub record IsImageOf (table : List ℕ) (sources : List (List ℕ)) (bytes : List ℕ) : Type 0 where
-  pub rows : Table
-  pub programs : List Program
-  pub accepted : IsModule table sources rows programs
-  pub image : Image
-  pub loaded : image_at bytes ≡ Ok image
-  pub part : is_image_of_part image ≡ true
-  pub meaning : (n : ℕ) → machine_trace image n ≡ source_trace rows programs n
-
 -- ---- refusals of a source
 
 -- the text is refused, or the program that it is the text of is refused for this partition
@@ -47,7 +36,7 @@ IsFirstRefused (row ∷ rows) (source ∷ sources) name r =
     ((name ≡ row.name) × IsSourceRefused row source r) ⊎ ((p : Program) × IsAccepted row source p × IsFirstRefused rows sources name r)
 IsFirstRefused _ _ name r = ⊥
 
--- ---- what is accepted and not built yet
+-- ---- what is built
 
 -- A source that declares no port, as a program that is built.
 pub record IsOffered (source : List ℕ) (p : Program) : Type 0 where
@@ -58,6 +47,19 @@ abbrev pub AreOffered : List (List ℕ) → List Program → Type 0
 AreOffered [] [] = Unit {0}
 AreOffered (source ∷ sources) (p ∷ ps) = IsOffered source p × AreOffered sources ps
 AreOffered _ _ = ⊥
+
+-- The bytes are an image's, which for every number of ticks means what the table and sources mean: these
+-- are accepted, and of the part that is built.
+pub record IsImageOf (table : List ℕ) (sources : List (List ℕ)) (bytes : List ℕ) : Type 0 where
+  pub rows : Table
+  pub programs : List Program
+  pub accepted : IsModule table sources rows programs
+  pub table_of_part : is_table_of_part rows ≡ true
+  pub offered : AreOffered sources programs
+  pub image : Image
+  pub loaded : image_at bytes ≡ Ok image
+  pub part : is_image_of_part image ≡ true
+  pub meaning : (n : ℕ) → machine_trace image n ≡ source_trace rows programs n
 
 -- With this table the sources are accepted, and are outside the part.
 pub record IsOutside (t : Table) (sources : List (List ℕ)) : Type 0 where

@@ -10,6 +10,7 @@ use Rattle.apex_meaning.specs.ImageLimits.{IsLawful}
 use Rattle.apex_meaning.specs.ImageSpelling.{spelling}
 use Rattle.apex_meaning.specs.Instructions.{reading}
 use Rattle.module.specs.Accepted.{AreAccepted}
+use Rattle.module.specs.Building.{AreOffered}
 
 -- a partition with what its program is compiled to
 abbrev pub built_item : Partition → Program → Item
@@ -48,9 +49,10 @@ abbrev pub AreCompiled : List Program → Type 0
 AreCompiled [] = Unit {0}
 AreCompiled (p ∷ ps) = IsCompiled p × AreCompiled ps
 
--- The bytes spell the image of a table whose sources are accepted and compiled.
+-- The bytes spell the image of a table whose sources are accepted, offered and compiled.
 pub record IsBuiltFrom (t : Table) (sources : List (List ℕ)) (bytes : List ℕ) : Type 0 where
   pub programs : List Program
   pub accepted : AreAccepted t.partitions sources programs
+  pub offered : AreOffered sources programs
   pub coded : AreCoded programs
   pub spelled : bytes ≡ spelling (built_image t programs)

@@ -2,6 +2,7 @@ pub mod Accepted
 pub mod Built
 pub mod Building
 pub mod Sources
+pub mod Lines
 pub mod Loading
 pub mod Members
 pub mod Promises

@@ -34,7 +34,7 @@ abbrev pub Runs : Result Image Fault → List ℕ → ℕ → Option (List ℕ) 
 Runs read devices n old new (Ok _) = (image : Image) × IsRun read devices n image × Appends old new (text_of (machine_trace image n))
 Runs read devices n old new (Err Write) = (image : Image) × IsRun read devices n image × TakesBeginning old new (text_of (machine_trace image n))
 Runs read devices n old new (Err Ticks) = (2 ^ 40 < n) × (new ≡ old)
-Runs read devices n old new (Err NotYet) = IsOutside read devices × (new ≡ old)
+Runs read devices n old new (Err NotYet) = (n ≤ 2 ^ 40) × IsOutside read devices × (new ≡ old)
 Runs read devices n old new (Err Memory) = new ≡ old
 
 -- why bytes are not run: they are no image, or one outside the part
@@ -58,7 +58,7 @@ Means table sources devices n old new (Ok _) = (t : Table) × (programs : List P
 Means table sources devices n old new (Err (Run Write)) = (t : Table) × (programs : List Program) × IsAcceptedRun table sources devices n t programs × TakesBeginning old new (text_of (source_trace t programs n))
 Means table sources devices n old new (Err (Build fault)) = IsRefusal table sources fault × (new ≡ old)
 Means table sources devices n old new (Err (Run Ticks)) = (2 ^ 40 < n) × (new ≡ old)
-Means table sources devices n old new (Err (Run NotYet)) = (devices ≢ []) × (new ≡ old)
+Means table sources devices n old new (Err (Run NotYet)) = (n ≤ 2 ^ 40) × (devices ≢ []) × (new ≡ old)
 Means table sources devices n old new (Err (Run Memory)) = new ≡ old
 
 -- the answer of a run as that of building and running

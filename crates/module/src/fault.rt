@@ -1,58 +1,123 @@
 //! Refusals of building and running.
 
-ghost use Rattle.std.specs.Prelude.{◌≡◌};
+ghost use Rattle.std.specs.Prelude.{◌≡◌, Some};
 ghost use Rattle.module.specs.declared.fault.BuildFault.TheVariants as build;
+ghost use Rattle.module.specs.declared.fault.BuildAndRunFault.TheVariants as both;
 ghost use Rattle.module.specs.declared.fault.RunFault.TheVariants as run;
+ghost use Rattle.module.specs.Lines.{build_line, line_of_both, run_line};
 
 use apex_types::Name;
-use pal_base::fault::PalFault;
+use pal_base::fault::{PalFault, Refusal};
 use std::alloc::{AllocError, AllocFailed};
-use thiserror::Error;
+use std::error::Error;
+use std::fmt;
 use window_table::TableFault;
 
 /// Why a table and sources are not built. Where several reasons hold, the first of this list is
 /// answered, and of several sources that are refused the first; want of memory may be answered
 /// before. The module table comes first.
-#[derive(Clone, Copy, Debug, PartialEq, Eq, Error)]
+#[derive(Clone, Copy, Debug, PartialEq, Eq)]
 pub enum BuildFault {
-    #[error("table {}", .0.number())]
     Table(TableFault),
     /// There are fewer or more sources than partitions.
-    #[error("sources")]
     Sources,
     /// The source of the partition of that name is refused.
-    #[error("pal {} {} line {}", .partition.as_str(), .fault.number(), .fault.line)]
     Pal { partition: Name, fault: PalFault },
     /// They are accepted, and are outside the part that is built so far.
-    #[error("not yet")]
     NotYet,
-    #[error("memory")]
     Memory,
 }
 
+impl fmt::Display for BuildFault {
+    ghost output = { λ fault. Some (build_line fault) };
+
+    fn fmt<W: fmt::Write>(&self, f: &mut fmt::Formatter<W>) -> fmt::Result {
+        match self {
+            BuildFault::Table(TableFault::Memory) | BuildFault::Memory => write!(f, "memory"),
+            BuildFault::Pal {
+                fault: PalFault {
+                    refusal: Refusal::Memory,
+                    ..
+                },
+                ..
+            } => { write!(f, "memory") }
+            BuildFault::Table(fault) => write!(f, "table {}", fault.number()),
+            BuildFault::Sources => write!(f, "sources"),
+            BuildFault::Pal { partition, fault } => write!(
+                f,
+                "pal {} {} line {}",
+                partition.as_str(),
+                fault.number(),
+                fault.line
+            ),
+            BuildFault::NotYet => write!(f, "not yet"),
+        }
+    }
+}
+
+impl Error for BuildFault {}
+
 /// Why an image is not run to the end.
-#[derive(Clone, Copy, Debug, PartialEq, Eq, Error)]
+#[derive(Clone, Copy, Debug, PartialEq, Eq)]
 pub enum RunFault {
     /// More than 2^40 ticks are wanted.
-    #[error("ticks")]
     Ticks,
     /// The image or the device text is refused, or is outside the part that is run so far.
-    #[error("not yet")]
     NotYet,
-    #[error("memory")]
     Memory,
     /// The sink failed. What it took is a beginning of the trace's text.
-    #[error("write")]
     Write,
 }
 
+impl fmt::Display for RunFault {
+    ghost output = { λ fault. Some (run_line fault) };
+
+    fn fmt<W: fmt::Write>(&self, f: &mut fmt::Formatter<W>) -> fmt::Result {
+        match self {
+            RunFault::Ticks => write!(f, "ticks"),
+            RunFault::NotYet => write!(f, "not yet"),
+            RunFault::Memory => write!(f, "memory"),
+            RunFault::Write => write!(f, "write"),
+        }
+    }
+}
+
+impl Error for RunFault {}
+
 /// Why a module is not built and run.
-#[derive(Clone, Copy, Debug, PartialEq, Eq, Error)]
+#[derive(Clone, Copy, Debug, PartialEq, Eq)]
 pub enum BuildAndRunFault {
-    #[error("{0}")]
     Build(BuildFault),
-    #[error("{0}")]
     Run(RunFault),
+}
+
+impl fmt::Display for BuildAndRunFault {
+    ghost output = { λ fault. Some (line_of_both fault) };
+
+    fn fmt<W: fmt::Write>(&self, f: &mut fmt::Formatter<W>) -> fmt::Result {
+        match self {
+            BuildAndRunFault::Build(fault) => write!(f, "{fault}"),
+            BuildAndRunFault::Run(fault) => write!(f, "{fault}"),
+        }
+    }
+}
+
+impl Error for BuildAndRunFault {}
+
+impl From<BuildFault> for BuildAndRunFault {
+    ghost from_gives = { λ fault e. e ≡ both.Build fault };
+
+    fn from(fault: BuildFault) -> Self {
+        BuildAndRunFault::Build(fault)
+    }
+}
+
+impl From<RunFault> for BuildAndRunFault {
+    ghost from_gives = { λ fault e. e ≡ both.Run fault };
+
+    fn from(fault: RunFault) -> Self {
+        BuildAndRunFault::Run(fault)
+    }
 }
 
 impl From<AllocError> for BuildFault {

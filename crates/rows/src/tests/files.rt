@@ -2,7 +2,7 @@
 
 use super::shelf::{Shelf, expect_command};
 use super::texts::{SMALLEST, SMALLEST_IMAGE, TABLE};
-use command_line::command;
+use command_line::{Stream, command};
 use std::test::Fail;
 
 /// Words over a good table, source and image, with the line on the standard error.
@@ -90,9 +90,10 @@ static NO_COMMANDS: [&[&str]; 12] = [
 fn words_that_are_no_command(rt: HostRuntime) {
     for words in &NO_COMMANDS {
         let mut shelf = Shelf::new(rt.alloc(), TABLE.as_bytes(), &[]);
-        let mut out: Vec<u8> = Vec::new(rt.alloc());
-        let mut err: Vec<u8> = Vec::new(rt.alloc());
+        let mut out = Stream::new(Vec::new(rt.alloc()));
+        let mut err = Stream::new(Vec::new(rt.alloc()));
         let status = command(rt.alloc(), words, &mut shelf, &mut out, &mut err);
+        let (out, err) = (out.into_writer(), err.into_writer());
         assert_eq!(rt; status, 2);
         assert!(rt; out.is_empty());
         assert!(rt; !err.is_empty());

@@ -3,7 +3,7 @@
 use super::shelf::{Shelf, expect_command};
 use super::sinks::narrow_sink;
 use super::texts::{FIRST_TRACE, SMALLEST, SMALLEST_IMAGE, SMALLEST_TRACE, TABLE};
-use command_line::command;
+use command_line::{Stream, command};
 use module::{BuildFault, RunFault, build, run};
 use std::alloc::Global;
 use std::test::Fail;
@@ -68,16 +68,16 @@ fn running(rt: HostRuntime) -> Result<(), Fail> {
 fn commanding(rt: HostRuntime) -> Result<(), Fail> {
     let words = ["mb"];
     let mut shelf = Shelf::new(rt.alloc(), &[], &[]);
-    let mut out: Vec<u8> = Vec::with_capacity(rt.alloc(), 1024)?;
-    let mut err: Vec<u8> = Vec::with_capacity(rt.alloc(), 1024)?;
+    let mut out = Stream::new(Vec::with_capacity(rt.alloc(), 1024)?);
+    let mut err = Stream::new(Vec::with_capacity(rt.alloc(), 1024)?);
     expect_command(&rt, rt.alloc(), &mut shelf, &words, (0, FIRST_TRACE, ""));
     let mut held: Vec<Vec<u8>> = Vec::with_capacity(rt.alloc(), 100_000)?;
     exhaust(rt.alloc(), &mut held);
     let status = command(rt.alloc(), &words, &mut shelf, &mut out, &mut err);
     held.clear();
     assert_eq!(rt; status, 1);
-    assert!(rt; out.is_empty());
-    assert_eq!(rt; err.as_slice(), b"mb: memory\n".as_slice());
+    assert!(rt; out.into_writer().is_empty());
+    assert_eq!(rt; err.into_writer().as_slice(), b"mb: memory\n".as_slice());
     expect_command(&rt, rt.alloc(), &mut shelf, &words, (0, FIRST_TRACE, ""));
     Ok(())
 }

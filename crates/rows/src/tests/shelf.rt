@@ -1,6 +1,6 @@
 //! A fake of the files, and commands over it.
 
-use command_line::{FileFault, Files, command};
+use command_line::{FileFault, Files, Stream, command};
 use std::alloc::{AllocError, Global};
 use std::process::Abort;
 use std::test::Fail;
@@ -101,11 +101,11 @@ pub fn expect_command(
     wanted: (u8, &str, &str),
 ) {
     let (status, text, line) = wanted;
-    let mut out: Vec<u8> = Vec::new(alloc);
-    let mut err: Vec<u8> = Vec::new(alloc);
+    let mut out = Stream::new(Vec::new(alloc));
+    let mut err = Stream::new(Vec::new(alloc));
     let found = command(alloc, words, shelf, &mut out, &mut err);
-    assert_eq!(rt; err.as_slice(), line.as_bytes());
-    assert_eq!(rt; out.as_slice(), text.as_bytes());
+    assert_eq!(rt; err.into_writer().as_slice(), line.as_bytes());
+    assert_eq!(rt; out.into_writer().as_slice(), text.as_bytes());
     assert_eq!(rt; found, status);
 }
 
@@ -116,10 +116,10 @@ fn expect_built(rt: &impl Abort, alloc: Global, shelf: &mut Shelf<'_>) -> Result
         &["mb", "build", "table", "image"],
         shelf.sources.len(),
     )?;
-    let mut out: Vec<u8> = Vec::new(alloc);
-    let mut err: Vec<u8> = Vec::new(alloc);
+    let mut out = Stream::new(Vec::new(alloc));
+    let mut err = Stream::new(Vec::new(alloc));
     let status = command(alloc, words.as_slice(), shelf, &mut out, &mut err);
-    assert_eq!(rt; err.as_slice(), b"".as_slice());
+    assert!(rt; err.into_writer().is_empty());
     assert_eq!(rt; status, 0);
     assert!(rt; shelf.image.is_some());
     Ok(())

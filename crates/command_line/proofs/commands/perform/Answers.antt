@@ -1,19 +1,39 @@
-use Rattle.std.proofs.Common.{rules, map, Some, ap, sym, ◌∙◌}
-use Rattle.std.specs.Prelude.{option_map}
-use Rattle.clap.specs.Simple.{subcommand_of}
+use Rattle.std.proofs.Common.{map, ap, sym, ◌∙◌}
+use Rattle.clap.specs.Faults.{fault_of, is_simple_and_free}
+use Rattle.clap.specs.Simple.{subcommand_of, subcommand_rows_of}
+use Rattle.command_line.specs.Orders.{order_of}
+use Rattle.command_line.specs.States.{seen, state}
 use Rattle.command_line.specs.Words.{mb_app}
-use Rattle.command_line.proofs.Performed.{not_help, checked, names, entered_is, mb_is_simple}
+use Rattle.command_line.proofs.Answered.{mb_is_free, words_failed, order_failed, on_ok}
+use Rattle.command_line.proofs.Found.{entered_is, mb_is_simple}
 use Rattle.command_line.proofs.commands.perform.Goals as goal
 
-pub returns-in_err-matches-clause-usage : goal.returns-in_err-matches-clause-usage
-returns-in_err-matches-clause-usage g c =
-    not_help mb_app (map g.S.AsStr.text c.args.words.now) c.in_ok-grammar.field-0 c.in_err-matches.field-0.0 c.from_residual-in_err-matches.result
-    c.in_ok-grammar.ensures.reads c.in_err-matches.ensures.passes c.from_residual-in_err-matches.ensures
-
-pub returns-in-Some-check-default-clause-done : goal.returns-in-Some-check-default-clause-done
-returns-in-Some-check-default-clause-done g c =
+pub returns-in_err-matches-clause-failed : goal.returns-in_err-matches-clause-failed
+returns-in_err-matches-clause-failed g c =
     let words = map g.S.AsStr.text c.args.words.now in
-    let same = entered_is mb_app words c.in_ok-grammar.field-0 c.in_ok-matches.matches c.in_ok-grammar.ensures.reads mb_is_simple c.in_ok-matches.ensures.matches in
-    let entered = ap (option_map (λ p. p.0)) (sym same) ∙ names _ ∙ sym c.subcommand.ensures.name in
-    let named = ap (option_map (λ p. p.0.now)) c.in-Some-check-default.is ∙ ap Some c.in-Some-check-default.is-check in
-    checked (subcommand_of mb_app words) _ _ (entered ∙ named) (search rules)
+    let reads = c.in_ok-grammar.ensures.reads in
+    let kinds_are = ap (λ a. fault_of a words) reads in
+    let free = ap is_simple_and_free reads ∙ mb_is_free in
+    let before = state (g.F.Files.contents c.args.files.now) (seen g.O.Write.contents c.args.out.now) in
+    words_failed (fault_of mb_app words) _ (order_of (subcommand_of mb_app words)) before c.in_err-matches.field-0.0 c.from_residual-in_err-matches.result
+    kinds_are (c.in_err-matches.ensures.kinds free) c.from_residual-in_err-matches.ensures
+
+pub returns-clause-command : goal.returns-clause-command
+returns-clause-command g c =
+    let words = map g.S.AsStr.text c.args.words.now in
+    let reads = c.in_ok-grammar.ensures.reads in
+    let kinds_are = ap (λ a. fault_of a words) reads in
+    let free = ap is_simple_and_free reads ∙ mb_is_free in
+    on_ok c.obey.result (sym kinds_are ∙ c.in_ok-matches.ensures.kinds free)
+
+pub returns-clause-failed : goal.returns-clause-failed
+returns-clause-failed g c =
+    let words = map g.S.AsStr.text c.args.words.now in
+    let reads = c.in_ok-grammar.ensures.reads in
+    let kinds_are = ap (λ a. fault_of a words) reads in
+    let free = ap is_simple_and_free reads ∙ mb_is_free in
+    let before = state (g.F.Files.contents c.args.files.now) (seen g.O.Write.contents c.args.out.now) in
+    let after = state (g.F.Files.contents c.obey.new.files) (seen g.O.Write.contents c.obey.new.out) in
+    let entered = entered_is mb_app words c.in_ok-grammar.field-0 c.in_ok-matches.matches reads mb_is_simple c.in_ok-matches.ensures.matches in
+    order_failed (fault_of mb_app words) (order_of (subcommand_rows_of c.in_ok-matches.matches)) (order_of (subcommand_of mb_app words)) before after c.obey.result
+    (sym kinds_are ∙ c.in_ok-matches.ensures.kinds free) (ap order_of entered) c.obey.ensures.failed

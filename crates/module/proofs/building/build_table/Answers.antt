@@ -1,4 +1,4 @@
-use Rattle.std.proofs.Common.{rules, ◌≡◌, List, length, map, false, refl, sym, subst, ◌∙◌}
+use Rattle.std.proofs.Common.{rules, ◌≡◌, List, length, map, true, false, refl, ap, sym, subst, ◌∙◌}
 use Rattle.std.specs.List.{list_all}
 use Rattle.std.proofs.lemmas.List.{length-map}
 use Rattle.window_table.specs.Views.{partition_view, table_of}
@@ -44,7 +44,8 @@ returns-clause-built c =
     let texts = map (λ s. s.now) c.args.sources.now in
     let given = c.deref-2.result.now in
     let accepted = same_sources c.as_slice.result.now c.args.table.partitions.items texts c.in_ok-accepted.accepted.items given c.as_slice.ensures.value c.deref-2.ensures.value c.in_ok-accepted.ensures.accepted in
-    built_from (λ bytes. bytes.items) (table_of c.args.table) texts given c.build_bytes.result accepted c.build_bytes.ensures.spelled c.build_bytes.ensures.coded
+    let part : list_all (λ a. is_source_of_part a) given ≡ true = ap (list_all (λ a. is_source_of_part a)) (c.deref-2.ensures.value) ∙ search rules in
+    built_from (λ bytes. bytes.items) (table_of c.args.table) texts given c.build_bytes.result accepted part c.build_bytes.ensures.spelled c.build_bytes.ensures.coded
 
 pub returns-clause-refused : goal.returns-clause-refused
 returns-clause-refused c =

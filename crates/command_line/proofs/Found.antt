@@ -1,0 +1,109 @@
+-- What was found in the words.
+use Rattle.std.proofs.Common.{◌≡◌, ◌≢◌, ℕ, Bool, false, List, [], map, Option, None, Some, sym, ap, refl, ◌∙◌, Bor}
+use Rattle.std.specs.Prelude.{option_map, unwrap_or, codes, if◌then◌else◌, true, Box}
+use Rattle.std.specs.Str.{bytes_eq}
+use Rattle.std.specs.Box.{box_value}
+use Rattle.std.proofs.lemmas.Option.{same_Some}
+use Rattle.std.proofs.lemmas.Slice.Eq.{bytes_eq-Decides}
+use Rattle.clap.specs.Matches.{first_value, found_of, matched_of, raw_values, subcommand_name_of}
+use Rattle.clap.specs.Simple.{App, HasMatchesOf, app_of, is_simple, subcommand_of, subcommand_rows, subcommand_rows_of}
+use Rattle.clap.specs.Walk.{Row, rows_of}
+use Rattle.clap.specs.declared.builder.command.Command.{Command}
+use Rattle.clap.specs.declared.parser.matches.ArgMatches.{ArgMatches}
+use Rattle.clap.specs.declared.parser.matches.ArgMatches.TheViews.{out-ArgMatches, out-SubCommand}
+use Rattle.clap.specs.declared.parser.matches.Found.{Found}
+use Rattle.clap.specs.declared.parser.matches.SubCommand.{SubCommand}
+use Rattle.clap.proofs.WalkLemmas.{first_value-rows, raw_values-rows}
+use Rattle.command_line.specs.Orders.{First, Check, Build, Run, check_of, build_of, run_of, order_named, order_of, word_at, words_at}
+use Rattle.command_line.specs.Words.{mb_app}
+
+pub word_is : (f : Found) (name : List ℕ) (given : Option (Bor (List ℕ))) (none word : Bor (List ℕ))
+    → option_map (λ s. s.now) given ≡ first_value f name → none.now ≡ [] → word ≡ unwrap_or given none → word.now ≡ word_at name (rows_of f)
+word_is f name given none word found empty is = ap (λ (s : Bor (List ℕ)). s.now) is ∙ go given ∙ ap (λ o. unwrap_or o []) (found ∙ first_value-rows f name)
+  where
+    go : (given : Option (Bor (List ℕ))) → (unwrap_or given none).now ≡ unwrap_or (option_map (λ s. s.now) given) []
+    go None = empty
+    go (Some s) = refl
+
+pub words_are : (f : Found) (name : List ℕ) (given : Option (Bor (List (Bor (List ℕ))))) (none words : Bor (List (Bor (List ℕ))))
+    → option_map (λ s. map (λ v. v.now) s.now) given ≡ option_map raw_values (matched_of f name) → none.now ≡ [] → words ≡ unwrap_or given none → map (λ s. s.now) words.now ≡ words_at name (rows_of f)
+words_are f name given none words found empty is =
+    ap (λ (s : Bor (List (Bor (List ℕ)))). map (λ (v : Bor (List ℕ)). v.now) s.now) is ∙ go given ∙ ap (λ o. unwrap_or o []) (found ∙ raw_values-rows f name)
+  where
+    go : (given : Option (Bor (List (Bor (List ℕ))))) → map (λ (v : Bor (List ℕ)). v.now) (unwrap_or given none).now ≡ unwrap_or (option_map (λ s. map (λ v. v.now) s.now) given) []
+    go None = ap (map (λ (v : Bor (List ℕ)). v.now)) empty
+    go (Some s) = refl
+
+-- what a parse entered is what the words name
+pub entered_is : (app : App) (words : List (List ℕ)) (command : Command) (m : ArgMatches)
+    → app_of command ≡ app → is_simple app ≡ true → HasMatchesOf (app_of command) words m → subcommand_rows_of m ≡ subcommand_of app words
+entered_is app words command m same simple h = (h (ap is_simple same ∙ simple)).1 ∙ ap (λ a. subcommand_of a words) same
+
+pub mb_is_simple : is_simple mb_app ≡ true
+mb_is_simple = refl
+
+-- a name and rows
+abbrev pub entry : List ℕ → List Row → Option (List ℕ × List Row)
+entry name rows = Some (name, rows)
+
+-- what was entered, by each of the two
+pub both_are : {A : Type 0} (name : A → List ℕ) (rows : A → List Row) (given : A) (entered : Option (List ℕ × List Row))
+    → Some (name given) ≡ option_map (λ p. p.0) entered → Some (rows given) ≡ option_map (λ p. p.1) entered → entered ≡ entry (name given) (rows given)
+both_are name rows given None e f = absurd cc
+both_are name rows given (Some q) e f = same q.0 q.1 (sym (same_Some (name given) q.0 e)) (sym (same_Some (rows given) q.1 f))
+  where
+    same : (n : List ℕ) (rs : List Row) → n ≡ name given → rs ≡ rows given → entry n rs ≡ entry (name given) (rows given)
+    same n rs e f = cc
+
+-- the name of what was entered is the first of its pair
+names : {Z : Type 0} (entered : Option (Box SubCommand Z)) → option_map (λ p. p.0) (subcommand_rows entered) ≡ option_map (λ b. (out-SubCommand (box_value b)).name.now) entered
+names None = refl
+names (Some b) = refl
+
+order_is : (m : ArgMatches) (name known : List ℕ) (rows : List Row) → Some name ≡ subcommand_name_of m → Some rows ≡ option_map (λ p. p.1) (subcommand_rows_of m) → name ≡ known
+    → order_of (subcommand_rows_of m) ≡ order_named known rows
+order_is m name known rows named found is =
+    let first : Some name ≡ option_map (λ p. p.0) (subcommand_rows_of m) = named ∙ sym (names (out-ArgMatches m).subcommand) in
+    ap order_of (both_are (λ n. n) (λ n. rows) name (subcommand_rows_of m) first found) ∙ ap (λ n. order_named n rows) is
+
+pub check_is : (m : ArgMatches) (name : List ℕ) (rows : List Row) (table : List ℕ) (sources : List (List ℕ)) → Some name ≡ subcommand_name_of m → Some rows ≡ option_map (λ p. p.1) (subcommand_rows_of m) → name ≡ codes "check"
+    → table ≡ word_at (codes "TABLE") rows → sources ≡ words_at (codes "SOURCE") rows → order_of (subcommand_rows_of m) ≡ Check table sources
+check_is m name rows table sources named found is one two =
+    order_is m name (codes "check") rows named found is ∙ sym (ap (λ t. Check t sources) one ∙ ap (Check (word_at (codes "TABLE") rows)) two)
+
+pub build_is : (m : ArgMatches) (name : List ℕ) (rows : List Row) (table image : List ℕ) (sources : List (List ℕ)) → Some name ≡ subcommand_name_of m → Some rows ≡ option_map (λ p. p.1) (subcommand_rows_of m) → name ≡ codes "build"
+    → table ≡ word_at (codes "TABLE") rows → image ≡ word_at (codes "IMAGE") rows → sources ≡ words_at (codes "SOURCE") rows → order_of (subcommand_rows_of m) ≡ Build table image sources
+build_is m name rows table image sources named found is one two three =
+    order_is m name (codes "build") rows named found is
+    ∙ sym (ap (λ t. Build t image sources) one ∙ ap (λ i. Build (word_at (codes "TABLE") rows) i sources) two ∙ ap (Build (word_at (codes "TABLE") rows) (word_at (codes "IMAGE") rows)) three)
+
+pub run_is : (m : ArgMatches) (name : List ℕ) (rows : List Row) (image devices ticks : List ℕ) → Some name ≡ subcommand_name_of m → Some rows ≡ option_map (λ p. p.1) (subcommand_rows_of m) → name ≡ codes "run"
+    → image ≡ word_at (codes "IMAGE") rows → devices ≡ word_at (codes "DEVICES") rows → ticks ≡ word_at (codes "TICKS") rows → order_of (subcommand_rows_of m) ≡ Run image devices ticks
+run_is m name rows image devices ticks named found is one two three =
+    order_is m name (codes "run") rows named found is
+    ∙ sym (ap (λ i. Run i devices ticks) one ∙ ap (λ d. Run (word_at (codes "IMAGE") rows) d ticks) two ∙ ap (Run (word_at (codes "IMAGE") rows) (word_at (codes "DEVICES") rows)) three)
+
+-- no command of the three
+pub other_is : (m : ArgMatches) (name : List ℕ) (rows : List Row) → Some name ≡ subcommand_name_of m → Some rows ≡ option_map (λ p. p.1) (subcommand_rows_of m)
+    → name ≢ codes "check" → name ≢ codes "build" → name ≢ codes "run" → order_of (subcommand_rows_of m) ≡ First
+other_is m name rows named found one two three = order_is m name name rows named found refl ∙ last (bytes_eq name (codes "check")) (bytes_eq name (codes "build")) (bytes_eq name (codes "run")) (differ (codes "check") one) (differ (codes "build") two) (differ (codes "run") three)
+  where
+    no : (b : Bool) (P : Type 0) → (b ≡ true → P) → (P → ⊥) → b ≡ false
+    no true P d h = absurd (h (d refl))
+    no false P d h = refl
+
+    differ : (known : List ℕ) → name ≢ known → bytes_eq name known ≡ false
+    differ known h = no (bytes_eq name known) (name ≡ known) (bytes_eq-Decides name known).0 h
+
+    last : (a b c : Bool) → a ≡ false → b ≡ false → c ≡ false → (if a then check_of rows else if b then build_of rows else if c then run_of rows else First) ≡ First
+    last true b c h k l = absurd cc
+    last false true c h k l = absurd cc
+    last false false true h k l = absurd cc
+    last false false false h k l = refl
+
+pub none_entered : (m : ArgMatches) → None ≡ subcommand_name_of m → order_of (subcommand_rows_of m) ≡ First
+none_entered m named = go (out-ArgMatches m).subcommand named
+  where
+    go : {Z : Type 0} (entered : Option (Box SubCommand Z)) → None ≡ option_map (λ b. (out-SubCommand (box_value b)).name.now) entered → order_of (subcommand_rows entered) ≡ First
+    go None e = refl
+    go (Some b) e = absurd cc

@@ -1,0 +1,76 @@
+-- What runs have written.
+use Rattle.std.proofs.Common.{◌≡◌, ◌≢◌, ℕ, ◌≤◌, ◌<◌, ◌-◌, ◌^◌, List, [], ◌∷◌, Option, Result, Ok, Err, refl, sym, ap, subst, ◌∙◌, arith, min}
+use Rattle.std.specs.Io.KnownBytes.{Appends, Keeps}
+use Rattle.std.proofs.KnownBytes.{Appends-kept}
+use Rattle.apex_types.specs.Line.{text_of}
+use Rattle.apex_meaning.specs.Image.{Image}
+use Rattle.apex_meaning.specs.ImageReading.{Fault}
+use Rattle.apex_meaning.specs.TwoMeanings.{source_trace, machine_trace}
+use Rattle.module.specs.Promises.{Means, Runs}
+use Rattle.module.specs.declared.fault.RunFault.{RunFault}
+use Rattle.module.specs.declared.fault.RunFault.TheVariants.{Ticks, NotYet, Memory, Write}
+use Rattle.std.specs.Prelude.{IsErr, IsErrAnd, IfErr}
+use Rattle.apex_meaning.specs.ImageReading.{image_at}
+use Rattle.command_line.specs.Contents.{Contents, Holds}
+use Rattle.command_line.specs.Done.{Inputs, IsRunDone, IsFirstRun, is_ok}
+use Rattle.command_line.specs.Refusals.{IsRunRefused}
+use Rattle.command_line.specs.States.{State}
+use Rattle.command_line.specs.declared.first_run.TheConstants.{SOURCE, TABLE, TICKS}
+use Rattle.command_line.specs.declared.refusal.Refusal.{Refusal}
+use Rattle.command_line.specs.declared.refusal.Refusal.TheVariants as refusal
+
+-- ---- what is kept by a flush
+
+pub kept_run : (read : Result Image Fault) (devices : List ℕ) (n : ℕ) (old mid new : Option (List ℕ)) → Runs read devices n old mid (Ok tt) → Keeps mid new → Runs read devices n old new (Ok tt)
+kept_run read devices n old mid new (image, r, out) kept = (image, r, Appends-kept old mid new (text_of (machine_trace image n)) out kept)
+
+pub kept_first : (table : List ℕ) (sources : List (List ℕ)) (devices : List ℕ) (n : ℕ) (old mid new : Option (List ℕ)) → Means table sources devices n old mid (Ok tt) → Keeps mid new → Means table sources devices n old new (Ok tt)
+kept_first table sources devices n old mid new (t, programs, r, out) kept = (t, programs, r, Appends-kept old mid new (text_of (source_trace t programs n)) out kept)
+
+-- ---- the number of a word, and what 64 bits hold of it
+
+few_same : (n v : ℕ) → n ≡ min v (2 ^ 64 - 1) → n ≤ 2 ^ 40 → n ≡ v
+few_same n v is few = omega (arith, is, few)
+
+many_same : (n v : ℕ) → n ≡ min v (2 ^ 64 - 1) → 2 ^ 40 < n → 2 ^ 40 < v
+many_same n v is many = omega (arith, is, many)
+
+pub runs_by : (read : Result Image Fault) (devices : List ℕ) (n v : ℕ) (old new : Option (List ℕ)) (answer : Result (Unit {0}) RunFault) → n ≡ min v (2 ^ 64 - 1) → Runs read devices n old new answer → Runs read devices v old new answer
+runs_by read devices n v old new (Ok x) is h = subst (λ k. Runs read devices k old new (Ok x)) (few_same n v is h.1.few) h
+runs_by read devices n v old new (Err Write) is h = subst (λ k. Runs read devices k old new (Err Write)) (few_same n v is h.1.few) h
+runs_by read devices n v old new (Err Ticks) is h = (many_same n v is h.0, h.1)
+runs_by read devices n v old new (Err NotYet) is h = (subst (λ k. k ≤ 2 ^ 40) (few_same n v is h.0) h.0, h.1, h.2)
+runs_by read devices n v old new (Err Memory) is h = h
+
+-- ---- refusals that are handed on
+
+pub told_as : {A E : Type 0} (P : E → Type 0) (f : E) (answer : Result A E) → IsErr answer × IsErrAnd answer (λ e. e ≡ f) → P f → IfErr answer P
+told_as P f (Ok x) h p = tt
+told_as P f (Err e) h p = subst P (sym h.1) p
+
+-- ---- the runs of the commands
+
+pub kept_stored : (old mid new : Option (List ℕ)) → IsFirstRun old mid is_ok → Keeps mid new → IsFirstRun old new is_ok
+kept_stored old mid new h kept = kept_first TABLE.now (SOURCE.now ∷ []) [] TICKS old mid new h kept
+
+-- the bytes that were read are those of the files
+abbrev pub inputs_of : (files now : Option Contents) (image devices bytes text given_bytes given_text : List ℕ)
+    → now ≡ files → given_bytes ≡ bytes → given_text ≡ text → Holds files image bytes → Holds now devices text → Inputs files image devices
+inputs_of files now image devices bytes text given_bytes given_text same same_bytes same_text in_image in_devices = record {
+  image_bytes = given_bytes;
+  device_text = given_text;
+  in_image = subst (Holds files image) (sym same_bytes) in_image;
+  in_devices = subst (Holds files devices) (sym same_text) (subst (λ f. Holds f devices text) same in_devices);
+}
+
+pub run_done_by : (image devices : List ℕ) (n v : ℕ) (before after : State) → n ≡ min v (2 ^ 64 - 1) → IsRunDone image devices n before after → IsRunDone image devices v before after
+run_done_by image devices n v before after is (same, inputs, run) =
+    (same, inputs, runs_by (image_at inputs.image_bytes) inputs.device_text n v before.out.bytes after.out.bytes is_ok is run)
+
+pub run_refused_by : (image devices : List ℕ) (n v : ℕ) (before after : State) (r : Refusal) → n ≡ min v (2 ^ 64 - 1) → IsRunRefused image devices n before after r → IsRunRefused image devices v before after r
+run_refused_by image devices n v before after (refusal.File name) is h = h
+run_refused_by image devices n v before after (refusal.Run fault) is (failed, same, inputs, run) =
+    (failed, same, inputs, runs_by (image_at inputs.image_bytes) inputs.device_text n v before.out.bytes after.out.bytes (Err fault) is run)
+run_refused_by image devices n v before after refusal.Memory is h = h
+run_refused_by image devices n v before after refusal.Write is (failed, done) = (failed, run_done_by image devices n v before after is done)
+run_refused_by image devices n v before after (refusal.Build fault) is h = absurd h

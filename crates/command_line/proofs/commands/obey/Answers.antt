@@ -1,0 +1,82 @@
+use Rattle.std.proofs.Common.{rules, ◌≡◌, List, ℕ, map, refl, sym, subst, codes}
+use Rattle.std.specs.Prelude.{OnOk}
+use Rattle.clap.specs.Matches.{found_of}
+use Rattle.clap.specs.Simple.{subcommand_rows_of}
+use Rattle.clap.specs.Walk.{rows_of}
+use Rattle.command_line.specs.Done.{IsDone}
+use Rattle.command_line.specs.Orders.{Order, First, order_of, words_at}
+use Rattle.command_line.specs.Refusals.{IsRefused}
+use Rattle.command_line.specs.States.{seen, state}
+use Rattle.command_line.specs.declared.refusal.Failure.TheVariants.{Refused}
+use Rattle.command_line.proofs.Found.{words_are, check_is, build_is, run_is, other_is, none_entered}
+use Rattle.command_line.proofs.Ran.{told_as}
+use Rattle.command_line.proofs.commands.obey.Goals.{in_default-via-in-Some+in_default, in_default-via-in_default}
+use Rattle.command_line.proofs.commands.obey.Goals as goal
+
+pub returns-in_err-check-in-Some-check-default-clause-failed : goal.returns-in_err-check-in-Some-check-default-clause-failed
+returns-in_err-check-in-Some-check-default-clause-failed g c =
+    let before = state (g.F.Files.contents c.args.files.now) (seen g.O.Write.contents c.args.out.now) in
+    let after = state (g.F.Files.contents c.check.new.files) (seen g.O.Write.contents c.check.new.out) in
+    let arm = c.in-Some-check-default in
+    let rows = rows_of (found_of arm.found.now) in
+    let sources : map (λ s. s.now) c.unwrap_or-sources.result.now ≡ words_at (codes "SOURCE") rows =
+    words_are (found_of arm.found.now) (codes "SOURCE") c.get_strs.result _ c.unwrap_or-sources.result c.get_strs.ensures (search rules) c.unwrap_or-sources.ensures in
+    let order = check_is c.args.matches.now arm.field-0-0.now rows c.word-table.result.now (map (λ s. s.now) c.unwrap_or-sources.result.now) arm.ensures.name arm.ensures.rows arm.is-check c.word-table.ensures sources in
+    let r = c.in_err-check-in-Some-check-default.field-0.0 in
+    told_as _ (Refused r) c.from_residual.result c.from_residual.ensures
+    (subst (λ o. IsRefused o before after r) (sym order) c.in_err-check-in-Some-check-default.ensures.refused)
+
+pub returns-in_err-build-in-Some-build-default-clause-failed : goal.returns-in_err-build-in-Some-build-default-clause-failed
+returns-in_err-build-in-Some-build-default-clause-failed g c =
+    let before = state (g.F.Files.contents c.args.files.now) (seen g.O.Write.contents c.args.out.now) in
+    let after = state (g.F.Files.contents c.build.new.files) (seen g.O.Write.contents c.build.new.out) in
+    let arm = c.in-Some-build-default in
+    let rows = rows_of (found_of arm.found.now) in
+    let sources : map (λ s. s.now) c.unwrap_or-sources-in-Some-build-default.result.now ≡ words_at (codes "SOURCE") rows =
+    words_are (found_of arm.found.now) (codes "SOURCE") c.get_strs-in-Some-build-default.result _ c.unwrap_or-sources-in-Some-build-default.result c.get_strs-in-Some-build-default.ensures (search rules) c.unwrap_or-sources-in-Some-build-default.ensures in
+    let order = build_is c.args.matches.now arm.field-0-0.now rows c.word-table-in-Some-build-default.result.now c.word-image.result.now (map (λ s. s.now) c.unwrap_or-sources-in-Some-build-default.result.now) arm.ensures.name arm.ensures.rows arm.is-build c.word-table-in-Some-build-default.ensures c.word-image.ensures sources in
+    let r = c.in_err-build-in-Some-build-default.field-0.0 in
+    told_as _ (Refused r) c.from_residual-in_err-build-in-Some-build-default.result c.from_residual-in_err-build-in-Some-build-default.ensures
+    (subst (λ o. IsRefused o before after r) (sym order) c.in_err-build-in-Some-build-default.ensures.refused)
+
+pub returns-in_ok-check-in-Some-check-default-clause-done : goal.returns-in_ok-check-in-Some-check-default-clause-done
+returns-in_ok-check-in-Some-check-default-clause-done g c =
+    let before = state (g.F.Files.contents c.args.files.now) (seen g.O.Write.contents c.args.out.now) in
+    let after = state (g.F.Files.contents c.check.new.files) (seen g.O.Write.contents c.check.new.out) in
+    let arm = c.in-Some-check-default in
+    let rows = rows_of (found_of arm.found.now) in
+    let sources : map (λ s. s.now) c.unwrap_or-sources.result.now ≡ words_at (codes "SOURCE") rows =
+    words_are (found_of arm.found.now) (codes "SOURCE") c.get_strs.result _ c.unwrap_or-sources.result c.get_strs.ensures (search rules) c.unwrap_or-sources.ensures in
+    let order = check_is c.args.matches.now arm.field-0-0.now rows c.word-table.result.now (map (λ s. s.now) c.unwrap_or-sources.result.now) arm.ensures.name arm.ensures.rows arm.is-check c.word-table.ensures sources in
+    subst (λ o. IsDone o before after) (sym order) c.in_ok-check-in-Some-check-default.ensures.done
+
+pub returns-in_ok-build-in-Some-build-default-clause-done : goal.returns-in_ok-build-in-Some-build-default-clause-done
+returns-in_ok-build-in-Some-build-default-clause-done g c =
+    let before = state (g.F.Files.contents c.args.files.now) (seen g.O.Write.contents c.args.out.now) in
+    let after = state (g.F.Files.contents c.build.new.files) (seen g.O.Write.contents c.build.new.out) in
+    let arm = c.in-Some-build-default in
+    let rows = rows_of (found_of arm.found.now) in
+    let sources : map (λ s. s.now) c.unwrap_or-sources-in-Some-build-default.result.now ≡ words_at (codes "SOURCE") rows =
+    words_are (found_of arm.found.now) (codes "SOURCE") c.get_strs-in-Some-build-default.result _ c.unwrap_or-sources-in-Some-build-default.result c.get_strs-in-Some-build-default.ensures (search rules) c.unwrap_or-sources-in-Some-build-default.ensures in
+    let order = build_is c.args.matches.now arm.field-0-0.now rows c.word-table-in-Some-build-default.result.now c.word-image.result.now (map (λ s. s.now) c.unwrap_or-sources-in-Some-build-default.result.now) arm.ensures.name arm.ensures.rows arm.is-build c.word-table-in-Some-build-default.ensures c.word-image.ensures sources in
+    subst (λ o. IsDone o before after) (sym order) c.in_ok-build-in-Some-build-default.ensures.done
+
+pub returns-in-Some-run-default-clause-done : goal.returns-in-Some-run-default-clause-done
+returns-in-Some-run-default-clause-done g c =
+    let before = state (g.F.Files.contents c.args.files.now) (seen g.O.Write.contents c.args.out.now) in
+    let after = state (g.F.Files.contents c.run.new.files) (seen g.O.Write.contents c.run.new.out) in
+    let arm = c.in-Some-run-default in
+    let rows = rows_of (found_of arm.found.now) in
+    let order = run_is c.args.matches.now arm.field-0-0.now rows c.word-image-in-Some-run-default.result.now c.word-devices.result.now c.word.result.now arm.ensures.name arm.ensures.rows arm.is-run
+    c.word-image-in-Some-run-default.ensures c.word-devices.ensures c.word.ensures in
+    subst (λ o. OnOk c.run.result (IsDone o before after)) (sym order) c.run.ensures.done
+
+pub returns-in_ok-run_stored-in_default-clause-done : goal.returns-in_ok-run_stored-in_default-clause-done
+returns-in_ok-run_stored-in_default-clause-done g c =
+    let before = state (g.F.Files.contents c.args.files.now) (seen g.O.Write.contents c.args.out.now) in
+    let after = state (g.F.Files.contents c.args.files.now) (seen g.O.Write.contents c.run_stored.new.out) in
+    let order : order_of (subcommand_rows_of c.args.matches.now) ≡ First = elim c.in_default.branch [
+      | in_default-via-in-Some+in_default w ↦ other_is c.args.matches.now w.in_default.field-0.0.now (rows_of (found_of w.in_default.field-0.1.now)) (search rules) (search rules) (search rules) (search rules) (search rules)
+      | in_default-via-in_default w ↦ none_entered c.args.matches.now (search rules)
+    ] in
+    subst (λ o. IsDone o before after) (sym order) (refl, c.in_ok-run_stored-in_default.ensures.done)

@@ -1,0 +1,19 @@
+use Rattle.std.proofs.Common.{rules, ◌≡◌, List, ℕ, map, sym, ap, subst}
+use Rattle.command_line.specs.Contents.{Holds, HoldAll}
+use Rattle.command_line.specs.Reading.{texts_of}
+use Rattle.command_line.proofs.Read.{built_named, refused_named}
+use Rattle.command_line.proofs.reading.build_named.Goals as goal
+
+pub returns-clause-built : goal.returns-clause-built
+returns-clause-built g c =
+    let files = g.F.Files.contents c.args.files.now in
+    let names = map (λ s. s.now) c.args.sources.now in
+    let table : Holds files c.args.table.now c.as_slice.result.now = subst (Holds files c.args.table.now) (sym c.as_slice.ensures.value) c.in_ok-table.ensures.held in
+    built_named (λ image. image.items) files (g.F.Files.contents c.read.new.files) c.args.table.now names c.as_slice.result.now (texts_of c.as_slice-2.result.now) c.build_texts.result c.in_ok-table.ensures.unchanged table (search rules) c.build_texts.ensures.built
+
+pub returns-clause-refused : goal.returns-clause-refused
+returns-clause-refused g c =
+    let files = g.F.Files.contents c.args.files.now in
+    let names = map (λ s. s.now) c.args.sources.now in
+    let table : Holds files c.args.table.now c.as_slice.result.now = subst (Holds files c.args.table.now) (sym c.as_slice.ensures.value) c.in_ok-table.ensures.held in
+    refused_named files (g.F.Files.contents c.read.new.files) c.args.table.now names c.as_slice.result.now (texts_of c.as_slice-2.result.now) c.build_texts.result c.in_ok-table.ensures.unchanged table (search rules) c.build_texts.ensures.refused

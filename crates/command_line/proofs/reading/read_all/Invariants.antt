@@ -1,0 +1,16 @@
+use Rattle.std.proofs.Common.{◌≡◌, List, ℕ, ◌++◌, length, map, drop}
+use Rattle.std.specs.Prelude.{string_bytes}
+use Rattle.command_line.specs.Contents.{HoldAll}
+use Rattle.command_line.specs.Refusals.{IsFirstUnread}
+use Rattle.command_line.specs.Reading.{texts_of}
+use Rattle.command_line.proofs.reading.read_all.Given as goal
+
+abbrev pub invariant-loop-name : goal.invariant-loop-name
+invariant-loop-name g l = record {
+  held : (more : List (List ℕ)) → HoldAll (g.F.Files.contents l.initial.files) (map (λ s. s.now) (drop l.name-index l.names)) more
+      → HoldAll (g.F.Files.contents l.initial.files) (map (λ s. s.now) l.names) (texts_of l.texts.items ++ more);
+  unread : (name : List ℕ) → IsFirstUnread (g.F.Files.contents l.initial.files) (map (λ s. s.now) (drop l.name-index l.names)) name
+      → IsFirstUnread (g.F.Files.contents l.initial.files) (map (λ s. s.now) l.names) name;
+  unchanged : g.F.Files.contents l.files ≡ g.F.Files.contents l.initial.files;
+}
+

@@ -1,0 +1,65 @@
+-- What each status of a command means.
+use Rattle.std.specs.Prelude.{◌≡◌, ◌≢◌, ◌⊎◌, ◌≤◌, ℕ, List, [], true, Result, Ok, Err}
+use Rattle.clap.specs.Kinds.{Kinds, IsAmong}
+use Rattle.clap.specs.Values.{kind_of}
+use Rattle.clap.specs.declared.error.Error.{Error}
+use Rattle.clap.specs.declared.error.kind.ErrorKind.{ErrorKind}
+use Rattle.clap.specs.declared.error.kind.ErrorKind.TheVariants.{DisplayHelp, DisplayVersion}
+use Rattle.command_line.specs.Done.{IsDone}
+use Rattle.command_line.specs.Lines.{line_of}
+use Rattle.command_line.specs.Orders.{Order}
+use Rattle.command_line.specs.Refusals.{IsFailureOfWords, IsUntouched, IsWrongTicks}
+use Rattle.command_line.specs.States.{Seen, State, TakesLine}
+use Rattle.command_line.specs.declared.refusal.Failure.{Failure}
+use Rattle.command_line.specs.declared.refusal.Failure.TheVariants.{Refused, Usage}
+use Rattle.command_line.specs.declared.refusal.Refusal.{Refusal}
+use Rattle.command_line.specs.declared.refusal.Refusal.TheVariants.{Write}
+
+abbrev pub IsHelp : ErrorKind → Type 0
+IsHelp k = (k ≡ DisplayHelp) ⊎ (k ≡ DisplayVersion)
+
+abbrev pub IsMistake : ErrorKind → Type 0
+IsMistake k = (k ≢ DisplayHelp) × (k ≢ DisplayVersion)
+
+-- ---- of the errors that the library of command lines has to tell of the words
+
+-- they ask for help
+abbrev pub AskForHelp : Kinds → Type 0
+AskForHelp kinds = (k : ErrorKind) × IsAmong k kinds × IsHelp k
+
+-- they are no command, or the word for its ticks is no row of digits
+abbrev pub AreNoCommand : Kinds → Order → Type 0
+AreNoCommand kinds order = ((k : ErrorKind) × IsAmong k kinds × IsMistake k) ⊎ ((kinds ≡ []) × IsWrongTicks order)
+
+-- ---- the statuses
+
+-- the order is done, or help is shown; all that was written is flushed
+abbrev pub IsDoneOrHelp : Kinds → Order → State → State → Type 0
+IsDoneOrHelp kinds order before after =
+    (after.out.flushed ≡ true) × (((kinds ≡ []) × IsDone order before after) ⊎ (AskForHelp kinds × (after.files ≡ before.files)))
+
+-- the order is refused, or help is not written
+abbrev pub IsRefusedFor : Kinds → Order → State → State → Refusal → Type 0
+IsRefusedFor kinds order before after r =
+    IsFailureOfWords kinds order before after (Refused r) ⊎ ((r ≡ Write) × AskForHelp kinds × (after.files ≡ before.files))
+
+-- With 0 the order is done, and standard error is as it was; with 1 it is refused, and standard error has
+-- the line of the refusal; with 2 the words are no command, and neither files nor standard output were
+-- touched.
+pub record IsAnswer (kinds : Kinds) (order : Order) (before after : State) (old_err new_err : Seen) (status : ℕ) : Type 0 where
+  pub range : status ≤ 2
+  pub done : status ≡ 0 → IsDoneOrHelp kinds order before after × (new_err ≡ old_err)
+  pub refused : status ≡ 1 → (r : Refusal) × IsRefusedFor kinds order before after r × TakesLine old_err new_err (line_of r)
+  pub usage : status ≡ 2 → IsUntouched before after × AreNoCommand kinds order
+
+-- ---- what was told of an outcome
+
+-- of words that are no command, or that ask for help
+pub record IsUsageTold (error : Error) (old_out new_out old_err new_err : Seen) (status : ℕ) : Type 0 where
+  pub mistake : IsMistake (kind_of error) → (status ≡ 2) × (new_out ≡ old_out)
+  pub help : IsHelp (kind_of error) → ((status ≡ 0) × (new_out.flushed ≡ true) × (new_err ≡ old_err)) ⊎ ((status ≡ 1) × TakesLine old_err new_err (line_of Write))
+
+abbrev pub IsTold : Result (Unit {0}) Failure → Seen → Seen → Seen → Seen → ℕ → Type 0
+IsTold (Ok done) old_out new_out old_err new_err status = (status ≡ 0) × (new_out ≡ old_out) × (new_err ≡ old_err)
+IsTold (Err (Refused r)) old_out new_out old_err new_err status = (status ≡ 1) × (new_out ≡ old_out) × TakesLine old_err new_err (line_of r)
+IsTold (Err (Usage error)) old_out new_out old_err new_err status = IsUsageTold error old_out new_out old_err new_err status

@@ -1,0 +1,40 @@
+-- What the words of a command line order.
+use Rattle.std.specs.Prelude.{ℕ, List, [], Option, Some, None, unwrap_or, if◌then◌else◌, codes}
+use Rattle.std.specs.Str.{bytes_eq}
+use Rattle.clap.specs.Walk.{Row, first_of, all_of}
+
+-- files are named; ticks are a word
+pub data Order : Type 0 where
+  First : Order
+  Check : (table : List ℕ) (sources : List (List ℕ)) → Order
+  Build : (table : List ℕ) (image : List ℕ) (sources : List (List ℕ)) → Order
+  Run : (image : List ℕ) (devices : List ℕ) (ticks : List ℕ) → Order
+
+-- the word, and the words, that were found for an argument
+abbrev pub word_at : List ℕ → List Row → List ℕ
+word_at name rows = unwrap_or (first_of name rows) []
+
+abbrev pub words_at : List ℕ → List Row → List (List ℕ)
+words_at name rows = unwrap_or (all_of name rows) []
+
+abbrev pub check_of : List Row → Order
+check_of rows = Check (word_at (codes "TABLE") rows) (words_at (codes "SOURCE") rows)
+
+abbrev pub build_of : List Row → Order
+build_of rows = Build (word_at (codes "TABLE") rows) (word_at (codes "IMAGE") rows) (words_at (codes "SOURCE") rows)
+
+abbrev pub run_of : List Row → Order
+run_of rows = Run (word_at (codes "IMAGE") rows) (word_at (codes "DEVICES") rows) (word_at (codes "TICKS") rows)
+
+-- a command by its name
+abbrev pub order_named : List ℕ → List Row → Order
+order_named name rows =
+    if bytes_eq name (codes "check") then check_of rows
+    else if bytes_eq name (codes "build") then build_of rows
+    else if bytes_eq name (codes "run") then run_of rows
+    else First
+
+-- without a command the stored module
+abbrev pub order_of : Option (List ℕ × List Row) → Order
+order_of None = First
+order_of (Some entered) = order_named entered.0 entered.1

@@ -1,0 +1,30 @@
+-- The steps of reading and building what the words name.
+use Rattle.std.specs.Prelude.{◌≡◌, ℕ, List, map, Option, string_bytes}
+use Rattle.module.specs.Building.{IsRefusal}
+use Rattle.command_line.specs.Contents.{Contents}
+use Rattle.command_line.specs.Refusals.{IsFirstUnread}
+use Rattle.command_line.specs.declared.refusal.Refusal.{Refusal}
+use Rattle.command_line.specs.declared.refusal.Refusal.TheVariants.{Build, File, Memory}
+use Rattle.std.specs.Global.{Vec}
+
+-- the bytes of each
+abbrev pub texts_of : List (Vec ℕ) → List (List ℕ)
+texts_of sources = map (λ v. v.items) sources
+
+-- the file of this name is not read
+abbrev pub IsUnread : List ℕ → Refusal → Type 0
+IsUnread name (File shown) = string_bytes shown ≡ name
+IsUnread name Memory = Unit {0}
+IsUnread name _ = ⊥
+
+-- one of the files of these names is not read
+abbrev pub IsUnreadAmong : Option Contents → List (List ℕ) → Refusal → Type 0
+IsUnreadAmong files names (File shown) = IsFirstUnread files names (string_bytes shown)
+IsUnreadAmong files names Memory = Unit {0}
+IsUnreadAmong files names _ = ⊥
+
+-- the texts are refused
+abbrev pub IsRefusedText : List ℕ → List (List ℕ) → Refusal → Type 0
+IsRefusedText table sources (Build fault) = IsRefusal table sources fault
+IsRefusedText table sources Memory = Unit {0}
+IsRefusedText table sources _ = ⊥

@@ -1,0 +1,77 @@
+//! The texts of the files that the words name.
+
+ghost use Rattle.std.specs.Prelude.{◌≡◌, map, IfOk, IfErr};
+ghost use Rattle.command_line.specs.Contents.{HoldAll, Holds};
+ghost use Rattle.command_line.specs.Done.{IsBuilt};
+ghost use Rattle.command_line.specs.Reading.{IsRefusedText, IsUnread, IsUnreadAmong, texts_of};
+ghost use Rattle.module.specs.Building.{IsImageOf};
+ghost use Rattle.command_line.specs.Refusals.{IsNotBuilt};
+
+use crate::files::Files;
+use crate::refusal::Refusal;
+use std::alloc::{AllocError, Global};
+
+/// The bytes of the file of that name.
+pub fn read<F: Files>(alloc: Global, name: &str, files: &mut F) -> Result<Vec<u8>, Refusal>
+    ensures held { IfOk result (λ bytes. Holds (F.contents files.old) name.now bytes.items) }
+    ensures refused { IfErr result (λ r. IsUnread name.now r) }
+    ensures unchanged { F.contents files.new ≡ F.contents files.old }
+{
+    match files.read(alloc, name) {
+        Ok(bytes) => Ok(bytes),
+        Err(fault) => Err(Refusal::of_file(alloc, name, fault)),
+    }
+}
+
+/// The bytes of the files of these names, in their order.
+fn read_all<F: Files>(
+    alloc: Global,
+    names: &[&str],
+    files: &mut F,
+) -> Result<Vec<Vec<u8>>, Refusal>
+    ensures held { IfOk result (λ texts. HoldAll (F.contents files.old) (map (λ s. s.now) names.now) (texts_of texts.items)) }
+    ensures refused { IfErr result (λ r. IsUnreadAmong (F.contents files.old) (map (λ s. s.now) names.now) r) }
+    ensures unchanged { F.contents files.new ≡ F.contents files.old }
+{
+    let mut texts = Vec::new(alloc);
+    for name in names {
+        texts.push(read(alloc, name, files)?)?;
+    }
+    Ok(texts)
+}
+
+/// The image of the table and the sources in the files of these names.
+pub fn build_named<F: Files>(
+    alloc: Global,
+    table: &str,
+    sources: &[&str],
+    files: &mut F,
+) -> Result<Vec<u8>, Refusal>
+    ensures built { IfOk result (λ image. IsBuilt (F.contents files.old) table.now (map (λ s. s.now) sources.now) image.items) }
+    ensures refused { IfErr result (λ r. IsNotBuilt (F.contents files.old) table.now (map (λ s. s.now) sources.now) r) }
+    ensures unchanged { F.contents files.new ≡ F.contents files.old }
+{
+    let table = read(alloc, table, files)?;
+    let sources = read_all(alloc, sources, files)?;
+    build_texts(alloc, table.as_slice(), sources.as_slice())
+}
+
+/// The image of a table and its sources.
+fn build_texts(alloc: Global, table: &[u8], sources: &[Vec<u8>]) -> Result<Vec<u8>, Refusal>
+    ensures built { IfOk result (λ image. IsImageOf table.now (texts_of sources.now) image.items) }
+    ensures refused { IfErr result (λ r. IsRefusedText table.now (texts_of sources.now) r) }
+{
+    let texts = slices(alloc, sources)?;
+    Ok(module::build(alloc, table, texts.as_slice())?)
+}
+
+/// Each of them as a slice.
+fn slices<'a>(alloc: Global, sources: &'a [Vec<u8>]) -> Result<Vec<&'a [u8]>, AllocError>
+    ensures { IfOk result (λ slices. map (λ s. s.now) slices.items ≡ texts_of sources.now) }
+{
+    let mut slices = Vec::with_capacity(alloc, sources.len())?;
+    for source in sources {
+        slices.push(source.as_slice())?;
+    }
+    Ok(slices)
+}

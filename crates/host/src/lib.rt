@@ -1,0 +1,51 @@
+//! The program `mb` over its host: the words, the files and the streams.
+#![tactic(auto)]
+
+mod files;
+
+use command_line::{Stream, command};
+pub use files::HostFiles;
+use std::alloc::AllocGlobal;
+use std::env;
+use std::io::{self, BufWriter, ErrorKind, Write};
+use std::process::ExitCode;
+use std::rt::Env;
+
+/// Does what the words of the process say.
+pub fn run(rt: &HostRuntime) -> ExitCode {
+    let mut err = Stream::new(rt.stderr());
+    let words = match words(rt) {
+        Ok(words) => words,
+        Err(error) => return ExitCode::from(wordless(error.kind(), &mut err.into_writer())),
+    };
+    // Traces go out by blocks.
+    let Ok(writer) = BufWriter::new(rt.alloc(), rt.stdout()) else {
+        return ExitCode::from(wordless(ErrorKind::OutOfMemory, &mut err.into_writer()));
+    };
+    let mut files = HostFiles::new(rt);
+    let mut out = Stream::new(writer);
+    let status = command(rt.alloc(), words.as_slice(), &mut files, &mut out, &mut err);
+    // What was not flushed was not taken, and is not written again.
+    let _ = out.into_writer().into_parts();
+    ExitCode::from(status)
+}
+
+fn words(rt: &(impl Env + AllocGlobal)) -> io::Result<Vec<String>> {
+    Ok(env::args(rt)?.collect(rt.alloc())?)
+}
+
+/// The status where the words of the command line are not to be had: they find no memory, or
+/// one is not UTF-8.
+fn wordless<E: Write>(kind: ErrorKind, err: &mut E) -> u8 {
+    // What cannot be shown is told by the status alone.
+    match kind {
+        ErrorKind::OutOfMemory => {
+            let _ = writeln!(err, "mb: memory");
+            1
+        }
+        _ => {
+            let _ = writeln!(err, "error: a word of the command line is not UTF-8");
+            2
+        }
+    }
+}
