@@ -1,7 +1,7 @@
 use Rattle.std.proofs.Common.{ap, refl, sym, ◌∙◌}
 use Rattle.std.specs.Prelude.{◌&&◌}
 use Rattle.pal_base.specs.ProgramView.{links_of}
-use Rattle.compiler.proofs.Views.{seen_chain}
+use Rattle.pal_base.proofs.ProgramRows.{seen_chain}
 use Rattle.module.specs.Part as part
 use Rattle.module.proofs.part.+is_expr_of_part.Goals as goal
 
