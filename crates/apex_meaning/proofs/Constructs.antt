@@ -5,7 +5,7 @@ use Rattle.apex_types.specs.declared.place.Place.{Place}
 use Rattle.apex_meaning.specs.Program.{Procedure, Body, Expr, Links, Exprs, Stmt, Block}
 use Rattle.apex_meaning.specs.Program.{Literal, Read, Element, Unary, Chain, Apply, NoLink, MoreLinks, NoExpr, MoreExprs}
 use Rattle.apex_meaning.specs.Program.{Assign, AssignElement, If, IfElse, While, Work, Return, CallService, NoStmt, MoreStmts}
-use Rattle.apex_meaning.specs.SourceControl.{Part, Evaluate, Execute, Do, Simple, Value, ReadScalar, ReadElement, OperateOne, OperateTwo, Open, WriteScalar, WriteElement, Choose, ChooseElse, Repeat, Leave, GoBack, Spend, ReturnValue, Ask, EndBody, Front, links_then, exprs_then, block_then, targets_then, front_of_expr, front_of_exprs, front_of_stmt, front_of, cost_of_simple, parts_of_body, parts_of_procedure}
+use Rattle.apex_meaning.specs.SourceControl.{Part, Evaluate, Execute, Do, Simple, Value, ReadElement, OperateOne, OperateTwo, Open, WriteScalar, WriteElement, Choose, ChooseElse, Repeat, ReturnValue, Ask, EndBody, Front, links_then, exprs_then, block_then, targets_then, front_of_expr, front_of_exprs, front_of_stmt, front_of, cost_of_simple, parts_of_body, parts_of_procedure}
 use Rattle.apex_meaning.specs.Cost.{costs_of_expr, costs_of_links, costs_of_exprs, costs_of_stmt, costs_of_block, costs_of_procedure, costs_of_body, scalar_cost}
 use Rattle.apex_meaning.specs.Constructs.{constructs_of_expr, constructs_of_links, constructs_of_exprs, constructs_of_stmt, constructs_of_block, with_held, constructs_of}
 

@@ -9,12 +9,11 @@ use Rattle.apex_types.specs.declared.denotation.Denotation.{Denotation}
 use Rattle.apex_types.specs.declared.denotation.Denotation.TheVariants as denotation
 use Rattle.apex_types.specs.declared.shape.ArgumentKind.{ArgumentKind}
 use Rattle.apex_types.specs.declared.shape.ArgumentKind.TheVariants as argument
-use Rattle.apex_types.specs.declared.service.Service.{Service}
 use Rattle.apex_types.specs.declared.row.PortRow.{PortRow}
 use Rattle.apex_meaning.specs.Program as program
 use Rattle.apex_meaning.specs.Syntax as written
 use Rattle.apex_meaning.specs.Cost.{size_of, frame_of_body}
-use Rattle.apex_meaning.specs.ServiceTable.{arguments_of, words_of_kind, argument_words, answer_words}
+use Rattle.apex_meaning.specs.ServiceTable.{arguments_of, words_of_kind, answer_words}
 use Rattle.apex_meaning.specs.Resolve.{Counts, no_counts, counted, after, Entry, find, declared_meaning, declaration_entries, process_entries, declared_entries, slot, own_entries, Scope, or_else, scope_of, place_of, procedure_number_of, within, count_within, resolve_expr, resolve_links, resolve_exprs, resolve_argument, resolve_arguments, resolve_stmt, resolve_block, resolve_body_block, resolve_body, resolve_stack_body, resolve_process, procedure_of, resolve}
 use Rattle.apex_meaning.specs.WellFormed.{verdict, names_hold, kinds_hold, limits_hold, periods_hold, holds_of_handler, holds_of_procedure, is_procedure, expr_count, fits_expr, fits_links, fits_exprs, fits_argument, fits_arguments, fits_stmt, fits_block, kinds_hold_in_body, is_between, keeps_stmt, keeps_block, keeps_body, fits_stack, keeps_stack_body, keeps_kind, keeps_declaration, keeps_process, keeps_counts, keeps_handler}
 use Rattle.apex_meaning.specs.Fits.{Fits, FitsBody, FitsHandler, FitsProcedure, FitsExpr, FitsLinks, FitsExprs, FitsStmt, FitsBlock, IsWork, IsPlaceWithin, ArePlacesWithin, HasParameters, count_of}

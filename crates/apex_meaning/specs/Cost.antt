@@ -3,8 +3,6 @@
 -- stands around it.
 use Rattle.std.specs.Prelude.{ℕ, ◌+◌, List, [], ◌∷◌, ◌++◌, length, map, Option, Some, None, max}
 use Rattle.std.specs.List.{sum, sum_by}
-use Rattle.apex_types.specs.declared.place.Place.{Place}
-use Rattle.apex_types.specs.declared.service.Service.{Service}
 use Rattle.apex_meaning.specs.Operators.{cost_of_binary}
 use Rattle.apex_meaning.specs.ServiceTable.{cost_of_service, answer_words}
 use Rattle.apex_meaning.specs.Program.{Program, Procedure, Body, Process, Expr, Links, Exprs, Stmt, Block}

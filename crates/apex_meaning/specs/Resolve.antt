@@ -1,11 +1,10 @@
 -- What the names of a program stand for, and the program with its names resolved. The resolution is
 -- made for every program: what makes a program not well formed stands as 0 in it.
-use Rattle.std.specs.Prelude.{ℕ, ◌+◌, ◌-◌, ◌^◌, ℤ, pos, ◌-ℤ◌, Bool, true, false, nat_eq, nat_le, nat_lt, if◌then◌else◌, List, [], ◌∷◌, ◌++◌, map, length, take, replicate, flat_map, filter_map, count_by, position, Option, Some, None, option_map, unwrap_or, bytes_eq}
+use Rattle.std.specs.Prelude.{ℕ, ◌+◌, ◌-◌, ◌^◌, ℤ, pos, ◌-ℤ◌, nat_le, nat_lt, if◌then◌else◌, List, [], ◌∷◌, ◌++◌, map, length, take, replicate, flat_map, filter_map, position, Option, Some, None, option_map, unwrap_or, bytes_eq}
 use Rattle.apex_types.specs.declared.place.Place.{Place}
 use Rattle.apex_types.specs.declared.place.Place.TheVariants.{Data, Slot}
 use Rattle.apex_types.specs.declared.denotation.Denotation.{Denotation}
 use Rattle.apex_types.specs.declared.denotation.Denotation.TheVariants as denotation
-use Rattle.apex_types.specs.declared.denotation.ObjectKind.{ObjectKind}
 use Rattle.apex_types.specs.declared.denotation.ObjectKind.TheVariants as object
 use Rattle.apex_types.specs.declared.shape.ArgumentKind.{ArgumentKind}
 use Rattle.apex_types.specs.declared.shape.ArgumentKind.TheVariants as argument

@@ -1,4 +1,4 @@
-use Rattle.std.proofs.Common.{◌≡◌, ap, ◌∙◌, arith}
+use Rattle.std.proofs.Common.{◌≡◌, ◌∙◌, arith}
 use Rattle.apex_meaning.specs.Cost as cost
 use Rattle.pal_base.specs.ProgramView.{body_of, block_of}
 use Rattle.apex_meaning.proofs.Counts.{body_counts}

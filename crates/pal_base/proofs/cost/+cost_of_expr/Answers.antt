@@ -1,4 +1,4 @@
-use Rattle.std.proofs.Common.{◌≡◌, ◌+◌, ◌∷◌, ◌++◌, [], ap, sym, ◌∙◌, append_assoc, drop}
+use Rattle.std.proofs.Common.{◌+◌, ◌∷◌, ◌++◌, [], ap, sym, ◌∙◌, append_assoc, drop}
 use Rattle.apex_meaning.specs.Cost as cost
 use Rattle.apex_meaning.specs.Operators as operators
 use Rattle.pal_base.specs.Costs.{comes_to}

@@ -1,4 +1,4 @@
-use Rattle.std.proofs.Common.{◌≡◌, ◌+◌, ap, sym, ◌∙◌, drop}
+use Rattle.std.proofs.Common.{◌+◌, ap, sym, ◌∙◌, drop}
 use Rattle.apex_meaning.specs.Cost as cost
 use Rattle.pal_base.specs.Costs.{comes_to}
 use Rattle.pal_base.specs.ProgramView.{stmt_of, block_of}

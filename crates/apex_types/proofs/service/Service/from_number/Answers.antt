@@ -1,4 +1,4 @@
-use Rattle.std.proofs.Common.{◌≡◌, ℕ, ◌<◌, ◌≤◌, ◌-◌, ◌⊎◌, inl, inr, subst, sym, arith, Option}
+use Rattle.std.proofs.Common.{◌≡◌, ◌<◌, ◌≤◌, ◌-◌, ◌⊎◌, inl, inr, subst, sym, arith, Option}
 use Rattle.std.specs.Prelude.{slice_get, IsNone}
 use Rattle.apex_types.specs.ServiceNumbers.{services}
 use Rattle.apex_types.specs.declared.service.Service.{Service}
