@@ -6,7 +6,7 @@ use Rattle.image.proofs.load.judge.Goals as goal
 
 pub invariant_of-schedule-clause-begin_within : goal.invariant_of-schedule-clause-begin_within
 invariant_of-schedule-clause-begin_within c =
-    windows_begin c.args.fields c.len.result c.as_slice.result.now c.has_wrong_window.result c.requires c.as_slice.ensures.value c.has_wrong_window.ensures c.if-has_wrong_window.false
+    windows_begin c.args.fields _ c.as_slice.result.now c.has_wrong_window.result c.requires c.as_slice.ensures.value c.has_wrong_window.ensures c.if-has_wrong_window.false
 
 pub keeps_rules-requires-clause-periods : goal.keeps_rules-requires-clause-periods
 keeps_rules-requires-clause-periods c = rw c.as_slice-2.ensures.value (periods_within c.args.fields c.requires)
