@@ -1,24 +1,21 @@
 -- From what a command came to, to its status.
-use Rattle.std.proofs.Common.{◌≡◌, ◌≢◌, ◌≤◌, ◌⊎◌, inl, inr, ℕ, true, List, [], Option, Result, Ok, Err, refl, sym, ap, subst, ◌∙◌, arith}
+use Rattle.std.proofs.Common.{◌≡◌, ◌≢◌, ◌⊎◌, inl, inr, ℕ, true, [], Result, Ok, Err, refl, sym, ap, subst, ◌∙◌, arith}
 use Rattle.std.specs.Prelude.{IsErr, IsErrAnd, IfErr, OnOk}
-use Rattle.clap.specs.Faults.{fault_of, is_simple_and_free}
+use Rattle.clap.specs.Faults.{is_simple_and_free}
 use Rattle.clap.specs.Kinds.{Kinds, HasKind, IsAmong}
-use Rattle.clap.specs.Simple.{App, app_of}
 use Rattle.clap.specs.Values.{kind_of}
 use Rattle.clap.specs.declared.error.Error.{Error}
 use Rattle.clap.specs.declared.error.kind.ErrorKind.{ErrorKind}
 use Rattle.clap.specs.declared.error.kind.ErrorKind.TheVariants as kind
-use Rattle.command_line.specs.Answers.{AskForHelp, AreNoCommand, IsAnswer, IsDoneOrHelp, IsHelp, IsMistake, IsRefusedFor, IsTold, IsUsageTold}
-use Rattle.command_line.specs.Contents.{Contents}
+use Rattle.command_line.specs.Answers.{AskForHelp, AreNoCommand, IsAnswer, IsHelp, IsMistake, IsTold, IsUsageTold}
 use Rattle.command_line.specs.Done.{IsDone}
 use Rattle.command_line.specs.Lines.{line_of}
 use Rattle.command_line.specs.Orders.{Order, First, Check, Build, Run}
-use Rattle.command_line.specs.Refusals.{IsFailure, IsFailureOfWords, IsRefused, IsUntouched, IsWrongTicks}
+use Rattle.command_line.specs.Refusals.{IsFailure, IsFailureOfWords, IsRefused, IsWrongTicks}
 use Rattle.command_line.specs.States.{Seen, State, state, TakesLine}
 use Rattle.command_line.specs.Words.{mb_app}
 use Rattle.command_line.specs.declared.refusal.Failure.{Failure}
 use Rattle.command_line.specs.declared.refusal.Failure.TheVariants.{Refused, Usage}
-use Rattle.command_line.specs.declared.refusal.Refusal.{Refusal}
 use Rattle.command_line.specs.declared.refusal.Refusal.TheVariants as refusal
 
 pub mb_is_free : is_simple_and_free mb_app ≡ true

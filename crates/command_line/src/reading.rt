@@ -24,11 +24,7 @@ pub fn read<F: Files>(alloc: Global, name: &str, files: &mut F) -> Result<Vec<u8
 }
 
 /// The bytes of the files of these names, in their order.
-fn read_all<F: Files>(
-    alloc: Global,
-    names: &[&str],
-    files: &mut F,
-) -> Result<Vec<Vec<u8>>, Refusal>
+fn read_all<F: Files>(alloc: Global, names: &[&str], files: &mut F) -> Result<Vec<Vec<u8>>, Refusal>
     ensures held { IfOk result (λ texts. HoldAll (F.contents files.old) (map (λ s. s.now) names.now) (texts_of texts.items)) }
     ensures refused { IfErr result (λ r. IsUnreadAmong (F.contents files.old) (map (λ s. s.now) names.now) r) }
     ensures unchanged { F.contents files.new ≡ F.contents files.old }

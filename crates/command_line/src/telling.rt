@@ -28,11 +28,7 @@ pub fn tell<O: Write, E: Write>(
 }
 
 /// Tells of words that are no command, or shows the help that they ask for.
-fn usage<O: Write, E: Write>(
-    error: &clap::Error,
-    out: &mut Stream<O>,
-    err: &mut Stream<E>,
-) -> u8
+fn usage<O: Write, E: Write>(error: &clap::Error, out: &mut Stream<O>, err: &mut Stream<E>) -> u8
     ensures { IsUsageTold error.now (seen O.contents out.old) (seen O.contents out.new) (seen E.contents err.old) (seen E.contents err.new) result }
 {
     if error.use_stderr() {

@@ -1,10 +1,10 @@
-use Rattle.std.proofs.Common.{rules, ◌≡◌, List, ℕ, map, refl, sym, subst, codes}
+use Rattle.std.proofs.Common.{rules, ◌≡◌, map, refl, sym, subst, codes}
 use Rattle.std.specs.Prelude.{OnOk}
 use Rattle.clap.specs.Matches.{found_of}
 use Rattle.clap.specs.Simple.{subcommand_rows_of}
 use Rattle.clap.specs.Walk.{rows_of}
 use Rattle.command_line.specs.Done.{IsDone}
-use Rattle.command_line.specs.Orders.{Order, First, order_of, words_at}
+use Rattle.command_line.specs.Orders.{First, order_of, words_at}
 use Rattle.command_line.specs.Refusals.{IsRefused}
 use Rattle.command_line.specs.States.{seen, state}
 use Rattle.command_line.specs.declared.refusal.Failure.TheVariants.{Refused}

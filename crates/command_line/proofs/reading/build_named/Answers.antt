@@ -1,5 +1,5 @@
-use Rattle.std.proofs.Common.{rules, ◌≡◌, List, ℕ, map, sym, ap, subst}
-use Rattle.command_line.specs.Contents.{Holds, HoldAll}
+use Rattle.std.proofs.Common.{rules, map, sym, subst}
+use Rattle.command_line.specs.Contents.{Holds}
 use Rattle.command_line.specs.Reading.{texts_of}
 use Rattle.command_line.proofs.Read.{built_named, refused_named}
 use Rattle.command_line.proofs.reading.build_named.Goals as goal

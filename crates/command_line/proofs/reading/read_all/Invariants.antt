@@ -1,5 +1,4 @@
-use Rattle.std.proofs.Common.{◌≡◌, List, ℕ, ◌++◌, length, map, drop}
-use Rattle.std.specs.Prelude.{string_bytes}
+use Rattle.std.proofs.Common.{◌≡◌, List, ℕ, ◌++◌, map, drop}
 use Rattle.command_line.specs.Contents.{HoldAll}
 use Rattle.command_line.specs.Refusals.{IsFirstUnread}
 use Rattle.command_line.specs.Reading.{texts_of}
@@ -13,4 +12,3 @@ invariant-loop-name g l = record {
       → IsFirstUnread (g.F.Files.contents l.initial.files) (map (λ s. s.now) l.names) name;
   unchanged : g.F.Files.contents l.files ≡ g.F.Files.contents l.initial.files;
 }
-

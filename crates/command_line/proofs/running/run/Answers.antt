@@ -9,13 +9,15 @@ pub returns-in_err-run_named-clause-failed : goal.returns-in_err-run_named-claus
 returns-in_err-run_named-clause-failed g c =
     let before = state (g.F.Files.contents c.args.files.now) (seen g.O.Write.contents c.args.out.now) in
     let after = state (g.F.Files.contents c.run_named.new.files) (seen g.O.Write.contents c.run_named.new.out) in
-    told_as _ (Refused c.in_err-run_named.field-0.0) c.from_residual-in_err-run_named.result c.from_residual-in_err-run_named.ensures
-    (inl c.in-Some.ensures.0,
-      run_refused_by c.args.image.now c.args.devices.now c.in-Some.number (digits_value 10 c.args.ticks.now) before after c.in_err-run_named.field-0.0 c.in-Some.ensures.1 c.in_err-run_named.ensures.refused)
+    told_as _ (Refused c.in_err-run_named.field-0.0) c.from_residual-in_err-run_named.result c.from_residual-in_err-run_named.ensures (
+      inl c.in-Some.ensures.0,
+      run_refused_by c.args.image.now c.args.devices.now c.in-Some.number (digits_value 10 c.args.ticks.now) before after c.in_err-run_named.field-0.0 c.in-Some.ensures.1 c.in_err-run_named.ensures.refused,
+    )
 
 pub returns-clause-done : goal.returns-clause-done
 returns-clause-done g c =
     let before = state (g.F.Files.contents c.args.files.now) (seen g.O.Write.contents c.args.out.now) in
-    let after = state (g.F.Files.contents c.run_named.new.files) (seen g.O.Write.contents c.run_named.new.out) in
-    (c.in-Some.ensures.0,
-      run_done_by c.args.image.now c.args.devices.now c.in-Some.number (digits_value 10 c.args.ticks.now) before after c.in-Some.ensures.1 c.in_ok-run_named.ensures.done)
+    let after = state (g.F.Files.contents c.run_named.new.files) (seen g.O.Write.contents c.run_named.new.out) in (
+      c.in-Some.ensures.0,
+      run_done_by c.args.image.now c.args.devices.now c.in-Some.number (digits_value 10 c.args.ticks.now) before after c.in-Some.ensures.1 c.in_ok-run_named.ensures.done,
+    )

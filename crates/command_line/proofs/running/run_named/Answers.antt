@@ -20,9 +20,14 @@ returns-in_err-flush-clause-refused g c =
     let inputs = inputs_of files (g.F.Files.contents c.read.new.files) c.args.image.now c.args.devices.now c.in_ok-image.image.items c.in_ok-devices.devices.items c.as_slice.result.now c.as_slice-2.result.now
     c.in_ok-image.ensures.unchanged c.as_slice.ensures.value c.as_slice-2.ensures.value c.in_ok-image.ensures.held c.in_ok-devices.ensures.held in
     let same = c.in_ok-devices.ensures.unchanged ∙ c.in_ok-image.ensures.unchanged in
-    told_as _ Write c.from_residual-in_err-flush.result c.from_residual-in_err-flush.ensures
-    (c.in_err-flush.ensures.failed, (same, inputs,
-      kept_run (image_at c.as_slice.result.now) c.as_slice-2.result.now c.args.ticks (contents c.args.out.now.sink.writer) (contents c.trace.new.out.sink.writer) (contents c.flush.new.self.sink.writer) c.in_ok-trace.ensures.trace c.in_err-flush.ensures.kept))
+    told_as _ Write c.from_residual-in_err-flush.result c.from_residual-in_err-flush.ensures (
+      c.in_err-flush.ensures.failed,
+      (
+        same,
+        inputs,
+        kept_run (image_at c.as_slice.result.now) c.as_slice-2.result.now c.args.ticks (contents c.args.out.now.sink.writer) (contents c.trace.new.out.sink.writer) (contents c.flush.new.self.sink.writer) c.in_ok-trace.ensures.trace c.in_err-flush.ensures.kept,
+      ),
+    )
 
 pub returns-clause-done : goal.returns-clause-done
 returns-clause-done g c =
@@ -30,6 +35,8 @@ returns-clause-done g c =
     let files = g.F.Files.contents c.args.files.now in
     let inputs = inputs_of files (g.F.Files.contents c.read.new.files) c.args.image.now c.args.devices.now c.in_ok-image.image.items c.in_ok-devices.devices.items c.as_slice.result.now c.as_slice-2.result.now
     c.in_ok-image.ensures.unchanged c.as_slice.ensures.value c.as_slice-2.ensures.value c.in_ok-image.ensures.held c.in_ok-devices.ensures.held in
-    let same = c.in_ok-devices.ensures.unchanged ∙ c.in_ok-image.ensures.unchanged in
-    (same, inputs,
-      kept_run (image_at c.as_slice.result.now) c.as_slice-2.result.now c.args.ticks (contents c.args.out.now.sink.writer) (contents c.trace.new.out.sink.writer) (contents c.flush.new.self.sink.writer) c.in_ok-trace.ensures.trace c.in_ok-flush.ensures.kept)
+    let same = c.in_ok-devices.ensures.unchanged ∙ c.in_ok-image.ensures.unchanged in (
+      same,
+      inputs,
+      kept_run (image_at c.as_slice.result.now) c.as_slice-2.result.now c.args.ticks (contents c.args.out.now.sink.writer) (contents c.trace.new.out.sink.writer) (contents c.flush.new.self.sink.writer) c.in_ok-trace.ensures.trace c.in_ok-flush.ensures.kept,
+    )

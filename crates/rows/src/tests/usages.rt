@@ -1,0 +1,166 @@
+//! The texts of usage and help, for each command and each kind of wrong words.
+
+use super::shelf::{Shelf, expect_command};
+use super::texts::TABLE;
+
+/// Words, the status, and the texts on the standard output and the standard error.
+static USAGES: [(&[&str], u8, &str, &str); 25] = [
+    (
+        &["mb", "check"],
+        2,
+        "",
+        "error: the following required arguments were not provided:\n  <TABLE>\n  <SOURCE>...\n\nUsage: mb check <TABLE> <SOURCE>...\n\nFor more information, try '--help'.\n",
+    ),
+    (
+        &["mb", "check", "table"],
+        2,
+        "",
+        "error: the following required arguments were not provided:\n  <SOURCE>...\n\nUsage: mb check <TABLE> <SOURCE>...\n\nFor more information, try '--help'.\n",
+    ),
+    (
+        &["mb", "build"],
+        2,
+        "",
+        "error: the following required arguments were not provided:\n  <TABLE>\n  <IMAGE>\n  <SOURCE>...\n\nUsage: mb build <TABLE> <IMAGE> <SOURCE>...\n\nFor more information, try '--help'.\n",
+    ),
+    (
+        &["mb", "build", "table"],
+        2,
+        "",
+        "error: the following required arguments were not provided:\n  <IMAGE>\n  <SOURCE>...\n\nUsage: mb build <TABLE> <IMAGE> <SOURCE>...\n\nFor more information, try '--help'.\n",
+    ),
+    (
+        &["mb", "build", "table", "image"],
+        2,
+        "",
+        "error: the following required arguments were not provided:\n  <SOURCE>...\n\nUsage: mb build <TABLE> <IMAGE> <SOURCE>...\n\nFor more information, try '--help'.\n",
+    ),
+    (
+        &["mb", "run"],
+        2,
+        "",
+        "error: the following required arguments were not provided:\n  <IMAGE>\n  <DEVICES>\n  <TICKS>\n\nUsage: mb run <IMAGE> <DEVICES> <TICKS>\n\nFor more information, try '--help'.\n",
+    ),
+    (
+        &["mb", "run", "image", "devices"],
+        2,
+        "",
+        "error: the following required arguments were not provided:\n  <TICKS>\n\nUsage: mb run <IMAGE> <DEVICES> <TICKS>\n\nFor more information, try '--help'.\n",
+    ),
+    (
+        &["mb", "run", "image", "devices", "5", "6"],
+        2,
+        "",
+        "error: unexpected argument '6' found\n\nUsage: mb run <IMAGE> <DEVICES> <TICKS>\n\nFor more information, try '--help'.\n",
+    ),
+    (
+        &["mb", "run", "image", "devices", "-5"],
+        2,
+        "",
+        "error: unexpected argument '-5' found\n\n  tip: to pass '-5' as a value, use '-- -5'\n\nUsage: mb run <IMAGE> <DEVICES> <TICKS>\n\nFor more information, try '--help'.\n",
+    ),
+    (
+        &["mb", "check", "-a", "table", "source"],
+        2,
+        "",
+        "error: unexpected argument '-a' found\n\n  tip: to pass '-a' as a value, use '-- -a'\n\nUsage: mb check <TABLE> <SOURCE>...\n\nFor more information, try '--help'.\n",
+    ),
+    (
+        &["mb", "check", "--all", "table", "source"],
+        2,
+        "",
+        "error: unexpected argument '--all' found\n\n  tip: to pass '--all' as a value, use '-- --all'\n\nUsage: mb check <TABLE> <SOURCE>...\n\nFor more information, try '--help'.\n",
+    ),
+    (
+        &["mb", "run", "image", "devices", "12x"],
+        2,
+        "",
+        "error: invalid value '12x' for '<TICKS>'\n\nUsage: mb [COMMAND]\n\nFor more information, try '--help'.\n",
+    ),
+    (
+        &["mb", "run", "image", "devices", ""],
+        2,
+        "",
+        "error: invalid value '' for '<TICKS>'\n\nUsage: mb [COMMAND]\n\nFor more information, try '--help'.\n",
+    ),
+    (
+        &["mb", "walk"],
+        2,
+        "",
+        "error: unrecognized subcommand 'walk'\n\nUsage: mb [COMMAND]\n\nFor more information, try '--help'.\n",
+    ),
+    (
+        &["mb", "help"],
+        0,
+        "Builds ARINC 653 modules and runs them; without a command, runs a stored first module\n\nUsage: mb [COMMAND]\n\nCommands:\n  check  Builds a module table and one source a partition, and writes no image\n  build  Builds an image of a module table and one source a partition, in their order\n  run    Runs an image for so many ticks and writes its trace\n  help   Print this message or the help of the given subcommand(s)\n\nOptions:\n  -h, --help  Print help\n",
+        "",
+    ),
+    (
+        &["mb", "--help"],
+        0,
+        "Builds ARINC 653 modules and runs them; without a command, runs a stored first module\n\nUsage: mb [COMMAND]\n\nCommands:\n  check  Builds a module table and one source a partition, and writes no image\n  build  Builds an image of a module table and one source a partition, in their order\n  run    Runs an image for so many ticks and writes its trace\n  help   Print this message or the help of the given subcommand(s)\n\nOptions:\n  -h, --help  Print help\n",
+        "",
+    ),
+    (
+        &["mb", "help", "check"],
+        0,
+        "Builds a module table and one source a partition, and writes no image\n\nUsage: mb check <TABLE> <SOURCE>...\n\nArguments:\n  <TABLE>      \n  <SOURCE>...  \n\nOptions:\n  -h, --help  Print help\n",
+        "",
+    ),
+    (
+        &["mb", "check", "--help"],
+        0,
+        "Builds a module table and one source a partition, and writes no image\n\nUsage: mb check <TABLE> <SOURCE>...\n\nArguments:\n  <TABLE>      \n  <SOURCE>...  \n\nOptions:\n  -h, --help  Print help\n",
+        "",
+    ),
+    (
+        &["mb", "check", "-h"],
+        0,
+        "Builds a module table and one source a partition, and writes no image\n\nUsage: mb check <TABLE> <SOURCE>...\n\nArguments:\n  <TABLE>      \n  <SOURCE>...  \n\nOptions:\n  -h, --help  Print help\n",
+        "",
+    ),
+    (
+        &["mb", "help", "build"],
+        0,
+        "Builds an image of a module table and one source a partition, in their order\n\nUsage: mb build <TABLE> <IMAGE> <SOURCE>...\n\nArguments:\n  <TABLE>      \n  <IMAGE>      \n  <SOURCE>...  \n\nOptions:\n  -h, --help  Print help\n",
+        "",
+    ),
+    (
+        &["mb", "build", "--help"],
+        0,
+        "Builds an image of a module table and one source a partition, in their order\n\nUsage: mb build <TABLE> <IMAGE> <SOURCE>...\n\nArguments:\n  <TABLE>      \n  <IMAGE>      \n  <SOURCE>...  \n\nOptions:\n  -h, --help  Print help\n",
+        "",
+    ),
+    (
+        &["mb", "build", "-h"],
+        0,
+        "Builds an image of a module table and one source a partition, in their order\n\nUsage: mb build <TABLE> <IMAGE> <SOURCE>...\n\nArguments:\n  <TABLE>      \n  <IMAGE>      \n  <SOURCE>...  \n\nOptions:\n  -h, --help  Print help\n",
+        "",
+    ),
+    (
+        &["mb", "help", "run"],
+        0,
+        "Runs an image for so many ticks and writes its trace\n\nUsage: mb run <IMAGE> <DEVICES> <TICKS>\n\nArguments:\n  <IMAGE>    \n  <DEVICES>  \n  <TICKS>    \n\nOptions:\n  -h, --help  Print help\n",
+        "",
+    ),
+    (
+        &["mb", "run", "--help"],
+        0,
+        "Runs an image for so many ticks and writes its trace\n\nUsage: mb run <IMAGE> <DEVICES> <TICKS>\n\nArguments:\n  <IMAGE>    \n  <DEVICES>  \n  <TICKS>    \n\nOptions:\n  -h, --help  Print help\n",
+        "",
+    ),
+    (
+        &["mb", "run", "-h"],
+        0,
+        "Runs an image for so many ticks and writes its trace\n\nUsage: mb run <IMAGE> <DEVICES> <TICKS>\n\nArguments:\n  <IMAGE>    \n  <DEVICES>  \n  <TICKS>    \n\nOptions:\n  -h, --help  Print help\n",
+        "",
+    ),
+];
+
+#[test]
+fn texts_of_usage_and_help(rt: HostRuntime) {
+    for (words, status, text, line) in &USAGES {
+        let mut shelf = Shelf::new(rt.alloc(), TABLE.as_bytes(), &[]);
+        expect_command(&rt, rt.alloc(), &mut shelf, words, (*status, *text, *line));
+    }
+}
