@@ -1,9 +1,9 @@
 //! What the kernel keeps of a process, and what it asks of the processor that runs one.
 
 use crate::codes::{ErrorKind, ProcessState};
+use crate::denotation::ObjectKind;
 use crate::event::{Subject, Words};
 use crate::identity::{Priority, ProcessIndex, Runner, Ticks};
-use crate::denotation::ObjectKind;
 use crate::service::{ArrayPlace, Service};
 
 /// What a waiting process waits for.

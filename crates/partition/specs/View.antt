@@ -9,4 +9,4 @@ fixed_of f = record { name = f.name; number = f.number.0; period = f.period; dur
 
 -- objects, ports and an error handler are to come
 abbrev pub kernel_of : Inside → meaning.Kernel
-kernel_of k = record { fixed = fixed_of k.fixed; mode = k.mode; condition = k.condition; processes = k.processes; objects = record { }; ports = record { }; errors = record { } }
+kernel_of k = record { fixed = fixed_of k.fixed; mode = k.mode; condition = k.condition; processes = k.processes; objects = record {}; ports = record {}; errors = record {} }

@@ -7,8 +7,7 @@ ghost use Rattle.apex_meaning.specs.Step.{IsMade};
 
 use crate::kernel::Kernel;
 use apex_types::{
-    ErrorKind, EventKind, HealthTable, Mode, Out, PartitionAction, Response, Runner,
-    StartCondition,
+    ErrorKind, EventKind, HealthTable, Mode, Out, PartitionAction, Response, Runner, StartCondition,
 };
 use process_table_base::mode_of_action;
 
@@ -34,13 +33,7 @@ impl Kernel {
     }
 
     /// The partition enters the mode that its action for the error leads to, if it leads to one.
-    fn act_on_error(
-        &mut self,
-        runner: Runner,
-        error: ErrorKind,
-        mode: Option<Mode>,
-        out: &mut Out,
-    )
+    fn act_on_error(&mut self, runner: Runner, error: ErrorKind, mode: Option<Mode>, out: &mut Out)
         requires { HasRoom 3 out.old }
         ensures step { IsMade (meaning.acts_on_error self.old runner error mode) self.new out.old out.new }
         ensures grows { Grows 3 out.old out.new }

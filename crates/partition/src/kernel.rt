@@ -37,11 +37,7 @@ impl Model for Kernel {
 
 impl Kernel {
     /// A partition in idle mode with nothing created, of these processes. An error is one of memory.
-    pub fn new(
-        alloc: Global,
-        fixed: Fixed,
-        processes: &[ProcessRow],
-    ) -> Result<Kernel, AllocError>
+    pub fn new(alloc: Global, fixed: Fixed, processes: &[ProcessRow]) -> Result<Kernel, AllocError>
         requires { length processes.now ≤ 31 }
         ensures { IfOk result (λ kernel. kernel ≡ fresh_kernel (fixed_of fixed) (map machine_row processes.now)) }
     {

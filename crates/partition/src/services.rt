@@ -17,14 +17,7 @@ impl Kernel {
     /// that the call hands in go into the trace. INVALID_PARAM: a length below 1, above 16, or above
     /// the array's size.
     #[tactic(auto, using(apex_meaning::proofs::Numbers::handed_words))]
-    fn report(
-        &self,
-        caller: Runner,
-        array: ArrayPlace,
-        count: i64,
-        words: Words,
-        out: &mut Out,
-    )
+    fn report(&self, caller: Runner, array: ArrayPlace, count: i64, words: Words, out: &mut Out)
         requires { HasRoom 2 out.old }
         ensures step { IsTold (health.report self.now.processes caller array count words.items) out.old out.new }
         ensures grows { Grows 2 out.old out.new }

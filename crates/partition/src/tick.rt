@@ -63,8 +63,7 @@ impl<E: Executor> Partition<E> {
     {
         let name = self.kernel.name();
         self.out.clear();
-        self.kernel
-            .clear(Mode::ColdStart, condition, &mut self.out);
+        self.kernel.clear(Mode::ColdStart, condition, &mut self.out);
         self.finish(mem, name, at, events);
     }
 
@@ -111,8 +110,7 @@ impl<E: Executor> Partition<E> {
         let name = self.kernel.name();
         let outcome = self.executor.tick(mem, runner);
         let words = self.given(mem, &outcome);
-        self.kernel
-            .treat(at, runner, outcome, words, &mut self.out);
+        self.kernel.treat(at, runner, outcome, words, &mut self.out);
         self.finish(mem, name, at, events);
     }
 
@@ -123,9 +121,7 @@ impl<E: Executor> Partition<E> {
     {
         match outcome {
             Outcome::Call(call) => match array_of(*call) {
-                Some(array) => {
-                    self.executor.read(mem, array.base, most_words(array.size))
-                }
+                Some(array) => { self.executor.read(mem, array.base, most_words(array.size)) }
                 None => Words::new(),
             },
             _ => Words::new(),

@@ -39,14 +39,7 @@ pub fn create_process(
 /// START (ARINC 653 Part 1, process management): a dormant process starts its body with a fresh stack
 /// and its base priority; before normal mode it waits for it. INVALID_PARAM: no process of this
 /// number was created; NO_ACTION: it is not dormant.
-pub fn start(
-    table: &mut ProcessTable,
-    mode: Mode,
-    at: At,
-    caller: Runner,
-    id: i64,
-    out: &mut Out,
-)
+pub fn start(table: &mut ProcessTable, mode: Mode, at: At, caller: Runner, id: i64, out: &mut Out)
     requires { HasRoom 3 out.old }
     ensures step { IsMade (meaning.start mode at table.old caller id) table.new out.old out.new }
     ensures grows { Grows 2 out.old out.new }

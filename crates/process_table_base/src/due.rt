@@ -122,11 +122,7 @@ impl ProcessTable {
                 clears: None,
             }
         } else {
-            out.lines.push(EventKind::Error(
-                error,
-                Some(row.who),
-                Response::Partition(action),
-            ));
+            out.lines.push(EventKind::Error(error, Some(row.who), Response::Partition(action)));
             Treated {
                 free: 0,
                 clears: mode_of_action(action),

@@ -82,12 +82,7 @@ fn fresh_rows(alloc: Global, processes: &[ProcessRow]) -> Result<Vec<ProcessStat
     rows.push(fresh_row(Subject::Handler, Priority(0), None, None))?;
     for process in processes {
         let who = Subject::Process(process.name);
-        rows.push(fresh_row(
-            who,
-            process.priority,
-            process.period,
-            process.capacity,
-        ))?;
+        rows.push(fresh_row(who, process.priority, process.period, process.capacity))?;
     }
     Ok(rows)
 }

@@ -18,11 +18,11 @@ load_member-requires c =
 pub loop-item-preserved : goal.loop-item-preserved
 loop-item-preserved c =
     let left : drop c.loop-item.item-index c.args.items.now ≡ c.item-item.result ∷ drop (c.loop-item.item-index + 1) c.args.items.now =
-        drop_more c.args.items.now c.loop-item.item-index c.item-item.result c.loop-item-test.true ∙ ap (λ (i : PartitionItem). i ∷ drop (c.loop-item.item-index + 1) c.args.items.now) (sym c.item-item.is) in
+    drop_more c.args.items.now c.loop-item.item-index c.item-item.result c.loop-item-test.true ∙ ap (λ (i : PartitionItem). i ∷ drop (c.loop-item.item-index + 1) c.args.items.now) (sym c.item-item.is) in
     let so_far = rw left at c.loop-item.invariant.members in
     let items : c.push.new.self.items ≡ c.loop-item.members.items ++ c.in_ok-load_member.field-0 ∷ [] = search rules in
     let pushed : members_of machine c.push.new.self.items ≡ members_of machine c.loop-item.members.items ++ view_of machine c.in_ok-load_member.field-0 ∷ [] =
-        ap (members_of machine) items ∙ map-append (view_of machine) c.loop-item.members.items (c.in_ok-load_member.field-0 ∷ []) in
+    ap (members_of machine) items ∙ map-append (view_of machine) c.loop-item.members.items (c.in_ok-load_member.field-0 ∷ []) in
     let same : view_of machine c.in_ok-load_member.field-0 ≡ machine_member (fixed_of (schedule_of c.args.schedule.now) c.loop-item.number (partition_of c.item-item.result.row)) (section_of c.item-item.result.section) = search rules in
     record {
       number = omega arith;
