@@ -1,20 +1,18 @@
 -- Where the code does what is still to do, it does so once the front construct is unfolded.
-use Rattle.std.proofs.Common.{◌≡◌, ℕ, ◌+◌, ◌-◌, ◌≤◌, ◌<◌, List, [], ◌∷◌, ◌++◌, length, map, Option, Some, None, refl, sym, ap, ◌∙◌, subst, arith, max, true, length-append}
-use Rattle.std.specs.Prelude.{slice_get}
-use Rattle.apex_types.specs.declared.instruction.Instr.{Instr}
+use Rattle.std.proofs.Common.{◌≡◌, ℕ, ◌+◌, ◌-◌, ◌≤◌, ◌<◌, List, [], ◌∷◌, ◌++◌, length, map, refl, subst, arith, length-append}
 use Rattle.apex_types.specs.declared.instruction.Instr.TheVariants as instr
 use Rattle.apex_types.specs.declared.place.Place.{Place}
-use Rattle.apex_meaning.specs.Program.{Program, Procedure, Body, Expr, Links, Exprs, Stmt, Block}
+use Rattle.apex_meaning.specs.Program.{Procedure, Expr, Links, Exprs, Stmt, Block}
 use Rattle.apex_meaning.specs.Program.{Literal, Read, Element, Unary, Chain, Apply, NoLink, MoreLinks, NoExpr, MoreExprs}
 use Rattle.apex_meaning.specs.Program.{Assign, AssignElement, If, IfElse, While, Work, Return, CallService, NoStmt, MoreStmts}
 use Rattle.apex_meaning.specs.ServiceTable.{number_of, argument_words, answer_words}
 use Rattle.apex_meaning.specs.Cost.{size_of_expr, size_of_links, size_of_exprs, size_of_stmt, size_of_block, operands_of_expr, operands_of_links, operands_of_exprs, operands_of_stmt, operands_of_block}
-use Rattle.apex_meaning.specs.Fits.{count_of, FitsExpr, FitsLinks, FitsExprs, FitsStmt, FitsBlock, ArePlacesWithin}
-use Rattle.apex_meaning.specs.CompiledCode.{load, store, expr_code, links_code, exprs_code, stmt_code, block_code}
-use Rattle.apex_meaning.specs.SourceControl.{Part, Evaluate, Execute, Do, Simple, Value, ReadScalar, ReadElement, OperateOne, OperateTwo, Open, WriteScalar, WriteElement, Choose, ChooseElse, Repeat, Leave, GoBack, Spend, ReturnValue, Ask, EndBody, Front, links_then, exprs_then, block_then, targets_then, front_of_expr, front_of_exprs, front_of_stmt, front_of}
+use Rattle.apex_meaning.specs.Fits.{count_of, FitsLinks, FitsExprs, ArePlacesWithin}
+use Rattle.apex_meaning.specs.CompiledCode.{store, expr_code, links_code, exprs_code, stmt_code, block_code}
+use Rattle.apex_meaning.specs.SourceControl.{Part, Evaluate, Execute, Do, Simple, ReadElement, OperateOne, Open, WriteScalar, WriteElement, Choose, ChooseElse, Repeat, ReturnValue, Ask, Front, links_then, exprs_then, block_then, targets_then, front_of_expr, front_of_exprs, front_of_stmt, front_of}
 use Rattle.apex_meaning.specs.Related.{Code, HasAt, Limits, ExprAt, StmtAt, BlockAt, Goes}
 use Rattle.apex_meaning.proofs.Counts.{element_size, unary_size, chain_size, apply_size, more_links_size, more_exprs_size, assign_size, assign_element_size, if_size, if_else_size, while_size, call_service_size, more_stmts_size}
-use Rattle.apex_meaning.proofs.Sizes.{expr_size, links_size, exprs_size, stmt_size, block_size}
+use Rattle.apex_meaning.proofs.Sizes.{expr_size, exprs_size, stmt_size, block_size}
 use Rattle.apex_meaning.proofs.Placed.{has_front, has_back}
 
 abbrev pub unfolded : Front → List Part

@@ -1,7 +1,7 @@
 -- Reading one level further in.
-use Rattle.std.proofs.Common.{◌≡◌, ℕ, zero, suc, ◌-◌, List, Option, Some, None, refl, sym, ap, arith, ◌∙◌, cond, Bool, true, false}
+use Rattle.std.proofs.Common.{◌≡◌, ℕ, zero, suc, ◌-◌, List, None, refl, sym, ap, arith, ◌∙◌, cond, Bool, false}
 use Rattle.apex_meaning.specs.GrammarWords.{Word}
-use Rattle.apex_meaning.specs.GrammarReading.{Reading, ◌>>=◌, expect, ranked, Disjunction, unary_at, unary_with, unary_read, expr_at, deeper_at, nested_at, arguments_at, arguments_with, block_at, block_read, statements_at, statements_with, stmt_at, stmt_with, while_with, branch_with, either}
+use Rattle.apex_meaning.specs.GrammarReading.{Reading, ◌>>=◌, expect, unary_at, unary_with, unary_read, expr_at, deeper_at, nested_at, arguments_at, arguments_with, block_at, block_read, statements_at, statements_with, stmt_at, stmt_with}
 use Rattle.std.specs.Prelude.{codes, ◌==◌}
 use Rattle.std.proofs.Math.Dec.{eqb-suc-zero}
 use Rattle.apex_meaning.specs.Syntax as tree

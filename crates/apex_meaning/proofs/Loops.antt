@@ -1,9 +1,9 @@
 -- A loop of the code that collects what a repetition finds: what it has so far, and then what the
 -- rest of the repetition finds, stays the same.
-use Rattle.std.proofs.Common.{◌≡◌, ℕ, ◌+◌, ◌<◌, ◌≤◌, Bool, List, [], ◌∷◌, ◌++◌, length, map, Option, Some, None, refl, sym, ◌∙◌, ap, arith, append_assoc, append-nil}
+use Rattle.std.proofs.Common.{◌≡◌, ◌<◌, List, [], ◌∷◌, ◌++◌, length, map, Option, Some, None, refl, sym, ◌∙◌, ap, append_assoc, append-nil}
 use Rattle.std.proofs.lemmas.List.{map-append}
 use Rattle.apex_meaning.specs.GrammarWords.{Word}
-use Rattle.apex_meaning.specs.GrammarReading.{Reading, repeat, each, until, ◌>>=◌}
+use Rattle.apex_meaning.specs.GrammarReading.{repeat, each, until, ◌>>=◌}
 use Rattle.apex_meaning.proofs.Repeats.{after, repeat_ends, repeat_fails, repeat_goes_on}
 
 regroup : {X : Type 0} (front : List X) (x : X) (r : Option (List X × List Word)) → after front (r >>= λ xs. Some (x ∷ xs.0, xs.1)) ≡ after (front ++ x ∷ []) r

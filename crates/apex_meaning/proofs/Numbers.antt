@@ -1,10 +1,10 @@
 -- A program's number as the number of a process.
-use Rattle.std.proofs.Common.{◌≡◌, ℕ, zero, suc, ◌+◌, ◌-◌, ◌<◌, ◌≤◌, ℤ, pos, negsuc, nat_abs, List, [], ◌∷◌, length, Option, Some, None, refl, ap, arith}
+use Rattle.std.proofs.Common.{◌≡◌, ℕ, zero, suc, ◌+◌, ◌≤◌, ℤ, pos, negsuc, nat_abs, List, [], ◌∷◌, length, None, refl, ap, arith}
 use Rattle.std.proofs.lemmas.Int.{ints}
 use Rattle.std.specs.Prelude.{◌<ℤ◌, ◌≤ℤ◌, slice_get}
 use Rattle.apex_types.specs.declared.identity.Runner.TheVariants as runner
 use Rattle.apex_types.specs.declared.process.ProcessStatus.{ProcessStatus}
-use Rattle.apex_meaning.specs.Partition.{message_from, most_words}
+use Rattle.apex_meaning.specs.Partition.{most_words}
 use Rattle.apex_meaning.specs.HealthServices.{first_words}
 use Rattle.apex_meaning.specs.Processes.{Processes, process_at, numbered, index, row_of}
 use Rattle.std.specs.Prelude.{take, min}

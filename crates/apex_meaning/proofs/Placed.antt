@@ -1,5 +1,5 @@
 -- Instructions that stand one after the other.
-use Rattle.std.proofs.Common.{◌≡◌, ℕ, ◌+◌, List, [], ◌∷◌, ◌++◌, length, Option, Some, None, refl, sym, ap, ◌∙◌, subst, arith, map, append_assoc, length-append}
+use Rattle.std.proofs.Common.{◌≡◌, ℕ, ◌+◌, List, [], ◌∷◌, ◌++◌, length, Option, Some, refl, subst, arith, map, append_assoc, length-append}
 use Rattle.std.specs.Prelude.{slice_get}
 use Rattle.apex_types.specs.declared.instruction.Instr.{Instr}
 use Rattle.apex_meaning.specs.Related.{Code, HasAt}

@@ -1,10 +1,10 @@
 -- A list of those that are ready stays one that has each process at most once, and has room.
-use Rattle.std.proofs.Common.{◌≡◌, ℕ, zero, suc, ◌+◌, ◌<◌, ◌≤◌, Bool, true, false, not, cond, List, [], ◌∷◌, length, refl, sym, ap, ◌∙◌, arith, subst, inl, inr}
+use Rattle.std.proofs.Common.{◌≡◌, ℕ, zero, suc, ◌+◌, ◌<◌, ◌≤◌, Bool, true, false, not, cond, List, [], ◌∷◌, length, refl, sym, arith, subst, inl, inr}
 use Rattle.std.specs.Prelude.{nat_eq, nat_lt, if◌then◌else◌}
 use Rattle.std.proofs.lemmas.Bool.Decides.{nat_tests}
 use Rattle.std.proofs.lemmas.Bool.{cases_lt, cases_eq}
 use Rattle.apex_types.specs.declared.process.Entry.{Entry}
-use Rattle.apex_meaning.specs.Processes.{is_entry_of, without, behind_equals}
+use Rattle.apex_meaning.specs.Processes.{without, behind_equals}
 use Rattle.apex_meaning.specs.Ready.{times_listed, AreBelow, IsListed}
 
 abbrev all_times : ℕ → List Entry → ℕ

@@ -1,9 +1,9 @@
 -- How a repetition goes on, whatever bounded it.
-use Rattle.std.proofs.Common.{◌≡◌, ℕ, zero, suc, ◌+◌, ◌<◌, ◌≤◌, Bool, true, false, List, [], ◌∷◌, ◌++◌, length, Option, Some, None, refl, sym, ◌∙◌, ap, arith, cond, append_assoc}
+use Rattle.std.proofs.Common.{◌≡◌, ℕ, zero, suc, ◌<◌, Bool, true, false, List, [], ◌∷◌, ◌++◌, length, Option, Some, None, refl, ◌∙◌, ap, arith, cond}
 use Rattle.std.specs.Prelude.{nat_lt}
 use Rattle.std.proofs.lemmas.Bool.{ltb-true, lt-ltb}
 use Rattle.apex_meaning.specs.GrammarWords.{Word}
-use Rattle.apex_meaning.specs.GrammarReading.{Reading, repeat, repeat_within, turned, ◌>>=◌}
+use Rattle.apex_meaning.specs.GrammarReading.{repeat, repeat_within, turned, ◌>>=◌}
 
 guarded : {A : Type 0} (b : Bool) (p q none : A) → (b ≡ true → p ≡ q) → cond b p none ≡ cond b q none
 guarded true p q none h = h refl

@@ -1,5 +1,5 @@
 -- The instructions of each construct are as many as its size says.
-use Rattle.std.proofs.Common.{◌≡◌, ℕ, pos, ◌+◌, List, [], ◌∷◌, ◌++◌, length, map, Option, Some, None, refl, sym, ap, ◌∙◌, arith, length-append}
+use Rattle.std.proofs.Common.{◌≡◌, ℕ, pos, ◌+◌, List, [], ◌∷◌, ◌++◌, length, map, Option, Some, None, refl, arith, length-append}
 use Rattle.std.specs.List.{sum_by}
 use Rattle.std.proofs.lemmas.List.{length-map}
 use Rattle.std.proofs.lemmas.List.Sums.{sum_by-cons}
@@ -9,7 +9,7 @@ use Rattle.apex_meaning.specs.Program.{Literal, Read, Element, Unary, Chain, App
 use Rattle.apex_meaning.specs.Program.{Assign, AssignElement, If, IfElse, While, Work, Return, CallService, NoStmt, MoreStmts}
 use Rattle.apex_meaning.specs.ServiceTable.{number_of}
 use Rattle.apex_meaning.specs.Cost.{size_of_expr, size_of_links, size_of_exprs, size_of_stmt, size_of_block, size_of_procedure, size_of_body, size_of_handler, size_of_process, size_of}
-use Rattle.apex_meaning.specs.CompiledCode.{load, store, expr_code, links_code, exprs_code, stmt_code, block_code, procedure_code, body_code, handler_code, processes_code, procedures_code, slots_of, code_of, handler_place, processes_place, procedures_place}
+use Rattle.apex_meaning.specs.CompiledCode.{store, expr_code, links_code, exprs_code, stmt_code, block_code, procedure_code, body_code, handler_code, processes_code, procedures_code, slots_of, code_of, handler_place, processes_place, procedures_place}
 use Rattle.apex_meaning.proofs.Counts.{element_size, unary_size, chain_size, apply_size, more_links_size, more_exprs_size, assign_size, assign_element_size, if_size, if_else_size, while_size, return_size, call_service_size, more_stmts_size, procedure_counts, body_counts}
 
 mutual

@@ -1,9 +1,8 @@
 -- The words of a stack: what lies below, then the values, the last one on top.
-use Rattle.std.proofs.Common.{◌≡◌, ℕ, zero, suc, ◌+◌, ◌-◌, ◌≤◌, ◌<◌, ℤ, pos, List, [], ◌∷◌, ◌++◌, length, take, drop, reverse, replicate, Option, Some, None, refl, sym, ap, ◌∙◌, subst, arith, append_assoc, length-append}
-use Rattle.std.specs.Prelude.{slice_get, slice_set, get_or}
+use Rattle.std.proofs.Common.{◌≡◌, ℕ, zero, suc, ◌+◌, ◌-◌, ◌≤◌, ◌<◌, ℤ, pos, List, [], ◌∷◌, ◌++◌, length, take, drop, reverse, refl, sym, ap, ◌∙◌, arith, append_assoc, length-append}
+use Rattle.std.specs.Prelude.{slice_get, slice_set}
 use Rattle.std.proofs.Math.Seq.{set-append_seam, get_or-append_seam}
-use Rattle.std.proofs.lemmas.List.{length-set, length-drop}
-use Rattle.apex_meaning.specs.SourceControl.{OpenCall, taken}
+use Rattle.apex_meaning.specs.SourceControl.{taken}
 use Rattle.apex_meaning.specs.Related.{Laid, calls_of, onto, saved, below}
 use Rattle.apex_meaning.specs.Words.{put_words}
 use Rattle.apex_meaning.specs.MachineControl.{word, pushed, popped}

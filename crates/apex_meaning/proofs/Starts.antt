@@ -1,29 +1,25 @@
 -- The bodies of a program stand in its code, and a started body is the same on both sides.
-use Rattle.std.proofs.Common.{◌≡◌, ℕ, zero, suc, ◌+◌, ◌-◌, ◌≤◌, ◌<◌, ℤ, pos, Bool, true, false, List, [], ◌∷◌, ◌++◌, length, map, take, drop, replicate, Option, Some, None, refl, sym, ap, ◌∙◌, subst, arith, append_assoc, length-append, max, nat_eq}
-use Rattle.std.specs.Prelude.{slice_get, get_or, if◌then◌else◌}
-use Rattle.std.specs.List.{sum_by}
+use Rattle.std.proofs.Common.{◌≡◌, ℕ, zero, suc, ◌+◌, ◌-◌, ◌≤◌, ◌<◌, pos, false, List, [], ◌∷◌, ◌++◌, length, map, replicate, Option, Some, None, refl, sym, ap, ◌∙◌, subst, arith, length-append, max}
+use Rattle.std.specs.Prelude.{slice_get, get_or}
 use Rattle.std.specs.Option.{option_map}
-use Rattle.std.proofs.lemmas.List.{map-append, length-map, length-replicate}
-use Rattle.std.proofs.lemmas.List.Sums.{sum_by-cons}
-use Rattle.apex_types.specs.declared.instruction.Instr.{Instr}
+use Rattle.std.proofs.lemmas.List.{length-map, length-replicate}
 use Rattle.apex_types.specs.declared.instruction.Instr.TheVariants as instr
 use Rattle.apex_types.specs.declared.row.RoutineRow.{RoutineRow}
 use Rattle.apex_types.specs.declared.row.BodyRow.{BodyRow}
-use Rattle.apex_types.specs.declared.row.ProcessRow.{ProcessRow}
 use Rattle.apex_types.specs.declared.identity.Runner.{Runner}
 use Rattle.apex_types.specs.declared.identity.Runner.TheVariants as runner
-use Rattle.apex_meaning.specs.Program.{Program, Procedure, Body, Process, Block}
-use Rattle.apex_meaning.specs.Cost.{size_of, size_of_block, size_of_body, size_of_handler, size_of_process, size_of_procedure, operands_of_block, frame_of_procedure, frame_of_body}
+use Rattle.apex_meaning.specs.Program.{Program, Procedure, Body, Process}
+use Rattle.apex_meaning.specs.Cost.{size_of, size_of_block, size_of_process, size_of_procedure, operands_of_block}
 use Rattle.apex_meaning.specs.Fits.{Fits, FitsBody, FitsHandler, FitsProcedure}
-use Rattle.apex_meaning.specs.CompiledCode.{block_code, body_code, handler_code, processes_code, procedure_code, procedures_code, slots_of, code_of, handler_place, processes_place, procedures_place, body_row, routine_row, routine_rows, process_row, process_rows, section_of}
-use Rattle.apex_meaning.specs.SourceControl.{SourceControl, Do, Value, ReturnValue, EndBody, parts_of_procedure, parts_of_body, source_start, source_body, body_at, or_init, body_of_process, source_engine}
-use Rattle.apex_meaning.specs.MachineControl.{MachineControl, machine_start, machine_engine}
+use Rattle.apex_meaning.specs.CompiledCode.{block_code, body_code, handler_code, processes_code, procedure_code, procedures_code, slots_of, code_of, handler_place, processes_place, procedures_place, body_row, routine_row, routine_rows, process_rows, section_of}
+use Rattle.apex_meaning.specs.SourceControl.{Do, Value, ReturnValue, EndBody, parts_of_procedure, parts_of_body, source_start, source_body, or_init, body_of_process, source_engine}
+use Rattle.apex_meaning.specs.MachineControl.{machine_start, machine_engine}
 use Rattle.apex_meaning.specs.Engine.{Simulates}
 use Rattle.apex_meaning.specs.Instructions.{reading}
-use Rattle.apex_meaning.specs.Related.{Code, HasAt, Limits, BlockAt, Goes, Laid, Keeps, row_of_process, body_row_at, CompiledCorrectly}
-use Rattle.apex_meaning.proofs.Sizes.{block_size, body_size, handler_size, processes_size, procedures_size, procedure_size, code_size}
+use Rattle.apex_meaning.specs.Related.{Code, HasAt, Limits, Goes, Keeps, row_of_process, body_row_at, CompiledCorrectly}
+use Rattle.apex_meaning.proofs.Sizes.{block_size, body_size, handler_size, processes_size, procedure_size, code_size}
 use Rattle.apex_meaning.proofs.Placed.{has_front, has_back, has_list}
-use Rattle.apex_meaning.proofs.Front.{moved, block_goes}
+use Rattle.apex_meaning.proofs.Front.{block_goes}
 use Rattle.apex_meaning.proofs.Ticks.{limits_of, Stands, Placed, keeps_tick, keeps_reply}
 
 -- a procedure's code does what is to do in it

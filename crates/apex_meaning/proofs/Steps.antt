@@ -1,6 +1,6 @@
 -- A loop over processes goes on: what is done so far, then the rest from here, is the whole.
-use Rattle.std.proofs.Common.{◌≡◌, ℕ, zero, suc, ◌+◌, ◌-◌, ◌<◌, List, ◌++◌, refl, sym, ap, ◌∙◌, append_assoc, arith, subst}
-use Rattle.std.specs.Prelude.{slice_get, Bool, true, false, Option, is_some, if◌then◌else◌}
+use Rattle.std.proofs.Common.{◌≡◌, ℕ, zero, suc, ◌+◌, ◌-◌, ◌<◌, List, ◌++◌, refl, sym, ap, ◌∙◌, append_assoc, arith}
+use Rattle.std.specs.Prelude.{Bool, true, false, Option, is_some, if◌then◌else◌}
 use Rattle.apex_types.specs.declared.codes.Mode.{Mode}
 use Rattle.apex_types.specs.declared.codes.PartitionAction.{PartitionAction}
 use Rattle.apex_types.specs.declared.event.EventKind.{EventKind}

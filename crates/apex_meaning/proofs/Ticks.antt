@@ -1,7 +1,7 @@
 -- The relation is kept by each tick and each answer.
-use Rattle.std.proofs.Common.{◌≡◌, ◌≢◌, ℕ, zero, suc, ◌+◌, ◌-◌, ◌≤◌, ◌<◌, ◌&&◌, ℤ, pos, Bool, true, false, List, [], ◌∷◌, ◌++◌, length, map, take, drop, reverse, replicate, Option, Some, None, refl, sym, ap, ◌∙◌, subst, arith, append_assoc, length-append, max, nat_lt, nat_le, nat_eq}
-use Rattle.std.specs.Prelude.{slice_get, slice_set, get_or, if◌then◌else◌}
-use Rattle.std.proofs.lemmas.Bool.{lt-ltb, le-ltb, le-leb, lt-leb, ltb-true, ltb-false, leb-true, leb-false, eqb-true, eq-eqb, ne_eqb}
+use Rattle.std.proofs.Common.{◌≡◌, ◌≢◌, ℕ, zero, suc, ◌+◌, ◌-◌, ◌≤◌, ◌<◌, ◌&&◌, ℤ, pos, Bool, true, false, List, [], ◌∷◌, ◌++◌, length, take, drop, reverse, replicate, Option, Some, None, refl, sym, ap, ◌∙◌, subst, arith, append_assoc, length-append, max, nat_lt, nat_le, nat_eq}
+use Rattle.std.specs.Prelude.{slice_get, slice_set, if◌then◌else◌}
+use Rattle.std.proofs.lemmas.Bool.{lt-ltb, le-ltb, le-leb, leb-true, leb-false, eqb-true, eq-eqb, ne_eqb}
 use Rattle.std.proofs.lemmas.List.{set-append_left, length-set, length-drop, length-take-le, length-replicate}
 use Rattle.std.proofs.lemmas.Option.{slice_get_within}
 use Rattle.apex_types.specs.declared.codes.ErrorKind.{ErrorKind}
@@ -14,20 +14,20 @@ use Rattle.apex_types.specs.declared.place.Place.{Place}
 use Rattle.apex_types.specs.declared.place.Place.TheVariants.{Data, Slot}
 use Rattle.apex_types.specs.declared.service.Service.{Service}
 use Rattle.apex_types.specs.declared.row.RoutineRow.{RoutineRow}
-use Rattle.apex_meaning.specs.Program.{Program, Procedure, Body, Expr, Exprs, Stmt, Block, While}
-use Rattle.apex_meaning.specs.ServiceTable.{number_of, argument_words, answer_words, call_of, array_of, has_array_within, cost_of_service}
+use Rattle.apex_meaning.specs.Program.{Program, Procedure, Expr, Block, While}
+use Rattle.apex_meaning.specs.ServiceTable.{number_of, argument_words, answer_words, call_of, array_of, has_array_within}
 use Rattle.apex_meaning.specs.Operators.{apply_binary, apply_unary, is_zero, element_at}
 use Rattle.apex_meaning.specs.Cost.{size_of_block, size_of_stmt, operands_of_block, frame_of_procedure}
 use Rattle.apex_meaning.specs.Instructions.{cost_of, is_work, cost_of_work}
 use Rattle.apex_meaning.specs.Engine.{Asks, Nothing, Calls, Faults, Ends, Ticked, SameTick}
-use Rattle.apex_meaning.specs.Fits.{IsWork, IsPlaceWithin}
+use Rattle.apex_meaning.specs.Fits.{IsWork}
 use Rattle.apex_meaning.specs.CompiledCode.{load, store, slots_of}
 use Rattle.apex_meaning.specs.SourceControl as source
 use Rattle.apex_meaning.specs.SourceControl.{SourceControl, OpenCall, Part, Evaluate, Execute, Do, Simple, Value, ReadScalar, ReadElement, OperateOne, OperateTwo, Open, WriteScalar, WriteElement, Choose, ChooseElse, Repeat, Leave, GoBack, Spend, ReturnValue, Ask, EndBody, Front, front, front_of, cost_of_simple, taken, moves, stays, value_or, writes, writes_slot, write_at, effect, tick_at, tick_awaiting, source_tick, source_reply, opens, parts_of_procedure, block_then, asks_service}
 use Rattle.apex_meaning.specs.MachineControl as machine
 use Rattle.apex_meaning.specs.Words.{put_words}
 use Rattle.apex_meaning.specs.MachineControl.{MachineControl, Effect, asks_only, refuses, word, top, below_top, with_operands, pushes, pushes_or, element_word, stored, stored_element, changes_data, changes_stack, enters_at, enters, code_limit, saved_within, pushed, popped, arguments, calls_numbered, executes, spends, fetched, machine_tick, machine_reply}
-use Rattle.apex_meaning.specs.Related.{Code, Fetches, HasAt, Limits, ExprAt, StmtAt, BlockAt, GoesBack, Goes, Laid, calls_of, onto, saved, below, HasCaller, InProgress, Waiting, Keeps}
+use Rattle.apex_meaning.specs.Related.{Code, Fetches, Limits, Goes, Laid, calls_of, onto, saved, below, HasCaller, InProgress, Waiting, Keeps}
 use Rattle.apex_types.proofs.Numbers.{service_of_number}
 use Rattle.apex_meaning.proofs.Front.{unfolded, moved, block_goes, front_goes}
 use Rattle.apex_meaning.proofs.Stack.{onto_length, onto_split, onto_parts, word_at_top, set_at_top, get_within, set_within, put_over, pushed_onto, popped_values, onto_reverse, base, base_length, below_length}

@@ -1,8 +1,7 @@
 -- The words of a text, one after another: each step leaves fewer bytes.
-use Rattle.std.proofs.Common.{◌≡◌, ℕ, zero, suc, ◌+◌, ◌-◌, ◌<◌, ◌≤◌, Bool, true, false, ◌||◌, List, [], ◌∷◌, ◌++◌, length, take, drop, Option, Some, None, refl, sym, ◌∙◌, ap, arith, cond, nat_eq, length-drop, lit<, rules}
-use Rattle.std.specs.Prelude.{find, nat_lt, codes}
+use Rattle.std.proofs.Common.{◌≡◌, ℕ, zero, suc, ◌+◌, ◌<◌, ◌≤◌, Bool, true, false, ◌||◌, List, [], ◌∷◌, length, Option, Some, refl, ap, arith, cond, nat_eq, length-drop, lit<}
+use Rattle.std.specs.Prelude.{find}
 use Rattle.std.specs.List.{prefix_len, starts_with}
-use Rattle.std.proofs.lemmas.Bool.{ltb-true}
 use Rattle.apex_meaning.specs.GrammarWords.{Word, behind_blanks, behind, word_at, words_within, words_from, sign_word, sign_or_stray, signs, is_lower, is_digit, is_upper, in_name, in_service, is_blank}
 
 either_short : (b : Bool) (xs ys : List ℕ) (n : ℕ) → length xs ≤ n → length ys ≤ n → length (cond b xs ys) ≤ n

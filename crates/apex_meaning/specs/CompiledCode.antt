@@ -1,7 +1,7 @@
 -- What a program is compiled to. Each construct is one instruction, in the order in which the
 -- constructs take effect. The bodies stand one after the other: INIT, the handler, the processes
 -- and the procedures, each in the order of declaration.
-use Rattle.std.specs.Prelude.{ℕ, ◌+◌, ℤ, pos, List, [], ◌∷◌, ◌++◌, Option, Some, None, map}
+use Rattle.std.specs.Prelude.{ℕ, ◌+◌, pos, List, [], ◌∷◌, ◌++◌, Option, Some, None, map}
 use Rattle.std.specs.List.{sum_by}
 use Rattle.std.specs.Option.{option_map}
 use Rattle.apex_types.specs.declared.instruction.Instr.{Instr}

@@ -1,6 +1,6 @@
 -- What is due in a tick of a partition: for each process in number order its due time, then its
 -- deadline.
-use Rattle.std.specs.Prelude.{ℕ, zero, suc, ◌+◌, ◌-◌, Bool, true, false, nat_le, List, [], ◌∷◌, length, Option, Some, None, is_some, if◌then◌else◌}
+use Rattle.std.specs.Prelude.{ℕ, zero, suc, ◌+◌, ◌-◌, Bool, false, nat_le, [], ◌∷◌, length, Option, Some, None, is_some, if◌then◌else◌}
 use Rattle.apex_types.specs.declared.codes.ErrorKind.TheVariants.{DeadlineMissed}
 use Rattle.apex_types.specs.declared.codes.Mode.{Mode}
 use Rattle.apex_types.specs.declared.codes.Mode.TheVariants as mode

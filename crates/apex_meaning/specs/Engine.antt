@@ -1,6 +1,6 @@
 -- A process on an engine: what it still has to do (a control), what one tick of it does, and what
 -- an answer does. The kernel is the same over every engine.
-use Rattle.std.specs.Prelude.{◌≡◌, ℕ, ℤ, List}
+use Rattle.std.specs.Prelude.{◌≡◌, ℤ, List}
 use Rattle.apex_types.specs.declared.codes.ErrorKind.{ErrorKind}
 use Rattle.apex_types.specs.declared.identity.Runner.{Runner}
 use Rattle.apex_types.specs.declared.service.Call.{Call}

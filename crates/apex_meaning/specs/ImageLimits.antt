@@ -3,6 +3,7 @@
 -- module table are kept.
 use Rattle.std.specs.Prelude.{◌≡◌, ℕ, ◌+◌, ◌<◌, ◌≤◌, ◌^◌, ◌-◌, true, false, ◌&&◌, ◌==◌, List, [], ◌∷◌, ◌++◌, length, max, Option, Some, None, FitsSigned}
 use Rattle.std.specs.Int.{w64}
+use Rattle.apex_types.specs.declared.identity.TheConstants.{MOST_PROCESSES}
 use Rattle.apex_types.specs.declared.row.SemaphoreRow.{SemaphoreRow}
 use Rattle.apex_types.specs.declared.row.BufferRow.{BufferRow}
 use Rattle.apex_types.specs.declared.row.BlackboardRow.{BlackboardRow}
@@ -90,11 +91,11 @@ abbrev pub IsHandler : Option BodyRow → Type 0
 IsHandler None = Unit {0}
 IsHandler (Some row) = IsBody row
 
--- at most 256 procedures and 31 processes
+-- at most 256 procedures, and no more processes than a partition may have
 pub record AreBodies (unit : ℕ) (b : Bodies) : Type 0 where
   pub routine_count : IsFrom 0 256 (length b.routines)
   pub routines : EachBeside (λ _. IsRoutine) [] b.routines
-  pub process_count : IsFrom 0 31 (length b.processes)
+  pub process_count : IsFrom 0 MOST_PROCESSES (length b.processes)
   pub processes : EachBeside (IsProcess unit) [] b.processes
   pub init : IsBody b.init
   pub handler : IsHandler b.handler

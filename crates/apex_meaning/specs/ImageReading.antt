@@ -4,6 +4,7 @@ use Rattle.std.specs.Prelude.{ℕ, zero, suc, ◌+◌, ◌-◌, ◌%◌, ◌^◌
 use Rattle.std.specs.List.{list_all, list_any}
 use Rattle.std.specs.Str.{bytes_eq}
 use Rattle.std.specs.Int.{Width, w16, w32, w64, byte_len, from_le_bytes, cast_signed}
+use Rattle.apex_types.specs.declared.identity.TheConstants.{MOST_PROCESSES}
 use Rattle.apex_types.specs.NameText.{is_name}
 use Rattle.apex_meaning.specs.TableRules.{keeps_rules}
 use Rattle.apex_types.specs.declared.codes.Discipline.{Discipline}
@@ -278,7 +279,7 @@ objects_at bytes = do
 unfoldable pub bodies_at : ℕ → List ℕ → Read Bodies
 bodies_at unit bytes = do
   routines ← list_at 0 256 (λ _. routine_at) bytes
-  processes ← list_at 0 31 (process_at unit) routines.1
+  processes ← list_at 0 MOST_PROCESSES (process_at unit) routines.1
   init ← body_at processes.1
   handler ← handler_at init.1
   Ok (record { routines = routines.0; processes = processes.0; init = init.0; handler = handler.0 }, handler.1)

@@ -1,8 +1,6 @@
 -- When two worlds, and two modules, on different engines cannot be told apart.
-use Rattle.std.specs.Prelude.{◌≡◌, ℕ, ℤ, List, [], ◌∷◌, Option, Some, None}
-use Rattle.apex_types.specs.declared.event.Event.{Event}
-use Rattle.apex_meaning.specs.Engine.{Engine, Simulates}
-use Rattle.apex_meaning.specs.Kernel.{Kernel}
+use Rattle.std.specs.Prelude.{◌≡◌, List, [], ◌∷◌, Option, Some, None}
+use Rattle.apex_meaning.specs.Engine.{Simulates}
 use Rattle.apex_meaning.specs.Partition.{World, Moved, Member}
 use Rattle.apex_meaning.specs.Module.{Advanced}
 

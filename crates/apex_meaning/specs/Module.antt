@@ -1,5 +1,5 @@
 -- The module: its partitions, each in its windows, tick by tick; its trace.
-use Rattle.std.specs.Prelude.{ℕ, zero, suc, ◌+◌, ℤ, List, [], ◌∷◌, ◌++◌, Option, Some, None, map, slice_get, slice_set}
+use Rattle.std.specs.Prelude.{ℕ, zero, suc, ◌+◌, List, [], ◌++◌, Option, Some, None, map, slice_get, slice_set}
 use Rattle.std.specs.List.{flat_map}
 use Rattle.apex_types.specs.declared.codes.StartCondition.TheVariants as condition
 use Rattle.apex_types.specs.declared.event.Event.{Event}

@@ -1,5 +1,5 @@
 -- One tick of a partition: what is due, the choice of who runs, and the tick that this one spends.
-use Rattle.std.specs.Prelude.{ℕ, ◌+◌, min, ℤ, pos, negsuc, Bool, true, false, List, [], ◌∷◌, ◌++◌, length, take, drop, Option, Some, None, slice_get, slice_set, map, if◌then◌else◌}
+use Rattle.std.specs.Prelude.{ℕ, min, ℤ, pos, negsuc, Bool, true, false, List, [], ◌∷◌, ◌++◌, length, take, drop, Option, Some, None, slice_get, slice_set, map, if◌then◌else◌}
 use Rattle.apex_types.specs.Runners.{place_of}
 use Rattle.apex_types.specs.declared.codes.ErrorKind.TheVariants.{DeadlineMissed}
 use Rattle.apex_types.specs.declared.codes.Mode.{Mode}

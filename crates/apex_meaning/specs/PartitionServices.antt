@@ -1,5 +1,5 @@
 -- Clear, the normal start, the services on the partition's mode, and the end of a body.
-use Rattle.std.specs.Prelude.{ℕ, zero, suc, ℤ, pos, negsuc, Bool, true, false, ◌&&◌, not, List, [], ◌∷◌, Option, Some, None, map, slice_get, slice_set, is_some}
+use Rattle.std.specs.Prelude.{zero, suc, ℤ, pos, negsuc, Bool, true, false, ◌&&◌, not, List, [], ◌∷◌, Option, Some, None, map, slice_get, slice_set, is_some}
 use Rattle.apex_types.specs.declared.codes.Mode.{Mode}
 use Rattle.apex_types.specs.declared.codes.Mode.TheVariants as mode
 use Rattle.apex_types.specs.declared.codes.ProcessState.TheVariants.{Dormant, Ready}

@@ -8,7 +8,7 @@ use Rattle.apex_types.specs.Runners.{place_of}
 use Rattle.apex_types.specs.declared.codes.Mode.{Mode}
 use Rattle.apex_types.specs.declared.codes.Mode.TheVariants as mode
 use Rattle.apex_types.specs.declared.codes.ProcessState.{ProcessState}
-use Rattle.apex_types.specs.declared.codes.ProcessState.TheVariants.{Dormant, Ready, Running, Waiting}
+use Rattle.apex_types.specs.declared.codes.ProcessState.TheVariants.{Dormant, Ready, Waiting}
 use Rattle.apex_types.specs.declared.codes.ReturnCode.{ReturnCode}
 use Rattle.apex_types.specs.declared.event.EventKind.{EventKind}
 use Rattle.apex_types.specs.declared.event.EventKind.TheVariants as event

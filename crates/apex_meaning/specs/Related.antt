@@ -2,18 +2,16 @@
 -- everyone outside: the code from pc on does what is still to do, the operands are the values, the
 -- saved words are the open calls, and as many ticks are spent. Nothing is said of the data, so that
 -- it holds while others change them.
-use Rattle.std.specs.Prelude.{◌≡◌, ℕ, ◌+◌, ◌-◌, ◌≤◌, ◌<◌, ℤ, pos, Bool, true, false, List, [], ◌∷◌, ◌++◌, Option, Some, None, map, length, slice_get}
+use Rattle.std.specs.Prelude.{◌≡◌, ℕ, ◌+◌, ◌-◌, ◌≤◌, ◌<◌, ℤ, pos, Bool, true, List, [], ◌∷◌, ◌++◌, Option, Some, map, length, slice_get}
 use Rattle.apex_types.specs.declared.instruction.Instr.{Instr}
 use Rattle.apex_types.specs.declared.instruction.Instr.TheVariants as instr
 use Rattle.apex_types.specs.declared.identity.Runner.{Runner}
-use Rattle.apex_types.specs.declared.place.Place.{Place}
-use Rattle.apex_types.specs.declared.place.Place.TheVariants.{Data, Slot}
-use Rattle.apex_meaning.specs.Program.{Program, Procedure, Body, Expr, Links, Exprs, Stmt, Block, While}
+use Rattle.apex_meaning.specs.Program.{Program, Procedure, Expr, Stmt, Block, While}
 use Rattle.apex_meaning.specs.ServiceTable.{number_of, argument_words, answer_words}
 use Rattle.apex_meaning.specs.Cost.{size_of_expr, size_of_stmt, size_of_block, operands_of_expr, operands_of_stmt, operands_of_block}
-use Rattle.apex_meaning.specs.Fits.{FitsExpr, FitsStmt, FitsBlock, IsPlaceWithin, IsWork, Fits}
+use Rattle.apex_meaning.specs.Fits.{FitsExpr, FitsStmt, FitsBlock, IsPlaceWithin, IsWork}
 use Rattle.apex_meaning.specs.CompiledCode.{load, store, expr_code, stmt_code, block_code, code_of, section_of}
-use Rattle.apex_meaning.specs.SourceControl.{SourceControl, OpenCall, Part, Evaluate, Execute, Do, Simple, Value, ReadScalar, ReadElement, OperateOne, OperateTwo, Open, WriteScalar, WriteElement, Choose, ChooseElse, Repeat, Leave, GoBack, Spend, ReturnValue, Ask, EndBody, taken, source_engine, body_at, body_of_process}
+use Rattle.apex_meaning.specs.SourceControl.{SourceControl, OpenCall, Part, Evaluate, Execute, Do, Value, ReadScalar, ReadElement, OperateOne, OperateTwo, Open, WriteScalar, WriteElement, Choose, ChooseElse, Repeat, Leave, GoBack, Spend, ReturnValue, Ask, EndBody, taken, source_engine, body_at}
 use Rattle.apex_meaning.specs.MachineControl.{MachineControl, machine_engine}
 use Rattle.apex_meaning.specs.Engine.{Simulates}
 use Rattle.apex_meaning.specs.Instructions.{reading}

@@ -1,6 +1,7 @@
 -- What the names of a program stand for, and the program with its names resolved. The resolution is
 -- made for every program: what makes a program not well formed stands as 0 in it.
 use Rattle.std.specs.Prelude.{ℕ, ◌+◌, ◌-◌, ◌^◌, ℤ, pos, ◌-ℤ◌, nat_le, nat_lt, if◌then◌else◌, List, [], ◌∷◌, ◌++◌, map, length, take, replicate, flat_map, filter_map, position, Option, Some, None, option_map, unwrap_or, bytes_eq}
+use Rattle.apex_types.specs.declared.identity.TheConstants.{MOST_PROCESSES}
 use Rattle.apex_types.specs.declared.place.Place.{Place}
 use Rattle.apex_types.specs.declared.place.Place.TheVariants.{Data, Slot}
 use Rattle.apex_types.specs.declared.denotation.Denotation.{Denotation}
@@ -95,7 +96,7 @@ declaration_entries ports c (d ∷ ds) = record { name = d.name; meaning = decla
 -- the entries of the processes, which are numbered from 1
 abbrev pub process_entries : ℕ → List written.Process → List Entry
 process_entries count [] = []
-process_entries count (p ∷ ps) = record { name = p.name; meaning = denotation.Object object.Process (next 31 count) } ∷ process_entries (unwrap_or (counted 31 count 1) count) ps
+process_entries count (p ∷ ps) = record { name = p.name; meaning = denotation.Object object.Process (next MOST_PROCESSES count) } ∷ process_entries (unwrap_or (counted MOST_PROCESSES count 1) count) ps
 
 abbrev pub declared_entries : List PortRow → written.Program → List Entry
 declared_entries ports p = declaration_entries ports no_counts p.declarations ++ process_entries 0 p.processes

@@ -1,7 +1,7 @@
 -- What a process still has to do on the source, and what one tick of it does. A compound construct
 -- unfolds into its parts without a tick; a simple construct takes the ticks of its cost and has its
 -- one effect in the last of them, on the data as it is then.
-use Rattle.std.specs.Prelude.{ℕ, zero, suc, ◌+◌, ℤ, pos, Bool, List, [], ◌∷◌, ◌++◌, Option, Some, None, length, take, drop, reverse, replicate, map, get_or, slice_get, slice_set, nat_eq, nat_lt, nat_le, if◌then◌else◌}
+use Rattle.std.specs.Prelude.{ℕ, zero, suc, ◌+◌, ℤ, pos, List, [], ◌∷◌, ◌++◌, Option, Some, None, length, take, drop, reverse, replicate, map, get_or, slice_get, slice_set, nat_eq, nat_lt, nat_le, if◌then◌else◌}
 use Rattle.apex_types.specs.declared.codes.ErrorKind.{ErrorKind}
 use Rattle.apex_types.specs.declared.codes.ErrorKind.TheVariants as error
 use Rattle.apex_types.specs.declared.instruction.BinaryOperator.{BinaryOperator}

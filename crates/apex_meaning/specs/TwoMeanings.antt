@@ -1,6 +1,6 @@
 -- The two meanings of a module: of its sources, and of its image. Kernel, windows and trace are
 -- the same in both; they differ in the engine on which processes run.
-use Rattle.std.specs.Prelude.{ℕ, ◌+◌, ℤ, List, [], ◌∷◌, Option, Some, None, option_map, map, false}
+use Rattle.std.specs.Prelude.{ℕ, ◌+◌, ℤ, List, [], ◌∷◌, Option, None, option_map, map, false}
 use Rattle.apex_types.specs.declared.codes.Mode.TheVariants as mode
 use Rattle.apex_types.specs.declared.codes.ProcessState.TheVariants.{Dormant}
 use Rattle.apex_types.specs.declared.codes.StartCondition.TheVariants as condition
@@ -15,7 +15,6 @@ use Rattle.apex_types.specs.declared.process.ProcessStatus.{ProcessStatus}
 use Rattle.apex_types.specs.declared.process.Wait.TheVariants as wait
 use Rattle.apex_types.specs.declared.row.BodyRow.{BodyRow}
 use Rattle.apex_types.specs.declared.row.ProcessRow.{ProcessRow}
-use Rattle.apex_types.specs.declared.instruction.Instr.{Instr}
 use Rattle.apex_meaning.specs.Engine.{Engine}
 use Rattle.apex_meaning.specs.Image.{Partition, Table, Item, Section, Image}
 use Rattle.apex_meaning.specs.Instructions.{reading}

@@ -2,6 +2,7 @@
 -- whole program. The verdict is the first that does not hold, or the program with its names resolved.
 use Rattle.std.specs.Prelude.{ℕ, ◌+◌, ◌%◌, ◌^◌, Bool, true, false, not, ◌&&◌, nat_eq, nat_le, nat_lt, is_some, List, [], ◌∷◌, ◌++◌, length, Option, Some, None, Result, Ok, Err, if◌then◌else◌}
 use Rattle.std.specs.List.{list_all}
+use Rattle.apex_types.specs.declared.identity.TheConstants.{MOST_PROCESSES}
 use Rattle.apex_types.specs.NameText.{is_name}
 use Rattle.apex_types.specs.declared.denotation.Denotation.{Denotation}
 use Rattle.apex_types.specs.declared.denotation.Denotation.TheVariants as denotation
@@ -268,7 +269,7 @@ abbrev pub limits_hold : List PortRow → written.Program → Bool
 limits_hold ports p = let declared = declared_entries ports p in
     keeps_counts no_counts p.declarations && list_all (keeps_declaration declared) p.declarations
     && keeps_stack_body declared p.init.stack p.init.body && keeps_handler declared p.handler
-    && list_all (keeps_process declared) p.processes && nat_le (length p.processes) 31
+    && list_all (keeps_process declared) p.processes && nat_le (length p.processes) MOST_PROCESSES
 
 -- PERIODS: the finite period of a process is a multiple of its partition's.
 

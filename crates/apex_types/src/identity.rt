@@ -24,6 +24,9 @@ pub struct PortId(pub u8);
 /// The most processes of a partition, beside INIT and the error handler.
 pub const MOST_PROCESSES: u8 = 31;
 
+/// The most that run in a partition: INIT, the error handler and the processes.
+pub const MOST_RUNNERS: u8 = MOST_PROCESSES + 2;
+
 /// A process by its place in its partition's source text, from 0. The number that programs use is
 /// one more.
 #[derive(Clone, Copy, Debug, Default, PartialEq, Eq)]

@@ -27,7 +27,7 @@ pub use codes::{
 pub use denotation::{Denotation, ObjectKind};
 pub use event::{Event, EventKind, Events, Subject, Words};
 pub use identity::{
-    At, MOST_PROCESSES, PartitionId, PortId, Priority, ProcessIndex, Runner, Ticks,
+    At, MOST_PROCESSES, MOST_RUNNERS, PartitionId, PortId, Priority, ProcessIndex, Runner, Ticks,
 };
 pub use instruction::{BinaryOperator, Instr, UnaryOperator};
 pub use name::Name;

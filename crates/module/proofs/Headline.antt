@@ -5,12 +5,11 @@ use Rattle.std.specs.List.{list_all, All}
 use Rattle.std.specs.Io.KnownBytes.{Appends}
 use Rattle.std.proofs.lemmas.Bool.{and_parts, false≢true}
 use Rattle.std.proofs.lemmas.List.Elements.{All-nil, All-cons}
-use Rattle.apex_types.specs.declared.event.Event.{Event}
 use Rattle.apex_types.specs.Line.{text_of}
 use Rattle.apex_types.specs.Sink.{TakesBeginning}
 use Rattle.apex_meaning.specs.CompiledCode.{section_of}
-use Rattle.apex_meaning.specs.Image.{Partition, Section, Table, Item, Image}
-use Rattle.apex_meaning.specs.ImageLimits.{IsSection, IsLawful}
+use Rattle.apex_meaning.specs.Image.{Partition, Table, Item, Image}
+use Rattle.apex_meaning.specs.ImageLimits.{IsSection}
 use Rattle.apex_meaning.specs.ImageReading.{Fault, image_at}
 use Rattle.apex_meaning.specs.Program.{Program}
 use Rattle.apex_meaning.specs.TwoMeanings.{source_trace, machine_trace}

@@ -1,6 +1,6 @@
 -- The partitions of a lawful image fit the processor, and are idle with nothing to do.
-use Rattle.std.proofs.Common.{◌≡◌, ℕ, zero, suc, ◌+◌, ◌≤◌, List, [], ◌∷◌, ◌++◌, length, map, replicate, Option, Some, None, refl, sym, ap, subst, ◌∙◌, arith, append_assoc}
-use Rattle.std.specs.Prelude.{ℤ, slice_get}
+use Rattle.std.proofs.Common.{◌≡◌, ℕ, zero, suc, ◌+◌, ◌≤◌, List, [], ◌∷◌, ◌++◌, length, map, replicate, Option, Some, None, refl, ap, subst, ◌∙◌, arith, append_assoc}
+use Rattle.std.specs.Prelude.{ℤ}
 use Rattle.std.proofs.lemmas.List.{length-map}
 use Rattle.std.proofs.lemmas.Option.{none-some, same_Some}
 use Rattle.apex_types.specs.declared.row.BodyRow.{BodyRow}
@@ -13,13 +13,12 @@ use Rattle.apex_meaning.specs.Kernel.{Fixed, Kernel}
 use Rattle.apex_meaning.specs.Partition.{Member}
 use Rattle.apex_meaning.specs.SourceControl.{or_init}
 use Rattle.apex_meaning.specs.Windows.{Schedule}
-use Rattle.apex_meaning.specs.ImageLimits.{EachBeside, IsRoutine, IsBody, IsHandler, IsProcess, IsSection, IsItem, IsLawful}
+use Rattle.apex_meaning.specs.ImageLimits.{EachBeside, IsRoutine, IsBody, IsHandler, IsProcess, IsSection, IsItem}
 use Rattle.apex_meaning.specs.MachineControl.{MachineControl}
 use Rattle.apex_meaning.specs.TwoMeanings.{body_of_row, init_row, handler_row, machine_row, no_control_for, section_engine, fresh_kernel, fixed_of, machine_member, machine_members}
 use Rattle.image.specs.declared.value.Image.{Image}
 use Rattle.image.specs.declared.item.PartitionItem.{PartitionItem}
 use Rattle.image.specs.Items.{item_of, items_of, section_of}
-use Rattle.image.specs.Views.{image_of}
 use Rattle.partition_base.specs.Sections.{IsFittingSection, engine_of_section}
 use Rattle.partition_base.specs.Slots.{AreFittingBodies}
 use Rattle.processor.specs.Fitting.{IsFittingRoutine, AreFitting, IsFittingBody}

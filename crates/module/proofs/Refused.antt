@@ -1,5 +1,5 @@
 -- What is refused, and for what.
-use Rattle.std.proofs.Common.{◌≡◌, ◌≢◌, ◌⊎◌, inl, inr, ℕ, zero, suc, ◌+◌, ◌≤◌, ◌<◌, Bool, true, false, List, [], ◌∷◌, ◌++◌, length, map, drop, Some, Result, Ok, Err, IfOk, IfErr, refl, sym, ap, subst, ◌∙◌, arith, append-nil}
+use Rattle.std.proofs.Common.{◌≡◌, inl, inr, ℕ, zero, suc, ◌+◌, ◌≤◌, ◌<◌, Bool, true, false, List, [], ◌∷◌, ◌++◌, length, map, drop, Some, Result, Ok, Err, IfOk, IfErr, refl, sym, ap, subst, ◌∙◌, arith, append-nil}
 use Rattle.std.specs.Prelude.{IsErr, IsErrAnd, ◌&&◌, ◌||◌, not, nat_le, nat_lt, slice_get}
 use Rattle.std.specs.List.{list_all, list_any}
 use Rattle.std.proofs.lemmas.Bool.{and_parts, leb-true, le-leb, le-ltb, ltb-false}
@@ -9,10 +9,6 @@ use Rattle.apex_meaning.specs.GrammarWords.{words_of}
 use Rattle.apex_meaning.specs.Image.{Partition, Table}
 use Rattle.apex_meaning.proofs.ReadPrograms.{written_once}
 use Rattle.apex_meaning.specs.Program.{Program}
-use Rattle.apex_meaning.specs.Syntax as written
-use Rattle.apex_meaning.specs.WellFormed.{verdict}
-use Rattle.pal.specs.Verdicts.{Refuses}
-use Rattle.pal_base.specs.Answers.{IsProgramOf, IsRefused}
 use Rattle.pal_base.specs.ProgramView.{program_of}
 use Rattle.pal_base.specs.declared.fault.PalFault.{PalFault}
 use Rattle.pal_base.specs.declared.fault.Refusal.{Refusal}
@@ -20,8 +16,8 @@ use Rattle.pal_base.specs.declared.fault.Refusal.TheVariants as refusal
 use Rattle.module.specs.Accepted.{IsAccepted, AreAccepted, IsTable}
 use Rattle.apex_meaning.specs.ImageSpelling.{spelling}
 use Rattle.module.specs.Built.{built_image, AreCoded, IsBuiltFrom}
-use Rattle.module.specs.Part.{is_program_of_part, is_table_of_part, is_built, declares_port}
-use Rattle.module.specs.Building.{IsNotAccepted, IsSourceRefused, IsFirstRefused, IsOffered, AreOffered, IsOutside, IsRefusedWith, IsRefusal, IsTableRefusal, IsSourceRefusal, AreSourceRefusals, IsLengthRefusal, IsProgramRefusal, is_too_long, unless_memory, refusal_of}
+use Rattle.module.specs.Part.{is_program_of_part, is_table_of_part, declares_port}
+use Rattle.module.specs.Building.{IsNotAccepted, IsFirstRefused, IsOffered, AreOffered, IsOutside, IsRefusedWith, IsRefusal, IsTableRefusal, IsSourceRefusal, AreSourceRefusals, IsLengthRefusal, IsProgramRefusal, is_too_long, unless_memory, refusal_of}
 use Rattle.module.specs.Sources.{programs_of, IsSource, AreSources, is_source_of_part}
 use Rattle.std.proofs.lemmas.List.{append_assoc}
 use Rattle.image.specs.Items.{partition_of}

@@ -1,6 +1,5 @@
 -- The trace of a built image is the trace of its sources.
-use Rattle.std.proofs.Common.{◌≡◌, ℕ, ◌+◌, ℤ, List, [], ◌∷◌, map, Option, Some, None, refl, sym, ap, subst}
-use Rattle.apex_types.specs.declared.event.Event.{Event}
+use Rattle.std.proofs.Common.{◌≡◌, ℕ, ◌+◌, ℤ, List, [], ◌∷◌, map, refl, ap, subst}
 use Rattle.apex_types.specs.declared.process.ProcessStatus.{ProcessStatus}
 use Rattle.apex_meaning.specs.CompiledCode.{section_of, process_rows, processes_place}
 use Rattle.apex_meaning.specs.Cost.{size_of_process}

@@ -1,5 +1,5 @@
 -- What building promises, and the parts of it.
-use Rattle.std.specs.Prelude.{◌≡◌, ◌≢◌, ◌⊎◌, ℕ, Bool, true, false, nat_lt, List, [], ◌∷◌, length, Result, Ok, Err}
+use Rattle.std.specs.Prelude.{◌≡◌, ◌≢◌, ◌⊎◌, ℕ, Bool, true, false, nat_lt, List, [], ◌∷◌, length, Ok, Err}
 use Rattle.std.specs.List.{list_any}
 use Rattle.apex_meaning.specs.Cost.{size_of}
 use Rattle.apex_meaning.specs.Image.{Partition, Table, Image}
@@ -16,7 +16,7 @@ use Rattle.pal_base.specs.declared.fault.Refusal.TheVariants as refusal
 use Rattle.window_table.specs.Answers.{AnswersText}
 use Rattle.window_table.specs.declared.fault.TableFault.TheVariants as table_fault
 use Rattle.module.specs.Accepted.{IsAccepted, AreAccepted, IsTable, IsModule}
-use Rattle.module.specs.Part.{is_image_of_part, is_table_of_part, is_program_of_part, is_built, declares_port}
+use Rattle.module.specs.Part.{is_image_of_part, is_table_of_part, is_built, declares_port}
 use Rattle.module.specs.declared.fault.BuildFault.{BuildFault}
 use Rattle.module.specs.declared.fault.BuildFault.TheVariants as fault
 

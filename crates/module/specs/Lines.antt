@@ -1,5 +1,5 @@
 -- What is shown of each fault of building and running.
-use Rattle.std.specs.Prelude.{ℕ, List, [], ◌∷◌, ◌++◌, codes}
+use Rattle.std.specs.Prelude.{ℕ, List, ◌++◌, codes}
 use Rattle.std.specs.Fmt.{decimal}
 use Rattle.pal_base.specs.Numbers.{refusal_number}
 use Rattle.pal_base.specs.declared.fault.Refusal.{Refusal}

@@ -2,6 +2,7 @@
 -- other parts of a program.
 use Rattle.std.specs.Prelude.{ℕ, Bool, ◌&&◌, nat_le, List, [], ◌∷◌, length, map, flat_map, filter_map, option_map}
 use Rattle.std.specs.List.{list_all}
+use Rattle.apex_types.specs.declared.identity.TheConstants.{MOST_PROCESSES}
 use Rattle.apex_meaning.specs.Resolve.{Entry, no_counts, counts_of, words_of, semaphore_of, buffer_of, blackboard_of, procedure_of, resolve_stack_body, resolve_process}
 use Rattle.apex_meaning.specs.Syntax as written
 use Rattle.apex_meaning.specs.Program as tree
@@ -18,7 +19,7 @@ abbrev pub limits_hold_among : List Entry → written.Program → Bool
 limits_hold_among declared p =
     keeps_counts no_counts p.declarations && list_all (keeps_declaration declared) p.declarations
     && keeps_stack_body declared p.init.stack p.init.body && keeps_handler declared p.handler
-    && list_all (keeps_process declared) p.processes && nat_le (length p.processes) 31
+    && list_all (keeps_process declared) p.processes && nat_le (length p.processes) MOST_PROCESSES
 
 abbrev pub resolve_among : List Entry → written.Program → tree.Program
 resolve_among declared p = record {

@@ -17,7 +17,7 @@ use crate::meanings::Counts;
 use crate::numbers::value_of;
 use crate::resolving::{limited_count, resolve_body, resolve_statements};
 use crate::table::{NameTable, text_of};
-use apex_types::Name;
+use apex_types::{MOST_PROCESSES, Name};
 use indexmap::IndexSet;
 use pal_base::frames::{frame_of_body, frame_of_procedure};
 use pal_base::syntax::{
@@ -60,9 +60,9 @@ fn count_fault(declarations: &[Declaration]) -> Option<u32>
 }
 
 fn process_count_fault(processes: &[Process]) -> Option<u32>
-    ensures { is_none result ≡ nat_le (length processes.now) 31 }
+    ensures { is_none result ≡ nat_le (length processes.now) MOST_PROCESSES }
 {
-    match processes.get(31) {
+    match processes.get(usize::from(MOST_PROCESSES)) {
         Some(process) => Some(process.line),
         None => None,
     }

@@ -12,10 +12,13 @@ ghost use Rattle.pal.specs.Tables.{entries_of, counts_of};
 use crate::lines::{earlier, unless};
 use crate::numbers::{limited, value_of};
 use crate::table::{NameTable, text_of};
-use apex_types::{Denotation, ObjectKind, Place, PortRow};
+use apex_types::{Denotation, MOST_PROCESSES, ObjectKind, Place, PortRow};
 use indexmap::IndexSet;
 use pal_base::syntax::{Declaration, DeclarationKind, Process, Program};
 use std::alloc::{AllocError, Global};
+
+/// The most processes of a program.
+const PROCESSES: u32 = MOST_PROCESSES as u32;
 
 /// How many words of data and how many of each kind are declared.
 #[derive(Clone, Copy)]
@@ -206,10 +209,10 @@ fn enter_processes<'a>(
     let mut fault = None;
     for process in processes {
         let text = text_of(names, process.name.name);
-        let number = next(31, count);
+        let number = next(PROCESSES, count);
         let is_new = table.enter(text, Denotation::Object(ObjectKind::Process, number))?;
         fault = earlier(fault, unless(is_new, process.line));
-        count = counted(31, count, 1).unwrap_or(count);
+        count = counted(PROCESSES, count, 1).unwrap_or(count);
     }
     Ok(fault)
 }

@@ -10,7 +10,9 @@ ghost use Rattle.apex_meaning.specs.TwoMeanings.{fresh_kernel, machine_row};
 ghost use Rattle.partition.specs.View.{fixed_of};
 
 use crate::fixed::Fixed;
-use apex_types::{At, ErrorKind, Mode, Name, Out, ProcessRow, Runner, StartCondition, Subject};
+use apex_types::{
+    At, ErrorKind, MOST_PROCESSES, Mode, Name, Out, ProcessRow, Runner, StartCondition, Subject,
+};
 use process_table_base::ProcessTable;
 use std::alloc::{AllocError, Global};
 use std::marker::Model;
@@ -38,7 +40,7 @@ impl Model for Kernel {
 impl Kernel {
     /// A partition in idle mode with nothing created, of these processes. An error is one of memory.
     pub fn new(alloc: Global, fixed: Fixed, processes: &[ProcessRow]) -> Result<Kernel, AllocError>
-        requires { length processes.now ≤ 31 }
+        requires { length processes.now ≤ MOST_PROCESSES }
         ensures { IfOk result (λ kernel. kernel ≡ fresh_kernel (fixed_of fixed) (map machine_row processes.now)) }
     {
         Ok(Kernel {

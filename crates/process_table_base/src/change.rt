@@ -9,8 +9,8 @@ ghost use Rattle.apex_meaning.specs.Step as step;
 
 use crate::table::ProcessTable;
 use apex_types::{
-    Action, Due, EventKind, Out, ProcessState, ProcessStatus, ReturnCode, Runner, Service, Subject,
-    Wait, Words,
+    Action, Due, EventKind, MOST_RUNNERS, Out, ProcessState, ProcessStatus, ReturnCode, Runner,
+    Service, Subject, Wait, Words,
 };
 
 /// A service ends with a code and its outputs: its line, then the answer to the process.
@@ -71,7 +71,7 @@ impl ProcessTable {
 
     /// It becomes ready and goes last. One that is suspended waits on until it is resumed.
     pub fn wake(&mut self, runner: Runner, row: ProcessStatus, out: &mut Out)
-        requires runner { place_of runner < 33 }
+        requires runner { place_of runner < MOST_RUNNERS }
         requires room { HasRoom 1 out.old }
         ensures step { IsMade (meaning.wakes self.old runner row) self.new out.old out.new }
         ensures grows { Grows 1 out.old out.new }

@@ -11,8 +11,8 @@ ghost use Rattle.process_table_base.specs.Treating.{IsTreated};
 use crate::change::answer;
 use crate::table::ProcessTable;
 use apex_types::{
-    Action, At, Due, ErrorKind, EventKind, Mode, Out, PartitionAction, ProcessIndex, ProcessStatus,
-    Response, ReturnCode, Runner, Ticks, Wait, Words,
+    Action, At, Due, ErrorKind, EventKind, MOST_RUNNERS, Mode, Out, PartitionAction, ProcessIndex,
+    ProcessStatus, Response, ReturnCode, Runner, Ticks, Wait, Words,
 };
 
 /// What the treatment of processes comes to beside its lines: how many more errors may wait for the
@@ -45,7 +45,7 @@ impl ProcessTable {
 
     /// The service in which a process waits answers, if it waits in one; then it is ready.
     pub fn release(&mut self, runner: Runner, row: ProcessStatus, code: ReturnCode, out: &mut Out)
-        requires runner { place_of runner < 33 }
+        requires runner { place_of runner < MOST_RUNNERS }
         requires room { HasRoom 2 out.old }
         ensures step { IsMade (meaning.released self.old runner row code) self.new out.old out.new }
         ensures grows { Grows 2 out.old out.new }
@@ -56,7 +56,7 @@ impl ProcessTable {
 
     /// A release point is kept, a delay is over, or a wait was in vain.
     fn end_wait(&mut self, runner: Runner, row: ProcessStatus, due: Due, out: &mut Out)
-        requires runner { place_of runner < 33 }
+        requires runner { place_of runner < MOST_RUNNERS }
         requires room { HasRoom 2 out.old }
         ensures step { IsMade (meaning.ends_wait self.old runner row due) self.new out.old out.new }
         ensures grows { Grows 2 out.old out.new }
@@ -81,7 +81,7 @@ impl ProcessTable {
     }
 
     fn treat_due(&mut self, at: At, runner: Runner, row: ProcessStatus, out: &mut Out)
-        requires runner { place_of runner < 33 }
+        requires runner { place_of runner < MOST_RUNNERS }
         requires room { HasRoom 2 out.old }
         ensures step { IsMade (meaning.treats_due at self.old runner row row.due) self.new out.old out.new }
         ensures grows { Grows 2 out.old out.new }

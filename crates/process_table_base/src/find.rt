@@ -5,14 +5,14 @@ ghost use Rattle.apex_types.specs.Runners.{place_of};
 ghost use Rattle.apex_meaning.specs.Processes as meaning;
 
 use crate::table::ProcessTable;
-use apex_types::{Lock, ProcessIndex, ProcessState, ProcessStatus, Runner};
+use apex_types::{Lock, MOST_RUNNERS, ProcessIndex, ProcessState, ProcessStatus, Runner};
 
 impl ProcessTable {
     /// The process with a number, with its record.
     #[tactic(auto, using(apex_meaning::proofs::Numbers::numbers))]
     pub fn process_at(&self, id: i64) -> Option<(Runner, ProcessStatus)>
         ensures found { result ≡ meaning.process_at self.now id }
-        ensures within { IfSome result (λ found. place_of found.0 < 33) }
+        ensures within { IfSome result (λ found. place_of found.0 < MOST_RUNNERS) }
     {
         if id < 1 || id > i64::from(self.count()) {
             return None;
@@ -52,7 +52,7 @@ impl ProcessTable {
 
     /// A ready process goes behind its equals.
     pub fn go_last(&mut self, runner: Runner, row: ProcessStatus)
-        requires { place_of runner < 33 }
+        requires { place_of runner < MOST_RUNNERS }
         ensures { self.new ≡ meaning.put_ready self.old runner row }
     {
         self.put_ready(runner, row);

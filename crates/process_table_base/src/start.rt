@@ -8,7 +8,10 @@ ghost use Rattle.apex_meaning.specs.ProcessServices as meaning;
 ghost use Rattle.apex_meaning.specs.Step.{IsMade};
 
 use crate::table::ProcessTable;
-use apex_types::{Action, At, Mode, Out, ProcessIndex, ProcessStatus, Runner, Ticks, Wait};
+use apex_types::{
+    Action, At, MOST_PROCESSES, MOST_RUNNERS, Mode, Out, ProcessIndex, ProcessStatus, Runner,
+    Ticks, Wait,
+};
 
 impl ProcessTable {
     /// A process starts its body with a fresh stack and its base priority: in normal mode it is
@@ -22,7 +25,7 @@ impl ProcessTable {
         row: ProcessStatus,
         out: &mut Out,
     )
-        requires process { place_of process < 33 }
+        requires process { place_of process < MOST_RUNNERS }
         requires room { HasRoom 2 out.old }
         ensures step { IsMade (meaning.starts mode at self.old process delay row) self.new out.old out.new }
         ensures grows { Grows 1 out.old out.new }
@@ -41,7 +44,7 @@ impl ProcessTable {
 
     /// In normal mode a process starts at its release point.
     fn start_in_normal(&mut self, at: At, process: Runner, row: ProcessStatus, out: &mut Out)
-        requires process { place_of process < 33 }
+        requires process { place_of process < MOST_RUNNERS }
         requires room { HasRoom 1 out.old }
         ensures step { IsMade (meaning.starts_in_normal at self.old process row) self.new out.old out.new }
         ensures grows { Grows 1 out.old out.new }
@@ -69,9 +72,9 @@ impl ProcessTable {
     /// Each process that was started before normal mode takes the normal case of its start, in
     /// number order.
     pub fn start_all_waiting(&mut self, at: At, out: &mut Out)
-        requires { HasRoom 31 out.old }
+        requires { HasRoom MOST_PROCESSES out.old }
         ensures step { IsMade (meaning.start_all_waiting at self.old) self.new out.old out.new }
-        ensures grows { Grows 31 out.old out.new }
+        ensures grows { Grows MOST_PROCESSES out.old out.new }
     {
         let mut left = self.count().saturating_sub(2);
         let mut place = 0u8;

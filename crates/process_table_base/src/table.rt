@@ -10,7 +10,8 @@ ghost use Rattle.apex_meaning.specs.TwoMeanings.{fresh_row, fresh_processes, ini
 
 use crate::order::{self, Order};
 use apex_types::{
-    Lock, Mode, Priority, ProcessRow, ProcessState, ProcessStatus, Runner, Subject, Ticks, Wait,
+    Lock, MOST_PROCESSES, MOST_RUNNERS, Mode, Priority, ProcessRow, ProcessState, ProcessStatus,
+    Runner, Subject, Ticks, Wait,
 };
 use std::alloc::{AllocError, Global};
 use std::marker::Model;
@@ -90,7 +91,7 @@ fn fresh_rows(alloc: Global, processes: &[ProcessRow]) -> Result<Vec<ProcessStat
 impl ProcessTable {
     /// No process is created, and none runs. An error is one of memory.
     pub fn new(alloc: Global, processes: &[ProcessRow]) -> Result<ProcessTable, AllocError>
-        requires { length processes.now ≤ 31 }
+        requires { length processes.now ≤ MOST_PROCESSES }
         ensures { IfOk result (λ table. table ≡ fresh_processes (map machine_row processes.now)) }
     {
         Ok(ProcessTable {
@@ -104,7 +105,7 @@ impl ProcessTable {
     /// The record of INIT, of the handler or of a process, where there is such a process.
     pub fn row(&self, runner: Runner) -> Option<ProcessStatus>
         ensures row { result ≡ meaning.row_of self.now runner }
-        ensures within { IfSome result (λ row. place_of runner < 33) }
+        ensures within { IfSome result (λ row. place_of runner < MOST_RUNNERS) }
     {
         self.rows.get(runner.place()).copied()
     }
@@ -112,7 +113,7 @@ impl ProcessTable {
     /// How many records there are.
     pub(crate) fn count(&self) -> u8
         ensures count { result ≡ length self.now.rows }
-        ensures few { result ≤ 33 }
+        ensures few { result ≤ MOST_RUNNERS }
     {
         self.rows.len() as u8
     }
@@ -168,7 +169,7 @@ impl ProcessTable {
     }
 
     pub(crate) fn put_ready(&mut self, runner: Runner, row: ProcessStatus)
-        requires { place_of runner < 33 }
+        requires { place_of runner < MOST_RUNNERS }
         ensures { self.new ≡ meaning.put_ready self.old runner row }
     {
         let priority = row.current_priority;

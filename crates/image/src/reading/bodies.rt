@@ -11,7 +11,7 @@ use crate::reading::numbers::{
     i64_at, name_at, same_name, u8_within, u16_within, u32_at, u32_within,
 };
 use crate::reading::rows::{Row, list_at, rows_at};
-use apex_types::{BodyRow, Name, Priority, ProcessRow, RoutineRow};
+use apex_types::{BodyRow, MOST_PROCESSES, Name, Priority, ProcessRow, RoutineRow};
 use std::alloc::Global;
 
 /// The greatest finite duration in ticks.
@@ -186,9 +186,9 @@ fn process_list_at(
     bytes: &[u8],
 ) -> Result<(Vec<ProcessRow>, &[u8]), ImageFault>
     requires { 0 < unit }
-    ensures { Gives (λ x. (x.0.items, x.1.now)) result (list_at 0 31 (process_at unit) bytes.now) }
+    ensures { Gives (λ x. (x.0.items, x.1.now)) result (list_at 0 MOST_PROCESSES (process_at unit) bytes.now) }
 {
-    let (count, rest) = u32_within(bytes, 0, 31)?;
+    let (count, rest) = u32_within(bytes, 0, u32::from(MOST_PROCESSES))?;
     processes_at(alloc, unit, count, rest)
 }
 

@@ -1,9 +1,9 @@
-use Rattle.std.proofs.Common.{rules, refl, ◌∙◌, arith}
+use Rattle.std.proofs.Common.{refl, arith}
 use Rattle.apex_types.specs.Line.{text_of}
 use Rattle.apex_types.specs.Sink.{TakesBeginning}
 use Rattle.apex_types.proofs.Writing.{err_at}
 use Rattle.apex_meaning.specs.Module as meaning
-use Rattle.module.specs.Views.{members_of, module_of}
+use Rattle.module.specs.Views.{module_of}
 use Rattle.module.proofs.Texts.{whole_text, first_fails, second_fails, on_err}
 use Rattle.module.proofs.running.run_module.Goals as goal
 

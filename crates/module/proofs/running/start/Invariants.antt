@@ -1,4 +1,4 @@
-use Rattle.std.proofs.Common.{◌≡◌, ◌-◌, ◌≤◌, [], length, drop}
+use Rattle.std.proofs.Common.{◌≡◌, ◌-◌, [], length, drop}
 use Rattle.std.specs.List.{flat_map}
 use Rattle.apex_types.proofs.Writing.{IsUnderWay}
 use Rattle.apex_types.specs.Line.{text_of}

@@ -1,4 +1,4 @@
-use Rattle.std.proofs.Common.{◌≡◌, ◌≤◌, length, drop}
+use Rattle.std.proofs.Common.{◌≡◌, drop}
 use Rattle.partition.specs.Members.{member_at, IsWhole, acts_all}
 use Rattle.partition.proofs.acting.act_all.Given as goal
 

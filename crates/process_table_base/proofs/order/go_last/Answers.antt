@@ -1,4 +1,3 @@
-use Rattle.std.proofs.Common.{arith}
 use Rattle.apex_meaning.proofs.ReadyLists.{length-without, IsListed-goes_last}
 use Rattle.process_table_base.proofs.order.go_last.Goals as goal
 

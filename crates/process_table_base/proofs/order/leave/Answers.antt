@@ -1,9 +1,8 @@
 -- what passes the test is left
-use Rattle.std.proofs.Common.{ℕ, not, refl, rules, ◌≡◌, List, subst, sym}
+use Rattle.std.proofs.Common.{not, rules}
 use Rattle.arrayvec.proofs.ArrayVecLemmas.{filter-from_retain}
 use Rattle.apex_types.specs.declared.process.Entry.{Entry}
-use Rattle.apex_meaning.specs.Processes.{is_entry_of, without}
-use Rattle.apex_meaning.specs.Ready.{IsListed}
+use Rattle.apex_meaning.specs.Processes.{is_entry_of}
 use Rattle.apex_meaning.proofs.ReadyLists.{IsListed-without}
 use Rattle.process_table_base.proofs.order.leave.Goals as goal
 

@@ -1,4 +1,4 @@
-use Rattle.std.proofs.Common.{◌≡◌, ◌++◌, ◌∙◌, sym, ap, arith}
+use Rattle.std.proofs.Common.{◌++◌, ◌∙◌, sym, ap, arith}
 use Rattle.apex_meaning.specs.Due.{Treated}
 use Rattle.apex_meaning.proofs.Steps.{goes_on, due_ends, due_rest}
 use Rattle.process_table_base.proofs.table.ProcessTable.due.Goals as goal

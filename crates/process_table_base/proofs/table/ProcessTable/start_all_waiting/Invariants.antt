@@ -1,5 +1,4 @@
-use Rattle.std.proofs.Common.{◌≡◌, ◌+◌, ◌-◌, ◌≤◌, ◌++◌, length}
-use Rattle.apex_meaning.specs.Processes.{Processes}
+use Rattle.std.proofs.Common.{◌≡◌, ◌+◌, ◌≤◌, ◌++◌, length}
 use Rattle.apex_meaning.specs.ProcessServices.{start_from, start_all_waiting}
 use Rattle.process_table_base.proofs.table.ProcessTable.start_all_waiting.Given as goal
 
