@@ -6,7 +6,8 @@ use Rattle.apex_meaning.specs.Program.{Procedure, Body, Expr, Links, Exprs, Stmt
 use Rattle.apex_meaning.specs.Program.{Literal, Read, Element, Unary, Chain, Apply, NoLink, MoreLinks, NoExpr, MoreExprs}
 use Rattle.apex_meaning.specs.Program.{Assign, AssignElement, If, IfElse, While, Work, Return, CallService, NoStmt, MoreStmts}
 use Rattle.apex_meaning.specs.SourceControl.{Part, Evaluate, Execute, Do, Simple, Value, ReadElement, OperateOne, OperateTwo, Open, WriteScalar, WriteElement, Choose, ChooseElse, Repeat, ReturnValue, Ask, EndBody, Front, links_then, exprs_then, block_then, targets_then, front_of_expr, front_of_exprs, front_of_stmt, front_of, cost_of_simple, parts_of_body, parts_of_procedure}
-use Rattle.apex_meaning.specs.Cost.{costs_of_expr, costs_of_links, costs_of_exprs, costs_of_stmt, costs_of_block, costs_of_procedure, costs_of_body, scalar_cost}
+use Rattle.apex_types.specs.declared.cost.TheConstants.{SCALAR_COST}
+use Rattle.apex_meaning.specs.Cost.{costs_of_expr, costs_of_links, costs_of_exprs, costs_of_stmt, costs_of_block, costs_of_procedure, costs_of_body}
 use Rattle.apex_meaning.specs.Constructs.{constructs_of_expr, constructs_of_links, constructs_of_exprs, constructs_of_stmt, constructs_of_block, with_held, constructs_of}
 
 links_constructs : (ls : Links) (r : List Part) → constructs_of (links_then ls r) ≡ constructs_of_links ls ++ constructs_of r
@@ -75,9 +76,9 @@ mutual
   exprs_costs NoExpr = refl
   exprs_costs (MoreExprs e es) = simp (expr_costs e, exprs_costs es, map-append)
 
-targets_costs : (ts : List Place) → map (λ _. scalar_cost) ts ≡ map cost_of_simple (map WriteScalar ts)
+targets_costs : (ts : List Place) → map (λ _. SCALAR_COST) ts ≡ map cost_of_simple (map WriteScalar ts)
 targets_costs [] = refl
-targets_costs (t ∷ ts) = ap (λ xs. scalar_cost ∷ xs) (targets_costs ts)
+targets_costs (t ∷ ts) = ap (λ xs. SCALAR_COST ∷ xs) (targets_costs ts)
 
 mutual
   stmt_costs : (s : Stmt) → costs_of_stmt s ≡ map cost_of_simple (constructs_of_stmt s)

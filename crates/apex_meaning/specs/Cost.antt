@@ -3,51 +3,22 @@
 -- stands around it.
 use Rattle.std.specs.Prelude.{ℕ, ◌+◌, List, [], ◌∷◌, ◌++◌, length, map, Option, Some, None, max}
 use Rattle.std.specs.List.{sum, sum_by}
+use Rattle.apex_types.specs.declared.cost.TheConstants.{LITERAL_COST, SCALAR_COST, ELEMENT_COST, UNARY_COST, BRANCH_COST, JUMP_COST, CALL_COST, RETURN_COST, END_COST}
 use Rattle.apex_meaning.specs.Operators.{cost_of_binary}
 use Rattle.apex_meaning.specs.ServiceTable.{cost_of_service, answer_words}
 use Rattle.apex_meaning.specs.Program.{Program, Procedure, Body, Process, Expr, Links, Exprs, Stmt, Block}
 use Rattle.apex_meaning.specs.Program.{Literal, Read, Element, Unary, Chain, Apply, NoLink, MoreLinks, NoExpr, MoreExprs}
 use Rattle.apex_meaning.specs.Program.{Assign, AssignElement, If, IfElse, While, Work, Return, CallService, NoStmt, MoreStmts}
 
--- ticks of a construct: a literal; the read or write of a scalar, of an array element; a unary
--- operator; a branch; a jump (leaving a then part that has an else, or going back to the test of a
--- while); a call of a procedure; a return; the end of the body of INIT, the handler or a process
-abbrev pub literal_cost : ℕ
-literal_cost = 1
-
-abbrev pub scalar_cost : ℕ
-scalar_cost = 1
-
-abbrev pub element_cost : ℕ
-element_cost = 2
-
-abbrev pub unary_cost : ℕ
-unary_cost = 1
-
-abbrev pub branch_cost : ℕ
-branch_cost = 1
-
-abbrev pub jump_cost : ℕ
-jump_cost = 1
-
-abbrev pub call_cost : ℕ
-call_cost = 3
-
-abbrev pub return_cost : ℕ
-return_cost = 2
-
-abbrev pub end_cost : ℕ
-end_cost = 4
-
 -- the costs of the constructs of an expression, in the order in which they take effect
 abbrev mutual
   pub costs_of_expr : Expr → List ℕ
-  costs_of_expr (Literal value) = literal_cost ∷ []
-  costs_of_expr (Read place) = scalar_cost ∷ []
-  costs_of_expr (Element place size index) = costs_of_expr index ++ (element_cost ∷ [])
-  costs_of_expr (Unary operator operand) = costs_of_expr operand ++ (unary_cost ∷ [])
+  costs_of_expr (Literal value) = LITERAL_COST ∷ []
+  costs_of_expr (Read place) = SCALAR_COST ∷ []
+  costs_of_expr (Element place size index) = costs_of_expr index ++ (ELEMENT_COST ∷ [])
+  costs_of_expr (Unary operator operand) = costs_of_expr operand ++ (UNARY_COST ∷ [])
   costs_of_expr (Chain first rest) = costs_of_expr first ++ costs_of_links rest
-  costs_of_expr (Apply procedure arguments) = costs_of_exprs arguments ++ (call_cost ∷ [])
+  costs_of_expr (Apply procedure arguments) = costs_of_exprs arguments ++ (CALL_COST ∷ [])
 
   pub costs_of_links : Links → List ℕ
   costs_of_links NoLink = []
@@ -60,14 +31,14 @@ abbrev mutual
 -- The same for a statement. A service costs by its kind, and writing a target as much as a scalar.
 abbrev mutual
   pub costs_of_stmt : Stmt → List ℕ
-  costs_of_stmt (Assign place value) = costs_of_expr value ++ (scalar_cost ∷ [])
-  costs_of_stmt (AssignElement place size index value) = costs_of_expr index ++ costs_of_expr value ++ (element_cost ∷ [])
-  costs_of_stmt (If test then) = costs_of_expr test ++ (branch_cost ∷ costs_of_block then)
-  costs_of_stmt (IfElse test then other) = costs_of_expr test ++ (branch_cost ∷ costs_of_block then) ++ (jump_cost ∷ costs_of_block other)
-  costs_of_stmt (While test block) = costs_of_expr test ++ (branch_cost ∷ costs_of_block block) ++ (jump_cost ∷ [])
+  costs_of_stmt (Assign place value) = costs_of_expr value ++ (SCALAR_COST ∷ [])
+  costs_of_stmt (AssignElement place size index value) = costs_of_expr index ++ costs_of_expr value ++ (ELEMENT_COST ∷ [])
+  costs_of_stmt (If test then) = costs_of_expr test ++ (BRANCH_COST ∷ costs_of_block then)
+  costs_of_stmt (IfElse test then other) = costs_of_expr test ++ (BRANCH_COST ∷ costs_of_block then) ++ (JUMP_COST ∷ costs_of_block other)
+  costs_of_stmt (While test block) = costs_of_expr test ++ (BRANCH_COST ∷ costs_of_block block) ++ (JUMP_COST ∷ [])
   costs_of_stmt (Work ticks) = ticks ∷ []
-  costs_of_stmt (Return value) = costs_of_expr value ++ (return_cost ∷ [])
-  costs_of_stmt (CallService service arguments targets) = costs_of_exprs arguments ++ (cost_of_service service ∷ map (λ _. scalar_cost) targets)
+  costs_of_stmt (Return value) = costs_of_expr value ++ (RETURN_COST ∷ [])
+  costs_of_stmt (CallService service arguments targets) = costs_of_exprs arguments ++ (cost_of_service service ∷ map (λ _. SCALAR_COST) targets)
 
   pub costs_of_block : Block → List ℕ
   costs_of_block NoStmt = []
@@ -75,10 +46,10 @@ abbrev mutual
 
 -- a procedure closes with a literal 0 and a return
 abbrev pub costs_of_procedure : Procedure → List ℕ
-costs_of_procedure p = costs_of_block p.block ++ (literal_cost ∷ return_cost ∷ [])
+costs_of_procedure p = costs_of_block p.block ++ (LITERAL_COST ∷ RETURN_COST ∷ [])
 
 abbrev pub costs_of_body : Body → List ℕ
-costs_of_body b = costs_of_block b.block ++ (end_cost ∷ [])
+costs_of_body b = costs_of_block b.block ++ (END_COST ∷ [])
 
 -- Their number, which is that of the instructions, and the sum of their costs.
 abbrev pub size_of_expr : Expr → ℕ

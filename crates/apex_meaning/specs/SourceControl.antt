@@ -18,7 +18,8 @@ use Rattle.apex_meaning.specs.Program.{Assign, AssignElement, If, IfElse, While,
 use Rattle.apex_meaning.specs.Operators.{apply_binary, apply_unary, is_zero, element_at, cost_of_binary}
 use Rattle.apex_meaning.specs.ServiceTable.{argument_words, answer_words, cost_of_service, call_of, array_of, has_array_within}
 use Rattle.apex_meaning.specs.Engine.{Engine, Ticked, Asks, Nothing, Calls, Faults, Ends}
-use Rattle.apex_meaning.specs.Cost.{literal_cost, scalar_cost, element_cost, unary_cost, branch_cost, jump_cost, call_cost, return_cost, end_cost, frame_of_procedure}
+use Rattle.apex_types.specs.declared.cost.TheConstants.{LITERAL_COST, SCALAR_COST, ELEMENT_COST, UNARY_COST, BRANCH_COST, JUMP_COST, CALL_COST, RETURN_COST, END_COST}
+use Rattle.apex_meaning.specs.Cost.{frame_of_procedure}
 
 -- A simple construct. `Choose`, `ChooseElse` and `Repeat` are the branches of if and while, `Leave`
 -- leaves a then part that has an else, `GoBack` goes back to the test of a while.
@@ -124,23 +125,23 @@ front_of (Do construct ∷ rest) = front construct rest
 
 -- the ticks of a simple construct
 abbrev pub cost_of_simple : Simple → ℕ
-cost_of_simple (Value value) = literal_cost
-cost_of_simple (ReadScalar place) = scalar_cost
-cost_of_simple (ReadElement place size) = element_cost
-cost_of_simple (OperateOne operator) = unary_cost
+cost_of_simple (Value value) = LITERAL_COST
+cost_of_simple (ReadScalar place) = SCALAR_COST
+cost_of_simple (ReadElement place size) = ELEMENT_COST
+cost_of_simple (OperateOne operator) = UNARY_COST
 cost_of_simple (OperateTwo operator) = cost_of_binary operator
-cost_of_simple (Open procedure) = call_cost
-cost_of_simple (WriteScalar place) = scalar_cost
-cost_of_simple (WriteElement place size) = element_cost
-cost_of_simple (Choose block) = branch_cost
-cost_of_simple (ChooseElse block other) = branch_cost
-cost_of_simple (Repeat test block) = branch_cost
-cost_of_simple Leave = jump_cost
-cost_of_simple (GoBack test block) = jump_cost
+cost_of_simple (Open procedure) = CALL_COST
+cost_of_simple (WriteScalar place) = SCALAR_COST
+cost_of_simple (WriteElement place size) = ELEMENT_COST
+cost_of_simple (Choose block) = BRANCH_COST
+cost_of_simple (ChooseElse block other) = BRANCH_COST
+cost_of_simple (Repeat test block) = BRANCH_COST
+cost_of_simple Leave = JUMP_COST
+cost_of_simple (GoBack test block) = JUMP_COST
 cost_of_simple (Spend ticks) = ticks
-cost_of_simple ReturnValue = return_cost
+cost_of_simple ReturnValue = RETURN_COST
 cost_of_simple (Ask service) = cost_of_service service
-cost_of_simple EndBody = end_cost
+cost_of_simple EndBody = END_COST
 
 -- the words of stack that open calls take: each its slots, 2 and its values that wait
 abbrev pub taken : List OpenCall → ℕ

@@ -3,6 +3,7 @@
 -- What a service takes, answers and costs follows from its row.
 use Rattle.std.specs.Prelude.{ℕ, ◌+◌, Bool, true, false, List, [], ◌∷◌, codes, if◌then◌else◌}
 use Rattle.std.specs.List.{sum_by, list_any}
+use Rattle.apex_types.specs.declared.cost.TheConstants.{CREATION_COST, ARRAY_SERVICE_COST, SERVICE_COST}
 use Rattle.apex_types.specs.declared.denotation.ObjectKind.TheVariants as object
 use Rattle.apex_types.specs.declared.shape.ArgumentKind.{ArgumentKind}
 use Rattle.apex_types.specs.declared.shape.ArgumentKind.TheVariants as argument
@@ -115,9 +116,9 @@ class_of s = if (shape s).creates then Creation else if list_any is_array (argum
 
 -- what a service of each class costs in ticks
 abbrev pub cost_of_class : ServiceClass → ℕ
-cost_of_class Creation = 8
-cost_of_class WithArray = 6
-cost_of_class Other = 4
+cost_of_class Creation = CREATION_COST
+cost_of_class WithArray = ARRAY_SERVICE_COST
+cost_of_class Other = SERVICE_COST
 
 abbrev pub cost_of_service : Service → ℕ
 cost_of_service s = cost_of_class (class_of s)

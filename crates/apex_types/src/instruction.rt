@@ -2,6 +2,8 @@
 
 ghost use Rattle.std.specs.Prelude.{◌≡◌};
 
+use crate::cost::{BINARY_COST, DIVIDE_COST, MULTIPLY_COST};
+
 /// An operator that takes two operands.
 #[derive(Clone, Copy, Debug, PartialEq, Eq)]
 pub enum BinaryOperator {
@@ -28,9 +30,9 @@ impl BinaryOperator {
         ensures { result ≡ cost_of_binary self }
     {
         match self {
-            BinaryOperator::Multiply => 2,
-            BinaryOperator::Divide | BinaryOperator::Remainder => 4,
-            _ => 1,
+            BinaryOperator::Multiply => MULTIPLY_COST,
+            BinaryOperator::Divide | BinaryOperator::Remainder => DIVIDE_COST,
+            _ => BINARY_COST,
         }
     }
 }

@@ -5,6 +5,7 @@
 
 pub mod call;
 pub mod codes;
+pub mod cost;
 pub mod denotation;
 pub mod event;
 pub mod identity;
@@ -23,6 +24,11 @@ pub use call::{array_of, call_of, services_are_numbered};
 pub use codes::{
     Discipline, ErrorKind, ErrorLevel, Mode, ModuleAction, PartitionAction, ProcessState, Response,
     ReturnCode, StartCondition,
+};
+pub use cost::{
+    ARRAY_SERVICE_COST, BINARY_COST, BRANCH_COST, CALL_COST, CREATION_COST, DIVIDE_COST,
+    ELEMENT_COST, END_COST, JUMP_COST, LITERAL_COST, MULTIPLY_COST, REGION_COST, RETURN_COST,
+    SCALAR_COST, SERVICE_COST, UNARY_COST, UNKNOWN_COST,
 };
 pub use denotation::{Denotation, ObjectKind};
 pub use event::{Event, EventKind, Events, Subject, Words};

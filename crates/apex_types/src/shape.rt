@@ -2,6 +2,7 @@
 
 ghost use Rattle.std.specs.Prelude.{◌≡◌, ◌≤◌, length, true, false};
 
+use crate::cost::{ARRAY_SERVICE_COST, CREATION_COST, SERVICE_COST};
 use crate::denotation::ObjectKind;
 use crate::service::Service;
 
@@ -23,9 +24,9 @@ impl ServiceClass {
         ensures { result ≡ cost_of_class self }
     {
         match self {
-            ServiceClass::Creation => 8,
-            ServiceClass::WithArray => 6,
-            ServiceClass::Other => 4,
+            ServiceClass::Creation => CREATION_COST,
+            ServiceClass::WithArray => ARRAY_SERVICE_COST,
+            ServiceClass::Other => SERVICE_COST,
         }
     }
 }

@@ -1,6 +1,7 @@
 //! What the constructs of a program's parts come to: how many they are, and their ticks.
 
 ghost use Rattle.std.specs.Prelude.{◌≡◌, ◌∷◌, ◌++◌, [], ℕ, List, map};
+ghost use Rattle.apex_types.specs.declared.cost.TheConstants as constant;
 ghost use Rattle.apex_meaning.specs.Cost as cost;
 ghost use Rattle.apex_meaning.specs.ServiceTable as services;
 ghost use Rattle.apex_meaning.specs.Operators as operators;
@@ -8,7 +9,10 @@ ghost use Rattle.pal_base.specs.ProgramView.{expr_of, exprs_of, links_of, stmt_o
 ghost use Rattle.pal_base.specs.Costs.{comes_to};
 
 use crate::program::{Body, Expr, Link, Procedure, Stmt};
-use apex_types::{Place, Service};
+use apex_types::{
+    BRANCH_COST, CALL_COST, ELEMENT_COST, END_COST, JUMP_COST, LITERAL_COST, Place, RETURN_COST,
+    SCALAR_COST, Service, UNARY_COST,
+};
 
 /// What constructs come to, each once: how many they are, and so how many instructions they become,
 /// and the sum of their ticks. What does not fit 64 bits is the greatest number that does.
@@ -63,11 +67,12 @@ pub fn cost_of_expr(expr: &Expr) -> Cost
     ensures { result ≡ comes_to (cost.costs_of_expr (expr_of expr.now)) }
 {
     match expr {
-        Expr::Literal(_) | Expr::Read(_) => Cost::one(1),
-        Expr::Element(_, _, index) => cost_of_expr(index).and(2),
-        Expr::Unary(_, operand) => cost_of_expr(operand).and(1),
+        Expr::Literal(_) => Cost::one(LITERAL_COST),
+        Expr::Read(_) => Cost::one(SCALAR_COST),
+        Expr::Element(_, _, index) => cost_of_expr(index).and(ELEMENT_COST),
+        Expr::Unary(_, operand) => cost_of_expr(operand).and(UNARY_COST),
         Expr::Chain(first, links) => cost_of_expr(first).plus(cost_of_links(links)),
-        Expr::Apply(_, arguments) => cost_of_exprs(arguments).and(3),
+        Expr::Apply(_, arguments) => cost_of_exprs(arguments).and(CALL_COST),
     }
 }
 
@@ -104,18 +109,18 @@ fn cost_of_exprs(exprs: &[Expr]) -> Cost
 
 /// The writes of the targets of a service.
 fn cost_of_targets(targets: &[Place]) -> Cost
-    ensures { result ≡ comes_to (map (λ _. cost.scalar_cost) targets.now) }
+    ensures { result ≡ comes_to (map (λ _. constant.SCALAR_COST) targets.now) }
 {
-    let count = targets.len() as u64;
-    Cost {
-        size: count,
-        ticks: count,
+    let mut cost = Cost::NONE;
+    for _ in targets {
+        cost = cost.and(SCALAR_COST);
     }
+    cost
 }
 
 /// A call of a service with its arguments, and the writes of its targets.
 fn cost_of_service(service: Service, arguments: &[Expr], targets: &[Place]) -> Cost
-    ensures { result ≡ comes_to (cost.costs_of_exprs (exprs_of arguments.now) ++ (services.cost_of_service service ∷ map (λ _. cost.scalar_cost) targets.now)) }
+    ensures { result ≡ comes_to (cost.costs_of_exprs (exprs_of arguments.now) ++ (services.cost_of_service service ∷ map (λ _. constant.SCALAR_COST) targets.now)) }
 {
     cost_of_exprs(arguments).joined_by(service.cost(), cost_of_targets(targets))
 }
@@ -126,17 +131,21 @@ fn cost_of_stmt(stmt: &Stmt) -> Cost
     ensures { result ≡ comes_to (cost.costs_of_stmt (stmt_of stmt.now)) }
 {
     match stmt {
-        Stmt::Assign(_, value) => cost_of_expr(value).and(1),
+        Stmt::Assign(_, value) => cost_of_expr(value).and(SCALAR_COST),
         Stmt::AssignElement(_, _, index, value) => {
-            cost_of_expr(index).plus(cost_of_expr(value)).and(2)
+            cost_of_expr(index)
+                .plus(cost_of_expr(value))
+                .and(ELEMENT_COST)
         }
-        Stmt::If(test, block) => cost_of_expr(test).joined_by(1, cost_of_block(block)),
+        Stmt::If(test, block) => cost_of_expr(test).joined_by(BRANCH_COST, cost_of_block(block)),
         Stmt::IfElse(test, block, other) => cost_of_expr(test)
-            .joined_by(1, cost_of_block(block))
-            .joined_by(1, cost_of_block(other)),
-        Stmt::While(test, block) => cost_of_expr(test).joined_by(1, cost_of_block(block)).and(1),
+            .joined_by(BRANCH_COST, cost_of_block(block))
+            .joined_by(JUMP_COST, cost_of_block(other)),
+        Stmt::While(test, block) => cost_of_expr(test)
+            .joined_by(BRANCH_COST, cost_of_block(block))
+            .and(JUMP_COST),
         Stmt::Work(ticks) => Cost::one(*ticks),
-        Stmt::Return(value) => cost_of_expr(value).and(2),
+        Stmt::Return(value) => cost_of_expr(value).and(RETURN_COST),
         Stmt::CallService(service, arguments, targets) => {
             cost_of_service(*service, arguments, targets)
         }
@@ -159,12 +168,12 @@ pub fn cost_of_block(block: &[Stmt]) -> Cost
 pub fn cost_of_body(body: &Body) -> Cost
     ensures { result ≡ comes_to (cost.costs_of_body (body_of body.now)) }
 {
-    cost_of_block(&body.block).and(4)
+    cost_of_block(&body.block).and(END_COST)
 }
 
 /// What the constructs of a procedure come to, the `return 0` with which it closes among them.
 pub fn cost_of_procedure(procedure: &Procedure) -> Cost
     ensures { result ≡ comes_to (cost.costs_of_procedure (procedure_of procedure.now)) }
 {
-    cost_of_block(&procedure.block).joined_by(1, Cost::one(2))
+    cost_of_block(&procedure.block).joined_by(LITERAL_COST, Cost::one(RETURN_COST))
 }

@@ -11,7 +11,11 @@ use crate::code::Code;
 use crate::context::Context;
 use crate::data::Data;
 use crate::outcome::Outcome;
-use apex_types::{BinaryOperator, ErrorKind, Instr, Service, UnaryOperator};
+use apex_types::{
+    BRANCH_COST, BinaryOperator, CALL_COST, ELEMENT_COST, END_COST, ErrorKind, Instr, JUMP_COST,
+    LITERAL_COST, REGION_COST, RETURN_COST, SCALAR_COST, Service, UNARY_COST, UNKNOWN_COST,
+    UnaryOperator,
+};
 
 /// Whether WORK may take this many ticks.
 fn is_work(v: i64) -> bool
@@ -25,7 +29,7 @@ fn cost_of_work(v: i64) -> u32
     ensures cost { result ≡ cost_of_work v }
     ensures limit { result ≤ 1_000_000 }
 {
-    if is_work(v) { v as u32 } else { 1 }
+    if is_work(v) { v as u32 } else { UNKNOWN_COST }
 }
 
 /// Ticks of SVC: those of the service, or 1 where there is none of that number.
@@ -34,7 +38,7 @@ fn cost_of_service_call(x: u32) -> u32
 {
     match Service::from_number(x) {
         Some(service) => service.cost(),
-        None => 1,
+        None => UNKNOWN_COST,
     }
 }
 
@@ -43,15 +47,20 @@ fn cost_of(instruction: Instr) -> u32
     ensures { result ≡ cost_of instruction }
 {
     match instruction {
-        Instr::LoadElement(_, _) | Instr::StoreElement(_, _) => 2,
+        Instr::Push(_) => LITERAL_COST,
+        Instr::LoadData(_) | Instr::StoreData(_) => SCALAR_COST,
+        Instr::LoadLocal(_) | Instr::StoreLocal(_) => SCALAR_COST,
+        Instr::LoadElement(_, _) | Instr::StoreElement(_, _) => ELEMENT_COST,
         Instr::Binary(operator) => operator.cost(),
-        Instr::Call(_) => 3,
-        Instr::Return(_) => 2,
+        Instr::Unary(_) => UNARY_COST,
+        Instr::Jump(_) => JUMP_COST,
+        Instr::JumpIfZero(_) => BRANCH_COST,
+        Instr::Call(_) => CALL_COST,
+        Instr::Return(_) => RETURN_COST,
         Instr::Work(v) => cost_of_work(v),
         Instr::Service(x) => cost_of_service_call(x),
-        Instr::End => 4,
-        Instr::LoadRegion(_) | Instr::StoreRegion(_) => 2,
-        _ => 1,
+        Instr::End => END_COST,
+        Instr::LoadRegion(_) | Instr::StoreRegion(_) => REGION_COST,
     }
 }
 
