@@ -9,15 +9,15 @@ use Rattle.apex_types.specs.declared.identity.Runner.TheVariants as runner
 use Rattle.apex_types.specs.declared.process.Action.{Action}
 use Rattle.apex_meaning.specs.Step.{Step, after}
 use Rattle.apex_meaning.specs.Processes.{Processes, row_of, index}
-use Rattle.apex_meaning.specs.ProcessServices.{starts_waiting, start_from}
+use Rattle.apex_meaning.specs.Starts.{starts_waiting, start_from}
 use Rattle.apex_meaning.specs.Due.{Treated, treats, treated_after, then_others, due_from}
 
 pub goes_on : {A : Type 0} (old new this rest whole : List A) → new ≡ old ++ this → old ++ (this ++ rest) ≡ whole → new ++ rest ≡ whole
 goes_on old new this rest whole grown before = rw grown (append_assoc old this rest ∙ before)
 
-pub start_step : (at : At) (n place : ℕ) (s : Processes) → 0 < n → start_from at n place s ≡ after (starts_waiting at s (runner.Process (index place)) (row_of s (runner.Process (index place)))) (start_from at (n - 1) (place + 1) (starts_waiting at s (runner.Process (index place)) (row_of s (runner.Process (index place)))).part)
-start_step at zero place s h = absurd (omega arith)
-start_step at (suc n) place s h = let e : suc n - 1 ≡ n = omega arith in rw e refl
+pub start_step : (at : At) (next n place : ℕ) (s : Processes) → 0 < n → start_from at next n place s ≡ after (starts_waiting at next s (runner.Process (index place)) (row_of s (runner.Process (index place)))) (start_from at next (n - 1) (place + 1) (starts_waiting at next s (runner.Process (index place)) (row_of s (runner.Process (index place)))).part)
+start_step at next zero place s h = absurd (omega arith)
+start_step at next (suc n) place s h = let e : suc n - 1 ≡ n = omega arith in rw e refl
 
 pub due_step : (at : At) (action : PartitionAction) (n place free : ℕ) (s : Processes) → 0 < n →
     due_from at action n place free s ≡ then_others (treats at free action s (index place) (row_of s (runner.Process (index place)))) (due_from at action (n - 1) (place + 1) (treats at free action s (index place) (row_of s (runner.Process (index place)))).free (treats at free action s (index place) (row_of s (runner.Process (index place)))).step.part)
@@ -26,18 +26,18 @@ due_step at action (suc n) place free s h = let e : suc n - 1 ≡ n = omega arit
 
 -- ---- the next process of a loop, over any values
 
-module _ (at : At) (n place : ℕ) (s t : Processes) where
+module _ (at : At) (next n place : ℕ) (s t : Processes) where
   abbrev this : Step Processes
-  this = starts_waiting at s (runner.Process (index place)) (row_of s (runner.Process (index place)))
+  this = starts_waiting at next s (runner.Process (index place)) (row_of s (runner.Process (index place)))
 
-  pub start_part : 0 < n → t ≡ this.part → (start_from at (n - 1) (place + 1) t).part ≡ (start_from at n place s).part
-  start_part h e = rw e (sym (ap (λ (x : Step Processes). x.part) (start_step at n place s h)))
+  pub start_part : 0 < n → t ≡ this.part → (start_from at next (n - 1) (place + 1) t).part ≡ (start_from at next n place s).part
+  start_part h e = rw e (sym (ap (λ (x : Step Processes). x.part) (start_step at next n place s h)))
 
-  pub start_lines : (old new whole : List EventKind) → 0 < n → t ≡ this.part → new ≡ old ++ this.lines → old ++ (start_from at n place s).lines ≡ whole → new ++ (start_from at (n - 1) (place + 1) t).lines ≡ whole
-  start_lines old new whole h e grown before = rw e (goes_on old new this.lines (start_from at (n - 1) (place + 1) this.part).lines whole grown (ap (λ (x : Step Processes). old ++ x.lines) (sym (start_step at n place s h)) ∙ before))
+  pub start_lines : (old new whole : List EventKind) → 0 < n → t ≡ this.part → new ≡ old ++ this.lines → old ++ (start_from at next n place s).lines ≡ whole → new ++ (start_from at next (n - 1) (place + 1) t).lines ≡ whole
+  start_lines old new whole h e grown before = rw e (goes_on old new this.lines (start_from at next (n - 1) (place + 1) this.part).lines whole grown (ap (λ (x : Step Processes). old ++ x.lines) (sym (start_step at next n place s h)) ∙ before))
 
-  pub start_actions : (old new whole : List Action) → 0 < n → t ≡ this.part → new ≡ old ++ this.actions → old ++ (start_from at n place s).actions ≡ whole → new ++ (start_from at (n - 1) (place + 1) t).actions ≡ whole
-  start_actions old new whole h e grown before = rw e (goes_on old new this.actions (start_from at (n - 1) (place + 1) this.part).actions whole grown (ap (λ (x : Step Processes). old ++ x.actions) (sym (start_step at n place s h)) ∙ before))
+  pub start_actions : (old new whole : List Action) → 0 < n → t ≡ this.part → new ≡ old ++ this.actions → old ++ (start_from at next n place s).actions ≡ whole → new ++ (start_from at next (n - 1) (place + 1) t).actions ≡ whole
+  start_actions old new whole h e grown before = rw e (goes_on old new this.actions (start_from at next (n - 1) (place + 1) this.part).actions whole grown (ap (λ (x : Step Processes). old ++ x.actions) (sym (start_step at next n place s h)) ∙ before))
 
 -- ---- the next process of those that are treated
 

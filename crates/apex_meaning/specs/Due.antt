@@ -21,23 +21,15 @@ use Rattle.apex_types.specs.declared.process.Due.TheVariants as due_time
 use Rattle.apex_types.specs.declared.process.ProcessStatus.{ProcessStatus}
 use Rattle.apex_types.specs.declared.process.Wait.{Wait}
 use Rattle.apex_types.specs.declared.process.Wait.TheVariants as wait
-use Rattle.apex_meaning.specs.Processes.{Processes, row_of, index, put_row, wakes}
-use Rattle.apex_meaning.specs.Step.{Step, nothing, after, message, answered}
+use Rattle.apex_meaning.specs.Processes.{Processes, row_of, index, put_row, released}
+use Rattle.apex_meaning.specs.Starts.{released_at}
+use Rattle.apex_meaning.specs.Step.{Step, nothing, after, message}
 
--- ---- the end of a wait
+-- ---- due times
 
--- The RET line and the answer of the service in which a process waits, if it waits in one.
-abbrev pub answers_wait : Processes → Runner → ProcessStatus → ReturnCode → Wait → Step Processes
-answers_wait s p r c (wait.Service service) = answered s p r.who service c []
-answers_wait s p r c _ = nothing s
-
--- its service answers, and it is ready
-abbrev pub released : Processes → Runner → ProcessStatus → ReturnCode → Step Processes
-released s p r c = after (answers_wait s p r c r.wait) (wakes s p r)
-
--- A release point is kept, a delay is over, or a wait was in vain.
+-- A release point is reached, a delay is over, or a wait was in vain.
 abbrev pub ends_wait : Processes → Runner → ProcessStatus → Due → Step Processes
-ends_wait s p r (due_time.Release tick) = released s p (record r { release = tick }) code.NoError
+ends_wait s p r (due_time.Release tick) = released s p (released_at tick r) code.NoError
 ends_wait s p r (due_time.Delay tick) = released s p r code.NoError
 ends_wait s p r (due_time.TimeOut tick) = released s p (record r { suspended = false }) code.TimedOut
 

@@ -7,6 +7,8 @@ pub mod Words
 pub mod Engine
 pub mod Step
 pub mod Processes
+pub mod Durations
+pub mod Starts
 pub mod Due
 pub mod Kernel
 pub mod PartitionServices

@@ -27,12 +27,12 @@ use Rattle.apex_meaning.specs.Due.{Treated, due}
 use Rattle.apex_meaning.specs.Engine.{Engine, Ticked, Asks, Nothing, Calls, Faults, Ends}
 use Rattle.apex_meaning.specs.HealthServices.{action_of, faults, report}
 use Rattle.apex_meaning.specs.Kernel.{Kernel, of_processes}
-use Rattle.apex_meaning.specs.PartitionServices.{clears, ends_body, set_partition_mode}
+use Rattle.apex_meaning.specs.PartitionServices.{clears, ends_body, get_partition_status, next_release_of, set_partition_mode}
 use Rattle.apex_meaning.specs.Processes.{Processes, row_of, put_row, is_same}
-use Rattle.apex_meaning.specs.ProcessServices.{create_process, start}
+use Rattle.apex_meaning.specs.ProcessServices.{get_process_id, get_process_status, create_process, set_priority, suspend_self, suspend, resume, stop, start, delayed_start, lock_preemption, unlock_preemption, get_my_id, number_of, is_ready_state}
 use Rattle.apex_meaning.specs.ServiceTable.{array_of}
 use Rattle.apex_meaning.specs.Step.{Step, nothing, after}
-use Rattle.apex_meaning.specs.TimeServices.{get_time, timed_wait}
+use Rattle.apex_meaning.specs.TimeServices.{get_time, timed_wait, periodic_wait, replenish}
 use Rattle.apex_meaning.specs.Words.{put_words}
 
 -- ---- the choice
@@ -45,11 +45,6 @@ first_ready (e ∷ es) = Some (runner.Process e.process)
 abbrev pub unless_held : Lock → List Entry → Option Runner
 unless_held lock.Free ready = first_ready ready
 unless_held (lock.Held level holder) ready = Some (runner.Process holder)
-
-abbrev pub is_ready_state : ProcessState → Bool
-is_ready_state Ready = true
-is_ready_state Running = true
-is_ready_state _ = false
 
 abbrev pub is_ready : Option ProcessStatus → Bool
 is_ready None = false
@@ -128,12 +123,26 @@ given _ words = []
 
 -- a service that the kernel does not serve leaves its caller without an answer
 abbrev pub serves : At → Kernel → Runner → Call → List ℤ → Step Kernel
+serves at k p call.GetPartitionStatus words = get_partition_status k p
 serves at k p (call.SetPartitionMode m) words = set_partition_mode at k p m
+serves at k p (call.GetProcessId name) words = of_processes k (get_process_id k.processes p name)
+serves at k p (call.GetProcessStatus id) words = of_processes k (get_process_status k.processes p id)
 serves at k p (call.CreateProcess name) words = of_processes k (create_process k.mode k.processes p name)
+serves at k p (call.SetPriority id v) words = of_processes k (set_priority k.processes p id v)
+serves at k p (call.SuspendSelf limit) words = of_processes k (suspend_self at k.processes p limit)
+serves at k p (call.Suspend id) words = of_processes k (suspend k.processes p id)
+serves at k p (call.Resume id) words = of_processes k (resume k.processes p id)
 serves at k p call.StopSelf words = ends_body k p
-serves at k p (call.Start id) words = of_processes k (start k.mode at k.processes p id)
+serves at k p (call.Stop id) words = of_processes k (stop k.processes p id)
+serves at k p (call.Start id) words = of_processes k (start k.mode at (next_release_of at k) k.processes p id)
+serves at k p (call.DelayedStart id delay) words = of_processes k (delayed_start k.mode at (next_release_of at k) k.processes p id delay)
+serves at k p call.LockPreemption words = of_processes k (lock_preemption k.mode k.processes p)
+serves at k p call.UnlockPreemption words = of_processes k (unlock_preemption k.mode k.processes p)
+serves at k p call.GetMyId words = of_processes k (get_my_id k.processes p (number_of p))
 serves at k p (call.TimedWait delay) words = of_processes k (timed_wait at k.processes p delay)
+serves at k p call.PeriodicWait words = of_processes k (periodic_wait k.processes p)
 serves at k p call.GetTime words = of_processes k (get_time at k.processes p)
+serves at k p (call.Replenish budget) words = of_processes k (replenish k.mode at k.processes p budget)
 serves at k p (call.ReportApplicationMessage array length) words = of_processes k (report k.processes p array length words)
 serves at k p _ words = nothing k
 

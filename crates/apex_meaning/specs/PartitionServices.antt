@@ -1,5 +1,5 @@
 -- Clear, the normal start, the services on the partition's mode, and the end of a body.
-use Rattle.std.specs.Prelude.{zero, suc, ℤ, pos, negsuc, Bool, true, false, ◌&&◌, not, List, [], ◌∷◌, Option, Some, None, map, slice_get, slice_set, is_some}
+use Rattle.std.specs.Prelude.{ℕ, zero, suc, ℤ, pos, negsuc, Bool, true, false, ◌&&◌, not, List, [], ◌∷◌, Option, Some, None, map, slice_get, slice_set, is_some}
 use Rattle.apex_types.specs.declared.codes.Mode.{Mode}
 use Rattle.apex_types.specs.declared.codes.Mode.TheVariants as mode
 use Rattle.apex_types.specs.declared.codes.ProcessState.TheVariants.{Dormant, Ready}
@@ -20,8 +20,10 @@ use Rattle.apex_types.specs.declared.process.Wait.TheVariants as wait
 use Rattle.apex_types.specs.declared.service.Service.TheVariants as service
 use Rattle.apex_meaning.specs.Kernel.{Kernel, of_processes}
 use Rattle.apex_meaning.specs.Processes.{Processes, row_of, rests, answers, refuses, is_normal}
-use Rattle.apex_meaning.specs.ProcessServices.{start_all_waiting}
+use Rattle.apex_meaning.specs.ProcessServices.{level_of}
+use Rattle.apex_meaning.specs.Starts.{start_all_waiting}
 use Rattle.apex_meaning.specs.Step.{Step, nothing, after, row}
+use Rattle.apex_meaning.specs.Windows.{next_release}
 
 -- ---- Clear
 
@@ -72,12 +74,36 @@ abbrev pub rests_found : Processes → Runner → Option ProcessStatus → Step 
 rests_found s p None = nothing s
 rests_found s p (Some r) = rests s p r
 
+-- the next release point of the partition
+abbrev pub next_release_of : At → Kernel → ℕ
+next_release_of at k = next_release k.fixed.schedule k.fixed.number at
+
 -- INIT becomes dormant, the mode normal, then those that wait for it start in number order
 abbrev pub starts_normally : At → Kernel → Step Kernel
 starts_normally at k =
     let i = of_processes k (rests_found k.processes runner.Init (row_of k.processes runner.Init)) in
     let n = enters_normal i.part in
-    after i (after n (of_processes n.part (start_all_waiting at n.part.processes)))
+    after i (after n (of_processes n.part (start_all_waiting at (next_release_of at k) n.part.processes)))
+
+-- ---- GET_PARTITION_STATUS
+
+abbrev pub number_of_mode : Mode → ℕ
+number_of_mode mode.Idle = 0
+number_of_mode mode.ColdStart = 1
+number_of_mode mode.WarmStart = 2
+number_of_mode mode.Normal = 3
+
+abbrev pub number_of_condition : StartCondition → ℕ
+number_of_condition condition.NormalStart = 0
+number_of_condition condition.PartitionRestart = 1
+number_of_condition condition.HmModuleRestart = 2
+number_of_condition condition.HmPartitionRestart = 3
+
+abbrev pub status_of : Kernel → List ℤ
+status_of k = map pos (k.fixed.number ∷ k.fixed.period ∷ k.fixed.duration ∷ level_of k.processes.lock ∷ number_of_mode k.mode ∷ number_of_condition k.condition ∷ [])
+
+abbrev pub get_partition_status : Kernel → Runner → Step Kernel
+get_partition_status k p = of_processes k (answers k.processes p service.GetPartitionStatus code.NoError (status_of k))
 
 -- ---- SET_PARTITION_MODE
 

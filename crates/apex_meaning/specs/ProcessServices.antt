@@ -1,18 +1,61 @@
--- The services on processes.
-use Rattle.std.specs.Prelude.{ℕ, zero, suc, ◌+◌, ◌-◌, ℤ, true, not, [], ◌∷◌, length, Option, Some, None, is_some, if◌then◌else◌}
+-- The services on processes, a row each.
+use Rattle.std.specs.Prelude.{ℕ, suc, ◌+◌, ℤ, pos, negsuc, Bool, true, false, not, ◌&&◌, ◌||◌, nat_le, [], ◌∷◌, Option, Some, None, is_some, if◌then◌else◌}
 use Rattle.apex_types.specs.declared.codes.Mode.{Mode}
+use Rattle.apex_types.specs.declared.codes.ProcessState.{ProcessState}
+use Rattle.apex_types.specs.declared.codes.ProcessState.TheVariants.{Dormant, Ready, Running, Waiting}
 use Rattle.apex_types.specs.declared.codes.ReturnCode.TheVariants as code
 use Rattle.apex_types.specs.declared.identity.At.{At}
+use Rattle.apex_types.specs.declared.identity.Priority.{Priority}
+use Rattle.apex_types.specs.declared.identity.ProcessIndex.{ProcessIndex}
 use Rattle.apex_types.specs.declared.identity.Runner.{Runner}
 use Rattle.apex_types.specs.declared.identity.Runner.TheVariants as runner
 use Rattle.apex_types.specs.declared.identity.Ticks.{Ticks}
-use Rattle.apex_types.specs.declared.process.Action.TheVariants as action
+use Rattle.apex_types.specs.declared.process.Due.{Due}
+use Rattle.apex_types.specs.declared.process.Due.TheVariants as due
+use Rattle.apex_types.specs.declared.process.Lock.{Lock}
+use Rattle.apex_types.specs.declared.process.Lock.TheVariants as lock
 use Rattle.apex_types.specs.declared.process.ProcessStatus.{ProcessStatus}
 use Rattle.apex_types.specs.declared.process.Wait.{Wait}
 use Rattle.apex_types.specs.declared.process.Wait.TheVariants as wait
+use Rattle.apex_types.specs.declared.service.Service.{Service}
 use Rattle.apex_types.specs.declared.service.Service.TheVariants as service
-use Rattle.apex_meaning.specs.Processes.{Processes, row_of, index, put_row, wakes, waits, answers, refuses, process_at, has, on, is_created, is_dormant, is_unknown, is_normal}
+use Rattle.apex_meaning.specs.Durations.{is_delay, is_duration, is_without_limit, amount}
+use Rattle.apex_meaning.specs.Operators.{is_zero}
+use Rattle.apex_meaning.specs.Processes.{Processes, row_of, put_row, put_ready, wakes, waits, rests, answers, refuses, released, process_at, has, on, is_created, is_dormant, is_held, is_periodic, is_same, is_suspended, is_unknown, is_no_other, is_busy, is_normal}
+use Rattle.apex_meaning.specs.Starts.{starts, ticks}
 use Rattle.apex_meaning.specs.Step.{Step, nothing, after, row}
+
+-- ---- GET_PROCESS_ID
+
+abbrev pub get_process_id : Processes → Runner → ℤ → Step Processes
+get_process_id s p name =
+    row (refuses s p service.GetProcessId)
+    ((is_unknown s name, code.InvalidConfig)
+    ∷ [])
+    (answers s p service.GetProcessId code.NoError (name ∷ []))
+
+-- ---- GET_PROCESS_STATUS
+
+abbrev pub number_of_state : ProcessState → ℕ
+number_of_state Dormant = 0
+number_of_state Ready = 1
+number_of_state Running = 2
+number_of_state Waiting = 3
+
+-- the tick of a deadline, -1 for none
+abbrev pub word_of_deadline : Option Ticks → ℤ
+word_of_deadline None = negsuc 0
+word_of_deadline (Some tick) = pos tick.0
+
+abbrev pub tells_status : Processes → Runner → Runner → ProcessStatus → Step Processes
+tells_status s p q r = answers s p service.GetProcessStatus code.NoError (pos (number_of_state r.state) ∷ pos r.current_priority.0 ∷ word_of_deadline r.deadline ∷ [])
+
+abbrev pub get_process_status : Processes → Runner → ℤ → Step Processes
+get_process_status s p id =
+    row (refuses s p service.GetProcessStatus)
+    ((is_unknown s id, code.InvalidParam)
+    ∷ [])
+    (on (process_at s id) s (tells_status s p))
 
 -- ---- CREATE_PROCESS
 
@@ -29,48 +72,182 @@ create_process m s p name =
     ∷ [])
     (after (answers s p service.CreateProcess code.NoError (name ∷ [])) (on (process_at s name) s (creates s)))
 
--- ---- START
+-- ---- SET_PRIORITY
 
-abbrev pub begins : Processes → Runner → Step Processes
-begins s q = record { part = s; lines = []; actions = action.Begin q ∷ [] }
+abbrev pub is_priority : ℤ → Bool
+is_priority (negsuc n) = false
+is_priority (pos n) = nat_le 1 n && nat_le n 239
 
--- in normal mode a process starts at its release point
-abbrev pub starts_in_normal : At → Processes → Runner → ProcessStatus → Step Processes
-starts_in_normal at s q r = wakes s q (record r { release = at.now })
+abbrev pub priority_of : ℤ → Priority
+priority_of v = record { 0 = amount v }
 
--- With a fresh stack and its base priority: in normal mode it is released at once, before that it
--- waits for the normal start, with its delay kept.
-abbrev pub starts : Mode → At → Processes → Runner → Ticks → ProcessStatus → Step Processes
-starts m at s q delay r =
-    let fresh : ProcessStatus = record r { current_priority = r.base_priority } in
-    after (begins s q) (if is_normal m then starts_in_normal at s q fresh else waits s q fresh (wait.NormalStart delay) None)
+abbrev pub is_ready_state : ProcessState → Bool
+is_ready_state Ready = true
+is_ready_state Running = true
+is_ready_state _ = false
 
-abbrev pub start : Mode → At → Processes → Runner → ℤ → Step Processes
-start m at s p id =
+-- a ready process goes last among those of its new priority
+abbrev pub takes_priority : Processes → Priority → Runner → ProcessStatus → Step Processes
+takes_priority s v q r =
+    let raised : ProcessStatus = record r { current_priority = v } in
+    nothing (if is_ready_state r.state then put_ready s q raised else put_row s q raised)
+
+abbrev pub set_priority : Processes → Runner → ℤ → ℤ → Step Processes
+set_priority s p id v =
+    row (refuses s p service.SetPriority)
+    ((is_unknown s id, code.InvalidParam)
+    ∷ (not (is_priority v), code.InvalidParam)
+    ∷ (has (process_at s id) is_dormant, code.InvalidMode)
+    ∷ [])
+    (after (answers s p service.SetPriority code.NoError []) (on (process_at s id) s (takes_priority s (priority_of v))))
+
+-- ---- SUSPEND_SELF, SUSPEND and RESUME
+
+-- the due time of one that waits at most so long
+abbrev pub time_out : At → ℤ → Option Due
+time_out at (negsuc n) = None
+time_out at (pos n) = Some (due.TimeOut (ticks (at.now.0 + n)))
+
+abbrev pub suspends_self : At → Processes → Runner → ℤ → Option ProcessStatus → Step Processes
+suspends_self at s p limit None = nothing s
+suspends_self at s p limit (Some r) = waits s p (record r { suspended = true }) (wait.Service service.SuspendSelf) (time_out at limit)
+
+abbrev pub of_row : (ProcessStatus → Bool) → Option ProcessStatus → Bool
+of_row test None = false
+of_row test (Some r) = test r
+
+-- without time nothing happens; else the caller waits until it is resumed, or for its time-out
+abbrev pub suspend_self : At → Processes → Runner → ℤ → Step Processes
+suspend_self at s p limit =
+    row (refuses s p service.SuspendSelf)
+    ((is_busy s p, code.InvalidMode)
+    ∷ (not (is_duration limit), code.InvalidParam)
+    ∷ (of_row is_periodic (row_of s p), code.InvalidMode)
+    ∷ [])
+    (if is_zero limit then answers s p service.SuspendSelf code.NoError [] else suspends_self at s p limit (row_of s p))
+
+-- whether the process of a runner holds the preemption lock
+abbrev pub holds : Lock → Runner → Bool
+holds lock.Free q = false
+holds (lock.Held level holder) q = is_same q (runner.Process holder)
+
+abbrev pub is_holder : Lock → Option (Runner × ProcessStatus) → Bool
+is_holder l None = false
+is_holder l (Some f) = holds l f.0
+
+-- it waits for what it waited for, and until it is resumed
+abbrev pub suspends : Processes → Runner → ProcessStatus → Step Processes
+suspends s q r = waits s q (record r { suspended = true }) r.wait r.due
+
+abbrev pub suspend : Processes → Runner → ℤ → Step Processes
+suspend s p id =
+    row (refuses s p service.Suspend)
+    ((is_no_other s p id, code.InvalidParam)
+    ∷ (has (process_at s id) is_dormant || has (process_at s id) is_periodic || is_holder s.lock (process_at s id), code.InvalidMode)
+    ∷ (has (process_at s id) is_suspended, code.NoAction)
+    ∷ [])
+    (after (answers s p service.Suspend code.NoError []) (on (process_at s id) s (suspends s)))
+
+abbrev pub resumes_from : Processes → Runner → ProcessStatus → Wait → Step Processes
+resumes_from s q r wait.Nothing = wakes s q r
+resumes_from s q r (wait.Service service.SuspendSelf) = released s q r code.NoError
+resumes_from s q r _ = nothing (put_row s q r)
+
+-- its SUSPEND_SELF ends; if it waits for nothing else it is ready
+abbrev pub resumes : Processes → Runner → ProcessStatus → Step Processes
+resumes s q r = resumes_from s q (record r { suspended = false }) r.wait
+
+abbrev pub resume : Processes → Runner → ℤ → Step Processes
+resume s p id =
+    row (refuses s p service.Resume)
+    ((is_no_other s p id, code.InvalidParam)
+    ∷ (has (process_at s id) is_dormant || has (process_at s id) is_periodic, code.InvalidMode)
+    ∷ (not (has (process_at s id) is_suspended), code.NoAction)
+    ∷ [])
+    (after (answers s p service.Resume code.NoError []) (on (process_at s id) s (resumes s)))
+
+-- ---- STOP
+
+abbrev pub stop : Processes → Runner → ℤ → Step Processes
+stop s p id =
+    row (refuses s p service.Stop)
+    ((is_no_other s p id, code.InvalidParam)
+    ∷ (has (process_at s id) is_dormant, code.NoAction)
+    ∷ [])
+    (after (answers s p service.Stop code.NoError []) (on (process_at s id) s (rests s)))
+
+-- ---- START and DELAYED_START; `next` is the partition's next release point
+
+abbrev pub start : Mode → At → (next : ℕ) → Processes → Runner → ℤ → Step Processes
+start m at next s p id =
     row (refuses s p service.Start)
     ((is_unknown s id, code.InvalidParam)
     ∷ (not (has (process_at s id) is_dormant), code.NoAction)
     ∷ [])
-    (after (answers s p service.Start code.NoError []) (on (process_at s id) s (λ q. starts m at s q (record { 0 = 0 }))))
+    (after (answers s p service.Start code.NoError []) (on (process_at s id) s (λ q. starts m at next s q (ticks 0))))
 
--- ---- the normal start
+-- a delay of at least the period of a periodic process
+abbrev pub is_beyond : ℕ → Option Ticks → Bool
+is_beyond delay None = false
+is_beyond delay (Some period) = nat_le period.0 delay
 
--- One that was started before normal mode takes the normal case of its start, its priority and
--- suspension kept.
-abbrev pub starts_if_waiting : At → Processes → Runner → ProcessStatus → Wait → Step Processes
-starts_if_waiting at s q r (wait.NormalStart delay) = starts_in_normal at s q r
-starts_if_waiting at s q r _ = nothing s
+abbrev pub delayed_start : Mode → At → (next : ℕ) → Processes → Runner → ℤ → ℤ → Step Processes
+delayed_start m at next s p id delay =
+    row (refuses s p service.DelayedStart)
+    ((is_unknown s id, code.InvalidParam)
+    ∷ (not (is_delay delay), code.InvalidParam)
+    ∷ (has (process_at s id) (λ r. is_beyond (amount delay) r.period), code.InvalidParam)
+    ∷ (not (has (process_at s id) is_dormant), code.NoAction)
+    ∷ [])
+    (after (answers s p service.DelayedStart code.NoError []) (on (process_at s id) s (λ q. starts m at next s q (ticks (amount delay)))))
 
-abbrev pub starts_waiting : At → Processes → Runner → Option ProcessStatus → Step Processes
-starts_waiting at s q None = nothing s
-starts_waiting at s q (Some r) = starts_if_waiting at s q r r.wait
+-- ---- LOCK_PREEMPTION and UNLOCK_PREEMPTION
 
--- so many processes from a place on, in number order
-abbrev pub start_from : At → ℕ → ℕ → Processes → Step Processes
-start_from at zero place s = nothing s
-start_from at (suc n) place s =
-    let t = starts_waiting at s (runner.Process (index place)) (row_of s (runner.Process (index place))) in
-    after t (start_from at n (place + 1) t.part)
+abbrev pub level_of : Lock → ℕ
+level_of lock.Free = 0
+level_of (lock.Held level holder) = level
 
-abbrev pub start_all_waiting : At → Processes → Step Processes
-start_all_waiting at s = start_from at (length s.rows - 2) 0 s
+-- the handler, and anyone before normal mode, may neither lock nor unlock
+abbrev pub may_not_lock : Mode → Runner → Bool
+may_not_lock m runner.Handler = true
+may_not_lock m _ = not (is_normal m)
+
+-- a level up; from none the caller is the holder
+abbrev pub locked_by : Runner → Lock → Lock
+locked_by (runner.Process p) lock.Free = lock.Held 1 p
+locked_by _ lock.Free = lock.Free
+locked_by _ (lock.Held level holder) = lock.Held (level + 1) holder
+
+abbrev pub with_lock : Processes → Runner → Service → Lock → Step Processes
+with_lock s p v l = after (answers s p v code.NoError (pos (level_of l) ∷ [])) (nothing (record s { lock = l }))
+
+abbrev pub lock_preemption : Mode → Processes → Runner → Step Processes
+lock_preemption m s p =
+    row (refuses s p service.LockPreemption)
+    ((may_not_lock m p, code.NoAction)
+    ∷ (nat_le 16 (level_of s.lock), code.InvalidConfig)
+    ∷ [])
+    (with_lock s p service.LockPreemption (locked_by p s.lock))
+
+-- a level down; at none there is no holder
+abbrev pub unlocked : Lock → Lock
+unlocked (lock.Held (suc (suc level)) holder) = lock.Held (suc level) holder
+unlocked _ = lock.Free
+
+abbrev pub unlock_preemption : Mode → Processes → Runner → Step Processes
+unlock_preemption m s p =
+    row (refuses s p service.UnlockPreemption)
+    ((may_not_lock m p || not (is_held s.lock), code.NoAction)
+    ∷ [])
+    (with_lock s p service.UnlockPreemption (unlocked s.lock))
+
+-- ---- GET_MY_ID
+
+-- the number of a process; INIT and the handler have none
+abbrev pub number_of : Runner → Option ℕ
+number_of (runner.Process p) = Some (p.0 + 1)
+number_of _ = None
+
+abbrev pub get_my_id : Processes → Runner → Option ℕ → Step Processes
+get_my_id s p None = refuses s p service.GetMyId code.InvalidMode
+get_my_id s p (Some number) = answers s p service.GetMyId code.NoError (pos number ∷ [])

@@ -3,7 +3,7 @@
 -- Those that are ready stand in one list in the order of choice: the highest priority first, among
 -- equals the one that is ready longest. INIT and the error handler are in no list: their records say
 -- whether they are ready.
-use Rattle.std.specs.Prelude.{ℕ, zero, suc, ℤ, pos, negsuc, ◌==◌, Bool, true, false, not, nat_lt, List, [], ◌∷◌, Option, Some, None, if◌then◌else◌, slice_get, slice_set, filter}
+use Rattle.std.specs.Prelude.{ℕ, zero, suc, ℤ, pos, negsuc, ◌==◌, ◌||◌, Bool, true, false, not, is_some, nat_lt, List, [], ◌∷◌, Option, Some, None, if◌then◌else◌, slice_get, slice_set, filter}
 use Rattle.apex_types.specs.Runners.{place_of}
 use Rattle.apex_types.specs.declared.codes.Mode.{Mode}
 use Rattle.apex_types.specs.declared.codes.Mode.TheVariants as mode
@@ -27,7 +27,7 @@ use Rattle.apex_types.specs.declared.process.ProcessStatus.{ProcessStatus}
 use Rattle.apex_types.specs.declared.process.Wait.{Wait}
 use Rattle.apex_types.specs.declared.process.Wait.TheVariants as wait
 use Rattle.apex_types.specs.declared.service.Service.{Service}
-use Rattle.apex_meaning.specs.Step.{Step, nothing, answered, zeros}
+use Rattle.apex_meaning.specs.Step.{Step, nothing, after, answered, zeros}
 
 pub record Processes : Type 0 where
   -- INIT's record, the handler's, then those of the processes in the order of the source
@@ -160,6 +160,17 @@ answers s p service c outputs = answered s p (subject s p) service c outputs
 abbrev pub refuses : Processes → Runner → Service → ReturnCode → Step Processes
 refuses s p service c = answers s p service c (zeros service)
 
+-- ---- the end of a wait
+
+-- The RET line and the answer of the service in which a process waits, if it waits in one.
+abbrev pub answers_wait : Processes → Runner → ProcessStatus → ReturnCode → Wait → Step Processes
+answers_wait s p r c (wait.Service service) = answered s p r.who service c []
+answers_wait s p r c _ = nothing s
+
+-- its service answers, and it is ready
+abbrev pub released : Processes → Runner → ProcessStatus → ReturnCode → Step Processes
+released s p r c = after (answers_wait s p r c r.wait) (wakes s p r)
+
 -- ---- processes by the number that a program gives
 
 abbrev pub numbered : ProcessIndex → Option ProcessStatus → Option (Runner × ProcessStatus)
@@ -192,9 +203,24 @@ is_dormant_state _ = false
 abbrev pub is_dormant : ProcessStatus → Bool
 is_dormant r = is_dormant_state r.state
 
+abbrev pub is_suspended : ProcessStatus → Bool
+is_suspended r = r.suspended
+
+abbrev pub is_periodic : ProcessStatus → Bool
+is_periodic r = is_some r.period
+
 -- no process with this number was created since the last Clear
 abbrev pub is_unknown : Processes → ℤ → Bool
 is_unknown s id = not (has (process_at s id) is_created)
+
+-- the number is the caller's own
+abbrev pub is_own : Runner → Option (Runner × ProcessStatus) → Bool
+is_own p None = false
+is_own p (Some f) = is_same p f.0
+
+-- no process, or the caller itself
+abbrev pub is_no_other : Processes → Runner → ℤ → Bool
+is_no_other s p id = is_unknown s id || is_own p (process_at s id)
 
 -- The caller may not wait: it is INIT or the handler, or preemption is locked.
 abbrev pub is_busy : Processes → Runner → Bool
