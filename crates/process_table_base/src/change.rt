@@ -6,6 +6,7 @@ ghost use Rattle.apex_types.specs.Runners.{place_of};
 ghost use Rattle.apex_meaning.specs.Processes as meaning;
 ghost use Rattle.apex_meaning.specs.Step.{IsMade, IsTold, code_number, message};
 ghost use Rattle.apex_meaning.specs.Step as step;
+ghost use Rattle.process_table_base.specs.Bounds.{IsBounded, IsDelayed};
 
 use crate::table::ProcessTable;
 use apex_types::{
@@ -70,8 +71,10 @@ impl ProcessTable {
     }
 
     /// It becomes ready and goes last. One that is suspended waits on until it is resumed.
+    #[tactic(auto, using(crate::proofs::Bounds::bounds))]
     pub fn wake(&mut self, runner: Runner, row: ProcessStatus, out: &mut Out)
         requires runner { place_of runner < MOST_RUNNERS }
+        requires bounded { IsBounded row }
         requires room { HasRoom 1 out.old }
         ensures step { IsMade (meaning.wakes self.old runner row) self.new out.old out.new }
         ensures grows { Grows 1 out.old out.new }
@@ -95,6 +98,7 @@ impl ProcessTable {
     }
 
     /// It waits, until its due time if it has one. There is no line where it waited before.
+    #[tactic(auto, using(crate::proofs::Bounds::bounds))]
     pub fn wait(
         &mut self,
         runner: Runner,
@@ -103,7 +107,9 @@ impl ProcessTable {
         due: Option<Due>,
         out: &mut Out,
     )
-        requires { HasRoom 1 out.old }
+        requires bounded { IsBounded row }
+        requires reason { IsDelayed reason }
+        requires room { HasRoom 1 out.old }
         ensures step { IsMade (meaning.waits self.old runner row reason due) self.new out.old out.new }
         ensures grows { Grows 1 out.old out.new }
     {
@@ -119,8 +125,10 @@ impl ProcessTable {
 
     /// It becomes dormant: it is in no list, has no due time, no deadline and nothing left to do, and
     /// the lock is free if it held it.
+    #[tactic(auto, using(crate::proofs::Bounds::bounds))]
     pub fn rest(&mut self, runner: Runner, row: ProcessStatus, out: &mut Out)
-        requires { HasRoom 1 out.old }
+        requires bounded { IsBounded row }
+        requires room { HasRoom 1 out.old }
         ensures step { IsMade (meaning.rests self.old runner row) self.new out.old out.new }
         ensures grows { Grows 1 out.old out.new }
     {
@@ -136,6 +144,37 @@ impl ProcessTable {
         };
         self.put_dormant(runner, dormant);
         out.actions.push(Action::Stop(runner));
+    }
+
+    /// The service in which a process waits answers, if it waits in one.
+    fn answer_wait(
+        &self,
+        runner: Runner,
+        row: &ProcessStatus,
+        code: ReturnCode,
+        wait: Wait,
+        out: &mut Out,
+    )
+        requires { HasRoom 1 out.old }
+        ensures step { IsTold (meaning.answers_wait self.now runner row.now code wait) out.old out.new }
+        ensures grows { Grows 1 out.old out.new }
+    {
+        match wait {
+            Wait::Service(service) => answer(runner, row.who, service, code, &[], out),
+            _ => {}
+        }
+    }
+
+    /// The service in which a process waits answers, if it waits in one; then it is ready.
+    pub fn release(&mut self, runner: Runner, row: ProcessStatus, code: ReturnCode, out: &mut Out)
+        requires runner { place_of runner < MOST_RUNNERS }
+        requires bounded { IsBounded row }
+        requires room { HasRoom 2 out.old }
+        ensures step { IsMade (meaning.released self.old runner row code) self.new out.old out.new }
+        ensures grows { Grows 2 out.old out.new }
+    {
+        self.answer_wait(runner, &row, code, row.wait, out);
+        self.wake(runner, row, out);
     }
 
     /// A service of a process ends with a code and its outputs.

@@ -1,14 +1,15 @@
 //! What is due in a tick: for each process in number order its due time, then its deadline.
 
-ghost use Rattle.std.specs.Prelude.{◌≡◌, ◌<◌, ◌≤◌, ◌+◌, ◌-◌, ◌*◌, length};
+ghost use Rattle.std.specs.Prelude.{◌≡◌, ◌<◌, ◌≤◌, ◌+◌, ◌-◌, ◌*◌, ◌^◌, length};
 ghost use Rattle.apex_types.specs.Room.{HasRoom, Grows};
 ghost use Rattle.apex_types.specs.Runners.{place_of};
 ghost use Rattle.apex_meaning.specs.Due as meaning;
 ghost use Rattle.apex_meaning.specs.Processes.{row_of};
-ghost use Rattle.apex_meaning.specs.Step.{IsMade, IsTold};
+ghost use Rattle.apex_meaning.specs.Step.{IsMade};
+ghost use Rattle.process_table_base.specs.Bounds.{IsBounded};
 ghost use Rattle.process_table_base.specs.Treating.{IsTreated};
 
-use crate::change::answer;
+use crate::start::released_at;
 use crate::table::ProcessTable;
 use apex_types::{
     Action, At, Due, ErrorKind, EventKind, MOST_RUNNERS, Mode, Out, PartitionAction, ProcessIndex,
@@ -24,50 +25,18 @@ pub struct Treated {
 }
 
 impl ProcessTable {
-    /// The service in which a process waits answers, if it waits in one.
-    fn answer_wait(
-        &self,
-        runner: Runner,
-        row: &ProcessStatus,
-        code: ReturnCode,
-        wait: Wait,
-        out: &mut Out,
-    )
-        requires { HasRoom 1 out.old }
-        ensures step { IsTold (meaning.answers_wait self.now runner row.now code wait) out.old out.new }
-        ensures grows { Grows 1 out.old out.new }
-    {
-        match wait {
-            Wait::Service(service) => answer(runner, row.who, service, code, &[], out),
-            _ => {}
-        }
-    }
-
-    /// The service in which a process waits answers, if it waits in one; then it is ready.
-    pub fn release(&mut self, runner: Runner, row: ProcessStatus, code: ReturnCode, out: &mut Out)
-        requires runner { place_of runner < MOST_RUNNERS }
-        requires room { HasRoom 2 out.old }
-        ensures step { IsMade (meaning.released self.old runner row code) self.new out.old out.new }
-        ensures grows { Grows 2 out.old out.new }
-    {
-        self.answer_wait(runner, &row, code, row.wait, out);
-        self.wake(runner, row, out);
-    }
-
-    /// A release point is kept, a delay is over, or a wait was in vain.
+    /// A release point is reached, a delay is over, or a wait was in vain.
     fn end_wait(&mut self, runner: Runner, row: ProcessStatus, due: Due, out: &mut Out)
         requires runner { place_of runner < MOST_RUNNERS }
+        requires bounded { IsBounded row }
+        requires past { meaning.tick_of due ≤ 2 ^ 40 }
         requires room { HasRoom 2 out.old }
         ensures step { IsMade (meaning.ends_wait self.old runner row due) self.new out.old out.new }
         ensures grows { Grows 2 out.old out.new }
     {
         match due {
             Due::Release(tick) => {
-                let released = ProcessStatus {
-                    release: tick,
-                    ..row
-                };
-                self.release(runner, released, ReturnCode::NoError, out);
+                self.release(runner, released_at(tick, row), ReturnCode::NoError, out);
             }
             Due::Delay(_) => self.release(runner, row, ReturnCode::NoError, out),
             Due::TimeOut(_) => {
@@ -81,7 +50,9 @@ impl ProcessTable {
     }
 
     fn treat_due(&mut self, at: At, runner: Runner, row: ProcessStatus, out: &mut Out)
+        requires now { at.now.0 ≤ 2 ^ 40 }
         requires runner { place_of runner < MOST_RUNNERS }
+        requires bounded { IsBounded row }
         requires room { HasRoom 2 out.old }
         ensures step { IsMade (meaning.treats_due at self.old runner row row.due) self.new out.old out.new }
         ensures grows { Grows 2 out.old out.new }
@@ -94,6 +65,7 @@ impl ProcessTable {
     }
 
     /// A missed deadline waits for the handler where there is room; else it is the partition's.
+    #[tactic(auto, using(crate::proofs::Bounds::bounds))]
     fn miss(
         &mut self,
         free: u8,
@@ -102,7 +74,8 @@ impl ProcessTable {
         row: ProcessStatus,
         out: &mut Out,
     ) -> Treated
-        requires { HasRoom 1 out.old }
+        requires bounded { IsBounded row }
+        requires room { HasRoom 1 out.old }
         ensures treated { IsTreated (meaning.misses free action self.old process row) self.new out.old out.new result }
         ensures grows { Grows 1 out.old out.new }
     {
@@ -159,7 +132,8 @@ impl ProcessTable {
         process: ProcessIndex,
         out: &mut Out,
     ) -> Treated
-        requires { HasRoom 3 out.old }
+        requires now { at.now.0 ≤ 2 ^ 40 }
+        requires room { HasRoom 3 out.old }
         ensures treated { IsTreated (meaning.treats at free action self.old process (row_of self.old (Runner.Process process))) self.new out.old out.new result }
         ensures grows { Grows 3 out.old out.new }
     {
@@ -175,7 +149,8 @@ impl ProcessTable {
     /// at most now. `free` more errors may wait for the error handler, and `action` is the
     /// partition's for a missed deadline: an action that leads to a Clear ends the treatment.
     pub fn due(&mut self, at: At, free: u8, action: PartitionAction, out: &mut Out) -> Treated
-        requires { HasRoom 93 out.old }
+        requires now { at.now.0 ≤ 2 ^ 40 }
+        requires room { HasRoom 93 out.old }
         ensures treated { IsTreated (meaning.due at free action self.old) self.new out.old out.new result }
         ensures grows { Grows 93 out.old out.new }
     {

@@ -3,6 +3,7 @@
 ghost use Rattle.std.specs.Prelude.{◌≡◌, ◌<◌, IfSome, true};
 ghost use Rattle.apex_types.specs.Runners.{place_of};
 ghost use Rattle.apex_meaning.specs.Processes as meaning;
+ghost use Rattle.process_table_base.specs.Bounds.{IsBounded};
 
 use crate::table::ProcessTable;
 use apex_types::{Lock, MOST_RUNNERS, ProcessIndex, ProcessState, ProcessStatus, Runner};
@@ -13,6 +14,7 @@ impl ProcessTable {
     pub fn process_at(&self, id: i64) -> Option<(Runner, ProcessStatus)>
         ensures found { result ≡ meaning.process_at self.now id }
         ensures within { IfSome result (λ found. place_of found.0 < MOST_RUNNERS) }
+        ensures bounded { IfSome result (λ found. IsBounded found.1) }
     {
         if id < 1 || id > i64::from(self.count()) {
             return None;
@@ -39,6 +41,7 @@ impl ProcessTable {
 
     /// A process is created in its record.
     pub fn create(&mut self, process: Runner, row: ProcessStatus)
+        requires { IsBounded row }
         ensures { self.new ≡ meaning.put_row self.old process (record row { created = true }) }
     {
         self.put_row(
@@ -52,7 +55,8 @@ impl ProcessTable {
 
     /// A ready process goes behind its equals.
     pub fn go_last(&mut self, runner: Runner, row: ProcessStatus)
-        requires { place_of runner < MOST_RUNNERS }
+        requires runner { place_of runner < MOST_RUNNERS }
+        requires bounded { IsBounded row }
         ensures { self.new ≡ meaning.put_ready self.old runner row }
     {
         self.put_ready(runner, row);

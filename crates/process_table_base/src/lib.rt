@@ -7,10 +7,12 @@ mod choice;
 mod due;
 mod find;
 mod order;
+mod serve;
 mod start;
 mod table;
 
 pub use change::answer;
 pub use due::{Treated, mode_of_action};
 pub use find::is_dormant;
-pub use table::ProcessTable;
+pub use start::Points;
+pub use table::{ProcessTable, is_same};

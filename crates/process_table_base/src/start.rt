@@ -1,33 +1,72 @@
-//! The start of a process, and the normal start of those that wait for it.
+//! The start of a process, its release, and the normal start of those that wait for it.
 
-ghost use Rattle.std.specs.Prelude.{◌≡◌, ◌<◌, ◌≤◌, ◌+◌, ◌-◌, length};
+ghost use Rattle.std.specs.Prelude.{◌≡◌, ◌<◌, ◌≤◌, ◌+◌, ◌-◌, ◌^◌, length, IfSome};
 ghost use Rattle.apex_types.specs.Room.{HasRoom, Grows};
 ghost use Rattle.apex_types.specs.Runners.{place_of};
 ghost use Rattle.apex_meaning.specs.Processes.{row_of};
-ghost use Rattle.apex_meaning.specs.ProcessServices as meaning;
+ghost use Rattle.apex_meaning.specs.Starts as meaning;
 ghost use Rattle.apex_meaning.specs.Step.{IsMade};
+ghost use Rattle.process_table_base.specs.Bounds.{IsAtMost, IsBounded};
 
 use crate::table::ProcessTable;
 use apex_types::{
-    Action, At, MOST_PROCESSES, MOST_RUNNERS, Mode, Out, ProcessIndex, ProcessStatus, Runner,
+    Action, At, Due, MOST_PROCESSES, MOST_RUNNERS, Mode, Out, ProcessIndex, ProcessStatus, Runner,
     Ticks, Wait,
 };
 
+/// So many ticks after a tick, where they are limited.
+fn later(tick: Ticks, count: Option<Ticks>) -> Option<Ticks>
+    requires tick { tick.0 ≤ 2 ^ 40 }
+    requires count { IsAtMost (2 ^ 40) count }
+    ensures { result ≡ meaning.later tick count }
+{
+    match count {
+        Some(count) => Some(Ticks(tick.0 + count.0)),
+        None => None,
+    }
+}
+
+/// The record of one that is released at a tick: its deadline is its time capacity later.
+#[tactic(auto, using(crate::proofs::Bounds::bounds))]
+pub(crate) fn released_at(tick: Ticks, row: ProcessStatus) -> ProcessStatus
+    requires tick { tick.0 ≤ 2 ^ 40 }
+    requires bounded { IsBounded row }
+    ensures row { result ≡ meaning.released_at tick row }
+    ensures bounded { IsBounded result }
+{
+    ProcessStatus {
+        release: tick,
+        deadline: later(tick, row.capacity),
+        ..row
+    }
+}
+
+/// What a start in normal mode counts from: the tick of it, and the partition's next release point.
+#[derive(Clone, Copy, Debug, PartialEq, Eq)]
+pub struct Points {
+    pub at: At,
+    pub next: Ticks,
+}
+
 impl ProcessTable {
-    /// A process starts its body with a fresh stack and its base priority: in normal mode it is
-    /// released at once, before that it waits for the normal start with its delay.
+    /// A process starts its body with a fresh stack and its base priority. In normal mode it is
+    /// released at its release point, before that it waits for the normal start with its delay.
     pub fn start(
         &mut self,
         mode: Mode,
-        at: At,
+        points: Points,
         process: Runner,
         delay: Ticks,
         row: ProcessStatus,
         out: &mut Out,
     )
+        requires now { points.at.now.0 ≤ 2 ^ 40 }
+        requires next { points.next.0 ≤ 2 ^ 41 }
+        requires delay { delay.0 ≤ 2 ^ 40 }
         requires process { place_of process < MOST_RUNNERS }
+        requires bounded { IsBounded row }
         requires room { HasRoom 2 out.old }
-        ensures step { IsMade (meaning.starts mode at self.old process delay row) self.new out.old out.new }
+        ensures step { IsMade (meaning.starts mode points.at points.next.0 self.old process delay row) self.new out.old out.new }
         ensures grows { Grows 1 out.old out.new }
     {
         let fresh = ProcessStatus {
@@ -36,50 +75,84 @@ impl ProcessTable {
         };
         out.actions.push(Action::Begin(process));
         if mode == Mode::Normal {
-            self.start_in_normal(at, process, fresh, out);
+            self.start_in_normal(points, process, delay, fresh, out);
         } else {
             self.wait(process, fresh, Wait::NormalStart(delay), None, out);
         }
     }
 
-    /// In normal mode a process starts at its release point.
-    fn start_in_normal(&mut self, at: At, process: Runner, row: ProcessStatus, out: &mut Out)
-        requires process { place_of process < MOST_RUNNERS }
+    fn wait_for_release(&mut self, process: Runner, row: ProcessStatus, tick: Ticks, out: &mut Out)
+        requires bounded { IsBounded row }
         requires room { HasRoom 1 out.old }
-        ensures step { IsMade (meaning.starts_in_normal at self.old process row) self.new out.old out.new }
+        ensures step { IsMade (meaning.waits_for_release self.old process row tick.0) self.new out.old out.new }
         ensures grows { Grows 1 out.old out.new }
     {
-        let released = ProcessStatus {
-            release: at.now,
-            ..row
-        };
-        self.wake(process, released, out);
+        self.wait(
+            process,
+            row,
+            Wait::FirstRelease,
+            Some(Due::Release(tick)),
+            out,
+        );
+    }
+
+    /// In normal mode a periodic process is released so many ticks after the partition's next
+    /// release point, an aperiodic one so many ticks from now, at once without a delay.
+    fn start_in_normal(
+        &mut self,
+        points: Points,
+        process: Runner,
+        delay: Ticks,
+        row: ProcessStatus,
+        out: &mut Out,
+    )
+        requires now { points.at.now.0 ≤ 2 ^ 40 }
+        requires next { points.next.0 ≤ 2 ^ 41 }
+        requires delay { delay.0 ≤ 2 ^ 40 }
+        requires process { place_of process < MOST_RUNNERS }
+        requires bounded { IsBounded row }
+        requires room { HasRoom 1 out.old }
+        ensures step { IsMade (meaning.starts_in_normal points.at points.next.0 self.old process delay row) self.new out.old out.new }
+        ensures grows { Grows 1 out.old out.new }
+    {
+        let now = points.at.now;
+        if row.period.is_some() {
+            self.wait_for_release(process, row, Ticks(points.next.0 + delay.0), out);
+        } else if delay.0 == 0 {
+            self.wake(process, released_at(now, row), out);
+        } else {
+            self.wait_for_release(process, row, Ticks(now.0 + delay.0), out);
+        }
     }
 
     /// A process that was started before normal mode takes the normal case of its start.
-    fn start_waiting(&mut self, at: At, process: Runner, out: &mut Out)
-        requires { HasRoom 1 out.old }
-        ensures step { IsMade (meaning.starts_waiting at self.old process (row_of self.old process)) self.new out.old out.new }
+    fn start_waiting(&mut self, points: Points, process: Runner, out: &mut Out)
+        requires now { points.at.now.0 ≤ 2 ^ 40 }
+        requires next { points.next.0 ≤ 2 ^ 41 }
+        requires room { HasRoom 1 out.old }
+        ensures step { IsMade (meaning.starts_waiting points.at points.next.0 self.old process (row_of self.old process)) self.new out.old out.new }
         ensures grows { Grows 1 out.old out.new }
     {
         if let Some(row) = self.row(process) {
-            if let Wait::NormalStart(_) = row.wait {
-                self.start_in_normal(at, process, row, out);
+            if let Wait::NormalStart(delay) = row.wait {
+                self.start_in_normal(points, process, delay, row, out);
             }
         }
     }
 
     /// Each process that was started before normal mode takes the normal case of its start, in
     /// number order.
-    pub fn start_all_waiting(&mut self, at: At, out: &mut Out)
-        requires { HasRoom MOST_PROCESSES out.old }
-        ensures step { IsMade (meaning.start_all_waiting at self.old) self.new out.old out.new }
+    pub fn start_all_waiting(&mut self, points: Points, out: &mut Out)
+        requires now { points.at.now.0 ≤ 2 ^ 40 }
+        requires next { points.next.0 ≤ 2 ^ 41 }
+        requires room { HasRoom MOST_PROCESSES out.old }
+        ensures step { IsMade (meaning.start_all_waiting points.at points.next.0 self.old) self.new out.old out.new }
         ensures grows { Grows MOST_PROCESSES out.old out.new }
     {
         let mut left = self.count().saturating_sub(2);
         let mut place = 0u8;
         while left > 0 {
-            self.start_waiting(at, Runner::Process(ProcessIndex(place)), out);
+            self.start_waiting(points, Runner::Process(ProcessIndex(place)), out);
             left -= 1;
             place += 1;
         }

@@ -3,10 +3,11 @@
 ghost use Rattle.std.specs.Prelude.{◌≡◌, ◌<◌, ◌≤◌, [], ◌∷◌, length, map, slice_get, slice_set, IfOk, IfSome, None, option_map};
 ghost use Rattle.apex_types.specs.Runners.{place_of};
 ghost use Rattle.apex_types.specs.declared.process.Lock.TheVariants as free;
-ghost use Rattle.apex_meaning.specs.PartitionServices.{cleared_processes, forgotten, ready_init};
+ghost use Rattle.apex_meaning.specs.PartitionServices.{cleared_processes, forgotten, ready_init, started_rows};
 ghost use Rattle.apex_meaning.specs.Partition.{first_ready};
 ghost use Rattle.apex_meaning.specs.Processes as meaning;
 ghost use Rattle.apex_meaning.specs.TwoMeanings.{fresh_row, fresh_processes, init_row, handler_row, machine_row, ticks};
+ghost use Rattle.process_table_base.specs.Bounds.{IsBounded, AreShort};
 
 use crate::order::{self, Order};
 use apex_types::{
@@ -90,8 +91,10 @@ fn fresh_rows(alloc: Global, processes: &[ProcessRow]) -> Result<Vec<ProcessStat
 
 impl ProcessTable {
     /// No process is created, and none runs. An error is one of memory.
+    #[tactic(auto, using(crate::proofs::Bounds::bounds))]
     pub fn new(alloc: Global, processes: &[ProcessRow]) -> Result<ProcessTable, AllocError>
-        requires { length processes.now ≤ MOST_PROCESSES }
+        requires few { length processes.now ≤ MOST_PROCESSES }
+        requires short { AreShort processes.now }
         ensures { IfOk result (λ table. table ≡ fresh_processes (map machine_row processes.now)) }
     {
         Ok(ProcessTable {
@@ -103,11 +106,13 @@ impl ProcessTable {
     }
 
     /// The record of INIT, of the handler or of a process, where there is such a process.
+    #[tactic(auto, using(crate::proofs::Bounds::bounds))]
     pub fn row(&self, runner: Runner) -> Option<ProcessStatus>
         ensures row { result ≡ meaning.row_of self.now runner }
         ensures within { IfSome result (λ row. place_of runner < MOST_RUNNERS) }
+        ensures bounded { IfSome result IsBounded }
     {
-        self.rows.get(runner.place()).copied()
+        record_at(&self.rows, runner.place())
     }
 
     /// How many records there are.
@@ -132,21 +137,26 @@ impl ProcessTable {
     }
 
     /// The preemption lock.
-    pub(crate) fn lock(&self) -> Lock
+    pub fn lock(&self) -> Lock
         ensures { result ≡ self.now.lock }
     {
         self.lock
     }
 
+    /// Another level of the preemption lock, or another holder.
+    pub fn set_lock(&mut self, lock: Lock)
+        ensures { self.new ≡ record self.old { lock = lock } }
+    {
+        self.lock = lock;
+    }
+
     /// No process is created, and no one runs or holds the lock. Unless the mode is idle, INIT is
     /// ready.
+    #[tactic(auto, using(crate::proofs::Bounds::bounds))]
     pub fn clear(&mut self, mode: Mode)
         ensures { self.new ≡ cleared_processes mode self.old }
     {
-        forget_all(&mut self.rows);
-        if mode != Mode::Idle {
-            ready_init(&mut self.rows);
-        }
+        restart_all(&mut self.rows, mode);
         self.ready.clear();
         self.running = None;
         self.lock = Lock::Free;
@@ -162,14 +172,18 @@ impl ProcessTable {
         }
     }
 
+    #[tactic(auto, using(crate::proofs::Bounds::bounds))]
     pub(crate) fn put_row(&mut self, runner: Runner, row: ProcessStatus)
+        requires { IsBounded row }
         ensures { self.new ≡ meaning.put_row self.old runner row }
     {
         put_at(&mut self.rows, runner, row);
     }
 
+    #[tactic(auto, using(crate::proofs::Bounds::bounds))]
     pub(crate) fn put_ready(&mut self, runner: Runner, row: ProcessStatus)
-        requires { place_of runner < MOST_RUNNERS }
+        requires runner { place_of runner < MOST_RUNNERS }
+        requires bounded { IsBounded row }
         ensures { self.new ≡ meaning.put_ready self.old runner row }
     {
         let priority = row.current_priority;
@@ -177,7 +191,9 @@ impl ProcessTable {
         order::enter_ready(&mut self.ready, runner, priority);
     }
 
+    #[tactic(auto, using(crate::proofs::Bounds::bounds))]
     pub(crate) fn put_unready(&mut self, runner: Runner, row: ProcessStatus)
+        requires { IsBounded row }
         ensures { self.new ≡ meaning.put_unready self.old runner row }
     {
         put_at(&mut self.rows, runner, row);
@@ -186,6 +202,7 @@ impl ProcessTable {
     }
 
     pub(crate) fn put_dormant(&mut self, runner: Runner, row: ProcessStatus)
+        requires { IsBounded row }
         ensures { self.new ≡ meaning.put_dormant self.old runner row }
     {
         self.put_unready(runner, row);
@@ -226,6 +243,22 @@ fn ready_init(rows: &mut Vec<ProcessStatus>)
     }
 }
 
+fn record_at(rows: &[ProcessStatus], place: usize) -> Option<ProcessStatus>
+    ensures { result ≡ slice_get rows.now place }
+{
+    rows.get(place).copied()
+}
+
+/// Nobody is created; unless the mode is idle, INIT is ready.
+fn restart_all(rows: &mut Vec<ProcessStatus>, mode: Mode)
+    ensures { rows.new.items ≡ started_rows mode (map forgotten rows.old.items) }
+{
+    forget_all(rows);
+    if mode != Mode::Idle {
+        ready_init(rows);
+    }
+}
+
 /// Puts a record in its place, where there is one.
 fn put_at(rows: &mut Vec<ProcessStatus>, runner: Runner, row: ProcessStatus)
     ensures { rows.new.items ≡ slice_set rows.old.items (place_of runner) row }
@@ -235,7 +268,8 @@ fn put_at(rows: &mut Vec<ProcessStatus>, runner: Runner, row: ProcessStatus)
     }
 }
 
-pub(crate) fn is_same(runner: Runner, other: Runner) -> bool
+/// Whether two are the same.
+pub fn is_same(runner: Runner, other: Runner) -> bool
     ensures { result ≡ meaning.is_same runner other }
 {
     match (runner, other) {

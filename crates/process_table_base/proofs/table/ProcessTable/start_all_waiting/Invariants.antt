@@ -1,12 +1,12 @@
 use Rattle.std.proofs.Common.{◌≡◌, ◌+◌, ◌≤◌, ◌++◌, length}
-use Rattle.apex_meaning.specs.ProcessServices.{start_from, start_all_waiting}
+use Rattle.apex_meaning.specs.Starts.{start_from, start_all_waiting}
 use Rattle.process_table_base.proofs.table.ProcessTable.start_all_waiting.Given as goal
 
 abbrev pub invariant-loop-left : goal.invariant-loop-left
 invariant-loop-left l = record {
-  part : (start_from l.at l.left l.place l.self).part ≡ (start_all_waiting l.at l.fn.self).part;
-  lines : l.out.lines.items ++ (start_from l.at l.left l.place l.self).lines ≡ l.fn.out.lines.items ++ (start_all_waiting l.at l.fn.self).lines;
-  actions : l.out.actions.items ++ (start_from l.at l.left l.place l.self).actions ≡ l.fn.out.actions.items ++ (start_all_waiting l.at l.fn.self).actions;
+  part : (start_from l.points.at l.points.next.0 l.left l.place l.self).part ≡ (start_all_waiting l.points.at l.points.next.0 l.fn.self).part;
+  lines : l.out.lines.items ++ (start_from l.points.at l.points.next.0 l.left l.place l.self).lines ≡ l.fn.out.lines.items ++ (start_all_waiting l.points.at l.points.next.0 l.fn.self).lines;
+  actions : l.out.actions.items ++ (start_from l.points.at l.points.next.0 l.left l.place l.self).actions ≡ l.fn.out.actions.items ++ (start_all_waiting l.points.at l.points.next.0 l.fn.self).actions;
   count : l.place + l.left ≤ 31;
   lines_room : length l.out.lines.items ≤ length l.fn.out.lines.items + l.place;
   actions_room : length l.out.actions.items ≤ length l.fn.out.actions.items + l.place;
