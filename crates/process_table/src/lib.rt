@@ -2,8 +2,15 @@
 //! the processes hold, and puts out its lines and what it asks for.
 #![tactic(auto)]
 
+mod duration;
+mod lock;
 mod processes;
+mod suspension;
 mod time;
 
-pub use processes::{create_process, start};
-pub use time::{get_time, timed_wait};
+pub use lock::{get_my_id, lock_preemption, unlock_preemption};
+pub use processes::{
+    create_process, delayed_start, get_process_id, get_process_status, set_priority, start, stop,
+};
+pub use suspension::{resume, suspend, suspend_self};
+pub use time::{get_time, periodic_wait, replenish, timed_wait};

@@ -1,12 +1,64 @@
-//! The services on processes.
+//! The services on processes: names, states, priorities, starts and stops.
 
-ghost use Rattle.std.specs.Prelude.{◌≡◌, ◌<◌, ◌≤◌, ◌+◌, length};
+ghost use Rattle.std.specs.Prelude.{◌≡◌, ◌<◌, ◌≤◌, ◌+◌, ◌^◌, length, IfSome};
 ghost use Rattle.apex_types.specs.Room.{HasRoom, Grows};
+ghost use Rattle.apex_types.specs.Runners.{place_of};
+ghost use Rattle.apex_types.specs.declared.identity.TheConstants.{MOST_RUNNERS};
+ghost use Rattle.apex_meaning.specs.Durations.{amount};
 ghost use Rattle.apex_meaning.specs.ProcessServices as meaning;
-ghost use Rattle.apex_meaning.specs.Step.{IsMade};
+ghost use Rattle.apex_meaning.specs.Step.{IsMade, IsTold};
 
-use apex_types::{At, Mode, Out, ReturnCode, Runner, Service, Ticks};
-use process_table_base::{ProcessTable, is_dormant};
+use crate::duration::is_delay;
+use apex_types::{Mode, Out, Priority, ProcessStatus, ReturnCode, Runner, Service, Ticks};
+use process_table_base::{Points, ProcessTable, is_dormant, is_same};
+
+/// The number of a deadline's tick, -1 for none.
+fn word_of_deadline(deadline: Option<Ticks>) -> i64
+    requires { IfSome deadline (λ tick. tick.0 ≤ 2 ^ 41) }
+    ensures { result ≡ meaning.word_of_deadline deadline }
+{
+    match deadline {
+        Some(tick) => tick.0 as i64,
+        None => -1,
+    }
+}
+
+/// GET_PROCESS_ID (ARINC 653 Part 1, process management): the number of a process, as its output.
+/// INVALID_CONFIG: no process of this number was created.
+pub fn get_process_id(table: &ProcessTable, caller: Runner, name: i64, out: &mut Out)
+    requires { HasRoom 1 out.old }
+    ensures step { IsTold (meaning.get_process_id table.now caller name) out.old out.new }
+    ensures grows { Grows 1 out.old out.new }
+{
+    let service = Service::GetProcessId;
+    match table.process_at(name) {
+        Some((_, row)) if row.created => {
+            table.answer(caller, service, ReturnCode::NoError, &[name], out)
+        }
+        _ => table.refuse(caller, service, ReturnCode::InvalidConfig, &[0], out),
+    }
+}
+
+/// GET_PROCESS_STATUS (ARINC 653 Part 1, process management): the state of a process, its current
+/// priority, and the tick of its deadline, -1 for none. INVALID_PARAM: no process of this number was
+/// created.
+pub fn get_process_status(table: &ProcessTable, caller: Runner, id: i64, out: &mut Out)
+    requires { HasRoom 1 out.old }
+    ensures step { IsTold (meaning.get_process_status table.now caller id) out.old out.new }
+    ensures grows { Grows 1 out.old out.new }
+{
+    let service = Service::GetProcessStatus;
+    match table.process_at(id) {
+        Some((_, row)) if row.created => {
+            let state = row.state as i64;
+            let priority = i64::from(row.current_priority.0);
+            let deadline = word_of_deadline(row.deadline);
+            let outputs = [state, priority, deadline];
+            table.answer(caller, service, ReturnCode::NoError, &outputs, out)
+        }
+        _ => table.refuse(caller, service, ReturnCode::InvalidParam, &[0, 0, 0], out),
+    }
+}
 
 /// CREATE_PROCESS (ARINC 653 Part 1, process management): the process of that number exists, and its
 /// output is its number. INVALID_MODE: in normal mode; INVALID_CONFIG: no such process is declared;
@@ -36,12 +88,64 @@ pub fn create_process(
     table.create(process, row);
 }
 
+/// SET_PRIORITY (ARINC 653 Part 1, process management): another current priority of a process. A
+/// ready process goes last among those that have it. INVALID_PARAM: no process of this number was
+/// created, or a priority below 1 or above 239; INVALID_MODE: it is dormant.
+pub fn set_priority(table: &mut ProcessTable, caller: Runner, id: i64, priority: i64, out: &mut Out)
+    requires { HasRoom 1 out.old }
+    ensures step { IsMade (meaning.set_priority table.old caller id priority) table.new out.old out.new }
+    ensures grows { Grows 1 out.old out.new }
+{
+    let service = Service::SetPriority;
+    let Some((process, row)) = table.process_at(id) else {
+        return table.refuse(caller, service, ReturnCode::InvalidParam, &[], out);
+    };
+    if !row.created || priority < 1 || priority > 239 {
+        return table.refuse(caller, service, ReturnCode::InvalidParam, &[], out);
+    }
+    if is_dormant(&row) {
+        return table.refuse(caller, service, ReturnCode::InvalidMode, &[], out);
+    }
+    table.answer(caller, service, ReturnCode::NoError, &[], out);
+    table.take_priority(process, row, Priority(priority as u8));
+}
+
+/// STOP (ARINC 653 Part 1, process management): another process becomes dormant. INVALID_PARAM: no
+/// process of this number was created, or the caller's own; NO_ACTION: it is dormant.
+pub fn stop(table: &mut ProcessTable, caller: Runner, id: i64, out: &mut Out)
+    requires { HasRoom 2 out.old }
+    ensures step { IsMade (meaning.stop table.old caller id) table.new out.old out.new }
+    ensures grows { Grows 2 out.old out.new }
+{
+    let service = Service::Stop;
+    let Some((process, row)) = table.process_at(id) else {
+        return table.refuse(caller, service, ReturnCode::InvalidParam, &[], out);
+    };
+    if !row.created || is_same(caller, process) {
+        return table.refuse(caller, service, ReturnCode::InvalidParam, &[], out);
+    }
+    if is_dormant(&row) {
+        return table.refuse(caller, service, ReturnCode::NoAction, &[], out);
+    }
+    table.answer(caller, service, ReturnCode::NoError, &[], out);
+    table.rest(process, row, out);
+}
+
 /// START (ARINC 653 Part 1, process management): a dormant process starts its body with a fresh stack
 /// and its base priority; before normal mode it waits for it. INVALID_PARAM: no process of this
 /// number was created; NO_ACTION: it is not dormant.
-pub fn start(table: &mut ProcessTable, mode: Mode, at: At, caller: Runner, id: i64, out: &mut Out)
-    requires { HasRoom 3 out.old }
-    ensures step { IsMade (meaning.start mode at table.old caller id) table.new out.old out.new }
+pub fn start(
+    table: &mut ProcessTable,
+    mode: Mode,
+    points: Points,
+    caller: Runner,
+    id: i64,
+    out: &mut Out,
+)
+    requires now { points.at.now.0 ≤ 2 ^ 40 }
+    requires next { points.next.0 ≤ 2 ^ 41 }
+    requires room { HasRoom 3 out.old }
+    ensures step { IsMade (meaning.start mode points.at points.next.0 table.old caller id) table.new out.old out.new }
     ensures grows { Grows 2 out.old out.new }
 {
     let service = Service::Start;
@@ -55,5 +159,48 @@ pub fn start(table: &mut ProcessTable, mode: Mode, at: At, caller: Runner, id: i
         return table.refuse(caller, service, ReturnCode::NoAction, &[], out);
     }
     table.answer(caller, service, ReturnCode::NoError, &[], out);
-    table.start(mode, at, process, Ticks(0), row, out);
+    table.start(mode, points, process, Ticks(0), row, out);
+}
+
+/// Whether a delay is at least a period, where there is one.
+fn is_beyond(delay: i64, period: Option<Ticks>) -> bool
+    ensures { result ≡ meaning.is_beyond (amount delay) period }
+{
+    match period {
+        Some(period) => period.0 <= delay.max(0) as u64,
+        None => false,
+    }
+}
+
+/// DELAYED_START (ARINC 653 Part 1, process management): as START, so many ticks after now or after
+/// the partition's next release point. INVALID_PARAM: no process of this number was created, a delay
+/// below 0 or above 2^40 ticks, or one of at least the period of a periodic process; NO_ACTION: it is
+/// not dormant.
+pub fn delayed_start(
+    table: &mut ProcessTable,
+    mode: Mode,
+    points: Points,
+    caller: Runner,
+    id: i64,
+    delay: i64,
+    out: &mut Out,
+)
+    requires now { points.at.now.0 ≤ 2 ^ 40 }
+    requires next { points.next.0 ≤ 2 ^ 41 }
+    requires room { HasRoom 3 out.old }
+    ensures step { IsMade (meaning.delayed_start mode points.at points.next.0 table.old caller id delay) table.new out.old out.new }
+    ensures grows { Grows 2 out.old out.new }
+{
+    let service = Service::DelayedStart;
+    let Some((process, row)) = table.process_at(id) else {
+        return table.refuse(caller, service, ReturnCode::InvalidParam, &[], out);
+    };
+    if !row.created || !is_delay(delay) || is_beyond(delay, row.period) {
+        return table.refuse(caller, service, ReturnCode::InvalidParam, &[], out);
+    }
+    if !is_dormant(&row) {
+        return table.refuse(caller, service, ReturnCode::NoAction, &[], out);
+    }
+    table.answer(caller, service, ReturnCode::NoError, &[], out);
+    table.start(mode, points, process, Ticks(delay as u64), row, out);
 }

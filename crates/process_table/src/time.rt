@@ -1,15 +1,16 @@
 //! The services on time.
 
-ghost use Rattle.std.specs.Prelude.{◌≡◌, ◌<◌, ◌≤◌, ◌≤ℤ◌, ◌+◌, ◌^◌, pos, length};
+ghost use Rattle.std.specs.Prelude.{◌≡◌, ◌<◌, ◌≤◌, ◌≤ℤ◌, ◌+◌, ◌^◌, pos, length, true, Some};
 ghost use Rattle.apex_types.specs.Room.{HasRoom, Grows};
 ghost use Rattle.apex_meaning.specs.Step.{IsMade, IsTold};
+ghost use Rattle.apex_meaning.specs.Durations.{is_delay, is_duration};
 ghost use Rattle.apex_meaning.specs.TimeServices as meaning;
+ghost use Rattle.process_table_base.specs.Bounds.{IsAtMost, IsBounded};
 
-use apex_types::{At, Due, Out, ReturnCode, Runner, Service, Ticks, Wait};
+use crate::duration::{is_delay, is_duration};
+use crate::lock::may_not_lock;
+use apex_types::{At, Due, Mode, Out, ProcessStatus, ReturnCode, Runner, Service, Ticks, Wait};
 use process_table_base::ProcessTable;
-
-/// The greatest finite duration of a service, in ticks: 2^40.
-const MOST_TICKS: i64 = 1_099_511_627_776;
 
 /// GET_TIME (ARINC 653 Part 1, time management): the current tick.
 pub fn get_time(table: &ProcessTable, at: At, caller: Runner, out: &mut Out)
@@ -35,7 +36,7 @@ pub fn timed_wait(table: &mut ProcessTable, at: At, caller: Runner, delay: i64, 
     if table.is_busy(caller) {
         return table.refuse(caller, service, ReturnCode::InvalidMode, &[], out);
     }
-    if delay < 0 || delay > MOST_TICKS {
+    if !is_delay(delay) {
         return table.refuse(caller, service, ReturnCode::InvalidParam, &[], out);
     }
     wait_for(table, at, caller, delay, out);
@@ -43,8 +44,7 @@ pub fn timed_wait(table: &mut ProcessTable, at: At, caller: Runner, delay: i64, 
 
 fn wait_for(table: &mut ProcessTable, at: At, caller: Runner, delay: i64, out: &mut Out)
     requires now { at.now.0 ≤ 2 ^ 40 }
-    requires low { pos 0 ≤ℤ delay }
-    requires high { delay ≤ℤ pos (2 ^ 40) }
+    requires delay { is_delay delay ≡ true }
     requires room { HasRoom 1 out.old }
     ensures step { IsMade (meaning.delays at table.old caller delay) table.new out.old out.new }
     ensures grows { Grows 1 out.old out.new }
@@ -60,4 +60,89 @@ fn wait_for(table: &mut ProcessTable, at: At, caller: Runner, delay: i64, out: &
         let due = Due::Delay(Ticks(at.now.0 + delay as u64));
         table.wait(caller, row, Wait::Service(service), Some(due), out);
     }
+}
+
+/// PERIODIC_WAIT (ARINC 653 Part 1, time management): the caller waits for its next release, a period
+/// after the last; its deadline is kept. INVALID_MODE: the caller may not wait, or is aperiodic.
+pub fn periodic_wait(table: &mut ProcessTable, caller: Runner, out: &mut Out)
+    requires { HasRoom 1 out.old }
+    ensures step { IsMade (meaning.periodic_wait table.old caller) table.new out.old out.new }
+    ensures grows { Grows 1 out.old out.new }
+{
+    let service = Service::PeriodicWait;
+    if table.is_busy(caller) {
+        return table.refuse(caller, service, ReturnCode::InvalidMode, &[], out);
+    }
+    let Some(row) = table.row(caller) else {
+        return table.refuse(caller, service, ReturnCode::InvalidMode, &[], out);
+    };
+    match row.period {
+        Some(period) => table.wait_for_period(caller, row, period, out),
+        None => table.refuse(caller, service, ReturnCode::InvalidMode, &[], out),
+    }
+}
+
+/// A deadline so many ticks from now, none without a limit.
+fn deadline_in(at: At, budget: i64) -> Option<Ticks>
+    requires now { at.now.0 ≤ 2 ^ 40 }
+    requires budget { is_duration budget ≡ true }
+    ensures deadline { result ≡ meaning.deadline_in at budget }
+    ensures bounded { IsAtMost (2 ^ 41) result }
+{
+    if budget < 0 {
+        None
+    } else {
+        Some(Ticks(at.now.0 + budget as u64))
+    }
+}
+
+/// Whether a budget reaches past the next release of a periodic process.
+fn reaches_past(at: At, budget: i64, row: &ProcessStatus) -> bool
+    requires now { at.now.0 ≤ 2 ^ 40 }
+    requires budget { is_duration budget ≡ true }
+    requires bounded { IsBounded row.now }
+    ensures { result ≡ meaning.reaches_past at budget row.now row.now.period }
+{
+    match row.period {
+        None => false,
+        Some(_) if budget < 0 => true,
+        Some(period) => at.now.0 + budget as u64 > row.release.0 + period.0,
+    }
+}
+
+/// REPLENISH (ARINC 653 Part 1, time management): the caller's deadline is so many ticks from now;
+/// -1 is without limit. NO_ACTION: the caller is the handler, the mode is not normal, or its time
+/// capacity is without limit; INVALID_PARAM: a budget below -1 or above 2^40 ticks; INVALID_MODE: the
+/// new deadline of a periodic process is past its next release.
+pub fn replenish(
+    table: &mut ProcessTable,
+    mode: Mode,
+    at: At,
+    caller: Runner,
+    budget: i64,
+    out: &mut Out,
+)
+    requires now { at.now.0 ≤ 2 ^ 40 }
+    requires room { HasRoom 1 out.old }
+    ensures step { IsMade (meaning.replenish mode at table.old caller budget) table.new out.old out.new }
+    ensures grows { Grows 1 out.old out.new }
+{
+    let service = Service::Replenish;
+    if may_not_lock(mode, caller) {
+        return table.refuse(caller, service, ReturnCode::NoAction, &[], out);
+    }
+    if !is_duration(budget) {
+        return table.refuse(caller, service, ReturnCode::InvalidParam, &[], out);
+    }
+    let Some(row) = table.row(caller) else {
+        return table.answer(caller, service, ReturnCode::NoError, &[], out);
+    };
+    if row.capacity.is_none() {
+        return table.refuse(caller, service, ReturnCode::NoAction, &[], out);
+    }
+    if reaches_past(at, budget, &row) {
+        return table.refuse(caller, service, ReturnCode::InvalidMode, &[], out);
+    }
+    table.answer(caller, service, ReturnCode::NoError, &[], out);
+    table.set_deadline(caller, row, deadline_in(at, budget));
 }

@@ -1,0 +1,117 @@
+//! The preemption lock, and who a process is.
+
+ghost use Rattle.std.specs.Prelude.{◌≡◌, ◌<◌, ◌≤◌, ◌+◌, length};
+ghost use Rattle.apex_types.specs.Room.{HasRoom, Grows};
+ghost use Rattle.apex_meaning.specs.ProcessServices as meaning;
+ghost use Rattle.apex_meaning.specs.Step.{IsMade, IsTold};
+
+use apex_types::{Lock, Mode, Out, ReturnCode, Runner, Service};
+use process_table_base::ProcessTable;
+
+/// The most levels of the preemption lock.
+const MOST_LEVELS: u8 = 16;
+
+/// The handler, and anyone before normal mode, may neither lock nor unlock.
+pub(crate) fn may_not_lock(mode: Mode, caller: Runner) -> bool
+    ensures { result ≡ meaning.may_not_lock mode caller }
+{
+    match caller {
+        Runner::Handler => true,
+        _ => mode != Mode::Normal,
+    }
+}
+
+fn level_of(lock: Lock) -> u8
+    ensures { result ≡ meaning.level_of lock }
+{
+    match lock {
+        Lock::Free => 0,
+        Lock::Held { level, .. } => level,
+    }
+}
+
+/// The lock a level up; from none the caller is its holder.
+fn locked_by(caller: Runner, lock: Lock) -> Lock
+    requires { meaning.level_of lock < 16 }
+    ensures { result ≡ meaning.locked_by caller lock }
+{
+    match lock {
+        Lock::Held { level, holder } => Lock::Held {
+            level: level + 1,
+            holder,
+        },
+        Lock::Free => match caller {
+            Runner::Process(holder) => Lock::Held { level: 1, holder },
+            _ => Lock::Free,
+        },
+    }
+}
+
+/// The lock a level down; at none it has no holder.
+fn unlocked(lock: Lock) -> Lock
+    ensures { result ≡ meaning.unlocked lock }
+{
+    match lock {
+        Lock::Held { level, holder } if level > 1 => Lock::Held {
+            level: level - 1,
+            holder,
+        },
+        _ => Lock::Free,
+    }
+}
+
+/// LOCK_PREEMPTION (ARINC 653 Part 1, process management): no other process runs until the lock is
+/// free again; the level is its output. NO_ACTION: the caller is the handler, or the mode is not
+/// normal; INVALID_CONFIG: the level is 16.
+pub fn lock_preemption(table: &mut ProcessTable, mode: Mode, caller: Runner, out: &mut Out)
+    requires { HasRoom 1 out.old }
+    ensures step { IsMade (meaning.lock_preemption mode table.old caller) table.new out.old out.new }
+    ensures grows { Grows 1 out.old out.new }
+{
+    let service = Service::LockPreemption;
+    if may_not_lock(mode, caller) {
+        return table.refuse(caller, service, ReturnCode::NoAction, &[0], out);
+    }
+    if level_of(table.lock()) >= MOST_LEVELS {
+        return table.refuse(caller, service, ReturnCode::InvalidConfig, &[0], out);
+    }
+    let lock = locked_by(caller, table.lock());
+    let level = i64::from(level_of(lock));
+    table.answer(caller, service, ReturnCode::NoError, &[level], out);
+    table.set_lock(lock);
+}
+
+/// UNLOCK_PREEMPTION (ARINC 653 Part 1, process management): the lock loses a level, which is its
+/// output; at 0 it is free. NO_ACTION: the caller is the handler, the mode is not normal, or the
+/// level is 0.
+pub fn unlock_preemption(table: &mut ProcessTable, mode: Mode, caller: Runner, out: &mut Out)
+    requires { HasRoom 1 out.old }
+    ensures step { IsMade (meaning.unlock_preemption mode table.old caller) table.new out.old out.new }
+    ensures grows { Grows 1 out.old out.new }
+{
+    let service = Service::UnlockPreemption;
+    if may_not_lock(mode, caller) || table.lock() == Lock::Free {
+        return table.refuse(caller, service, ReturnCode::NoAction, &[0], out);
+    }
+    let lock = unlocked(table.lock());
+    let level = i64::from(level_of(lock));
+    table.answer(caller, service, ReturnCode::NoError, &[level], out);
+    table.set_lock(lock);
+}
+
+/// GET_MY_ID (ARINC 653 Part 1, process management): the number of the caller, as its output.
+/// INVALID_MODE: the caller is INIT or the handler.
+pub fn get_my_id(table: &ProcessTable, caller: Runner, out: &mut Out)
+    requires { HasRoom 1 out.old }
+    ensures step { IsTold (meaning.get_my_id table.now caller (meaning.number_of caller)) out.old out.new }
+    ensures grows { Grows 1 out.old out.new }
+{
+    let service = Service::GetMyId;
+    match caller {
+        Runner::Process(process) => {
+            let number = i64::from(process.0) + 1;
+            table.answer(caller, service, ReturnCode::NoError, &[number], out)
+        }
+        _ => table.refuse(caller, service, ReturnCode::InvalidMode, &[0], out),
+    }
+}

@@ -1,0 +1,133 @@
+//! The services that suspend processes and resume them.
+
+ghost use Rattle.std.specs.Prelude.{◌≡◌, ◌<◌, ◌≤◌, ◌+◌, ◌^◌, length, true};
+ghost use Rattle.apex_types.specs.Room.{HasRoom, Grows};
+ghost use Rattle.apex_meaning.specs.Durations.{is_duration};
+ghost use Rattle.apex_meaning.specs.Processes.{is_periodic};
+ghost use Rattle.apex_meaning.specs.ProcessServices as meaning;
+ghost use Rattle.apex_meaning.specs.Step.{IsMade};
+
+use crate::duration::is_duration;
+use apex_types::{At, Due, Lock, Out, ProcessStatus, ReturnCode, Runner, Service, Ticks, Wait};
+use process_table_base::{ProcessTable, is_dormant, is_same};
+
+/// The due time of one that waits at most so long.
+fn time_out(at: At, limit: i64) -> Option<Due>
+    requires now { at.now.0 ≤ 2 ^ 40 }
+    requires limit { is_duration limit ≡ true }
+    ensures { result ≡ meaning.time_out at limit }
+{
+    if limit < 0 {
+        None
+    } else {
+        Some(Due::TimeOut(Ticks(at.now.0 + limit as u64)))
+    }
+}
+
+/// Whether there is a record, and it is of a periodic process.
+fn is_periodic(row: &Option<ProcessStatus>) -> bool
+    ensures { result ≡ meaning.of_row is_periodic row.now }
+{
+    match row {
+        Some(row) => row.period.is_some(),
+        None => false,
+    }
+}
+
+/// SUSPEND_SELF (ARINC 653 Part 1, process management): the caller waits until it is resumed, or for
+/// so many ticks; -1 is without limit, and at 0 nothing happens. INVALID_MODE: the caller may not
+/// wait, or is periodic; INVALID_PARAM: a time-out below -1 or above 2^40 ticks.
+pub fn suspend_self(table: &mut ProcessTable, at: At, caller: Runner, limit: i64, out: &mut Out)
+    requires now { at.now.0 ≤ 2 ^ 40 }
+    requires room { HasRoom 1 out.old }
+    ensures step { IsMade (meaning.suspend_self at table.old caller limit) table.new out.old out.new }
+    ensures grows { Grows 1 out.old out.new }
+{
+    let service = Service::SuspendSelf;
+    if table.is_busy(caller) {
+        return table.refuse(caller, service, ReturnCode::InvalidMode, &[], out);
+    }
+    if !is_duration(limit) {
+        return table.refuse(caller, service, ReturnCode::InvalidParam, &[], out);
+    }
+    let row = table.row(caller);
+    if is_periodic(&row) {
+        return table.refuse(caller, service, ReturnCode::InvalidMode, &[], out);
+    }
+    if limit == 0 {
+        table.answer(caller, service, ReturnCode::NoError, &[], out);
+    } else if let Some(row) = row {
+        let suspended = ProcessStatus {
+            suspended: true,
+            ..row
+        };
+        table.wait(
+            caller,
+            suspended,
+            Wait::Service(service),
+            time_out(at, limit),
+            out,
+        );
+    }
+}
+
+/// Whether the process of a runner holds the preemption lock.
+fn holds(lock: Lock, process: Runner) -> bool
+    ensures { result ≡ meaning.holds lock process }
+{
+    match lock {
+        Lock::Free => false,
+        Lock::Held { holder, .. } => is_same(process, Runner::Process(holder)),
+    }
+}
+
+/// SUSPEND (ARINC 653 Part 1, process management): another process waits until it is resumed.
+/// INVALID_PARAM: no process of this number was created, or the caller's own; INVALID_MODE: it is
+/// dormant or periodic, or holds the preemption lock; NO_ACTION: it is suspended.
+pub fn suspend(table: &mut ProcessTable, caller: Runner, id: i64, out: &mut Out)
+    requires { HasRoom 2 out.old }
+    ensures step { IsMade (meaning.suspend table.old caller id) table.new out.old out.new }
+    ensures grows { Grows 2 out.old out.new }
+{
+    let service = Service::Suspend;
+    let Some((process, row)) = table.process_at(id) else {
+        return table.refuse(caller, service, ReturnCode::InvalidParam, &[], out);
+    };
+    if !row.created || is_same(caller, process) {
+        return table.refuse(caller, service, ReturnCode::InvalidParam, &[], out);
+    }
+    if is_dormant(&row) || row.period.is_some() || holds(table.lock(), process) {
+        return table.refuse(caller, service, ReturnCode::InvalidMode, &[], out);
+    }
+    if row.suspended {
+        return table.refuse(caller, service, ReturnCode::NoAction, &[], out);
+    }
+    table.answer(caller, service, ReturnCode::NoError, &[], out);
+    table.suspend(process, row, out);
+}
+
+/// RESUME (ARINC 653 Part 1, process management): another process is suspended no longer. Its
+/// SUSPEND_SELF ends; if it waits for nothing else it is ready. INVALID_PARAM: no process of this
+/// number was created, or the caller's own; INVALID_MODE: it is dormant or periodic; NO_ACTION: it is
+/// not suspended.
+pub fn resume(table: &mut ProcessTable, caller: Runner, id: i64, out: &mut Out)
+    requires { HasRoom 3 out.old }
+    ensures step { IsMade (meaning.resume table.old caller id) table.new out.old out.new }
+    ensures grows { Grows 3 out.old out.new }
+{
+    let service = Service::Resume;
+    let Some((process, row)) = table.process_at(id) else {
+        return table.refuse(caller, service, ReturnCode::InvalidParam, &[], out);
+    };
+    if !row.created || is_same(caller, process) {
+        return table.refuse(caller, service, ReturnCode::InvalidParam, &[], out);
+    }
+    if is_dormant(&row) || row.period.is_some() {
+        return table.refuse(caller, service, ReturnCode::InvalidMode, &[], out);
+    }
+    if !row.suspended {
+        return table.refuse(caller, service, ReturnCode::NoAction, &[], out);
+    }
+    table.answer(caller, service, ReturnCode::NoError, &[], out);
+    table.resume(process, row, out);
+}
