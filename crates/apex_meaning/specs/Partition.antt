@@ -121,30 +121,34 @@ abbrev pub given : Asks → List ℤ → List ℤ
 given (Calls c) words = handed (array_of c) words
 given _ words = []
 
--- a service that the kernel does not serve leaves its caller without an answer
+-- the services on processes and on time; one that the kernel does not serve leaves its caller without an
+-- answer
+abbrev pub serves_processes : At → Kernel → Runner → Call → Step Kernel
+serves_processes at k p (call.GetProcessId name) = of_processes k (get_process_id k.processes p name)
+serves_processes at k p (call.GetProcessStatus id) = of_processes k (get_process_status k.processes p id)
+serves_processes at k p (call.CreateProcess name) = of_processes k (create_process k.mode k.processes p name)
+serves_processes at k p (call.SetPriority id v) = of_processes k (set_priority k.processes p id v)
+serves_processes at k p (call.SuspendSelf limit) = of_processes k (suspend_self at k.processes p limit)
+serves_processes at k p (call.Suspend id) = of_processes k (suspend k.processes p id)
+serves_processes at k p (call.Resume id) = of_processes k (resume k.processes p id)
+serves_processes at k p (call.Stop id) = of_processes k (stop k.processes p id)
+serves_processes at k p (call.Start id) = of_processes k (start k.mode at (next_release_of at k) k.processes p id)
+serves_processes at k p (call.DelayedStart id delay) = of_processes k (delayed_start k.mode at (next_release_of at k) k.processes p id delay)
+serves_processes at k p call.LockPreemption = of_processes k (lock_preemption k.mode k.processes p)
+serves_processes at k p call.UnlockPreemption = of_processes k (unlock_preemption k.mode k.processes p)
+serves_processes at k p call.GetMyId = of_processes k (get_my_id k.processes p (number_of p))
+serves_processes at k p (call.TimedWait delay) = of_processes k (timed_wait at k.processes p delay)
+serves_processes at k p call.PeriodicWait = of_processes k (periodic_wait k.processes p)
+serves_processes at k p call.GetTime = of_processes k (get_time at k.processes p)
+serves_processes at k p (call.Replenish budget) = of_processes k (replenish k.mode at k.processes p budget)
+serves_processes at k p _ = nothing k
+
 abbrev pub serves : At → Kernel → Runner → Call → List ℤ → Step Kernel
 serves at k p call.GetPartitionStatus words = get_partition_status k p
 serves at k p (call.SetPartitionMode m) words = set_partition_mode at k p m
-serves at k p (call.GetProcessId name) words = of_processes k (get_process_id k.processes p name)
-serves at k p (call.GetProcessStatus id) words = of_processes k (get_process_status k.processes p id)
-serves at k p (call.CreateProcess name) words = of_processes k (create_process k.mode k.processes p name)
-serves at k p (call.SetPriority id v) words = of_processes k (set_priority k.processes p id v)
-serves at k p (call.SuspendSelf limit) words = of_processes k (suspend_self at k.processes p limit)
-serves at k p (call.Suspend id) words = of_processes k (suspend k.processes p id)
-serves at k p (call.Resume id) words = of_processes k (resume k.processes p id)
 serves at k p call.StopSelf words = ends_body k p
-serves at k p (call.Stop id) words = of_processes k (stop k.processes p id)
-serves at k p (call.Start id) words = of_processes k (start k.mode at (next_release_of at k) k.processes p id)
-serves at k p (call.DelayedStart id delay) words = of_processes k (delayed_start k.mode at (next_release_of at k) k.processes p id delay)
-serves at k p call.LockPreemption words = of_processes k (lock_preemption k.mode k.processes p)
-serves at k p call.UnlockPreemption words = of_processes k (unlock_preemption k.mode k.processes p)
-serves at k p call.GetMyId words = of_processes k (get_my_id k.processes p (number_of p))
-serves at k p (call.TimedWait delay) words = of_processes k (timed_wait at k.processes p delay)
-serves at k p call.PeriodicWait words = of_processes k (periodic_wait k.processes p)
-serves at k p call.GetTime words = of_processes k (get_time at k.processes p)
-serves at k p (call.Replenish budget) words = of_processes k (replenish k.mode at k.processes p budget)
 serves at k p (call.ReportApplicationMessage array length) words = of_processes k (report k.processes p array length words)
-serves at k p _ words = nothing k
+serves at k p c words = serves_processes at k p c
 
 abbrev pub treats_asked : At → Kernel → Runner → Asks → List ℤ → Step Kernel
 treats_asked at k p Nothing words = nothing k

@@ -1,19 +1,21 @@
 //! The kernel's state of one partition, in parts with an owner each.
 
-ghost use Rattle.std.specs.Prelude.{◌≡◌, ◌≤◌, ◌+◌, length, map, IfOk};
+ghost use Rattle.std.specs.Prelude.{◌≡◌, ◌≤◌, ◌+◌, ◌^◌, length, map, IfOk};
 ghost use Rattle.apex_types.specs.Room.{HasRoom, Grows};
 ghost use Rattle.apex_meaning.specs.Kernel.{of_processes};
 ghost use Rattle.apex_meaning.specs.Partition as tick;
+ghost use Rattle.apex_meaning.specs.PartitionServices.{next_release_of};
 ghost use Rattle.apex_meaning.specs.Processes.{subject};
 ghost use Rattle.apex_meaning.specs.Step.{IsMade};
 ghost use Rattle.apex_meaning.specs.TwoMeanings.{fresh_kernel, machine_row};
 ghost use Rattle.partition.specs.View.{fixed_of};
+ghost use Rattle.process_table_base.specs.Bounds.{AreShort};
 
 use crate::fixed::Fixed;
 use apex_types::{
     At, ErrorKind, MOST_PROCESSES, Mode, Name, Out, ProcessRow, Runner, StartCondition, Subject,
 };
-use process_table_base::ProcessTable;
+use process_table_base::{Points, ProcessTable};
 use std::alloc::{AllocError, Global};
 use std::marker::Model;
 
@@ -40,7 +42,8 @@ impl Model for Kernel {
 impl Kernel {
     /// A partition in idle mode with nothing created, of these processes. An error is one of memory.
     pub fn new(alloc: Global, fixed: Fixed, processes: &[ProcessRow]) -> Result<Kernel, AllocError>
-        requires { length processes.now ≤ MOST_PROCESSES }
+        requires few { length processes.now ≤ MOST_PROCESSES }
+        requires short { AreShort processes.now }
         ensures { IfOk result (λ kernel. kernel ≡ fresh_kernel (fixed_of fixed) (map machine_row processes.now)) }
     {
         Ok(Kernel {
@@ -49,6 +52,18 @@ impl Kernel {
             mode: Mode::Idle,
             condition: StartCondition::NormalStart,
         })
+    }
+
+    /// What a start counts from: this tick, and the partition's next release point.
+    pub(crate) fn points(&self, at: At) -> Points
+        requires past { at.origin.0 ≤ at.now.0 }
+        requires now { at.now.0 ≤ 2 ^ 40 }
+        ensures at { result.at ≡ at }
+        ensures next { result.next.0 ≡ next_release_of at self.now }
+        ensures soon { result.next.0 ≤ 2 ^ 41 }
+    {
+        let next = self.fixed.schedule.next_release(self.fixed.number, at);
+        Points { at, next }
     }
 
     /// The partition's name.
@@ -82,7 +97,8 @@ impl Kernel {
 
     /// What is due; a missed deadline may lead to a Clear.
     pub(crate) fn treat_due(&mut self, at: At, out: &mut Out)
-        requires { HasRoom 96 out.old }
+        requires now { at.now.0 ≤ 2 ^ 40 }
+        requires room { HasRoom 96 out.old }
         ensures step { IsMade (tick.treats_due at self.old) self.new out.old out.new }
         ensures grows { Grows 96 out.old out.new }
     {

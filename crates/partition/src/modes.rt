@@ -1,11 +1,11 @@
 //! Clear, the normal start, SET_PARTITION_MODE, and what ends a body.
 
-ghost use Rattle.std.specs.Prelude.{◌≡◌, ◌≤◌, ◌+◌, length};
+ghost use Rattle.std.specs.Prelude.{◌≡◌, ◌≤◌, ◌+◌, ◌^◌, length, pos};
 ghost use Rattle.apex_types.specs.Room.{HasRoom, Grows};
 ghost use Rattle.apex_meaning.specs.Kernel.{of_processes};
 ghost use Rattle.apex_meaning.specs.PartitionServices as meaning;
 ghost use Rattle.apex_meaning.specs.Processes.{row_of};
-ghost use Rattle.apex_meaning.specs.Step.{IsMade};
+ghost use Rattle.apex_meaning.specs.Step.{IsMade, IsTold};
 
 use crate::kernel::Kernel;
 use apex_types::{
@@ -58,20 +58,54 @@ impl Kernel {
 
     /// INIT becomes dormant, the mode normal, then those that wait for it start in number order.
     fn start_normally(&mut self, at: At, out: &mut Out)
-        requires { HasRoom 33 out.old }
+        requires past { at.origin.0 ≤ at.now.0 }
+        requires now { at.now.0 ≤ 2 ^ 40 }
+        requires room { HasRoom 33 out.old }
         ensures step { IsMade (meaning.starts_normally at self.old) self.new out.old out.new }
         ensures grows { Grows 33 out.old out.new }
     {
+        let points = self.points(at);
         self.rest(Runner::Init, out);
         self.enter_normal(out);
-        self.processes.start_all_waiting(at, out);
+        self.processes.start_all_waiting(points, out);
+    }
+
+    /// The words that GET_PARTITION_STATUS answers.
+    fn status(&self) -> [i64; 6]
+        ensures { result ≡ meaning.status_of self.now }
+    {
+        let fixed = &self.fixed;
+        [
+            i64::from(fixed.number.0),
+            i64::from(fixed.period),
+            i64::from(fixed.duration),
+            i64::from(self.processes.lock_level()),
+            number_of_mode(self.mode),
+            number_of_condition(self.condition),
+        ]
+    }
+
+    /// GET_PARTITION_STATUS (ARINC 653 Part 1, partition management): the partition's number, its
+    /// period and duration in ticks, the level of the preemption lock, the mode, and the start
+    /// condition.
+    pub(crate) fn get_partition_status(&self, caller: Runner, out: &mut Out)
+        requires { HasRoom 1 out.old }
+        ensures step { IsTold (meaning.get_partition_status self.now caller) out.old out.new }
+        ensures grows { Grows 1 out.old out.new }
+    {
+        let outputs = self.status();
+        let service = Service::GetPartitionStatus;
+        self.processes
+            .answer(caller, service, ReturnCode::NoError, &outputs, out);
     }
 
     /// SET_PARTITION_MODE (ARINC 653 Part 1, partition management): the partition enters a mode.
     /// INVALID_PARAM: the number is no mode's; NO_ACTION: normal mode in normal mode; INVALID_MODE: a
     /// warm start in a cold start.
     pub(crate) fn set_partition_mode(&mut self, at: At, caller: Runner, mode: i64, out: &mut Out)
-        requires { HasRoom 34 out.old }
+        requires past { at.origin.0 ≤ at.now.0 }
+        requires now { at.now.0 ≤ 2 ^ 40 }
+        requires room { HasRoom 34 out.old }
         ensures step { IsMade (meaning.set_partition_mode at self.old caller mode) self.new out.old out.new }
         ensures grows { Grows 34 out.old out.new }
     {
@@ -104,6 +138,18 @@ impl Kernel {
             other => self.rest(other, out),
         }
     }
+}
+
+fn number_of_mode(mode: Mode) -> i64
+    ensures { result ≡ pos (meaning.number_of_mode mode) }
+{
+    mode as i64
+}
+
+fn number_of_condition(condition: StartCondition) -> i64
+    ensures { result ≡ pos (meaning.number_of_condition condition) }
+{
+    condition as i64
 }
 
 /// The mode of a number, where it is one.

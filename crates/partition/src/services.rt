@@ -9,7 +9,11 @@ ghost use Rattle.processor.specs.Views.{asks_of};
 
 use crate::kernel::Kernel;
 use apex_types::{ArrayPlace, At, Call, EventKind, Out, ReturnCode, Runner, Service, Words};
-use process_table::{create_process, get_time, start, timed_wait};
+use process_table::{
+    create_process, delayed_start, get_my_id, get_process_id, get_process_status, get_time,
+    lock_preemption, periodic_wait, replenish, resume, set_priority, start, stop, suspend,
+    suspend_self, timed_wait, unlock_preemption,
+};
 use processor::Outcome;
 
 impl Kernel {
@@ -43,6 +47,7 @@ impl Kernel {
         words: Words,
         out: &mut Out,
     )
+        requires past { at.origin.0 ≤ at.now.0 }
         requires now { at.now.0 ≤ 2 ^ 40 }
         requires room { HasRoom 34 out.old }
         ensures step { IsMade (meaning.treats_asked at self.old runner (asks_of outcome) words.items) self.new out.old out.new }
@@ -59,23 +64,60 @@ impl Kernel {
     /// Serves a call; `words` are those that it hands in. A service that is not served leaves its
     /// caller without an answer.
     fn serve(&mut self, at: At, caller: Runner, call: Call, words: Words, out: &mut Out)
+        requires past { at.origin.0 ≤ at.now.0 }
         requires now { at.now.0 ≤ 2 ^ 40 }
         requires room { HasRoom 34 out.old }
         ensures step { IsMade (meaning.serves at self.old caller call words.items) self.new out.old out.new }
         ensures grows { Grows 34 out.old out.new }
     {
-        let mode = self.mode;
-        let processes = &mut self.processes;
         match call {
+            Call::GetPartitionStatus => self.get_partition_status(caller, out),
             Call::SetPartitionMode { mode } => self.set_partition_mode(at, caller, mode, out),
-            Call::CreateProcess { name } => create_process(processes, mode, caller, name, out),
             Call::StopSelf => self.end_body(caller, out),
-            Call::Start { process } => start(processes, mode, at, caller, process, out),
-            Call::TimedWait { delay } => timed_wait(processes, at, caller, delay, out),
-            Call::GetTime => get_time(processes, at, caller, out),
             Call::ReportApplicationMessage { array, length } => {
                 self.report(caller, array, length, words, out)
             }
+            other => self.serve_processes(at, caller, other, out),
+        }
+    }
+
+    /// Serves a call on processes or on time.
+    fn serve_processes(&mut self, at: At, caller: Runner, call: Call, out: &mut Out)
+        requires past { at.origin.0 ≤ at.now.0 }
+        requires now { at.now.0 ≤ 2 ^ 40 }
+        requires room { HasRoom 34 out.old }
+        ensures step { IsMade (meaning.serves_processes at self.old caller call) self.new out.old out.new }
+        ensures grows { Grows 34 out.old out.new }
+    {
+        let mode = self.mode;
+        let table = &mut self.processes;
+        match call {
+            Call::GetProcessId { name } => get_process_id(table, caller, name, out),
+            Call::GetProcessStatus { process } => get_process_status(table, caller, process, out),
+            Call::CreateProcess { name } => create_process(table, mode, caller, name, out),
+            Call::SetPriority { process, priority } => {
+                set_priority(table, caller, process, priority, out)
+            }
+            Call::SuspendSelf { timeout } => suspend_self(table, at, caller, timeout, out),
+            Call::Suspend { process } => suspend(table, caller, process, out),
+            Call::Resume { process } => resume(table, caller, process, out),
+            Call::Stop { process } => stop(table, caller, process, out),
+            Call::Start { process } => {
+                let points = self.points(at);
+                start(&mut self.processes, mode, points, caller, process, out)
+            }
+            Call::DelayedStart { process, delay } => {
+                let points = self.points(at);
+                let table = &mut self.processes;
+                delayed_start(table, mode, points, caller, process, delay, out)
+            }
+            Call::LockPreemption => lock_preemption(table, mode, caller, out),
+            Call::UnlockPreemption => unlock_preemption(table, mode, caller, out),
+            Call::GetMyId => get_my_id(table, caller, out),
+            Call::TimedWait { delay } => timed_wait(table, at, caller, delay, out),
+            Call::PeriodicWait => periodic_wait(table, caller, out),
+            Call::GetTime => get_time(table, at, caller, out),
+            Call::Replenish { budget } => replenish(table, mode, at, caller, budget, out),
             _ => {}
         }
     }

@@ -69,6 +69,7 @@ impl<E: Executor> Partition<E> {
 
     /// What is due is treated.
     fn treat_due(&mut self, mem: &mut E::Mem, at: At, events: &mut Events)
+        requires now { at.now.0 ≤ 2 ^ 40 }
         requires whole { IsWhole (member_of E.Executor self.old mem.old) }
         requires idle { IsEmpty self.old.out }
         requires room { length events.old.items + 96 ≤ 256 }
@@ -99,6 +100,7 @@ impl<E: Executor> Partition<E> {
 
     /// This one spends a tick, and what it asks for is done.
     fn spend(&mut self, mem: &mut E::Mem, at: At, runner: Runner, events: &mut Events)
+        requires past { at.origin.0 ≤ at.now.0 }
         requires now { at.now.0 ≤ 2 ^ 40 }
         requires whole { IsWhole (member_of E.Executor self.old mem.old) }
         requires idle { IsEmpty self.old.out }
@@ -130,6 +132,7 @@ impl<E: Executor> Partition<E> {
 
     /// One tick: what is due, then the choice, then the tick of the chosen one.
     pub fn tick(&mut self, mem: &mut E::Mem, at: At, events: &mut Events)
+        requires past { at.origin.0 ≤ at.now.0 }
         requires now { at.now.0 ≤ 2 ^ 40 }
         requires whole { IsWhole (member_of E.Executor self.old mem.old) }
         requires empty { events.old.items ≡ [] }

@@ -6,6 +6,7 @@ ghost use Rattle.apex_types.specs.declared.process.Lock.TheVariants as free;
 ghost use Rattle.apex_meaning.specs.PartitionServices.{cleared_processes, forgotten, ready_init, started_rows};
 ghost use Rattle.apex_meaning.specs.Partition.{first_ready};
 ghost use Rattle.apex_meaning.specs.Processes as meaning;
+ghost use Rattle.apex_meaning.specs.ProcessServices.{level_of};
 ghost use Rattle.apex_meaning.specs.TwoMeanings.{fresh_row, fresh_processes, init_row, handler_row, machine_row, ticks};
 ghost use Rattle.process_table_base.specs.Bounds.{IsBounded, AreShort};
 
@@ -30,6 +31,7 @@ pub struct ProcessTable {
 
 impl Model for ProcessTable {
     ghost use Rattle.apex_meaning.specs.Processes as meaning;
+ghost use Rattle.apex_meaning.specs.ProcessServices.{level_of};
 
     ghost Value = { meaning.Processes };
 
@@ -141,6 +143,16 @@ impl ProcessTable {
         ensures { result ≡ self.now.lock }
     {
         self.lock
+    }
+
+    /// The level of the preemption lock, 0 where it is free.
+    pub fn lock_level(&self) -> u8
+        ensures { result ≡ level_of self.now.lock }
+    {
+        match self.lock {
+            Lock::Free => 0,
+            Lock::Held { level, .. } => level,
+        }
     }
 
     /// Another level of the preemption lock, or another holder.

@@ -58,7 +58,7 @@ fn own_windows(
 }
 
 impl Schedule {
-    ghost use Rattle.std.specs.Prelude.{◌≡◌, ◌≤◌, ◌<◌, ◌^◌, option_map, IsTrue, IfOk};
+    ghost use Rattle.std.specs.Prelude.{◌≡◌, ◌≤◌, ◌<◌, ◌+◌, ◌^◌, option_map, IsTrue, IfOk};
     ghost use Rattle.apex_meaning.specs.Windows.{at_tick, schedule_of_partition, phase, owner, ended, has_release, until_start, until_one_of, next_release, IsNextRelease};
     ghost use Rattle.window_table.specs.Schedules.{schedule_of};
 
@@ -170,6 +170,7 @@ impl Schedule {
         requires past { at.origin.0 ≤ at.now.0 }
         requires tick_limit { at.now.0 ≤ 2 ^ 40 }
         ensures computed { result.0 ≡ next_release (schedule_of self.now) partition.0 at }
+        ensures soon { result.0 ≤ 2 ^ 41 }
         ensures least { IsTrue (has_release self.now.windows.items partition.0) → IsNextRelease (schedule_of self.now) partition.0 at result.0 }
     {
         Ticks(at.now.0 + self.until_release(partition, at).0)
