@@ -1,4 +1,4 @@
-//! `mb` over words that are no command.
+//! `mb` over a table that is refused.
 #![tactic(auto)]
 
 use std::process::ExitCode;
