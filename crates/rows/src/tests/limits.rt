@@ -37,6 +37,11 @@ fn words_of_data(rt: HostRuntime) -> Result<(), Fail> {
         let sources = [source.as_str()];
         expect_trace(&rt, rt.alloc(), TABLE, &sources, "128", VARIABLES_TRACE)?;
     }
+    Ok(())
+}
+
+#[test]
+fn one_word_more(rt: HostRuntime) -> Result<(), Fail> {
     let source = variables(rt.alloc(), 65_536)?;
     let sources = [source.as_str().as_bytes()];
     let line = "mb: pal a 5 line 65537\n";
@@ -113,14 +118,6 @@ fn the_largest_source(rt: HostRuntime) -> Result<(), Fail> {
     run(rt.alloc(), image.as_slice(), &[], 65_537, &mut sink)?;
     assert_eq!(rt; sink.taken.as_slice(), LARGEST_TRACE.as_bytes());
     Ok(())
-}
-
-#[test]
-fn one_instruction_more(rt: HostRuntime) -> Result<(), Fail> {
-    let source = largest(rt.alloc(), 65_537)?;
-    let sources = [source.as_str().as_bytes()];
-    let line = "mb: compile a 1\n";
-    expect_refused(&rt, rt.alloc(), TABLE.as_bytes(), &sources, line)
 }
 
 /// Takes nothing.
