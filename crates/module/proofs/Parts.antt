@@ -3,7 +3,6 @@ use Rattle.std.proofs.Common.{◌≡◌, ◌∙◌, ℕ, Bool, map, List, [], �
 use Rattle.std.specs.Prelude.{◌&&◌, ◌||◌, ◌==◌, length, is_none}
 use Rattle.std.specs.List.{list_all, list_any}
 use Rattle.std.specs.Option.{option_map}
-use Rattle.std.proofs.lemmas.Bool.{ne_eqb}
 use Rattle.std.proofs.lemmas.List.{length-map}
 use Rattle.std.proofs.lemmas.List.Folds.{list_all-map}
 use Rattle.image.specs.Views.{image_of}
@@ -12,19 +11,14 @@ use Rattle.window_table.specs.Views.{partition_view, channel_view, table_of}
 use Rattle.window_table.specs.declared.table.ModuleTable.{ModuleTable}
 use Rattle.pal_base.specs.declared.program.Body.{Body}
 use Rattle.pal_base.specs.declared.program.Program.{Program}
-use Rattle.pal_base.specs.declared.program.Expr.{Expr}
 use Rattle.apex_meaning.specs.Syntax as written
 use Rattle.pal_base.specs.View.{texts, declared_of, declaration_of, program_of as written_of}
 use Rattle.pal_base.specs.declared.syntax.DeclarationKind.{DeclarationKind}
 use Rattle.pal_base.specs.declared.syntax.DeclarationKind.TheVariants as kind
 use Rattle.pal_base.specs.declared.syntax.Declaration.{Declaration}
 use Rattle.pal_base.specs.declared.syntax.Program as source
-use Rattle.pal_base.specs.ProgramView.{expr_of, exprs_of, block_of, body_of, procedure_of, process_of, program_of}
-use Rattle.module.specs.Part.{is_three, is_normal, is_block_of_part, is_procedure_of_part, is_process_of_part, is_image_of_part, is_row_of_part, is_table_of_part, is_program_of_part, is_port, declares_port}
-
-pub normal_is : (e : Expr) (es : List Expr) → is_normal (exprs_of (e ∷ es)) ≡ ((length es == 0) && is_three (expr_of e))
-normal_is e [] = refl
-normal_is e (x ∷ es) = ap (λ b. b && is_three (expr_of e)) (sym (ne_eqb (length (x ∷ es)) 0 (λ h. omega (arith, h))))
+use Rattle.pal_base.specs.ProgramView.{block_of, body_of, procedure_of, process_of, program_of}
+use Rattle.module.specs.Part.{is_block_of_part, is_procedure_of_part, is_process_of_part, is_image_of_part, is_row_of_part, is_table_of_part, is_program_of_part, is_port, declares_port}
 
 -- ---- images
 

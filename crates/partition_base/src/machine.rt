@@ -96,7 +96,7 @@ pub fn memory_plan(alloc: Global, section: &Section) -> Result<MemoryPlan, Alloc
 }
 
 /// At most 16 words, from a place on.
-fn message(words: &[i64], place: i64, count: u8) -> Words
+pub fn message(words: &[i64], place: i64, count: u8) -> Words
     requires { count ≤ 16 }
     ensures { result.items ≡ message_from place count words.now }
 {
@@ -112,7 +112,7 @@ fn message(words: &[i64], place: i64, count: u8) -> Words
 }
 
 /// Writes words into the data one after the other from a place on, as far as there are places.
-fn put(memory: &mut PartitionMem, place: usize, array: &[i64])
+pub fn put(memory: &mut PartitionMem, place: usize, array: &[i64])
     requires { place < 2 ^ 63 }
     ensures { memory.new ≡ put memory.old memory.old.stack (put_words memory.old.words place array.now) }
 {

@@ -168,7 +168,8 @@ impl Schedule {
     fn release_after(&self, partition: PartitionId, at: At) -> Ticks
         requires past { at.origin.0 ≤ at.now.0 }
         requires tick_limit { at.now.0 ≤ 2 ^ 40 }
-        ensures { result.0 ≡ next_release (schedule_of self.now) partition.0 at }
+        ensures computed { result.0 ≡ next_release (schedule_of self.now) partition.0 at }
+        ensures soon { result.0 ≤ 2 ^ 41 }
     {
         Ticks(at.now.0 + self.until_release(partition, at).0)
     }
