@@ -10,8 +10,8 @@ use partition_base::Executor;
 
 /// Does what the kernel asks of the processor and the memory. No error waits for a handler yet.
 fn act<E: Executor>(kernel: &mut Kernel, executor: &mut E, mem: &mut E::Mem, action: &Action)
-    requires { E.fits executor.old mem.old }
-    ensures fits { E.fits executor.new mem.new }
+    requires { E.laid mem.old ≡ E.layout executor.old }
+    ensures fits { E.laid mem.new ≡ E.layout executor.new }
     ensures member { member_at E.Executor kernel.new executor.new mem.new ≡ acts action.now (member_at E.Executor kernel.old executor.old mem.old) }
 {
     match action {
@@ -32,8 +32,8 @@ pub(crate) fn act_all<E: Executor>(
     mem: &mut E::Mem,
     actions: &[Action],
 )
-    requires { E.fits executor.old mem.old }
-    ensures fits { E.fits executor.new mem.new }
+    requires { E.laid mem.old ≡ E.layout executor.old }
+    ensures fits { E.laid mem.new ≡ E.layout executor.new }
     ensures member { member_at E.Executor kernel.new executor.new mem.new ≡ acts_all actions.now (member_at E.Executor kernel.old executor.old mem.old) }
 {
     for action in actions {

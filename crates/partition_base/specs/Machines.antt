@@ -1,5 +1,5 @@
 -- The processor of a partition as the definitions see it.
-use Rattle.std.specs.Prelude.{◌≡◌, ℤ, List, ◌∷◌, Option, length, map}
+use Rattle.std.specs.Prelude.{ℕ, ℤ, List, ◌∷◌, Option, length, map}
 use Rattle.apex_types.specs.declared.row.BodyRow.{BodyRow}
 use Rattle.apex_meaning.specs.Engine.{Engine}
 use Rattle.apex_meaning.specs.MachineControl.{MachineControl, machine_engine}
@@ -23,7 +23,10 @@ initial_of m = m.initial.items
 abbrev pub bodies_in : Machine → List BodyRow
 bodies_in m = m.init ∷ or_init m.init m.handler ∷ m.processes.items
 
--- The memory of this partition: as many words of data as at first, and the stack of each body.
-pub record FitsMemory (m : Machine) (s : Space) : Type 0 where
-  pub words : length s.words ≡ length m.initial.items
-  pub stacks : stack_lengths s ≡ map stack_of_body (bodies_in m)
+-- how many words a machine wants of the data and of each stack
+abbrev pub layout_of : Machine → List ℕ
+layout_of m = length m.initial.items ∷ map stack_of_body (bodies_in m)
+
+-- how many words the data of a memory have, and each stack
+abbrev pub laid_of : Space → List ℕ
+laid_of s = length s.words ∷ stack_lengths s

@@ -12,8 +12,8 @@ use processor::Outcome;
 /// Runs INIT, the error handler and the processes of one partition. A runner without a control has
 /// nothing left to do; a process that does not exist never has a control. No call takes memory.
 ///
-/// Each call is lent the partition's memory, which has to be one that fits: the one that was made
-/// for this partition, as these calls left it.
+/// Each call is lent the partition's memory. How many words each part of it has, its layout, is the
+/// one that the executor was made for, and stays so.
 pub trait Executor {
     /// The partition's memory: its data, and what its runners need beside them.
     type Mem;
@@ -28,12 +28,14 @@ pub trait Executor {
 
     ghost initial: { Self → List ℤ };
 
-    ghost fits: { Self → Self.Mem → Type 0 };
+    ghost layout: { Self → List ℕ };
+
+    ghost laid: { Self.Mem → List ℕ };
 
     /// The runner begins its body afresh.
     fn begin(&mut self, mem: &mut Self::Mem, runner: Runner)
-        requires { fits self.old mem.old }
-        ensures fits { fits self.new mem.new }
+        requires { laid mem.old ≡ layout self.old }
+        ensures fits { laid mem.new ≡ layout self.new }
         ensures engine { engine self.new ≡ engine self.old }
         ensures initial { initial self.new ≡ initial self.old }
         ensures controls { controls self.new mem.new ≡ slice_set (controls self.old mem.old) (place_of runner) (Some ((engine self.old).start runner)) }
@@ -41,24 +43,24 @@ pub trait Executor {
 
     /// The runner has nothing left to do.
     fn stop(&mut self, mem: &Self::Mem, runner: Runner)
-        requires { fits self.old mem.now }
-        ensures fits { fits self.new mem.now }
+        requires { laid mem.now ≡ layout self.old }
+        ensures fits { laid mem.now ≡ layout self.new }
         ensures engine { engine self.new ≡ engine self.old }
         ensures initial { initial self.new ≡ initial self.old }
         ensures controls { controls self.new mem.now ≡ slice_set (controls self.old mem.now) (place_of runner) None };
 
     /// No runner has anything left to do.
     fn stop_all(&mut self, mem: &Self::Mem)
-        requires { fits self.old mem.now }
-        ensures fits { fits self.new mem.now }
+        requires { laid mem.now ≡ layout self.old }
+        ensures fits { laid mem.now ≡ layout self.new }
         ensures engine { engine self.new ≡ engine self.old }
         ensures initial { initial self.new ≡ initial self.old }
         ensures controls { controls self.new mem.now ≡ map no_control (controls self.old mem.now) };
 
     /// One tick of the runner.
     fn tick(&mut self, mem: &mut Self::Mem, runner: Runner) -> Outcome
-        requires { fits self.old mem.old }
-        ensures fits { fits self.new mem.new }
+        requires { laid mem.old ≡ layout self.old }
+        ensures fits { laid mem.new ≡ layout self.new }
         ensures engine { engine self.new ≡ engine self.old }
         ensures initial { initial self.new ≡ initial self.old }
         ensures controls { controls self.new mem.new ≡ slice_set (controls self.old mem.old) (place_of runner) (ticked (engine self.old) (control_at (controls self.old mem.old) (place_of runner)) (words mem.old)).control }
@@ -67,8 +69,8 @@ pub trait Executor {
 
     /// The answer to the runner's service call: the code, then the outputs.
     fn reply(&mut self, mem: &mut Self::Mem, runner: Runner, answer: &Words)
-        requires { fits self.old mem.old }
-        ensures fits { fits self.new mem.new }
+        requires { laid mem.old ≡ layout self.old }
+        ensures fits { laid mem.new ≡ layout self.new }
         ensures engine { engine self.new ≡ engine self.old }
         ensures initial { initial self.new ≡ initial self.old }
         ensures controls { controls self.new mem.new ≡ slice_set (controls self.old mem.old) (place_of runner) (replied (engine self.old) (control_at (controls self.old mem.old) (place_of runner)) answer.now.items) }
@@ -82,15 +84,15 @@ pub trait Executor {
     /// Words go into the data, one after the other from a place on. A word whose place is outside
     /// of the data is dropped.
     fn write(&self, mem: &mut Self::Mem, place: i64, array: &Words)
-        requires { fits self.now mem.old }
-        ensures fits { fits self.now mem.new }
+        requires { laid mem.old ≡ layout self.now }
+        ensures fits { laid mem.new ≡ layout self.now }
         ensures controls { controls self.now mem.new ≡ controls self.now mem.old }
         ensures words { words mem.new ≡ written place array.now.items (words mem.old) };
 
     /// The data become the initial data.
     fn restore(&self, mem: &mut Self::Mem)
-        requires { fits self.now mem.old }
-        ensures fits { fits self.now mem.new }
+        requires { laid mem.old ≡ layout self.now }
+        ensures fits { laid mem.new ≡ layout self.now }
         ensures controls { controls self.now mem.new ≡ controls self.now mem.old }
         ensures words { words mem.new ≡ initial self.now };
 }

@@ -126,7 +126,7 @@ pub fn put(memory: &mut PartitionMem, place: usize, array: &[i64])
 impl Machine {
     ghost use Rattle.std.specs.Prelude.{None};
     ghost use Rattle.apex_meaning.specs.SourceControl.{body_at};
-    ghost use Rattle.partition_base.specs.Machines.{engine_of, controls_of, initial_of, bodies_in, FitsMemory};
+    ghost use Rattle.partition_base.specs.Machines.{engine_of, controls_of, initial_of, bodies_in, layout_of, laid_of};
     ghost use Rattle.partition_base.specs.Sections.{IsFittingSection, engine_of_section, fresh_memory};
 
     /// The processor of a partition's section, with nothing begun. An error is one of memory.
@@ -134,7 +134,7 @@ impl Machine {
         requires { IsFittingSection section.now }
         ensures engine { IfOk result (λ machine. engine_of machine ≡ engine_of_section section.now) }
         ensures controls { IfOk result (λ machine. controls_of machine (fresh_memory section.now) ≡ replicate (2 + length section.now.processes.items) None) }
-        ensures fits { IfOk result (λ machine. FitsMemory machine (fresh_memory section.now)) }
+        ensures fits { IfOk result (λ machine. laid_of (fresh_memory section.now) ≡ layout_of machine) }
         ensures initial { IfOk result (λ machine. initial_of machine ≡ section.now.initial.items) }
     {
         let routines = Vec::from_slice(alloc, &section.routines)?;
@@ -169,7 +169,7 @@ impl Machine {
 
 impl Executor for Machine {
     ghost use Rattle.apex_meaning.specs.MachineControl.{MachineControl};
-    ghost use Rattle.partition_base.specs.Machines.{engine_of, controls_of, initial_of, FitsMemory};
+    ghost use Rattle.partition_base.specs.Machines.{engine_of, controls_of, initial_of, layout_of, laid_of};
 
     type Mem = PartitionMem;
 
@@ -183,8 +183,11 @@ impl Executor for Machine {
 
     ghost initial = { initial_of };
 
-    ghost fits = { FitsMemory };
+    ghost layout = { layout_of };
 
+    ghost laid = { laid_of };
+
+    #[tactic(auto, using(crate::proofs::Layouts::layouts))]
     fn begin(&mut self, mem: &mut PartitionMem, runner: Runner) {
         let body = self.body(runner);
         slot::begin_at(&mut self.slots, runner.place(), mem, &body);
@@ -216,6 +219,7 @@ impl Executor for Machine {
         }
     }
 
+    #[tactic(auto, using(crate::proofs::Layouts::layouts))]
     fn restore(&self, mem: &mut PartitionMem) {
         mem.restore(&self.initial);
     }

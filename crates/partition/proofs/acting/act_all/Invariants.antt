@@ -4,6 +4,6 @@ use Rattle.partition.proofs.acting.act_all.Given as goal
 
 abbrev pub invariant-loop-action : goal.invariant-loop-action
 invariant-loop-action g l = record {
-  fits : g.E.Executor.fits l.executor l.mem;
+  fits : g.E.Executor.laid l.mem ≡ g.E.Executor.layout l.executor;
   member : acts_all (drop l.action-index l.actions) (member_at g.E.Executor l.kernel l.executor l.mem) ≡ acts_all l.fn.actions (member_at g.E.Executor l.fn.kernel l.fn.executor l.fn.mem);
 }
