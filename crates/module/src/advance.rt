@@ -21,11 +21,7 @@ pub const FIRST_TICK: At = At {
 };
 
 /// The first start of a partition, on its part of the memory.
-fn start_member<E: Executor>(
-    partition: &mut Partition<E>,
-    mem: &mut E::Mem,
-    events: &mut Events,
-)
+fn start_member<E: Executor>(partition: &mut Partition<E>, mem: &mut E::Mem, events: &mut Events)
     requires fits { E.laid mem.old ≡ E.layout partition.old.executor }
     requires empty { events.old.items ≡ [] }
     ensures fits { E.laid mem.new ≡ E.layout partition.new.executor }
@@ -43,6 +39,7 @@ fn tick_member<E: Executor>(
     events: &mut Events,
 )
     requires fits { E.laid mem.old ≡ E.layout partition.old.executor }
+    requires past { at.origin.0 ≤ at.now.0 }
     requires now { at.now.0 ≤ 2 ^ 40 }
     requires empty { events.old.items ≡ [] }
     ensures fits { E.laid mem.new ≡ E.layout partition.new.executor }
@@ -73,6 +70,7 @@ impl<E: Executor<Mem = PartitionMem>> Module<E> {
     /// no other partition's memory changes.
     #[tactic(auto, using(crate::proofs::Members::others))]
     fn tick_at(&mut self, place: usize, at: At, events: &mut Events)
+        requires past { at.origin.0 ≤ at.now.0 }
         requires now { at.now.0 ≤ 2 ^ 40 }
         requires empty { events.old.items ≡ [] }
         ensures schedule { schedule_of self.new.schedule ≡ schedule_of self.old.schedule }
@@ -88,6 +86,7 @@ impl<E: Executor<Mem = PartitionMem>> Module<E> {
 
     /// A tick of the partition of a number, if there is one.
     fn tick_owner(&mut self, owner: Option<PartitionId>, at: At, events: &mut Events)
+        requires past { at.origin.0 ≤ at.now.0 }
         requires now { at.now.0 ≤ 2 ^ 40 }
         requires empty { events.old.items ≡ [] }
         ensures schedule { schedule_of self.new.schedule ≡ schedule_of self.old.schedule }

@@ -8,8 +8,7 @@ ghost use Rattle.partition.specs.View.{fixed_of as view};
 ghost use Rattle.partition_base.specs.contracts.machine.MachineExecutor.TheImpl.{ghosts as machine};
 ghost use Rattle.partition.specs.Members.{member_of};
 ghost use Rattle.partition_base.specs.Machines.{laid_of, layout_of};
-ghost use Rattle.partition_base.specs.Sections.{IsFittingSection};
-ghost use Rattle.module.specs.Loading.{AreFittingItems, fresh_item};
+ghost use Rattle.module.specs.Loading.{AreFittingItems, IsFittingItem, fresh_item};
 ghost use Rattle.module.specs.Members.{members_of, AreFitting};
 ghost use Rattle.module.specs.Views.{module_of};
 ghost use Rattle.window_table.specs.Schedules.{schedule_of};
@@ -97,7 +96,7 @@ fn load_partition(
     fixed: Fixed,
     item: &PartitionItem,
 ) -> Result<Partition<Machine>, AllocError>
-    requires { IsFittingSection item.now.section }
+    requires { IsFittingItem item.now }
     ensures member { IfOk result (λ partition. member_of machine partition (fresh_item item.now) ≡ machine_member (view fixed) (section_of item.now.section)) }
     ensures fits { IfOk result (λ partition. laid_of (fresh_item item.now) ≡ layout_of partition.executor) }
 {

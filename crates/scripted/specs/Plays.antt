@@ -1,5 +1,5 @@
 -- The parts of an executor that plays a script, as the definitions see them.
-use Rattle.std.specs.Prelude.{◌≡◌, ℤ, List, Option, map, drop, length}
+use Rattle.std.specs.Prelude.{ℕ, ℤ, List, [], ◌∷◌, Option, map, drop, length}
 use Rattle.std.specs.Option.{option_map}
 use Rattle.apex_meaning.specs.Engine.{Engine, Asks}
 use Rattle.processor.specs.Views.{asks_of}
@@ -25,5 +25,8 @@ abbrev pub initial_of : Scripted → List ℤ
 initial_of e = e.initial.items
 
 -- the data are as many words as the initial data
-abbrev pub FitsMemory : Scripted → Space → Type 0
-FitsMemory e memory = length memory.words ≡ length e.initial.items
+abbrev pub layout_of : Scripted → List ℕ
+layout_of e = length e.initial.items ∷ []
+
+abbrev pub laid_of : Space → List ℕ
+laid_of memory = length memory.words ∷ []

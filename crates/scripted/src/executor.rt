@@ -16,7 +16,7 @@ pub struct Scripted {
 impl Executor for Scripted {
     ghost use Rattle.std.specs.Prelude.{List};
     ghost use Rattle.apex_meaning.specs.Engine.{Asks};
-    ghost use Rattle.scripted.specs.Plays.{engine_of, controls_of, initial_of, FitsMemory};
+    ghost use Rattle.scripted.specs.Plays.{engine_of, controls_of, initial_of, layout_of, laid_of};
 
     type Mem = PartitionMem;
 
@@ -30,7 +30,9 @@ impl Executor for Scripted {
 
     ghost initial = { initial_of };
 
-    ghost fits = { FitsMemory };
+    ghost layout = { layout_of };
+
+    ghost laid = { laid_of };
 
     #[tactic(auto, using(crate::proofs::Parts::views))]
     fn begin(&mut self, _mem: &mut PartitionMem, runner: Runner) {
