@@ -138,12 +138,13 @@ fn is_block_of_part(block: &[Stmt]) -> bool
 
 /// Statements are walked for the services that they call.
 #[cycle(is_stmt_of_part)]
+#[tactic(auto, using(crate::proofs::Parts::branch_is, crate::proofs::Parts::loop_is))]
 fn is_stmt_of_part(stmt: &Stmt) -> bool
     ensures { result ≡ is_stmt_of_part (stmt_of stmt.now) }
 {
     match stmt {
-        Stmt::If(_, block) => is_block_of_part(block),
         Stmt::IfElse(_, block, other) => is_block_of_part(block) && is_block_of_part(other),
+        Stmt::If(_, block) => is_block_of_part(block),
         Stmt::While(_, block) => is_block_of_part(block),
         Stmt::CallService(service, arguments, _) => is_request_of_part(*service, arguments),
         Stmt::Assign(..) | Stmt::AssignElement(..) | Stmt::Work(_) | Stmt::Return(_) => true,
