@@ -21,11 +21,7 @@ pub const FIRST_TICK: At = At {
 };
 
 /// The first start of a partition, on its part of the memory.
-fn start_member<E: Executor>(
-    partition: &mut Partition<E>,
-    mem: &mut E::Mem,
-    events: &mut Events,
-)
+fn start_member<E: Executor>(partition: &mut Partition<E>, mem: &mut E::Mem, events: &mut Events)
     requires fits { E.laid mem.old ≡ E.layout partition.old.executor }
     requires empty { events.old.items ≡ [] }
     ensures fits { E.laid mem.new ≡ E.layout partition.new.executor }

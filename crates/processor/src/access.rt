@@ -42,7 +42,7 @@ pub(crate) fn element_place(
         return None;
     }
     let place = u64::from(place);
-    if index < size && place < memory.data_len() as u64 {
+    if index < size && place + size.unsigned_abs() <= memory.data_len() as u64 {
         Some((place + index.unsigned_abs()) as usize)
     } else {
         None
