@@ -1,7 +1,7 @@
 -- Partitions with their parts of the memory, one after the other.
 use Rattle.std.proofs.Common.{◌≡◌, ◌≢◌, ◌≤◌, ◌<◌, ℕ, zero, suc, List, [], ◌∷◌, ◌++◌, length, Option, Some, None, map, refl, ap, sym, ◌∙◌, arith}
 use Rattle.std.specs.Prelude.{slice_get, slice_set}
-use Rattle.std.proofs.lemmas.List.{length-map, map-append, map-set}
+use Rattle.std.proofs.lemmas.List.{length-map, length-set, map-append, map-set}
 use Rattle.std.proofs.lemmas.Option.{none-some, same_Some}
 use Rattle.apex_meaning.specs.Partition.{Member}
 use Rattle.partition.specs.Members.{member_of}
@@ -17,7 +17,7 @@ get_other (a ∷ xs) zero (suc q) x h = refl
 get_other (a ∷ xs) (suc n) zero x h = refl
 get_other (a ∷ xs) (suc n) (suc q) x h = get_other xs n q x (λ e. h (ap suc e))
 
-pub ruleset others = (get_other)
+pub ruleset others = (get_other, length-set)
 
 module _ {E X : Type 0} (g : Ghosts E X) where
   pub same_length : (ps : List (Partition E X)) (ss : List X) → AreFitting g ps ss → length ps ≡ length ss

@@ -1,5 +1,5 @@
 -- The first start of the partitions, one after the other.
-use Rattle.std.proofs.Common.{◌≡◌, ℕ, zero, suc, ◌+◌, ◌<◌, List, [], ◌∷◌, ◌++◌, length, map, take, drop, Option, Some, None, refl, sym, ap, subst, ◌∙◌, arith}
+use Rattle.std.proofs.Common.{◌≡◌, ℕ, zero, suc, ◌+◌, ◌<◌, ◌≤◌, List, [], ◌∷◌, ◌++◌, length, map, take, drop, Option, Some, None, refl, sym, ap, subst, ◌∙◌, arith}
 use Rattle.std.specs.Prelude.{slice_get}
 use Rattle.std.specs.List.{flat_map}
 use Rattle.apex_types.specs.declared.event.Event.{Event}
@@ -60,6 +60,24 @@ pub within_members : {E X : Type 0} (g : Ghosts E X) (ps : List (Partition E X))
 within_members g ps memory n xs fit so_far h =
     let same : length ps ≡ length xs = sym (members_count g ps memory fit) ∙ ap length so_far ∙ as_many n xs in
     subst (λ k. n < k) same h
+
+-- behind the last one all have started, and nothing is left
+pub all_past : {C : Type 0} (n : ℕ) (xs : List (Member C)) → length xs ≤ n → started_to n xs ≡ map started_member xs
+all_past zero [] h = refl
+all_past (suc n) [] h = refl
+all_past zero (x ∷ xs) h = absurd (omega (arith, h))
+all_past (suc n) (x ∷ xs) h = ap (λ l. started_member x ∷ l) (all_past n xs (omega (arith, h)))
+
+pub none_past : {C : Type 0} (n : ℕ) (xs : List (Member C)) → length xs ≤ n → flat_map start_lines (drop n xs) ≡ []
+none_past zero [] h = refl
+none_past (suc n) [] h = refl
+none_past zero (x ∷ xs) h = absurd (omega (arith, h))
+none_past (suc n) (x ∷ xs) h = none_past n xs (omega (arith, h))
+
+pub past_members : {E X : Type 0} (g : Ghosts E X) (ps : List (Partition E X)) (memory : List X) (n : ℕ) (xs : List (Member g.Control)) → AreFitting g ps memory → members_of g ps memory ≡ started_to n xs → length ps ≤ n → length xs ≤ n
+past_members g ps memory n xs fit so_far h =
+    let same : length ps ≡ length xs = sym (members_count g ps memory fit) ∙ ap length so_far ∙ as_many n xs in
+    subst (λ k. k ≤ n) same h
 
 -- one more has started
 pub step_members : {C : Type 0} (now next xs : List (Member C)) (n : ℕ) → now ≡ started_to n xs → n < length xs → next ≡ (starts_member now n (slice_get now n)).members → next ≡ started_to (n + 1) xs

@@ -1,6 +1,6 @@
 //! The first start of the partitions, and a tick of the module.
 
-ghost use Rattle.std.specs.Prelude.{◌≡◌, ◌≢◌, ◌≤◌, ◌+◌, ◌^◌, ℕ, Some, [], slice_get, option_map};
+ghost use Rattle.std.specs.Prelude.{◌≡◌, ◌≢◌, ◌≤◌, ◌+◌, ◌^◌, ℕ, Some, [], length, slice_get, option_map};
 ghost use Rattle.apex_meaning.specs.Module as meaning;
 ghost use Rattle.apex_meaning.specs.Partition.{ticked_member, tick_lines};
 ghost use Rattle.apex_meaning.specs.Windows.{owner};
@@ -59,6 +59,7 @@ impl<E: Executor<Mem = PartitionMem>> Module<E> {
         ensures members { members_of E.Executor self.new.partitions.items self.new.memory ≡ (starts_member (members_of E.Executor self.old.partitions.items self.old.memory) place (slice_get (members_of E.Executor self.old.partitions.items self.old.memory) place)).members }
         ensures lines { events.new.items ≡ (starts_member (members_of E.Executor self.old.partitions.items self.old.memory) place (slice_get (members_of E.Executor self.old.partitions.items self.old.memory) place)).lines }
         ensures others { (q : ℕ) → q ≢ place → slice_get self.new.memory q ≡ slice_get self.old.memory q }
+        ensures count { length self.new.partitions.items ≡ length self.old.partitions.items }
     {
         if place < self.partitions.len() {
             let mem = self.memory.lend(place);

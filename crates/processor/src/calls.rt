@@ -116,7 +116,10 @@ impl Context {
             return Outcome::Fault(ErrorKind::IllegalRequest);
         }
         let place = self.fp as usize + x as usize;
-        match (saved(memory, place, 65_536), saved(memory, place + 1, self.fp)) {
+        match (
+            saved(memory, place, 65_536),
+            saved(memory, place + 1, self.fp),
+        ) {
             (Some(pc), Some(fp)) => {
                 let value = self.top(memory);
                 let _ = memory.store(Region::Stack, self.fp as usize, value);

@@ -118,7 +118,11 @@ impl Context {
         if self.operands() < 1 {
             return Outcome::Fault(ErrorKind::IllegalRequest);
         }
-        let pc = if self.top(memory) == 0 { x } else { self.pc + 1 };
+        let pc = if self.top(memory) == 0 {
+            x
+        } else {
+            self.pc + 1
+        };
         self.go_on(pc, self.sp - 1)
     }
 

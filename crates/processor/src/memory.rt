@@ -45,13 +45,7 @@ impl Context {
     }
 
     /// Changes a word of the own stack, with so many operands popped.
-    fn store_own(
-        &mut self,
-        memory: &mut PartitionMem,
-        popped: u32,
-        place: usize,
-        v: i64,
-    ) -> Outcome
+    fn store_own(&mut self, memory: &mut PartitionMem, popped: u32, place: usize, v: i64) -> Outcome
         requires next { self.old.pc + 1 < 2 ^ 32 }
         requires operands { popped ≤ self.old.sp }
         ensures control { control_of self.new memory.new ≡ (changes_stack popped (stored memory.old.stack place v) (control_of self.old memory.old) memory.old.words).control }
@@ -105,12 +99,7 @@ impl Context {
     }
 
     /// LDA: an element of the array of `size` words at `x`.
-    pub(crate) fn load_element(
-        &mut self,
-        memory: &mut PartitionMem,
-        x: u32,
-        size: i64,
-    ) -> Outcome
+    pub(crate) fn load_element(&mut self, memory: &mut PartitionMem, x: u32, size: i64) -> Outcome
         requires next { self.old.pc + 1 < 2 ^ 32 }
         ensures control { control_of self.new memory.new ≡ (executes [] (Instr.LoadElement x size) (control_of self.old memory.old) memory.old.words).control }
         ensures memory { IsChanged (executes [] (Instr.LoadElement x size) (control_of self.old memory.old) memory.old.words) memory.old memory.new }
@@ -124,12 +113,7 @@ impl Context {
     }
 
     /// STA: pops into an element of the array of `size` words at `x`.
-    pub(crate) fn store_element(
-        &mut self,
-        memory: &mut PartitionMem,
-        x: u32,
-        size: i64,
-    ) -> Outcome
+    pub(crate) fn store_element(&mut self, memory: &mut PartitionMem, x: u32, size: i64) -> Outcome
         requires next { self.old.pc + 1 < 2 ^ 32 }
         ensures control { control_of self.new memory.new ≡ (executes [] (Instr.StoreElement x size) (control_of self.old memory.old) memory.old.words).control }
         ensures memory { IsChanged (executes [] (Instr.StoreElement x size) (control_of self.old memory.old) memory.old.words) memory.old memory.new }

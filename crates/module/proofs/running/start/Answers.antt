@@ -1,10 +1,10 @@
-use Rattle.std.proofs.Common.{rules, ◌∙◌}
+use Rattle.std.proofs.Common.{rules, ◌≤◌, length, ◌∙◌}
 use Rattle.apex_types.specs.Line.{text_of}
 use Rattle.apex_types.specs.Sink.{TakesBeginning}
-use Rattle.apex_types.proofs.Writing.{under_way_more, under_way_fails, err_at}
+use Rattle.apex_types.proofs.Writing.{under_way_more, under_way_end, under_way_fails, err_at}
 use Rattle.apex_meaning.specs.Module as meaning
 use Rattle.module.specs.Members.{members_of}
-use Rattle.module.proofs.Starting.{within_members, step_members, step_text}
+use Rattle.module.proofs.Starting.{within_members, past_members, all_past, none_past, step_members, step_text}
 use Rattle.module.proofs.running.start.Goals as goal
 
 pub loop-place-preserved : goal.loop-place-preserved
@@ -29,3 +29,19 @@ returns-in_err-write_events-clause-beginning g c =
     let left = rw split at c.loop-place.invariant.under_way in
     let out : TakesBeginning (g.S.Sink.taken c.args.sink.now) (g.S.Sink.taken c.write_events.new.sink) (text_of (meaning.starts (members_of g.E.Executor c.args.running.now.partitions.items c.args.running.now.memory)).lines) = under_way_fails _ _ _ _ (text_of c.as_slice.result.now) _ left c.in_err-write_events.ensures.beginning in
     err_at c.from_residual.result out
+
+pub returns-clause-members : goal.returns-clause-members
+returns-clause-members g c =
+    let running = c.loop-place.running in
+    let so_far = c.loop-place.invariant.members in
+    let last : length running.partitions.items ≤ c.loop-place.place = search rules in
+    let behind = past_members g.E.Executor running.partitions.items running.memory c.loop-place.place _ running.fit so_far last in
+    so_far ∙ all_past c.loop-place.place _ behind
+
+pub returns-clause-ok : goal.returns-clause-ok
+returns-clause-ok g c =
+    let running = c.loop-place.running in
+    let last : length running.partitions.items ≤ c.loop-place.place = search rules in
+    let behind = past_members g.E.Executor running.partitions.items running.memory c.loop-place.place _ running.fit c.loop-place.invariant.members last in
+    let done = rw (none_past c.loop-place.place (members_of g.E.Executor c.args.running.now.partitions.items c.args.running.now.memory) behind) at c.loop-place.invariant.under_way in
+    under_way_end _ _ _ done
