@@ -1,5 +1,9 @@
 //! The executor that plays the scripts of a partition.
 
+ghost use Rattle.std.specs.Prelude.{◌≡◌, map};
+ghost use Rattle.apex_meaning.specs.Partition.{no_control};
+ghost use Rattle.scripted.specs.Plays.{control_of, script_of};
+
 use crate::part::Part;
 use apex_types::{Runner, Words};
 use partition_base::{Executor, message, put};
@@ -11,6 +15,17 @@ use regions::PartitionMem;
 pub struct Scripted {
     pub parts: Vec<Part>,
     pub initial: Vec<i64>,
+}
+
+/// No part has anything left to do.
+#[tactic(auto, using(crate::proofs::Parts::views))]
+fn stop_each(parts: &mut Vec<Part>)
+    ensures controls { map control_of parts.new.items ≡ map no_control (map control_of parts.old.items) }
+    ensures scripts { map script_of parts.new.items ≡ map script_of parts.old.items }
+{
+    for part in parts.iter_mut() {
+        part.stop();
+    }
 }
 
 impl Executor for Scripted {
@@ -48,11 +63,8 @@ impl Executor for Scripted {
         }
     }
 
-    #[tactic(auto, using(crate::proofs::Parts::views))]
     fn stop_all(&mut self, _mem: &PartitionMem) {
-        for part in self.parts.iter_mut() {
-            part.stop();
-        }
+        stop_each(&mut self.parts);
     }
 
     #[tactic(auto, using(crate::proofs::Parts::views))]
