@@ -10,4 +10,5 @@ mod section;
 mod size;
 
 pub use fault::CompileFault;
-pub use section::compile_program;
+pub use section::{MOST_INSTRUCTIONS, compile_program};
+pub use size::size_of_program;

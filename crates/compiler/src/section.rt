@@ -19,7 +19,7 @@ use processor::encode;
 use std::alloc::{AllocError, Global};
 
 /// The most instructions that a partition's code has.
-const MOST_INSTRUCTIONS: u32 = 65_536;
+pub const MOST_INSTRUCTIONS: u32 = 65_536;
 
 /// The section of a program. Its code has one instruction for each construct.
 ///

@@ -67,7 +67,7 @@ fn size_of_procedures(procedures: &[Procedure]) -> u32
     size
 }
 
-/// The instructions of a program.
+/// How many instructions a program becomes. What does not fit 32 bits is the greatest number that does.
 pub fn size_of_program(program: &Program) -> u32
     ensures { result ≡ min (cost.size_of (program_of program.now)) u32.MAX }
 {

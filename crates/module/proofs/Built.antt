@@ -1,6 +1,8 @@
 -- Programs that are compiled one after the other.
-use Rattle.std.proofs.Common.{◌≡◌, ℕ, zero, suc, ◌+◌, ◌≤◌, List, [], ◌∷◌, ◌++◌, length, map, take, Some, All, FitsSigned, w64, refl, sym, ap, subst, ◌∙◌, arith, length-append}
-use Rattle.std.specs.Prelude.{slice_get}
+use Rattle.std.proofs.Common.{◌≡◌, ℕ, zero, suc, ◌+◌, ◌≤◌, ◌<◌, Bool, true, false, List, [], ◌∷◌, ◌++◌, length, map, take, Some, None, All, FitsSigned, w64, refl, sym, ap, subst, ◌∙◌, arith, length-append}
+use Rattle.std.specs.Prelude.{slice_get, nat_lt, min, if◌then◌else◌, ◌||◌}
+use Rattle.std.specs.List.{list_any}
+use Rattle.std.proofs.lemmas.Bool.{ltb-true, ltb-false, lt-ltb, le-ltb}
 use Rattle.std.proofs.lemmas.List.{map-append}
 use Rattle.std.proofs.lemmas.Option.{none-some, same_Some}
 use Rattle.apex_types.specs.declared.row.Section as code
@@ -14,9 +16,49 @@ use Rattle.apex_meaning.specs.CompiledCode.{code_of, section_of}
 use Rattle.apex_meaning.specs.Image.{Partition, Section, Item}
 use Rattle.apex_meaning.specs.Program.{Program}
 use Rattle.module.specs.Accepted.{AreAccepted}
+use Rattle.module.specs.Building.{is_too_long, first_too_long}
 use Rattle.module.specs.Built.{built_item, built_items, IsCoded, AreCoded, AreCompiled}
 
--- what is compiled
+-- ---- lengths
+
+pub short_enough : (p : Program) → is_too_long p ≡ false → size_of p ≤ 65_536
+short_enough p h = ltb-false 65_536 (size_of p) h
+
+pub not_too_long : (p : Program) → is_too_long p ≡ false → 65_536 < size_of p → ⊥
+not_too_long p h long = let short = short_enough p h in omega (arith, long, short)
+
+-- a size is longer as 32 bits hold it if it is longer itself
+pub held_is_longer : (n : ℕ) → nat_lt 65_536 (min n 4294967295) ≡ nat_lt 65_536 n
+held_is_longer n = by_case (nat_lt 65_536 n) refl
+  where
+    by_case : (b : Bool) → nat_lt 65_536 n ≡ b → nat_lt 65_536 (min n 4294967295) ≡ nat_lt 65_536 n
+    by_case true e = let long = ltb-true 65_536 n e in lt-ltb 65_536 (min n 4294967295) (omega (arith, long)) ∙ sym e
+    by_case false e = let short = ltb-false 65_536 n e in le-ltb 65_536 (min n 4294967295) (omega (arith, short)) ∙ sym e
+
+pub none_too_long : (rows : List Partition) (ps : List Program) → length ps ≡ length rows → first_too_long rows ps ≡ None → list_any is_too_long ps ≡ false
+none_too_long rows [] count h = refl
+none_too_long [] (p ∷ ps) count h = absurd (omega (arith, count))
+none_too_long (row ∷ rows) (p ∷ ps) count h = by_case (is_too_long p) (none_too_long rows ps (omega (arith, count))) h
+  where
+    by_case : (b : Bool) → (first_too_long rows ps ≡ None → list_any is_too_long ps ≡ false) → (if b then Some row.name else first_too_long rows ps) ≡ None → (b || list_any is_too_long ps) ≡ false
+    by_case true rest e = absurd cc
+    by_case false rest e = rest e
+
+pub one_is_short : (ps : List Program) (n : ℕ) (p : Program) → list_any is_too_long ps ≡ false → slice_get ps n ≡ Some p → is_too_long p ≡ false
+one_is_short [] n p h got = absurd (none-some p got)
+one_is_short (q ∷ ps) zero p h got = ap is_too_long (sym (same_Some q p got)) ∙ first (is_too_long q) (list_any is_too_long ps) h
+  where
+    first : (a b : Bool) → (a || b) ≡ false → a ≡ false
+    first true b e = e
+    first false b e = refl
+one_is_short (q ∷ ps) (suc n) p h got = one_is_short ps n p (rest (is_too_long q) (list_any is_too_long ps) h) got
+  where
+    rest : (a b : Bool) → (a || b) ≡ false → b ≡ false
+    rest true b e = absurd cc
+    rest false b e = e
+
+-- ---- what is compiled
+
 pub coded_section : (p : Program) (s : code.Section) → view s ≡ section_of p → map reading s.code.items ≡ map Some (code_of p) → All (FitsSigned w64) s.initial.items → size_of p ≤ 65_536 → IsCoded p
 coded_section p s is reads words size = record {
   size = size;

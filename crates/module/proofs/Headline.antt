@@ -58,23 +58,24 @@ pub judged_table : (text : List ℕ) (t : Table) → IsTable text t → IsJudged
 judged_table text t h = (h.0, h.2)
 
 -- the image of an accepted module, and its bytes
-module_image : (table : List ℕ) (sources : List (List ℕ)) (t : Table) (bytes : List ℕ) → IsTable table t → is_table_of_part t ≡ true → IsBuiltFrom t sources bytes → IsImageOf table sources bytes
-module_image table sources t bytes is_table part h = record {
+module_image : (table : List ℕ) (sources : List (List ℕ)) (t : Table) (bytes : List ℕ) → IsTable table t → IsBuiltFrom t sources bytes → IsImageOf table sources bytes
+module_image table sources t bytes is_table h = record {
   rows = t;
   programs = h.programs;
   accepted = record { rows = is_table; accepted = h.accepted };
-  table_of_part = part;
+  short = h.short;
+  table_of_part = h.table_of_part;
   offered = h.offered;
   image = built_image t h.programs;
   loaded = ap image_at h.spelled ∙ spelled_is_read (built_image t h.programs) (lawful_image t sources h.programs (judged_table table t is_table) h.accepted h.coded);
-  part = image_of_part t h.programs part;
+  part = image_of_part t h.programs h.table_of_part;
   meaning = λ n. sym (traces_same t h.programs n (are_compiled t.partitions sources h.programs h.accepted h.coded));
 }
 
 pub built_bytes : {A E : Type 0} (view : A → List ℕ) (table : List ℕ) (sources : List (List ℕ)) (t : Table) (answer : Result A E)
-    → IsTable table t → IfOk answer (λ b. is_table_of_part t ≡ true) → IfOk answer (λ b. IsBuiltFrom t sources (view b)) → IfOk answer (λ b. IsImageOf table sources (view b))
-built_bytes view table sources t (Ok b) is_table part h = module_image table sources t (view b) is_table part h
-built_bytes view table sources t (Err e) is_table part h = tt
+    → IsTable table t → IfOk answer (λ b. IsBuiltFrom t sources (view b)) → IfOk answer (λ b. IsImageOf table sources (view b))
+built_bytes view table sources t (Ok b) is_table h = module_image table sources t (view b) is_table h
+built_bytes view table sources t (Err e) is_table h = tt
 
 abbrev ok_image : Image → Result Image Fault
 ok_image i = Ok i

@@ -13,23 +13,14 @@ use Rattle.window_table.specs.declared.table.ModuleTable.{ModuleTable}
 use Rattle.pal_base.specs.declared.program.Body.{Body}
 use Rattle.pal_base.specs.declared.program.Program.{Program}
 use Rattle.pal_base.specs.declared.program.Expr.{Expr}
-use Rattle.pal_base.specs.declared.program.Stmt.{Stmt}
 use Rattle.apex_meaning.specs.Syntax as written
 use Rattle.pal_base.specs.View.{texts, declared_of, declaration_of, program_of as written_of}
 use Rattle.pal_base.specs.declared.syntax.DeclarationKind.{DeclarationKind}
 use Rattle.pal_base.specs.declared.syntax.DeclarationKind.TheVariants as kind
 use Rattle.pal_base.specs.declared.syntax.Declaration.{Declaration}
 use Rattle.pal_base.specs.declared.syntax.Program as source
-use Rattle.pal_base.specs.ProgramView.{expr_of, exprs_of, stmt_of, block_of, body_of, procedure_of, process_of, program_of}
-use Rattle.module.specs.Part.{is_expr_of_part, are_exprs_of_part, is_three, is_normal, is_stmt_of_part, is_block_of_part, is_process_of_part, is_image_of_part, is_row_of_part, is_table_of_part, is_program_of_part, is_port, declares_port}
-
-pub exprs_are : (es : List Expr) → list_all (λ e. is_expr_of_part (expr_of e)) es ≡ are_exprs_of_part (exprs_of es)
-exprs_are [] = refl
-exprs_are (e ∷ es) = ap (λ b. is_expr_of_part (expr_of e) && b) (exprs_are es)
-
-pub block_is : (ss : List Stmt) → list_all (λ s. is_stmt_of_part (stmt_of s)) ss ≡ is_block_of_part (block_of ss)
-block_is [] = refl
-block_is (s ∷ ss) = ap (λ b. is_stmt_of_part (stmt_of s) && b) (block_is ss)
+use Rattle.pal_base.specs.ProgramView.{expr_of, exprs_of, block_of, body_of, procedure_of, process_of, program_of}
+use Rattle.module.specs.Part.{is_three, is_normal, is_block_of_part, is_procedure_of_part, is_process_of_part, is_image_of_part, is_row_of_part, is_table_of_part, is_program_of_part, is_port, declares_port}
 
 pub normal_is : (e : Expr) (es : List Expr) → is_normal (exprs_of (e ∷ es)) ≡ ((length es == 0) && is_three (expr_of e))
 normal_is e [] = refl
@@ -50,19 +41,20 @@ table_is t = same_table
     (ap (λ n. n == 0) (length-map t.channels.items channel_view))
     (list_all-map is_row_of_part partition_view t.partitions.items)
 
-same_program : {a b c d e f g h : Bool} → a ≡ b → c ≡ d → e ≡ f → g ≡ h → (a && c && e && g) ≡ (b && d && f && h)
-same_program p q r s = cc
+same_program : (a b : Bool) {c d e f g h : Bool} → c ≡ d → e ≡ f → g ≡ h → (a && c && b && e && g) ≡ (a && d && b && f && h)
+same_program a b p q r = cc
 
 handler_is : (o : Option Body) → is_none (option_map body_of o) ≡ is_none o
 handler_is (Some b) = refl
 handler_is None = refl
 
-pub program_is : (p : Program) → is_program_of_part (program_of p) ≡ ((length p.semaphores.items == 0) && (p.events == 0) && (length p.buffers.items == 0) && (length p.blackboards.items == 0) && (length p.procedures.items == 0)
-    && is_none p.handler && list_all (λ s. is_stmt_of_part (stmt_of s)) p.init.block.items && list_all (λ q. is_process_of_part (process_of q)) p.processes.items)
+pub program_is : (p : Program) → is_program_of_part (program_of p) ≡ ((length p.semaphores.items == 0) && (p.events == 0) && (length p.buffers.items == 0) && (length p.blackboards.items == 0)
+    && is_none p.handler && is_block_of_part (block_of p.init.block.items) && list_all (λ q. is_procedure_of_part (procedure_of q)) p.procedures.items && list_all (λ q. is_process_of_part (process_of q)) p.processes.items)
 program_is p = same_program
-    (ap (λ n. (length p.semaphores.items == 0) && (p.events == 0) && (length p.buffers.items == 0) && (length p.blackboards.items == 0) && (n == 0)) (length-map p.procedures.items procedure_of))
+    ((length p.semaphores.items == 0) && (p.events == 0) && (length p.buffers.items == 0) && (length p.blackboards.items == 0))
+    (is_block_of_part (block_of p.init.block.items))
     (handler_is p.handler)
-    (sym (block_is p.init.block.items))
+    (list_all-map is_procedure_of_part procedure_of p.procedures.items)
     (list_all-map is_process_of_part process_of p.processes.items)
 
 -- a kind is that of a port whatever the names are

@@ -1,10 +1,9 @@
 -- What is refused, and for what.
-use Rattle.std.proofs.Common.{◌≡◌, inl, inr, ℕ, zero, suc, ◌+◌, ◌≤◌, ◌<◌, Bool, true, false, List, [], ◌∷◌, ◌++◌, length, map, drop, Some, Result, Ok, Err, IfOk, IfErr, refl, sym, ap, subst, ◌∙◌, arith, append-nil}
-use Rattle.std.specs.Prelude.{IsErr, IsErrAnd, ◌&&◌, ◌||◌, not, nat_le, nat_lt, slice_get}
+use Rattle.std.proofs.Common.{◌≡◌, inl, inr, ℕ, zero, suc, ◌+◌, Bool, true, false, List, [], ◌∷◌, ◌++◌, length, map, drop, Some, None, Result, Ok, Err, IfOk, IfErr, refl, sym, ap, subst, ◌∙◌, arith, append-nil}
+use Rattle.std.specs.Prelude.{IsErr, IsErrAnd, ◌&&◌, not, slice_get}
 use Rattle.std.specs.List.{list_all, list_any}
-use Rattle.std.proofs.lemmas.Bool.{and_parts, leb-true, le-leb, le-ltb, ltb-false}
+use Rattle.std.proofs.lemmas.Bool.{and_parts}
 use Rattle.std.proofs.lemmas.Option.{none-some, same_Some}
-use Rattle.apex_meaning.specs.Cost.{size_of}
 use Rattle.apex_meaning.specs.GrammarWords.{words_of}
 use Rattle.apex_meaning.specs.Image.{Partition, Table}
 use Rattle.apex_meaning.proofs.ReadPrograms.{written_once}
@@ -16,10 +15,11 @@ use Rattle.pal_base.specs.declared.fault.Refusal.TheVariants as refusal
 use Rattle.module.specs.Accepted.{IsAccepted, AreAccepted, IsTable}
 use Rattle.apex_meaning.specs.ImageSpelling.{spelling}
 use Rattle.module.specs.Built.{built_image, AreCoded, IsBuiltFrom}
+use Rattle.module.proofs.Built.{none_too_long}
 use Rattle.module.specs.Part.{is_program_of_part, is_table_of_part, declares_port}
-use Rattle.module.specs.Building.{IsNotAccepted, IsFirstRefused, IsOffered, AreOffered, IsOutside, IsRefusedWith, IsRefusal, IsTableRefusal, IsSourceRefusal, AreSourceRefusals, IsLengthRefusal, IsProgramRefusal, is_too_long, unless_memory, refusal_of}
-use Rattle.module.specs.Sources.{programs_of, IsSource, AreSources, is_source_of_part}
-use Rattle.std.proofs.lemmas.List.{append_assoc}
+use Rattle.module.specs.Building.{IsNotAccepted, IsFirstRefused, IsOffered, AreOffered, IsRefusedWith, IsRefusal, IsTableRefusal, IsSourceRefusal, AreSourceRefusals, IsLengthRefusal, IsPartRefusal, is_too_long, first_too_long, unless_memory, refusal_of}
+use Rattle.module.specs.Sources.{programs_of, IsSource, AreSources, is_source_of_part, is_module_of_part}
+use Rattle.std.proofs.lemmas.List.{append_assoc, length-map}
 use Rattle.image.specs.Items.{partition_of}
 use Rattle.window_table.specs.declared.table.PartitionRow.{PartitionRow}
 use Rattle.module.specs.declared.accepting.AcceptedSource.{AcceptedSource}
@@ -51,13 +51,6 @@ by_case row source refusal.Memory f e h = tt
 
 pub one_refused : (row : Partition) (source : List ℕ) (f : PalFault) → IsNotAccepted row source f.refusal → IsSourceRefusal row source (refusal_of row.name f)
 one_refused row source f h = by_case row source f.refusal f refl h
-
-pub too_long : (p : Program) → 65_536 < size_of p → is_too_long p ≡ true
-too_long p h = is_less (nat_lt 65_536 (size_of p)) refl
-  where
-    is_less : (b : Bool) → b ≡ nat_lt 65_536 (size_of p) → nat_lt 65_536 (size_of p) ≡ true
-    is_less true e = sym e
-    is_less false e = absurd (omega (arith, h, ltb-false 65_536 (size_of p) (sym e)))
 
 -- ---- sources one after the other
 
@@ -109,6 +102,7 @@ here_refused rows texts i row source rows_are texts_are before (fault.Pal name f
     before name f.refusal
     (subst (λ (rs : List PartitionRow). IsFirstRefused (map partition_of rs) (drop i texts) name f.refusal) (sym rows_are)
     (subst (λ (ts : List (List ℕ)). IsFirstRefused (map partition_of (row ∷ drop (i + 1) rows)) ts name f.refusal) (sym texts_are) (inl h)))
+here_refused rows texts i row source rows_are texts_are before (fault.Compile name) h = absurd h
 here_refused rows texts i row source rows_are texts_are before fault.NotYet h = absurd h
 here_refused rows texts i row source rows_are texts_are before fault.Memory h = tt
 
@@ -146,43 +140,55 @@ as_many (r ∷ rows) [] given h = absurd h
 as_many (r ∷ rows) (s ∷ sources) [] h = absurd h
 as_many (r ∷ rows) (s ∷ sources) (a ∷ given) h = ap suc (as_many rows sources given h.1)
 
--- a source of the part, short enough, is offered
-one_offered : (row : Partition) (source : List ℕ) (a : AcceptedSource) → IsSource row source a → is_source_of_part a ≡ true → size_of (program_of a.program) ≤ 65_536 → IsOffered source (program_of a.program)
-one_offered row source a h part size =
+-- no program is too long where no partition is named
+pub all_short : (other rows : List PartitionRow) (texts : List (List ℕ)) (seen given : List AcceptedSource) → other ≡ rows → seen ≡ given → AreSources (map partition_of rows) texts given
+    → first_too_long (map partition_of other) (programs_of seen) ≡ None → list_any is_too_long (programs_of given) ≡ false
+all_short other rows texts seen given e f a none =
+    let count : length (programs_of given) ≡ length (map partition_of rows) = length-map given (λ (s : AcceptedSource). program_of s.program) ∙ as_many (map partition_of rows) texts given a in
+    none_too_long (map partition_of rows) (programs_of given) count
+    (subst (λ (rs : List PartitionRow). first_too_long (map partition_of rs) (programs_of given) ≡ None) e (subst (λ (ss : List AcceptedSource). first_too_long (map partition_of other) (programs_of ss) ≡ None) f none))
+
+-- a source of the part is offered
+one_offered : (row : Partition) (source : List ℕ) (a : AcceptedSource) → IsSource row source a → is_source_of_part a ≡ true → IsOffered source (program_of a.program)
+one_offered row source a h part =
     let own = and_parts (not a.declares_port) (is_program_of_part (program_of a.program)) part in
     record {
       ports = λ tree written. ap declares_port (written_once (words_of source) tree h.tree written.1 h.written.1) ∙ sym h.port ∙ is_not a.declares_port own.0;
-      built = both (is_program_of_part (program_of a.program)) (nat_le (size_of (program_of a.program)) 65_536) own.1 (le-leb (size_of (program_of a.program)) 65_536 size);
+      part = own.1;
     }
   where
     is_not : (b : Bool) → not b ≡ true → b ≡ false
     is_not true h = sym h
     is_not false h = refl
 
-    both : (a b : Bool) → a ≡ true → b ≡ true → (a && b) ≡ true
-    both a b h k = cc
-
-are_offered : (rows : List Partition) (sources : List (List ℕ)) (given : List AcceptedSource) → AreSources rows sources given → list_all is_source_of_part given ≡ true → AreCoded (programs_of given) → AreOffered sources (programs_of given)
-are_offered [] [] [] h part coded = tt
-are_offered [] [] (a ∷ given) h part coded = absurd h
-are_offered [] (s ∷ sources) given h part coded = absurd h
-are_offered (r ∷ rows) [] given h part coded = absurd h
-are_offered (r ∷ rows) (s ∷ sources) [] h part coded = absurd h
-are_offered (r ∷ rows) (s ∷ sources) (a ∷ given) h part coded =
+are_offered : (rows : List Partition) (sources : List (List ℕ)) (given : List AcceptedSource) → AreSources rows sources given → list_all is_source_of_part given ≡ true → AreOffered sources (programs_of given)
+are_offered [] [] [] h part = tt
+are_offered [] [] (a ∷ given) h part = absurd h
+are_offered [] (s ∷ sources) given h part = absurd h
+are_offered (r ∷ rows) [] given h part = absurd h
+are_offered (r ∷ rows) (s ∷ sources) [] h part = absurd h
+are_offered (r ∷ rows) (s ∷ sources) (a ∷ given) h part =
     let own = and_parts (is_source_of_part a) (list_all is_source_of_part given) part in
-    (one_offered r s a h.0 own.0 coded.0.size, are_offered rows sources given h.1 own.1 coded.1)
+    (one_offered r s a h.0 own.0, are_offered rows sources given h.1 own.1)
 
 -- the bytes of accepted sources of the part that are compiled
 pub built_from : {A E : Type 0} (view : A → List ℕ) (t : Table) (sources : List (List ℕ)) (given : List AcceptedSource) (answer : Result A E)
-    → AreSources t.partitions sources given → list_all is_source_of_part given ≡ true → IfOk answer (λ b. view b ≡ spelling (built_image t (programs_of given))) → IfOk answer (λ b. AreCoded (programs_of given)) → IfOk answer (λ b. IsBuiltFrom t sources (view b))
-built_from view t sources given (Ok b) a part spelled coded =
-    record { programs = programs_of given; accepted = are_accepted t.partitions sources given a; offered = are_offered t.partitions sources given a part coded; coded = coded; spelled = spelled }
-built_from view t sources given (Err e) a part spelled coded = tt
+    → AreSources t.partitions sources given → list_any is_too_long (programs_of given) ≡ false → IfOk answer (λ b. is_module_of_part t given ≡ true)
+    → IfOk answer (λ b. view b ≡ spelling (built_image t (programs_of given))) → IfOk answer (λ b. AreCoded (programs_of given)) → IfOk answer (λ b. IsBuiltFrom t sources (view b))
+built_from view t sources given (Ok b) a short part spelled coded =
+    let own = and_parts (is_table_of_part t) (list_all is_source_of_part given) part in
+    record {
+      programs = programs_of given;
+      accepted = are_accepted t.partitions sources given a;
+      short = short;
+      table_of_part = own.0;
+      offered = are_offered t.partitions sources given a own.1;
+      coded = coded;
+      spelled = spelled;
+    }
+built_from view t sources given (Err e) a short part spelled coded = tt
 
 -- ---- what is accepted and outside the part
-
-not_both : (b : Bool) → b ≡ false → b ≡ true → ⊥
-not_both b h k = cc
 
 -- sources of which one is not of the part
 one_outside : (rows : List Partition) (sources : List (List ℕ)) (given : List AcceptedSource) → AreSources rows sources given → list_all is_source_of_part given ≡ false → AreOffered sources (programs_of given) → ⊥
@@ -193,51 +199,45 @@ one_outside (r ∷ rows) [] given h e offered = absurd h
 one_outside (r ∷ rows) (s ∷ sources) [] h e offered = absurd h
 one_outside (r ∷ rows) (s ∷ sources) (a ∷ given) h e offered =
     let port : a.declares_port ≡ false = h.0.port ∙ offered.0.ports h.0.tree h.0.written in
-    let part : is_program_of_part (program_of a.program) ≡ true = (and_parts (is_program_of_part (program_of a.program)) (nat_le (size_of (program_of a.program)) 65_536) offered.0.built).0 in
-    one_outside rows sources given h.1 (rest_is a.declares_port (is_program_of_part (program_of a.program)) (list_all is_source_of_part given) port part e) offered.1
+    one_outside rows sources given h.1 (rest_is a.declares_port (is_program_of_part (program_of a.program)) (list_all is_source_of_part given) port offered.0.part e) offered.1
   where
     rest_is : (a b c : Bool) → a ≡ false → b ≡ true → ((not a && b) && c) ≡ false → c ≡ false
     rest_is a b c h k e = cc
 
--- programs of which one is too long
-one_too_long : (rows : List Partition) (sources : List (List ℕ)) (given : List AcceptedSource) → AreSources rows sources given → list_any is_too_long (programs_of given) ≡ true → AreOffered sources (programs_of given) → ⊥
-one_too_long [] [] [] h e offered = absurd cc
-one_too_long [] [] (a ∷ given) h e offered = absurd h
-one_too_long [] (s ∷ sources) given h e offered = absurd h
-one_too_long (r ∷ rows) [] given h e offered = absurd h
-one_too_long (r ∷ rows) (s ∷ sources) [] h e offered = absurd h
-one_too_long (r ∷ rows) (s ∷ sources) (a ∷ given) h e offered =
-    let p = program_of a.program in
-    let small : size_of p ≤ 65_536 = leb-true (size_of p) 65_536 (and_parts (is_program_of_part p) (nat_le (size_of p) 65_536) offered.0.built).1 in
-    one_too_long rows sources given h.1 (rest_is (is_too_long p) (list_any is_too_long (programs_of given)) (le-ltb 65_536 (size_of p) small) e) offered.1
-  where
-    rest_is : (a b : Bool) → a ≡ false → (a || b) ≡ true → b ≡ true
-    rest_is a b h e = cc
-
 -- ---- with an accepted table
 
-pub outside : (t : Table) (sources : List (List ℕ)) (given : List AcceptedSource) → AreSources t.partitions sources given → (is_table_of_part t ≡ true → AreOffered sources (programs_of given) → ⊥) → IsOutside t sources
-outside t sources given h out = record { programs = programs_of given; accepted = are_accepted t.partitions sources given h; outside = out }
+pub length_refused : (t : Table) (sources : List (List ℕ)) (given : List AcceptedSource) → AreSources t.partitions sources given → (f : BuildFault) → IsLengthRefusal t.partitions (programs_of given) f → IsRefusedWith t sources f
+length_refused t sources given a (fault.Table f) h = absurd h
+length_refused t sources given a fault.Sources h = absurd h
+length_refused t sources given a (fault.Pal name f) h = absurd h
+length_refused t sources given a (fault.Compile name) h = record { programs = programs_of given; accepted = are_accepted t.partitions sources given a; first = h }
+length_refused t sources given a fault.NotYet h = absurd h
+length_refused t sources given a fault.Memory h = absurd h
 
-pub other_table : (t : Table) (sources : List (List ℕ)) (given : List AcceptedSource) → AreSources t.partitions sources given → is_table_of_part t ≡ false → IsOutside t sources
-other_table t sources given h other = outside t sources given h (λ part offered. not_both (is_table_of_part t) other part)
-
-pub other_source : (t : Table) (sources : List (List ℕ)) (given : List AcceptedSource) → AreSources t.partitions sources given → list_all is_source_of_part given ≡ false → IsOutside t sources
-other_source t sources given h other = outside t sources given h (λ part offered. one_outside t.partitions sources given h other offered)
+pub part_refused : (t : Table) (sources : List (List ℕ)) (given : List AcceptedSource) → AreSources t.partitions sources given → list_any is_too_long (programs_of given) ≡ false
+    → (f : BuildFault) → IsPartRefusal (is_module_of_part t given) f → IsRefusedWith t sources f
+part_refused t sources given a short (fault.Table f) h = absurd h
+part_refused t sources given a short fault.Sources h = absurd h
+part_refused t sources given a short (fault.Pal name f) h = absurd h
+part_refused t sources given a short (fault.Compile name) h = absurd h
+part_refused t sources given a short fault.NotYet h = record {
+  programs = programs_of given;
+  accepted = are_accepted t.partitions sources given a;
+  short = short;
+  outside = λ part offered. one_outside t.partitions sources given a (second (is_table_of_part t) (list_all is_source_of_part given) h part) offered;
+}
+  where
+    second : (a b : Bool) → (a && b) ≡ false → a ≡ true → b ≡ false
+    second a b e f = cc
+part_refused t sources given a short fault.Memory h = tt
 
 pub source_refused : (t : Table) (sources : List (List ℕ)) → length sources ≡ length t.partitions → (f : BuildFault) → AreSourceRefusals t.partitions sources f → IsRefusedWith t sources f
 source_refused t sources count (fault.Table f) h = absurd h
 source_refused t sources count fault.Sources h = absurd h
 source_refused t sources count (fault.Pal name f) h = (count, h)
+source_refused t sources count (fault.Compile name) h = absurd h
 source_refused t sources count fault.NotYet h = absurd h
 source_refused t sources count fault.Memory h = tt
-
-pub length_refused : (t : Table) (sources : List (List ℕ)) (given : List AcceptedSource) → AreSources t.partitions sources given → (f : BuildFault) → IsLengthRefusal (programs_of given) f → IsRefusedWith t sources f
-length_refused t sources given a (fault.Table f) h = absurd h
-length_refused t sources given a fault.Sources h = absurd h
-length_refused t sources given a (fault.Pal name f) h = absurd h
-length_refused t sources given a fault.NotYet h = outside t sources given a (λ part offered. one_too_long t.partitions sources given a h offered)
-length_refused t sources given a fault.Memory h = tt
 
 -- ---- a module
 
@@ -245,6 +245,7 @@ pub table_refused : (table : List ℕ) (sources : List (List ℕ)) (f : BuildFau
 table_refused table sources (fault.Table f) h = h
 table_refused table sources fault.Sources h = absurd h
 table_refused table sources (fault.Pal name f) h = absurd h
+table_refused table sources (fault.Compile name) h = absurd h
 table_refused table sources fault.NotYet h = absurd h
 table_refused table sources fault.Memory h = tt
 
@@ -252,23 +253,6 @@ pub refused_with : (table : List ℕ) (sources : List (List ℕ)) (t : Table) �
 refused_with table sources t is (fault.Table f) h = absurd h
 refused_with table sources t is fault.Sources h = (t, is, h)
 refused_with table sources t is (fault.Pal name f) h = (t, is, h)
+refused_with table sources t is (fault.Compile name) h = (t, is, h)
 refused_with table sources t is fault.NotYet h = (t, is, h)
 refused_with table sources t is fault.Memory h = tt
-
--- ---- programs one after the other
-
-pub one_of_programs : (ps : List Program) (n : ℕ) (p : Program) → slice_get ps n ≡ Some p → (f : BuildFault) → IsProgramRefusal p f → IsLengthRefusal ps f
-one_of_programs ps n p got (fault.Table f) h = absurd h
-one_of_programs ps n p got fault.Sources h = absurd h
-one_of_programs ps n p got (fault.Pal name f) h = absurd h
-one_of_programs ps n p got fault.Memory h = tt
-one_of_programs [] n p got fault.NotYet h = absurd (none-some p got)
-one_of_programs (q ∷ ps) zero p got fault.NotYet h = left (is_too_long q) (list_any is_too_long ps) (ap is_too_long (same_Some q p got) ∙ h)
-  where
-    left : (a b : Bool) → a ≡ true → (a || b) ≡ true
-    left a b h = cc
-one_of_programs (q ∷ ps) (suc n) p got fault.NotYet h = right (is_too_long q) (list_any is_too_long ps) (one_of_programs ps n p got fault.NotYet h)
-  where
-    right : (a b : Bool) → b ≡ true → (a || b) ≡ true
-    right true b h = refl
-    right false b h = h

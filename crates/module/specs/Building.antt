@@ -1,5 +1,5 @@
 -- What building promises, and the parts of it.
-use Rattle.std.specs.Prelude.{◌≡◌, ◌≢◌, ◌⊎◌, ℕ, Bool, true, false, nat_lt, List, [], ◌∷◌, length, Ok, Err}
+use Rattle.std.specs.Prelude.{◌≡◌, ◌≢◌, ◌⊎◌, ℕ, Bool, true, false, nat_lt, List, [], ◌∷◌, length, if◌then◌else◌, Option, Some, None, Ok, Err}
 use Rattle.std.specs.List.{list_any}
 use Rattle.apex_meaning.specs.Cost.{size_of}
 use Rattle.apex_meaning.specs.Image.{Partition, Table, Image}
@@ -16,7 +16,7 @@ use Rattle.pal_base.specs.declared.fault.Refusal.TheVariants as refusal
 use Rattle.window_table.specs.Answers.{AnswersText}
 use Rattle.window_table.specs.declared.fault.TableFault.TheVariants as table_fault
 use Rattle.module.specs.Accepted.{IsAccepted, AreAccepted, IsTable, IsModule}
-use Rattle.module.specs.Part.{is_image_of_part, is_table_of_part, is_built, declares_port}
+use Rattle.module.specs.Part.{is_image_of_part, is_table_of_part, is_program_of_part, declares_port}
 use Rattle.module.specs.declared.fault.BuildFault.{BuildFault}
 use Rattle.module.specs.declared.fault.BuildFault.TheVariants as fault
 
@@ -38,10 +38,18 @@ IsFirstRefused _ _ name r = ⊥
 
 -- ---- what is built
 
--- A source that declares no port, as a program that is built.
+abbrev pub is_too_long : Program → Bool
+is_too_long p = nat_lt 65_536 (size_of p)
+
+-- the name of the first partition whose program is too long
+abbrev pub first_too_long : List Partition → List Program → Option (List ℕ)
+first_too_long (row ∷ rows) (p ∷ ps) = if is_too_long p then Some row.name else first_too_long rows ps
+first_too_long _ _ = None
+
+-- A source that declares no port, as a program of the part.
 pub record IsOffered (source : List ℕ) (p : Program) : Type 0 where
   pub ports : (tree : written.Program) → IsProgramOf source tree → declares_port tree ≡ false
-  pub built : is_built p ≡ true
+  pub part : is_program_of_part p ≡ true
 
 abbrev pub AreOffered : List (List ℕ) → List Program → Type 0
 AreOffered [] [] = Unit {0}
@@ -49,11 +57,12 @@ AreOffered (source ∷ sources) (p ∷ ps) = IsOffered source p × AreOffered so
 AreOffered _ _ = ⊥
 
 -- The bytes are an image's, which for every number of ticks means what the table and sources mean: these
--- are accepted, and of the part that is built.
+-- are accepted, no program is too long, and they are of the part that is built.
 pub record IsImageOf (table : List ℕ) (sources : List (List ℕ)) (bytes : List ℕ) : Type 0 where
   pub rows : Table
   pub programs : List Program
   pub accepted : IsModule table sources rows programs
+  pub short : list_any is_too_long programs ≡ false
   pub table_of_part : is_table_of_part rows ≡ true
   pub offered : AreOffered sources programs
   pub image : Image
@@ -61,10 +70,18 @@ pub record IsImageOf (table : List ℕ) (sources : List (List ℕ)) (bytes : Lis
   pub part : is_image_of_part image ≡ true
   pub meaning : (n : ℕ) → machine_trace image n ≡ source_trace rows programs n
 
--- With this table the sources are accepted, and are outside the part.
+-- With this table the sources are accepted, and the first program that is too long is that of the
+-- partition of this name.
+pub record IsTooLong (t : Table) (sources : List (List ℕ)) (name : List ℕ) : Type 0 where
+  pub programs : List Program
+  pub accepted : AreAccepted t.partitions sources programs
+  pub first : first_too_long t.partitions programs ≡ Some name
+
+-- With this table the sources are accepted, no program is too long, and they are outside the part.
 pub record IsOutside (t : Table) (sources : List (List ℕ)) : Type 0 where
   pub programs : List Program
   pub accepted : AreAccepted t.partitions sources programs
+  pub short : list_any is_too_long programs ≡ false
   pub outside : is_table_of_part t ≡ true → AreOffered sources programs → ⊥
 
 -- ---- refusals of a module
@@ -74,12 +91,14 @@ abbrev pub IsRefusedWith : Table → List (List ℕ) → BuildFault → Type 0
 IsRefusedWith t sources (fault.Table f) = ⊥
 IsRefusedWith t sources fault.Sources = length sources ≢ length t.partitions
 IsRefusedWith t sources (fault.Pal name f) = (length sources ≡ length t.partitions) × IsFirstRefused t.partitions sources name f.refusal
+IsRefusedWith t sources (fault.Compile name) = IsTooLong t sources name
 IsRefusedWith t sources fault.NotYet = IsOutside t sources
 IsRefusedWith t sources fault.Memory = Unit {0}
 
 -- Why a table and sources are refused: for the table; with an accepted table for the number of the
--- sources, or for the first source that is refused; or because they are accepted and outside the part
--- that is built so far. Want of memory says nothing.
+-- sources, or for the first source that is refused; with accepted sources for the first program that
+-- is too long; or because they are accepted, none is too long, and they are outside the part that is
+-- built so far. Want of memory says nothing.
 abbrev pub IsRefusal : List ℕ → List (List ℕ) → BuildFault → Type 0
 IsRefusal table sources (fault.Table f) = (f ≢ table_fault.Memory) × AnswersText table (Err f)
 IsRefusal table sources fault.Memory = Unit {0}
@@ -114,17 +133,13 @@ AreSourceRefusals rows sources (fault.Pal name f) = IsFirstRefused rows sources 
 AreSourceRefusals rows sources fault.Memory = Unit {0}
 AreSourceRefusals rows sources _ = ⊥
 
-abbrev pub is_too_long : Program → Bool
-is_too_long p = nat_lt 65_536 (size_of p)
+-- what accepted programs are refused for: the first that is too long
+abbrev pub IsLengthRefusal : List Partition → List Program → BuildFault → Type 0
+IsLengthRefusal rows ps (fault.Compile name) = first_too_long rows ps ≡ Some name
+IsLengthRefusal rows ps _ = ⊥
 
--- what an accepted program is refused for
-abbrev pub IsProgramRefusal : Program → BuildFault → Type 0
-IsProgramRefusal p fault.NotYet = is_too_long p ≡ true
-IsProgramRefusal p fault.Memory = Unit {0}
-IsProgramRefusal p _ = ⊥
-
--- what accepted programs are refused for
-abbrev pub IsLengthRefusal : List Program → BuildFault → Type 0
-IsLengthRefusal ps fault.NotYet = list_any is_too_long ps ≡ true
-IsLengthRefusal ps fault.Memory = Unit {0}
-IsLengthRefusal ps _ = ⊥
+-- what accepted sources, none of them too long, are refused for: they are not of the part
+abbrev pub IsPartRefusal : Bool → BuildFault → Type 0
+IsPartRefusal of_part fault.NotYet = of_part ≡ false
+IsPartRefusal of_part fault.Memory = Unit {0}
+IsPartRefusal of_part _ = ⊥

@@ -1,6 +1,7 @@
 -- The image that a module table and the programs of its partitions become.
-use Rattle.std.specs.Prelude.{◌≡◌, ◌≤◌, ℕ, List, [], ◌∷◌, map, Some, All, FitsSigned}
+use Rattle.std.specs.Prelude.{◌≡◌, ◌≤◌, ℕ, true, false, List, [], ◌∷◌, map, Some, All, FitsSigned}
 use Rattle.std.specs.Int.{w64}
+use Rattle.std.specs.List.{list_any}
 use Rattle.apex_meaning.specs.Cost.{size_of}
 use Rattle.apex_meaning.specs.Program.{Program}
 use Rattle.apex_meaning.specs.CompiledCode.{code_of, section_of}
@@ -10,7 +11,8 @@ use Rattle.apex_meaning.specs.ImageLimits.{IsLawful}
 use Rattle.apex_meaning.specs.ImageSpelling.{spelling}
 use Rattle.apex_meaning.specs.Instructions.{reading}
 use Rattle.module.specs.Accepted.{AreAccepted}
-use Rattle.module.specs.Building.{AreOffered}
+use Rattle.module.specs.Building.{AreOffered, is_too_long}
+use Rattle.module.specs.Part.{is_table_of_part}
 
 -- a partition with what its program is compiled to
 abbrev pub built_item : Partition → Program → Item
@@ -49,10 +51,12 @@ abbrev pub AreCompiled : List Program → Type 0
 AreCompiled [] = Unit {0}
 AreCompiled (p ∷ ps) = IsCompiled p × AreCompiled ps
 
--- The bytes spell the image of a table whose sources are accepted, offered and compiled.
+-- The bytes spell the image of a table of the part whose sources are accepted, offered and compiled.
 pub record IsBuiltFrom (t : Table) (sources : List (List ℕ)) (bytes : List ℕ) : Type 0 where
   pub programs : List Program
   pub accepted : AreAccepted t.partitions sources programs
+  pub short : list_any is_too_long programs ≡ false
+  pub table_of_part : is_table_of_part t ≡ true
   pub offered : AreOffered sources programs
   pub coded : AreCoded programs
   pub spelled : bytes ≡ spelling (built_image t programs)

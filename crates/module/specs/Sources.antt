@@ -1,12 +1,13 @@
 -- Accepted sources as the code holds them.
 use Rattle.std.specs.Prelude.{◌≡◌, ℕ, Bool, ◌&&◌, not, List, [], ◌∷◌, map, Ok}
-use Rattle.apex_meaning.specs.Image.{Partition}
+use Rattle.std.specs.List.{list_all}
+use Rattle.apex_meaning.specs.Image.{Partition, Table}
 use Rattle.apex_meaning.specs.Program.{Program}
 use Rattle.apex_meaning.specs.Syntax as written
 use Rattle.apex_meaning.specs.WellFormed.{verdict}
 use Rattle.pal_base.specs.Answers.{IsProgramOf}
 use Rattle.pal_base.specs.ProgramView.{program_of}
-use Rattle.module.specs.Part.{is_program_of_part, declares_port}
+use Rattle.module.specs.Part.{is_table_of_part, is_program_of_part, declares_port}
 use Rattle.module.specs.declared.accepting.AcceptedSource.{AcceptedSource}
 
 abbrev pub programs_of : List AcceptedSource → List Program
@@ -26,3 +27,6 @@ AreSources _ _ _ = ⊥
 
 abbrev pub is_source_of_part : AcceptedSource → Bool
 is_source_of_part a = not a.declares_port && is_program_of_part (program_of a.program)
+
+abbrev pub is_module_of_part : Table → List AcceptedSource → Bool
+is_module_of_part t accepted = is_table_of_part t && list_all is_source_of_part accepted

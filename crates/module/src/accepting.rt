@@ -1,15 +1,16 @@
 //! Sources that are accepted for the partitions of a module table.
 
-ghost use Rattle.std.specs.Prelude.{◌≡◌, length, map, IfOk, IfErr};
+ghost use Rattle.std.specs.Prelude.{◌≡◌, length, map, None, IfOk, IfErr};
 ghost use Rattle.std.specs.List.{list_all};
 ghost use Rattle.image.specs.Items.{partition_of};
-ghost use Rattle.pal_base.specs.View as written;
-ghost use Rattle.module.specs.Building.{IsNotAccepted, IsSourceRefusal, AreSourceRefusals, refusal_of};
-ghost use Rattle.module.specs.Sources.{IsSource, AreSources, is_source_of_part};
+ghost use Rattle.pal_base.specs.ProgramView.{program_of};
+ghost use Rattle.module.specs.Building.{IsNotAccepted, IsSourceRefusal, AreSourceRefusals, IsLengthRefusal, first_too_long, is_too_long, refusal_of};
+ghost use Rattle.module.specs.Sources.{IsSource, AreSources, programs_of, is_source_of_part};
 
 use crate::fault::BuildFault;
 use crate::part::{declares_port, is_program_of_part};
 use apex_types::Name;
+use compiler::{MOST_INSTRUCTIONS, size_of_program};
 use pal::{Checked, check};
 use pal_base::fault::{PalFault, Refusal};
 use pal_base::parse::parse;
@@ -78,6 +79,41 @@ fn refused(partition: Name, fault: PalFault) -> BuildFault
         Refusal::Memory => BuildFault::Memory,
         _ => BuildFault::Pal { partition, fault },
     }
+}
+
+/// Refuses the first program that is too long, by the name of its partition.
+pub fn judge_lengths(rows: &[PartitionRow], sources: &[AcceptedSource]) -> Result<(), BuildFault>
+    ensures none { IfOk result (λ _. first_too_long (map partition_of rows.now) (programs_of sources.now) ≡ None) }
+    ensures refused { IfErr result (λ fault. IsLengthRefusal (map partition_of rows.now) (programs_of sources.now) fault) }
+{
+    match first_too_long(rows, sources) {
+        Some(partition) => Err(BuildFault::Compile(partition)),
+        None => Ok(()),
+    }
+}
+
+/// The name of the first partition whose program is too long.
+fn first_too_long(rows: &[PartitionRow], sources: &[AcceptedSource]) -> Option<Name>
+    ensures { result ≡ first_too_long (map partition_of rows.now) (programs_of sources.now) }
+{
+    match (rows.split_first(), sources.split_first()) {
+        (Some((row, rows)), Some((source, sources))) => {
+            if is_too_long(&source.program) {
+                Some(row.name)
+            } else {
+                first_too_long(rows, sources)
+            }
+        }
+        _ => None,
+    }
+}
+
+/// Whether a program would have more than 65,536 instructions.
+#[tactic(auto, using(crate::proofs::Built::held_is_longer))]
+fn is_too_long(program: &Program) -> bool
+    ensures { result ≡ is_too_long (program_of program.now) }
+{
+    size_of_program(program) > MOST_INSTRUCTIONS
 }
 
 /// Whether each source is of the part that is built so far.

@@ -1,6 +1,7 @@
 //! From a module table and sources to the bytes of an image.
 
-ghost use Rattle.std.specs.Prelude.{◌≡◌, length, map, IfOk, IfErr, true};
+ghost use Rattle.std.specs.Prelude.{◌≡◌, length, map, IfOk, IfErr, true, false};
+ghost use Rattle.std.specs.List.{list_any};
 ghost use Rattle.apex_meaning.specs.CompiledCode as code_of;
 ghost use Rattle.apex_meaning.specs.ImageSpelling.{spelling};
 ghost use Rattle.image.specs.Items.{item_of, items_of, partition_of, section_of};
@@ -8,19 +9,18 @@ ghost use Rattle.image.specs.Views.{image_of};
 ghost use Rattle.pal_base.specs.ProgramView.{program_of};
 ghost use Rattle.window_table.specs.Views.{table_of};
 ghost use Rattle.module.specs.Accepted.{IsJudged, IsTable};
-ghost use Rattle.module.specs.Building.{IsImageOf, IsRefusal, IsRefusedWith, IsTableRefusal, IsProgramRefusal, IsLengthRefusal};
+ghost use Rattle.module.specs.Building.{IsImageOf, IsRefusal, IsRefusedWith, IsTableRefusal, IsPartRefusal, is_too_long};
 ghost use Rattle.module.specs.Built.{BecomesLawful, IsBuiltFrom, IsCoded, AreCoded, built_image, built_item, built_items};
-ghost use Rattle.module.specs.Part.{is_table_of_part};
-ghost use Rattle.module.specs.Sources.{programs_of};
+ghost use Rattle.module.specs.Sources.{programs_of, is_module_of_part};
 
-use crate::accepting::{AcceptedSource, accept_sources, are_of_part};
+use crate::accepting::{AcceptedSource, accept_sources, are_of_part, judge_lengths};
 use crate::fault::BuildFault;
 use crate::part::is_table_of_part;
 use apex_types::Section;
 use compiler::{CompileFault, compile_program};
 use image::{Image, PartitionItem, write_image};
 use pal_base::program::Program;
-use std::alloc::Global;
+use std::alloc::{AllocError, Global};
 use window_table::{ModuleTable, PartitionRow, TableFault, read_table};
 
 /// Builds a module table and the source text of each of its partitions, in their order, into the
@@ -30,8 +30,9 @@ use window_table::{ModuleTable, PartitionRow, TableFault, read_table};
 ///
 /// Memory where there is none left. Else, in this order: the lowest rule that the table breaks;
 /// a number of sources that is not the number of partitions; the lowest rule that a source breaks,
-/// with its line, of the first partition whose source is refused; and `NotYet` where all are
-/// accepted and are outside the part that is built so far.
+/// with its line, of the first partition whose source is refused; the first partition whose program
+/// would have more than 65,536 instructions; and `NotYet` where all are accepted and are outside the
+/// part that is built so far.
 pub fn build(alloc: Global, table: &[u8], sources: &[&[u8]]) -> Result<Vec<u8>, BuildFault>
     ensures image { IfOk result (λ bytes. IsImageOf table.now (map (λ s. s.now) sources.now) bytes.items) }
     ensures refused { IfErr result (λ fault. IsRefusal table.now (map (λ s. s.now) sources.now) fault) }
@@ -56,31 +57,34 @@ fn read(alloc: Global, text: &[u8]) -> Result<ModuleTable, BuildFault>
 fn build_table(alloc: Global, table: ModuleTable, sources: &[&[u8]]) -> Result<Vec<u8>, BuildFault>
     requires { IsJudged (table_of table) }
     ensures built { IfOk result (λ bytes. IsBuiltFrom (table_of table) (map (λ s. s.now) sources.now) bytes.items) }
-    ensures part { IfOk result (λ bytes. is_table_of_part (table_of table) ≡ true) }
     ensures refused { IfErr result (λ fault. IsRefusedWith (table_of table) (map (λ s. s.now) sources.now) fault) }
 {
     if sources.len() != table.partitions.len() {
         return Err(BuildFault::Sources);
     }
     let accepted = accept_sources(alloc, table.partitions.as_slice(), sources)?;
-    if !is_table_of_part(&table) || !are_of_part(&accepted) {
-        return Err(BuildFault::NotYet);
-    }
-    build_bytes(alloc, table, &accepted)
+    judge_lengths(table.partitions.as_slice(), &accepted)?;
+    build_accepted(alloc, table, &accepted)
 }
 
-/// The bytes of the image of a table and the programs of its partitions.
-fn build_bytes(
+/// The bytes of the image of a table and its accepted sources, none of them too long, if they are of
+/// the part that is built so far.
+fn build_accepted(
     alloc: Global,
     table: ModuleTable,
     sources: &[AcceptedSource],
 ) -> Result<Vec<u8>, BuildFault>
     requires count { length sources.now ≡ length table.partitions.items }
     requires lawful { BecomesLawful (table_of table) (programs_of sources.now) }
+    requires short { list_any is_too_long (programs_of sources.now) ≡ false }
     ensures spelled { IfOk result (λ bytes. bytes.items ≡ spelling (built_image (table_of table) (programs_of sources.now))) }
     ensures coded { IfOk result (λ bytes. AreCoded (programs_of sources.now)) }
-    ensures refused { IfErr result (λ fault. IsLengthRefusal (programs_of sources.now) fault) }
+    ensures offered { IfOk result (λ bytes. is_module_of_part (table_of table) sources.now ≡ true) }
+    ensures refused { IfErr result (λ fault. IsPartRefusal (is_module_of_part (table_of table) sources.now) fault) }
 {
+    if !is_table_of_part(&table) || !are_of_part(sources) {
+        return Err(BuildFault::NotYet);
+    }
     let image = build_image(alloc, table, sources)?;
     match write_image(alloc, &image) {
         Ok(bytes) => Ok(bytes),
@@ -93,12 +97,12 @@ fn build_image(
     alloc: Global,
     table: ModuleTable,
     sources: &[AcceptedSource],
-) -> Result<Image, BuildFault>
+) -> Result<Image, AllocError>
     requires count { length sources.now ≡ length table.partitions.items }
     requires lawful { BecomesLawful (table_of table) (programs_of sources.now) }
+    requires short { list_any is_too_long (programs_of sources.now) ≡ false }
     ensures image { IfOk result (λ image. image_of image ≡ built_image (table_of table) (programs_of sources.now)) }
     ensures coded { IfOk result (λ image. AreCoded (programs_of sources.now)) }
-    ensures refused { IfErr result (λ fault. IsLengthRefusal (programs_of sources.now) fault) }
 {
     let ModuleTable {
         schedule,
@@ -120,11 +124,11 @@ fn build_items(
     alloc: Global,
     rows: Vec<PartitionRow>,
     sources: &[AcceptedSource],
-) -> Result<Vec<PartitionItem>, BuildFault>
-    requires { length sources.now ≡ length rows.items }
+) -> Result<Vec<PartitionItem>, AllocError>
+    requires count { length sources.now ≡ length rows.items }
+    requires short { list_any is_too_long (programs_of sources.now) ≡ false }
     ensures items { IfOk result (λ items. items_of items.items ≡ built_items (map partition_of rows.items) (programs_of sources.now)) }
     ensures coded { IfOk result (λ items. AreCoded (programs_of sources.now)) }
-    ensures refused { IfErr result (λ fault. IsLengthRefusal (programs_of sources.now) fault) }
 {
     let mut items = Vec::with_capacity(alloc, sources.len())?;
     let mut place = 0usize;
@@ -141,25 +145,25 @@ fn build_item(
     alloc: Global,
     row: PartitionRow,
     program: &Program,
-) -> Result<PartitionItem, BuildFault>
+) -> Result<PartitionItem, AllocError>
+    requires { is_too_long (program_of program.now) ≡ false }
     ensures item { IfOk result (λ item. item_of item ≡ built_item (partition_of row) (program_of program.now)) }
     ensures coded { IfOk result (λ item. IsCoded (program_of program.now)) }
-    ensures refused { IfErr result (λ fault. IsProgramRefusal (program_of program.now) fault) }
 {
     let section = compile(alloc, program)?;
     Ok(PartitionItem { row, section })
 }
 
 /// The section of a program.
-#[tactic(auto, using(crate::proofs::Built::coded_section, crate::proofs::Refused::too_long))]
-fn compile(alloc: Global, program: &Program) -> Result<Section, BuildFault>
+#[tactic(auto, using(crate::proofs::Built::coded_section, crate::proofs::Built::short_enough))]
+fn compile(alloc: Global, program: &Program) -> Result<Section, AllocError>
+    requires { is_too_long (program_of program.now) ≡ false }
     ensures section { IfOk result (λ section. section_of section ≡ code_of.section_of (program_of program.now)) }
     ensures coded { IfOk result (λ section. IsCoded (program_of program.now)) }
-    ensures refused { IfErr result (λ fault. IsProgramRefusal (program_of program.now) fault) }
 {
     match compile_program(alloc, program) {
         Ok(section) => Ok(section),
-        Err(CompileFault::Memory(_)) => Err(BuildFault::Memory),
-        Err(CompileFault::TooLong) => Err(BuildFault::NotYet),
+        Err(CompileFault::Memory(fault)) => Err(fault),
+        Err(CompileFault::TooLong) => unreachable!(),
     }
 }

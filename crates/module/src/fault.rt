@@ -14,8 +14,8 @@ use std::fmt;
 use window_table::TableFault;
 
 /// Why a table and sources are not built. Where several reasons hold, the first of this list is
-/// answered, and of several sources that are refused the first; want of memory may be answered
-/// before. The module table comes first.
+/// answered, and of several sources that are refused, or too long, the first; want of memory may be
+/// answered before. The module table comes first.
 #[derive(Clone, Copy, Debug, PartialEq, Eq)]
 pub enum BuildFault {
     Table(TableFault),
@@ -23,7 +23,10 @@ pub enum BuildFault {
     Sources,
     /// The source of the partition of that name is refused.
     Pal { partition: Name, fault: PalFault },
-    /// They are accepted, and are outside the part that is built so far.
+    /// The sources are accepted, and the program of the partition of that name would have more than
+    /// 65,536 instructions.
+    Compile(Name),
+    /// They are accepted, no program is too long, and they are outside the part that is built so far.
     NotYet,
     Memory,
 }
@@ -50,6 +53,7 @@ impl fmt::Display for BuildFault {
                 fault.number(),
                 fault.line
             ),
+            BuildFault::Compile(partition) => write!(f, "compile {} 1", partition.as_str()),
             BuildFault::NotYet => write!(f, "not yet"),
         }
     }

@@ -3,14 +3,14 @@
 ghost use Rattle.std.specs.Prelude.{◌≡◌, []};
 ghost use Rattle.std.specs.List.{list_all, list_any};
 ghost use Rattle.image.specs.Views.{image_of};
-ghost use Rattle.pal_base.specs.ProgramView.{expr_of, exprs_of, links_of, stmt_of, block_of, process_of, program_of};
+ghost use Rattle.pal_base.specs.ProgramView.{expr_of, exprs_of, stmt_of, block_of, procedure_of, process_of, program_of};
 ghost use Rattle.pal_base.specs.View as written;
 ghost use Rattle.window_table.specs.Views.{partition_view, table_of};
-ghost use Rattle.module.specs.Part.{ignores_all, is_image_of_part, is_row_of_part, is_table_of_part, is_plus, is_expr_of_part, are_links_of_part, are_exprs_of_part, is_index_within, is_normal, is_three, is_request_of_part, is_stmt_of_part, is_block_of_part, is_process_of_part, is_program_of_part, is_ignored, is_port, declares_port};
+ghost use Rattle.module.specs.Part.{ignores_all, is_image_of_part, is_row_of_part, is_table_of_part, is_normal, is_three, is_request_of_part, is_stmt_of_part, is_block_of_part, is_procedure_of_part, is_process_of_part, is_program_of_part, is_ignored, is_port, declares_port};
 
-use apex_types::{BinaryOperator, HealthTable, PartitionAction, Service};
+use apex_types::{HealthTable, PartitionAction, Service};
 use image::Image;
-use pal_base::program::{Expr, Link, Process, Program, Stmt};
+use pal_base::program::{Expr, Procedure, Process, Program, Stmt};
 use pal_base::syntax::{self, Declaration, DeclarationKind};
 use window_table::{ModuleTable, PartitionRow};
 
@@ -82,8 +82,8 @@ fn is_port(kind: &DeclarationKind) -> bool
     matches!(kind, DeclarationKind::Port)
 }
 
-/// Whether a program is of the part: variables and arrays, INIT and processes without period and
-/// capacity, whose statements and services are of the part.
+/// Whether a program is of the part: without objects and a handler, with aperiodic processes that
+/// have no deadline, and with no service but those of the part.
 #[tactic(auto, using(crate::proofs::Parts::program_is))]
 pub fn is_program_of_part(program: &Program) -> bool
     ensures { result ≡ is_program_of_part (program_of program.now) }
@@ -92,10 +92,24 @@ pub fn is_program_of_part(program: &Program) -> bool
         && program.events == 0
         && program.buffers.is_empty()
         && program.blackboards.is_empty()
-        && program.procedures.is_empty()
         && program.handler.is_none()
         && is_block_of_part(&program.init.block)
+        && are_procedures_of_part(&program.procedures)
         && are_processes_of_part(&program.processes)
+}
+
+fn are_procedures_of_part(procedures: &[Procedure]) -> bool
+    ensures { result ≡ list_all (λ procedure. is_procedure_of_part (procedure_of procedure)) procedures.now }
+{
+    procedures
+        .iter()
+        .all(|procedure| is_procedure_of_part(procedure))
+}
+
+fn is_procedure_of_part(procedure: &Procedure) -> bool
+    ensures { result ≡ is_procedure_of_part (procedure_of procedure.now) }
+{
+    is_block_of_part(&procedure.block)
 }
 
 fn are_processes_of_part(processes: &[Process]) -> bool
@@ -104,87 +118,50 @@ fn are_processes_of_part(processes: &[Process]) -> bool
     processes.iter().all(|process| is_process_of_part(process))
 }
 
-#[tactic(auto, using(crate::proofs::Parts::block_is))]
 fn is_process_of_part(process: &Process) -> bool
     ensures { result ≡ is_process_of_part (process_of process.now) }
 {
     process.period.is_none() && process.capacity.is_none() && is_block_of_part(&process.body.block)
 }
 
+#[cycle(is_stmt_of_part)]
 fn is_block_of_part(block: &[Stmt]) -> bool
-    ensures { result ≡ list_all (λ stmt. is_stmt_of_part (stmt_of stmt)) block.now }
+    ensures { result ≡ is_block_of_part (block_of block.now) }
 {
-    block.iter().all(|stmt| is_stmt_of_part(stmt))
-}
-
-/// Scalar assignments, array assignments with a literal index within the array, `work`, and
-/// services.
-fn is_stmt_of_part(stmt: &Stmt) -> bool
-    ensures { result ≡ is_stmt_of_part (stmt_of stmt.now) }
-{
-    match stmt {
-        Stmt::Assign(_, value) => is_expr_of_part(value),
-        Stmt::AssignElement(_, size, index, value) => {
-            is_index_within(*size, index) && is_expr_of_part(value)
-        }
-        Stmt::Work(_) => true,
-        Stmt::CallService(service, arguments, _) => is_request_of_part(*service, arguments),
-        _ => false,
-    }
-}
-
-fn is_plus(operator: BinaryOperator) -> bool
-    ensures { result ≡ is_plus operator }
-{
-    matches!(operator, BinaryOperator::Add)
-}
-
-/// Literals, scalar reads, and sums of such expressions at any depth.
-#[cycle(is_expr_of_part)]
-fn is_expr_of_part(expr: &Expr) -> bool
-    ensures { result ≡ is_expr_of_part (expr_of expr.now) }
-{
-    match expr {
-        Expr::Literal(_) | Expr::Read(_) => true,
-        Expr::Chain(first, links) => is_expr_of_part(first) && are_links_of_part(links),
-        _ => false,
-    }
-}
-
-/// Whether each operator is `+`, with an operand of the part. A chain may have very many links, so
-/// they are walked by a loop.
-#[cycle(is_expr_of_part)]
-fn are_links_of_part(links: &[Link]) -> bool
-    ensures { result ≡ are_links_of_part (links_of links.now) }
-{
-    for link in links {
-        if !is_plus(link.operator) || !is_expr_of_part(&link.operand) {
+    for stmt in block {
+        if !is_stmt_of_part(stmt) {
             return false;
         }
     }
     true
 }
 
-fn are_exprs_of_part(exprs: &[Expr]) -> bool
-    ensures { result ≡ list_all (λ expr. is_expr_of_part (expr_of expr)) exprs.now }
+/// Statements are walked for the services that they call.
+#[cycle(is_stmt_of_part)]
+fn is_stmt_of_part(stmt: &Stmt) -> bool
+    ensures { result ≡ is_stmt_of_part (stmt_of stmt.now) }
 {
-    exprs.iter().all(|expr| is_expr_of_part(expr))
-}
-
-fn is_index_within(size: i64, index: &Expr) -> bool
-    ensures { result ≡ is_index_within size (expr_of index.now) }
-{
-    match index {
-        Expr::Literal(place) => 0 <= *place && *place < size,
-        _ => false,
+    match stmt {
+        Stmt::If(_, block) => is_block_of_part(block),
+        Stmt::IfElse(_, block, other) => is_block_of_part(block) && is_block_of_part(other),
+        Stmt::While(_, block) => is_block_of_part(block),
+        Stmt::CallService(service, arguments, _) => is_request_of_part(*service, arguments),
+        Stmt::Assign(..) | Stmt::AssignElement(..) | Stmt::Work(_) | Stmt::Return(_) => true,
     }
 }
 
-fn is_three(expr: &Expr) -> bool
-    ensures { result ≡ is_three (expr_of expr.now) }
+/// SET_PARTITION_MODE with the literal 3, CREATE_PROCESS, START, TIMED_WAIT, GET_TIME and
+/// REPORT_APPLICATION_MESSAGE.
+fn is_request_of_part(service: Service, arguments: &[Expr]) -> bool
+    ensures { result ≡ is_request_of_part service (exprs_of arguments.now) }
 {
-    match expr {
-        Expr::Literal(value) => *value == 3,
+    match service {
+        Service::SetPartitionMode => is_normal(arguments),
+        Service::CreateProcess
+        | Service::Start
+        | Service::TimedWait
+        | Service::GetTime
+        | Service::ReportApplicationMessage => true,
         _ => false,
     }
 }
@@ -200,19 +177,11 @@ fn is_normal(arguments: &[Expr]) -> bool
     }
 }
 
-/// SET_PARTITION_MODE with the literal 3, CREATE_PROCESS, START, TIMED_WAIT, GET_TIME and
-/// REPORT_APPLICATION_MESSAGE.
-#[tactic(auto, using(crate::proofs::Parts::exprs_are))]
-fn is_request_of_part(service: Service, arguments: &[Expr]) -> bool
-    ensures { result ≡ is_request_of_part service (exprs_of arguments.now) }
+fn is_three(expr: &Expr) -> bool
+    ensures { result ≡ is_three (expr_of expr.now) }
 {
-    match service {
-        Service::SetPartitionMode => is_normal(arguments),
-        Service::CreateProcess
-        | Service::Start
-        | Service::TimedWait
-        | Service::GetTime
-        | Service::ReportApplicationMessage => are_exprs_of_part(arguments),
+    match expr {
+        Expr::Literal(value) => *value == 3,
         _ => false,
     }
 }

@@ -1,11 +1,8 @@
 -- What two lists of costs come to, one behind the other.
-use Rattle.std.proofs.Common.{◌≡◌, ℕ, ◌+◌, ◌<◌, ◌≤◌, List, [], ◌∷◌, ◌++◌, length, map, append-nil, drop, get_or, refl, sym, ap, ◌∙◌, arith, append_assoc}
-use Rattle.std.specs.List.{sum}
-use Rattle.std.proofs.lemmas.List.{drop_more, length-map}
-use Rattle.std.proofs.lemmas.List.Sums.{sum_by-cons}
-use Rattle.apex_types.specs.declared.place.Place.{Place}
+use Rattle.std.proofs.Common.{◌≡◌, ℕ, zero, suc, ◌+◌, ◌<◌, List, [], ◌∷◌, ◌++◌, length, map, append-nil, drop, get_or, refl, sym, ap, ◌∙◌, arith, append_assoc}
+use Rattle.std.proofs.lemmas.List.{drop_more}
 use Rattle.pal_base.specs.declared.cost.Cost.{Cost}
-use Rattle.pal_base.specs.Costs.{held, comes_to}
+use Rattle.pal_base.specs.Costs.{comes_to}
 
 -- costs counted so far, and those from here on, are all
 abbrev pub UnderWay : Cost → List ℕ → List ℕ → Type 0
@@ -21,27 +18,19 @@ goes_on cost others new item rest before all adds is next u = (u.0 ++ item, adds
 pub all_done : (cost : Cost) (rest all : List ℕ) → rest ≡ [] → UnderWay cost rest all → cost ≡ comes_to all
 all_done cost rest all none u = u.1 ∙ ap comes_to (sym (append-nil u.0) ∙ ap (λ xs. u.0 ++ xs) (sym none) ∙ u.2)
 
-abbrev of : ℕ → ℕ → Cost
-of size ticks = record { size = size; ticks = ticks }
-
-abbrev pub one_each : ℕ → Cost
-one_each n = of n n
-
-abbrev one : Place → ℕ
-one place = 1
-
-abbrev ones : List Place → List ℕ
-ones ts = map one ts
-
-ones_sum : (ts : List Place) → sum (ones ts) ≡ length ts
-ones_sum [] = refl
-ones_sum (t ∷ ts) = omega (arith, sum_by-cons (λ x. x) 1 (ones ts), ones_sum ts)
-
-pub ones_come_to : (ts : List Place) (n : ℕ) → n ≡ length ts → n ≤ 18446744073709551615 → one_each n ≡ comes_to (ones ts)
-ones_come_to ts n is small =
-    let size : n ≡ held (length (ones ts)) = omega (arith, length-map ts one) in
-    let ticks : n ≡ held (sum (ones ts)) = omega (arith, ones_sum ts) in
-    ap (λ s. of s n) size ∙ ap (λ t. of (held (length (ones ts))) t) ticks
+-- one more of constructs that all cost the same
+pub one_more : {X : Type 0} (ticks : ℕ) (xs : List X) (i : ℕ) (cost new : Cost) → i < length xs → ((done : List ℕ) → cost ≡ comes_to done → new ≡ comes_to (done ++ ticks ∷ []))
+    → UnderWay cost (map (λ _. ticks) (drop i xs)) (map (λ _. ticks) xs) → UnderWay new (map (λ _. ticks) (drop (i + 1) xs)) (map (λ _. ticks) xs)
+one_more {X = X} ticks xs i cost new within adds u =
+    let rest = map (λ _. ticks) (drop (i + 1) xs) in
+    (u.0 ++ ticks ∷ [], adds u.0 u.1, append_assoc u.0 (ticks ∷ []) rest ∙ ap (λ l. u.0 ++ l) (sym (next xs i within)) ∙ u.2)
+  where
+    next : (xs : List X) (i : ℕ) → i < length xs → map (λ _. ticks) (drop i xs) ≡ ticks ∷ map (λ _. ticks) (drop (i + 1) xs)
+    next [] i within = absurd (omega (arith, within))
+    next (x ∷ xs) zero within = refl
+    next (x ∷ xs) (suc i) within =
+        let at : suc i + 1 ≡ suc (i + 1) = omega arith in
+        next xs i (omega (arith, within)) ∙ ap (λ k. ticks ∷ map (λ _. ticks) (drop k (x ∷ xs))) (sym at)
 
 -- the cost of an item behind those so far, and the rest of a slice
 pub next_of : {X : Type 0} (costs : List X → List ℕ) (xs : List X) (i : ℕ) (x : X) → i < length xs → x ≡ get_or xs i x → costs (drop i xs) ≡ costs (x ∷ drop (i + 1) xs)

@@ -1,8 +1,8 @@
 //! The longest code and the most data.
 
-use super::shelf::{NOT_YET, expect_accepted, expect_refused};
+use super::shelf::{expect_accepted, expect_refused};
 use super::sinks::narrow_sink;
-use super::texts::{SMALLEST_TRACE, TABLE};
+use super::texts::{HEALTH, SMALLEST, SMALLEST_TRACE, TABLE};
 use module::{build, run};
 use std::alloc::{AllocError, Global};
 use std::test::Fail;
@@ -47,7 +47,76 @@ fn code_that_is_longer_by_one(rt: HostRuntime) -> Result<(), Fail> {
     expect_accepted(&rt, rt.alloc(), TABLE.as_bytes(), &sources)?;
     let source = working(rt.alloc(), 65_533)?;
     let sources = [source.as_slice()];
-    expect_refused(&rt, rt.alloc(), TABLE.as_bytes(), &sources, NOT_YET)
+    let line = "mb: compile a 1\n";
+    expect_refused(&rt, rt.alloc(), TABLE.as_bytes(), &sources, line)
+}
+
+/// Two partitions that have half of the frame each. The first has a port, so the table is outside
+/// the part that is built.
+fn halves(alloc: Global) -> Result<String, AllocError> {
+    format!(in alloc;
+        "\
+frame = 128
+fault = \"IGNORE\"
+[[partition]]
+name = \"a\"
+period = 128
+duration = 64
+{HEALTH}
+[[partition.port]]
+name = \"q\"
+kind = \"QUEUING\"
+direction = \"DESTINATION\"
+words = 1
+depth = 4
+discipline = \"FIFO\"
+[[partition]]
+name = \"b\"
+period = 128
+duration = 64
+{HEALTH}
+[[window]]
+partition = \"a\"
+offset = 0
+length = 64
+release = true
+[[window]]
+partition = \"b\"
+offset = 64
+length = 64
+release = true
+"
+    )
+}
+
+/// A sum of 32,768 ones: they and their signs, the assignment and the end of INIT are 65,537
+/// instructions.
+fn summing(alloc: Global) -> Result<Vec<u8>, AllocError> {
+    let mut source = Vec::new(alloc);
+    source.extend_from_slice(b"init stack 16 { local r;\nr := 1")?;
+    for _ in 0..32_767 {
+        source.extend_from_slice(b"+1")?;
+    }
+    source.extend_from_slice(b"; }\n")?;
+    Ok(source)
+}
+
+/// Code that is too long comes behind every source that is refused, and before what is not built.
+#[test]
+fn code_that_is_too_long_in_its_order(rt: HostRuntime) -> Result<(), Fail> {
+    let table = halves(rt.alloc())?;
+    let table = table.as_str().as_bytes();
+    let long = summing(rt.alloc())?;
+    let long = long.as_slice();
+    let unknown = b"init stack 16 { x := 1; }".as_slice();
+    for (sources, line) in [
+        ([SMALLEST.as_bytes(), long], "mb: compile b 1\n"),
+        ([long, long], "mb: compile a 1\n"),
+        ([long, unknown], "mb: pal b 3 line 1\n"),
+    ] {
+        expect_refused(&rt, rt.alloc(), table, &sources, line)?;
+    }
+    Ok(())
 }
 
 /// The smallest source with the longest array.

@@ -3,13 +3,9 @@
 ghost use Rattle.std.specs.Prelude.{◌<◌};
 
 use super::shelf::{NOT_YET, expect_accepted, expect_refused};
-use super::texts::SMALLEST;
+use super::texts::{HEALTH, SMALLEST};
 use std::alloc::{AllocError, Global};
 use std::test::Fail;
-
-const HEALTH: &str = "\
-hm = { DEADLINE_MISSED = \"IGNORE\", APPLICATION_ERROR = \"IGNORE\", NUMERIC_ERROR = \"IGNORE\", ILLEGAL_REQUEST = \"IGNORE\", STACK_OVERFLOW = \"IGNORE\", MEMORY_VIOLATION = \"IGNORE\", HARDWARE_FAULT = \"IGNORE\" }
-";
 
 /// Four ports that send, and twelve that receive.
 fn push_ports(alloc: Global, table: &mut String) -> Result<(), AllocError> {

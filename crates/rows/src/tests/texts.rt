@@ -26,6 +26,11 @@ length = 128
 release = true
 ";
 
+/// The actions of a partition that ignores every error.
+pub const HEALTH: &str = "\
+hm = { DEADLINE_MISSED = \"IGNORE\", APPLICATION_ERROR = \"IGNORE\", NUMERIC_ERROR = \"IGNORE\", ILLEGAL_REQUEST = \"IGNORE\", STACK_OVERFLOW = \"IGNORE\", MEMORY_VIOLATION = \"IGNORE\", HARDWARE_FAULT = \"IGNORE\" }
+";
+
 /// The smallest source.
 pub static SMALLEST: &str = "init stack 16 { local r; SET_PARTITION_MODE(3) -> r; }";
 

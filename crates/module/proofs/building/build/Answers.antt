@@ -6,7 +6,7 @@ use Rattle.module.proofs.building.build.Goals as goal
 
 pub returns-clause-image : goal.returns-clause-image
 returns-clause-image c =
-    built_bytes (λ bytes. bytes.items) c.args.table.now (map (λ s. s.now) c.args.sources.now) (table_of c.in_ok-table.table) c.build_table.result c.in_ok-table.ensures.table c.build_table.ensures.part c.build_table.ensures.built
+    built_bytes (λ bytes. bytes.items) c.args.table.now (map (λ s. s.now) c.args.sources.now) (table_of c.in_ok-table.table) c.build_table.result c.in_ok-table.ensures.table c.build_table.ensures.built
 
 pub returns-clause-refused : goal.returns-clause-refused
 returns-clause-refused c =

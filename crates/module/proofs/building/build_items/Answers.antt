@@ -6,8 +6,7 @@ use Rattle.pal_base.specs.ProgramView.{program_of}
 use Rattle.window_table.specs.declared.table.PartitionRow.{PartitionRow}
 use Rattle.module.specs.Sources.{programs_of}
 use Rattle.module.specs.declared.accepting.AcceptedSource.{AcceptedSource}
-use Rattle.module.proofs.Built.{one_longer, one_more_item, one_more_program}
-use Rattle.module.proofs.Refused.{passed_on, one_of_programs}
+use Rattle.module.proofs.Built.{one_is_short, one_longer, one_more_item, one_more_program}
 use Rattle.module.proofs.building.build_items.Goals as goal
 
 -- where an item is left, the place is within
@@ -20,15 +19,14 @@ one_on place row left rest n split all = omega (arith, ap length split)
 pub bounds-sources-place : goal.bounds-sources-place
 bounds-sources-place c = stands_within c.loop-row.place c.in-Some.row _ _ _ c.in-Some.ensures.steps.0 c.loop-row.invariant.left
 
-pub returns-in_err-build_item-clause-refused : goal.returns-in_err-build_item-clause-refused
-returns-in_err-build_item-clause-refused c =
+pub build_item-requires : goal.build_item-requires
+build_item-requires c =
     let source = c.index-sources-place.result in
     let p = program_of source.program in
     let within : c.loop-row.place < length c.args.sources.now = stands_within c.loop-row.place c.in-Some.row _ _ _ c.in-Some.ensures.steps.0 c.loop-row.invariant.left in
     let got : slice_get (programs_of c.args.sources.now) c.loop-row.place ≡ Some p =
     slice_get-map _ c.args.sources.now c.loop-row.place ∙ ap (option_map (λ (a : AcceptedSource). program_of a.program)) (slice_get_read c.args.sources.now _ c.loop-row.place source refl within c.index-sources-place.is) in
-    passed_on _ _ c.in_err-build_item.field-0.0 c.from_residual-in_err-build_item.result c.from_residual-in_err-build_item.ensures
-    (one_of_programs (programs_of c.args.sources.now) c.loop-row.place p got) c.in_err-build_item.ensures.refused
+    one_is_short (programs_of c.args.sources.now) c.loop-row.place p c.requires.short got
 
 pub loop-row-preserved : goal.loop-row-preserved
 loop-row-preserved c =

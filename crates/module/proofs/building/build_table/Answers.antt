@@ -1,58 +1,12 @@
-use Rattle.std.proofs.Common.{rules, ◌≡◌, List, length, map, true, false, refl, ap, sym, subst, ◌∙◌}
-use Rattle.std.specs.List.{list_all}
+use Rattle.std.proofs.Common.{rules, ◌≡◌, List, length, map, sym, subst, ◌∙◌}
 use Rattle.std.proofs.lemmas.List.{length-map}
 use Rattle.window_table.specs.Views.{partition_view, table_of}
 use Rattle.window_table.specs.declared.table.PartitionRow.{PartitionRow}
-use Rattle.module.specs.Building.{AreSourceRefusals}
-use Rattle.module.specs.Part.{is_table_of_part}
-use Rattle.module.specs.Sources.{programs_of, is_source_of_part}
+use Rattle.module.specs.Building.{AreSourceRefusals, IsLengthRefusal}
+use Rattle.module.specs.Sources.{programs_of}
 use Rattle.module.proofs.Headline.{lawful_image}
-use Rattle.module.proofs.Refused.{weaker, passed_on, source_refused, are_accepted, as_many, built_from, other_table, same_sources, other_source, length_refused}
-use Rattle.module.proofs.building.build_table.Goals.{then-not-is_table_of_part-via-then-not-is_table_of_part, then-not-is_table_of_part-via-else-not-is_table_of_part+then-not-are_of_part}
+use Rattle.module.proofs.Refused.{weaker, passed_on, source_refused, are_accepted, as_many, all_short, built_from, same_sources, length_refused, part_refused}
 use Rattle.module.proofs.building.build_table.Goals as goal
-
-pub returns-then-not-is_table_of_part-clause-refused : goal.returns-then-not-is_table_of_part-clause-refused
-returns-then-not-is_table_of_part-clause-refused c =
-    let texts = map (λ s. s.now) c.args.sources.now in
-    let given = c.in_ok-accepted.accepted.items in
-    let accepted = same_sources c.as_slice.result.now c.args.table.partitions.items texts given given c.as_slice.ensures.value refl c.in_ok-accepted.ensures.accepted in
-    elim c.then-not-is_table_of_part.branch [
-      | then-not-is_table_of_part-via-then-not-is_table_of_part w ↦
-          let other : is_table_of_part (table_of c.args.table) ≡ false = search rules in
-          other_table (table_of c.args.table) texts given accepted other
-      | then-not-is_table_of_part-via-else-not-is_table_of_part+then-not-are_of_part w ↦
-          let other : list_all (λ a. is_source_of_part a) c.in_ok-accepted.accepted.items ≡ false = search rules in
-          other_source (table_of c.args.table) texts given accepted other
-    ]
-
-pub build_bytes-requires-clause-lawful : goal.build_bytes-requires-clause-lawful
-build_bytes-requires-clause-lawful c =
-    let texts = map (λ s. s.now) c.args.sources.now in
-    let given = c.deref-2.result.now in
-    let accepted = same_sources c.as_slice.result.now c.args.table.partitions.items texts c.in_ok-accepted.accepted.items given c.as_slice.ensures.value c.deref-2.ensures.value c.in_ok-accepted.ensures.accepted in
-    lawful_image (table_of c.args.table) texts (programs_of given) c.requires (are_accepted (table_of c.args.table).partitions texts given accepted)
-
-pub build_bytes-requires-clause-count : goal.build_bytes-requires-clause-count
-build_bytes-requires-clause-count c =
-    let texts = map (λ s. s.now) c.args.sources.now in
-    let given = c.deref-2.result.now in
-    let accepted = same_sources c.as_slice.result.now c.args.table.partitions.items texts c.in_ok-accepted.accepted.items given c.as_slice.ensures.value c.deref-2.ensures.value c.in_ok-accepted.ensures.accepted in
-    as_many (table_of c.args.table).partitions texts given accepted ∙ length-map c.args.table.partitions.items partition_view
-
-pub returns-clause-built : goal.returns-clause-built
-returns-clause-built c =
-    let texts = map (λ s. s.now) c.args.sources.now in
-    let given = c.deref-2.result.now in
-    let accepted = same_sources c.as_slice.result.now c.args.table.partitions.items texts c.in_ok-accepted.accepted.items given c.as_slice.ensures.value c.deref-2.ensures.value c.in_ok-accepted.ensures.accepted in
-    let part : list_all (λ a. is_source_of_part a) given ≡ true = ap (list_all (λ a. is_source_of_part a)) (c.deref-2.ensures.value) ∙ search rules in
-    built_from (λ bytes. bytes.items) (table_of c.args.table) texts given c.build_bytes.result accepted part c.build_bytes.ensures.spelled c.build_bytes.ensures.coded
-
-pub returns-clause-refused : goal.returns-clause-refused
-returns-clause-refused c =
-    let texts = map (λ s. s.now) c.args.sources.now in
-    let given = c.deref-2.result.now in
-    let accepted = same_sources c.as_slice.result.now c.args.table.partitions.items texts c.in_ok-accepted.accepted.items given c.as_slice.ensures.value c.deref-2.ensures.value c.in_ok-accepted.ensures.accepted in
-    weaker _ _ c.build_bytes.result (length_refused (table_of c.args.table) texts given accepted) c.build_bytes.ensures.refused
 
 pub returns-in_err-accepted-clause-refused : goal.returns-in_err-accepted-clause-refused
 returns-in_err-accepted-clause-refused c =
@@ -61,3 +15,48 @@ returns-in_err-accepted-clause-refused c =
     let count : length texts ≡ length (table_of c.args.table).partitions = length-map c.args.sources.now (λ s. s.now) ∙ e ∙ sym (length-map c.args.table.partitions.items partition_view) in
     let here = subst (λ (rows : List PartitionRow). AreSourceRefusals (map partition_view rows) texts c.in_err-accepted.field-0.0) c.as_slice.ensures.value c.in_err-accepted.ensures.refused in
     passed_on _ _ c.in_err-accepted.field-0.0 c.from_residual.result c.from_residual.ensures (source_refused (table_of c.args.table) texts count) here
+
+pub returns-in_err-judge_lengths-clause-refused : goal.returns-in_err-judge_lengths-clause-refused
+returns-in_err-judge_lengths-clause-refused c =
+    let texts = map (λ s. s.now) c.args.sources.now in
+    let given = c.deref.result.now in
+    let accepted = same_sources c.as_slice.result.now c.args.table.partitions.items texts c.in_ok-accepted.accepted.items given c.as_slice.ensures.value c.deref.ensures.value c.in_ok-accepted.ensures.accepted in
+    let here = subst (λ (rows : List PartitionRow). IsLengthRefusal (map partition_view rows) (programs_of given) c.in_err-judge_lengths.field-0.0) c.as_slice-2.ensures.value c.in_err-judge_lengths.ensures.refused in
+    passed_on _ _ c.in_err-judge_lengths.field-0.0 c.from_residual-in_err-judge_lengths.result c.from_residual-in_err-judge_lengths.ensures (length_refused (table_of c.args.table) texts given accepted) here
+
+pub build_accepted-requires-clause-count : goal.build_accepted-requires-clause-count
+build_accepted-requires-clause-count c =
+    let texts = map (λ s. s.now) c.args.sources.now in
+    let given = c.deref-2.result.now in
+    let accepted = same_sources c.as_slice.result.now c.args.table.partitions.items texts c.in_ok-accepted.accepted.items given c.as_slice.ensures.value c.deref-2.ensures.value c.in_ok-accepted.ensures.accepted in
+    as_many (table_of c.args.table).partitions texts given accepted ∙ length-map c.args.table.partitions.items partition_view
+
+pub build_accepted-requires-clause-lawful : goal.build_accepted-requires-clause-lawful
+build_accepted-requires-clause-lawful c =
+    let texts = map (λ s. s.now) c.args.sources.now in
+    let given = c.deref-2.result.now in
+    let accepted = same_sources c.as_slice.result.now c.args.table.partitions.items texts c.in_ok-accepted.accepted.items given c.as_slice.ensures.value c.deref-2.ensures.value c.in_ok-accepted.ensures.accepted in
+    lawful_image (table_of c.args.table) texts (programs_of given) c.requires (are_accepted (table_of c.args.table).partitions texts given accepted)
+
+pub build_accepted-requires-clause-short : goal.build_accepted-requires-clause-short
+build_accepted-requires-clause-short c =
+    let texts = map (λ s. s.now) c.args.sources.now in
+    let given = c.deref-2.result.now in
+    let accepted = same_sources c.as_slice.result.now c.args.table.partitions.items texts c.in_ok-accepted.accepted.items given c.as_slice.ensures.value c.deref-2.ensures.value c.in_ok-accepted.ensures.accepted in
+    all_short c.as_slice-2.result.now c.args.table.partitions.items texts c.deref.result.now given c.as_slice-2.ensures.value (c.deref.ensures.value ∙ sym c.deref-2.ensures.value) accepted c.in_ok-judge_lengths.ensures.none
+
+pub returns-clause-built : goal.returns-clause-built
+returns-clause-built c =
+    let texts = map (λ s. s.now) c.args.sources.now in
+    let given = c.deref-2.result.now in
+    let accepted = same_sources c.as_slice.result.now c.args.table.partitions.items texts c.in_ok-accepted.accepted.items given c.as_slice.ensures.value c.deref-2.ensures.value c.in_ok-accepted.ensures.accepted in
+    let short = all_short c.as_slice-2.result.now c.args.table.partitions.items texts c.deref.result.now given c.as_slice-2.ensures.value (c.deref.ensures.value ∙ sym c.deref-2.ensures.value) accepted c.in_ok-judge_lengths.ensures.none in
+    built_from (λ bytes. bytes.items) (table_of c.args.table) texts given c.build_accepted.result accepted short c.build_accepted.ensures.offered c.build_accepted.ensures.spelled c.build_accepted.ensures.coded
+
+pub returns-clause-refused : goal.returns-clause-refused
+returns-clause-refused c =
+    let texts = map (λ s. s.now) c.args.sources.now in
+    let given = c.deref-2.result.now in
+    let accepted = same_sources c.as_slice.result.now c.args.table.partitions.items texts c.in_ok-accepted.accepted.items given c.as_slice.ensures.value c.deref-2.ensures.value c.in_ok-accepted.ensures.accepted in
+    let short = all_short c.as_slice-2.result.now c.args.table.partitions.items texts c.deref.result.now given c.as_slice-2.ensures.value (c.deref.ensures.value ∙ sym c.deref-2.ensures.value) accepted c.in_ok-judge_lengths.ensures.none in
+    weaker _ _ c.build_accepted.result (part_refused (table_of c.args.table) texts given accepted short) c.build_accepted.ensures.refused

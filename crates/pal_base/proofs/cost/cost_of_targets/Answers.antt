@@ -1,6 +1,6 @@
-use Rattle.std.proofs.Common.{refl, arith}
-use Rattle.pal_base.proofs.Costs.{ones_come_to}
+use Rattle.apex_types.specs.declared.cost.TheConstants.{SCALAR_COST}
+use Rattle.pal_base.proofs.Costs.{one_more}
 use Rattle.pal_base.proofs.cost.cost_of_targets.Goals as goal
 
-pub returns : goal.returns
-returns c = ones_come_to c.args.targets.now _ refl (omega arith)
+pub loop-preserved : goal.loop-preserved
+loop-preserved c = one_more SCALAR_COST c.args.targets.now c.loop.index _ _ c.loop-test.true c.and-cost.ensures c.loop.invariant
