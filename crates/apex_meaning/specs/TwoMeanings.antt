@@ -24,13 +24,11 @@ use Rattle.apex_meaning.specs.Module.{Module, trace}
 use Rattle.apex_meaning.specs.Partition.{World, Member}
 use Rattle.apex_meaning.specs.Processes.{Processes}
 use Rattle.apex_meaning.specs.Program as program
+pub use Rattle.apex_meaning.specs.Starts.{ticks}
 use Rattle.apex_meaning.specs.Windows.{Schedule, schedule_of_partition}
 use Rattle.apex_meaning.specs.SourceControl.{SourceControl, source_engine, body_at}
 
 -- ---- a partition before its first start
-
-abbrev pub ticks : ℕ → Ticks
-ticks n = record { 0 = n }
 
 -- the record of one with a priority, before it is created
 abbrev pub fresh_row : Subject → Priority → Option ℕ → Option ℕ → ProcessStatus

@@ -220,6 +220,10 @@ fn lines_of_refusals(rt: HostRuntime) -> Result<(), Fail> {
             }),
             "mb: memory",
         ),
+        (
+            Refusal::Build(BuildFault::Compile(partition)),
+            "mb: compile engine_1 1",
+        ),
         (Refusal::Build(BuildFault::NotYet), "mb: not yet"),
         (Refusal::Build(BuildFault::Memory), "mb: memory"),
         (Refusal::Run(RunFault::Ticks), "mb: ticks"),

@@ -1,10 +1,12 @@
-//! The rows that stand as files: tables and sources with their verdicts, and modules with their
-//! traces, as they follow from the rules or as an independent program has computed them. Checks,
-//! builds and runs them, tells each row that differs, and how many are as expected.
+//! The rows that stand as files: tables and sources with their verdicts, modules with their traces,
+//! and images with theirs, as they follow from the rules or as an independent program has computed
+//! them. Checks, builds and runs them, tells each row that differs, and how many are as expected.
 //!
 //! The file `rows` lists them, one a line: `check FOLDER SOURCE..` for the verdict on a table and
-//! its sources, `run FOLDER TICKS SOURCE..` for the trace of their image. In the folder lie the
-//! table, the sources, and what is expected: `answer` or `trace`.
+//! its sources, `run FOLDER TICKS SOURCE..` for the trace of their image, `image FOLDER TICKS` for
+//! the trace of an image that no source makes. In the folder lie the table and the sources, or the
+//! image, and what is expected: `answer` or `trace`. Beside such an image the file `cases` tells what
+//! each of its partitions shows.
 #![tactic(auto)]
 
 mod answer;

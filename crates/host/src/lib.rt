@@ -13,21 +13,26 @@ use std::rt::Env;
 
 /// Does what the words of the process say.
 pub fn run(rt: &HostRuntime) -> ExitCode {
+    ExitCode::from(status(rt))
+}
+
+/// Does what the words of the process say, and answers the exit status.
+fn status(rt: &HostRuntime) -> u8 {
     let mut err = Stream::new(rt.stderr());
     let words = match words(rt) {
         Ok(words) => words,
-        Err(error) => return ExitCode::from(wordless(error.kind(), &mut err.into_writer())),
+        Err(error) => return wordless(error.kind(), &mut err.into_writer()),
     };
     // Traces go out by blocks.
     let Ok(writer) = BufWriter::new(rt.alloc(), rt.stdout()) else {
-        return ExitCode::from(wordless(ErrorKind::OutOfMemory, &mut err.into_writer()));
+        return wordless(ErrorKind::OutOfMemory, &mut err.into_writer());
     };
     let mut files = HostFiles::new(rt);
     let mut out = Stream::new(writer);
     let status = command(rt.alloc(), words.as_slice(), &mut files, &mut out, &mut err);
     // What was not flushed was not taken, and is not written again.
     let _ = out.into_writer().into_parts();
-    ExitCode::from(status)
+    status
 }
 
 fn words(rt: &(impl Env + AllocGlobal)) -> io::Result<Vec<String>> {

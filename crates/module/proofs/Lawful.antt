@@ -1,6 +1,7 @@
 -- The partitions of a lawful image fit the processor, and are idle with nothing to do.
 use Rattle.std.proofs.Common.{◌≡◌, ℕ, zero, suc, ◌+◌, ◌≤◌, List, [], ◌∷◌, ◌++◌, length, map, replicate, Option, Some, None, refl, ap, subst, ◌∙◌, arith, append_assoc}
-use Rattle.std.specs.Prelude.{ℤ}
+use Rattle.std.specs.Prelude.{ℤ, ◌^◌}
+use Rattle.std.specs.Option.{option_map}
 use Rattle.std.proofs.lemmas.List.{length-map}
 use Rattle.std.proofs.lemmas.Option.{none-some, same_Some}
 use Rattle.apex_types.specs.declared.row.BodyRow.{BodyRow}
@@ -13,16 +14,17 @@ use Rattle.apex_meaning.specs.Kernel.{Fixed, Kernel}
 use Rattle.apex_meaning.specs.Partition.{Member}
 use Rattle.apex_meaning.specs.SourceControl.{or_init}
 use Rattle.apex_meaning.specs.Windows.{Schedule}
-use Rattle.apex_meaning.specs.ImageLimits.{EachBeside, IsRoutine, IsBody, IsHandler, IsProcess, IsSection, IsItem}
+use Rattle.apex_meaning.specs.ImageLimits.{EachBeside, IsRoutine, IsBody, IsHandler, IsDuration, IsProcess, IsSection, IsItem}
 use Rattle.apex_meaning.specs.MachineControl.{MachineControl}
-use Rattle.apex_meaning.specs.TwoMeanings.{body_of_row, init_row, handler_row, machine_row, no_control_for, section_engine, fresh_kernel, fixed_of, machine_member, machine_members}
+use Rattle.apex_meaning.specs.TwoMeanings.{ticks, body_of_row, init_row, handler_row, machine_row, no_control_for, section_engine, fresh_kernel, fixed_of, machine_member, machine_members}
 use Rattle.image.specs.declared.value.Image.{Image}
 use Rattle.image.specs.declared.item.PartitionItem.{PartitionItem}
 use Rattle.image.specs.Items.{item_of, items_of, section_of}
 use Rattle.partition_base.specs.Sections.{IsFittingSection, engine_of_section}
 use Rattle.partition_base.specs.Slots.{AreFittingBodies}
 use Rattle.processor.specs.Fitting.{IsFittingRoutine, AreFitting, IsFittingBody}
-use Rattle.module.specs.Loading.{AreFittingItems}
+use Rattle.process_table_base.specs.Bounds.{IsAtMost, IsShort, AreShort}
+use Rattle.module.specs.Loading.{IsFittingItem, AreFittingItems}
 
 routines_fit : (before rows : List RoutineRow) → EachBeside (λ _. IsRoutine) before rows → AreFitting rows
 routines_fit before [] h place row e = absurd (none-some row e)
@@ -51,9 +53,23 @@ section_fits unit s h = record {
   bodies = bodies_fit unit [] s.processes.items h.bodies.processes;
 }
 
+at_most : (d : Option ℕ) → IsDuration d → IsAtMost (2 ^ 40) (option_map ticks d)
+at_most None h = tt
+at_most (Some n) h = h.most
+
+short : (row : ProcessRow) → IsDuration row.period → IsDuration row.capacity → IsShort row
+short row p c = record { released = omega arith; every = at_most row.period p; within = at_most row.capacity c; until = tt; delayed = tt }
+
+all_short : (unit : ℕ) (before rows : List ProcessRow) → EachBeside (IsProcess unit) before rows → AreShort rows
+all_short unit before [] h = tt
+all_short unit before (r ∷ rows) h = (short r h.0.period h.0.capacity, all_short unit (before ++ r ∷ []) rows h.1)
+
+item_fits : (unit : ℕ) (i : PartitionItem) → IsSection unit (section_of i.section) → IsFittingItem i
+item_fits unit i h = record { section = section_fits unit i.section h; times = all_short unit [] i.section.processes.items h.bodies.processes }
+
 items_fit : (frame : ℕ) (before : List Item) (items : List PartitionItem) → EachBeside (IsItem frame) before (items_of items) → AreFittingItems items
 items_fit frame before [] h place item e = absurd (none-some item e)
-items_fit frame before (i ∷ items) h zero item e = subst (λ (x : PartitionItem). IsFittingSection x.section) (same_Some i item e) (section_fits i.row.period i.section h.0.section)
+items_fit frame before (i ∷ items) h zero item e = subst IsFittingItem (same_Some i item e) (item_fits i.row.period i h.0.section)
 items_fit frame before (i ∷ items) h (suc place) item e = items_fit frame (before ++ item_of i ∷ []) items h.1 place item e
 
 pub items_of_image_fit : (image : Image) → AreFittingItems image.partitions.items

@@ -1,6 +1,7 @@
 pub mod Built
 pub mod Headline
 pub mod Lawful
+pub mod Members
 pub mod SameTraces
 pub mod Starting
 pub mod Texts

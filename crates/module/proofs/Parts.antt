@@ -1,9 +1,9 @@
 -- The part, of lists as the code holds them.
 use Rattle.std.proofs.Common.{◌≡◌, ◌∙◌, ℕ, Bool, map, List, [], ◌∷◌, Option, Some, None, refl, sym, ap, arith}
-use Rattle.std.specs.Prelude.{◌&&◌, ◌||◌, ◌==◌, length, is_none}
+use Rattle.std.specs.Prelude.{Vec, ◌&&◌, ◌||◌, ◌==◌, length, is_none}
+use Rattle.std.specs.declared.alloc.Global.{Global}
 use Rattle.std.specs.List.{list_all, list_any}
 use Rattle.std.specs.Option.{option_map}
-use Rattle.std.proofs.lemmas.Bool.{ne_eqb}
 use Rattle.std.proofs.lemmas.List.{length-map}
 use Rattle.std.proofs.lemmas.List.Folds.{list_all-map}
 use Rattle.image.specs.Views.{image_of}
@@ -13,18 +13,24 @@ use Rattle.window_table.specs.declared.table.ModuleTable.{ModuleTable}
 use Rattle.pal_base.specs.declared.program.Body.{Body}
 use Rattle.pal_base.specs.declared.program.Program.{Program}
 use Rattle.pal_base.specs.declared.program.Expr.{Expr}
+use Rattle.pal_base.specs.declared.program.Stmt.{Stmt, If, While}
+use Rattle.pal_base.proofs.ProgramRows.{seen_if, seen_while}
 use Rattle.apex_meaning.specs.Syntax as written
 use Rattle.pal_base.specs.View.{texts, declared_of, declaration_of, program_of as written_of}
 use Rattle.pal_base.specs.declared.syntax.DeclarationKind.{DeclarationKind}
 use Rattle.pal_base.specs.declared.syntax.DeclarationKind.TheVariants as kind
 use Rattle.pal_base.specs.declared.syntax.Declaration.{Declaration}
 use Rattle.pal_base.specs.declared.syntax.Program as source
-use Rattle.pal_base.specs.ProgramView.{expr_of, exprs_of, block_of, body_of, procedure_of, process_of, program_of}
-use Rattle.module.specs.Part.{is_three, is_normal, is_block_of_part, is_procedure_of_part, is_process_of_part, is_image_of_part, is_row_of_part, is_table_of_part, is_program_of_part, is_port, declares_port}
+use Rattle.pal_base.specs.ProgramView.{stmt_of, block_of, body_of, procedure_of, process_of, program_of}
+use Rattle.module.specs.Part.{is_stmt_of_part, is_block_of_part, is_procedure_of_part, is_process_of_part, is_image_of_part, is_row_of_part, is_table_of_part, is_program_of_part, is_port, declares_port}
 
-pub normal_is : (e : Expr) (es : List Expr) → is_normal (exprs_of (e ∷ es)) ≡ ((length es == 0) && is_three (expr_of e))
-normal_is e [] = refl
-normal_is e (x ∷ es) = ap (λ b. b && is_three (expr_of e)) (sym (ne_eqb (length (x ∷ es)) 0 (λ h. omega (arith, h))))
+-- ---- statements with blocks
+
+pub branch_is : (s : Stmt) (test : Expr) (ss : Vec Stmt Global) → s ≡ If test ss → is_stmt_of_part (stmt_of s) ≡ is_block_of_part (block_of ss.items)
+branch_is s test ss is = ap is_stmt_of_part (seen_if s test ss ss.items is refl)
+
+pub loop_is : (s : Stmt) (test : Expr) (ss : Vec Stmt Global) → s ≡ While test ss → is_stmt_of_part (stmt_of s) ≡ is_block_of_part (block_of ss.items)
+loop_is s test ss is = ap is_stmt_of_part (seen_while s test ss ss.items is refl)
 
 -- ---- images
 

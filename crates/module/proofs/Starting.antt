@@ -2,15 +2,15 @@
 use Rattle.std.proofs.Common.{◌≡◌, ℕ, zero, suc, ◌+◌, ◌<◌, List, [], ◌∷◌, ◌++◌, length, map, take, drop, Option, Some, None, refl, sym, ap, subst, ◌∙◌, arith}
 use Rattle.std.specs.Prelude.{slice_get}
 use Rattle.std.specs.List.{flat_map}
-use Rattle.std.proofs.Math.Seq.{map-set_same}
-use Rattle.std.proofs.lemmas.List.{map-set, set_past, length-map}
-use Rattle.std.proofs.lemmas.Option.{slice_get-map, slice_get_past, slice_get-get_or}
 use Rattle.apex_types.specs.declared.event.Event.{Event}
 use Rattle.apex_types.specs.Line.{text_of}
 use Rattle.apex_meaning.specs.Module.{started_member, start_lines}
 use Rattle.apex_meaning.specs.Partition.{Member}
 use Rattle.module.proofs.Texts.{text_append}
-use Rattle.module.specs.Members.{starts_member}
+use Rattle.module.specs.Members.{starts_member, members_of, AreFitting}
+use Rattle.module.proofs.Members.{members_count}
+use Rattle.partition.specs.declared.partition.Partition.{Partition}
+use Rattle.partition_base.specs.declared.executor.Executor.{Ghosts}
 
 -- so many have started, and the rest not
 abbrev pub started_to : {C : Type 0} → ℕ → List (Member C) → List (Member C)
@@ -56,9 +56,9 @@ as_many (suc n) [] = refl
 as_many zero (x ∷ xs) = refl
 as_many (suc n) (x ∷ xs) = ap suc (as_many n xs)
 
-pub within_members : {X C : Type 0} (view : X → Member C) (now : List X) (n : ℕ) (xs : List (Member C)) → map view now ≡ started_to n xs → n < length now → n < length xs
-within_members view now n xs so_far h =
-    let same : length now ≡ length xs = sym (length-map now view) ∙ ap length so_far ∙ as_many n xs in
+pub within_members : {E X : Type 0} (g : Ghosts E X) (ps : List (Partition E X)) (memory : List X) (n : ℕ) (xs : List (Member g.Control)) → AreFitting g ps memory → members_of g ps memory ≡ started_to n xs → n < length ps → n < length xs
+within_members g ps memory n xs fit so_far h =
+    let same : length ps ≡ length xs = sym (members_count g ps memory fit) ∙ ap length so_far ∙ as_many n xs in
     subst (λ k. n < k) same h
 
 -- one more has started
@@ -71,6 +71,3 @@ pub step_text : {C : Type 0} (now xs : List (Member C)) (n : ℕ) (lines : List 
 step_text now xs n lines so_far h e =
     let own : (starts_member (started_to n xs) n (slice_get (started_to n xs) n)).lines ≡ lines = sym (e ∙ ap (λ ms. (starts_member ms n (slice_get ms n)).lines) so_far) in
     ap text_of (next_lines xs n h ∙ ap (λ (es : List Event). es ++ flat_map start_lines (drop (n + 1) xs)) own) ∙ text_append lines (flat_map start_lines (drop (n + 1) xs))
-
--- what is seen of a list with one of its elements changed
-pub ruleset places = (map-set, map-set_same, set_past, slice_get-map, slice_get_past, slice_get-get_or)

@@ -1,7 +1,18 @@
--- What the partitions of an image keep to, so that their processors have room for them.
+-- What the partitions of an image keep to, so that their processors and kernels have room for them.
 use Rattle.std.specs.Prelude.{◌≡◌, ℕ, List, Some, slice_get}
 use Rattle.image.specs.declared.item.PartitionItem.{PartitionItem}
-use Rattle.partition_base.specs.Sections.{IsFittingSection}
+use Rattle.partition_base.specs.Sections.{IsFittingSection, fresh_memory}
+use Rattle.process_table_base.specs.Bounds.{AreShort}
+use Rattle.regions.specs.Space.{Space}
+
+-- its processor has room, and no period or capacity of its processes is too great for the kernel's sums
+pub record IsFittingItem (item : PartitionItem) : Type 0 where
+  pub section : IsFittingSection item.section
+  pub times : AreShort item.section.processes.items
 
 abbrev pub AreFittingItems : List PartitionItem → Type 0
-AreFittingItems items = (place : ℕ) (item : PartitionItem) → slice_get items place ≡ Some item → IsFittingSection item.section
+AreFittingItems items = (place : ℕ) (item : PartitionItem) → slice_get items place ≡ Some item → IsFittingItem item
+
+-- the memory of a partition before its first start
+abbrev pub fresh_item : PartitionItem → Space
+fresh_item item = fresh_memory item.section

@@ -1,7 +1,25 @@
--- The start of one partition among those of a module.
-use Rattle.std.specs.Prelude.{ℕ, List, Option, Some, None, slice_set}
+-- The partitions of a running module with their memory as the definitions see them, over any
+-- executor; and the start of one among them.
+use Rattle.std.specs.Prelude.{◌≡◌, ℕ, List, [], ◌∷◌, map, Option, Some, None, slice_set}
 use Rattle.apex_meaning.specs.Module.{Advanced, still, started_member, start_lines}
 use Rattle.apex_meaning.specs.Partition.{Member}
+use Rattle.partition.specs.Members.{member_of}
+use Rattle.partition.specs.declared.partition.Partition.{Partition}
+use Rattle.partition_base.specs.declared.executor.Executor.{Ghosts}
+
+-- each partition with its part of the memory
+abbrev pub members_of : {E X : Type 0} → (g : Ghosts E X) → List (Partition E X) → List X → List (Member g.Control)
+members_of g [] memory = []
+members_of g (p ∷ ps) [] = []
+members_of g (p ∷ ps) (part ∷ memory) = member_of g p part ∷ members_of g ps memory
+
+-- how many words each part of its memory has that a partition's executor works on
+abbrev pub layout_in : {E X : Type 0} → (g : Ghosts E X) → Partition E X → List ℕ
+layout_in g p = g.layout p.executor
+
+-- there are as many parts as partitions, and each has the layout of its partition's executor
+abbrev pub AreFitting : {E X : Type 0} → (g : Ghosts E X) → List (Partition E X) → List X → Type 0
+AreFitting g ps memory = map g.laid memory ≡ map (layout_in g) ps
 
 -- the start of one partition, the others stay as they are
 abbrev pub starts_member : {C : Type 0} → List (Member C) → ℕ → Option (Member C) → Advanced C

@@ -1,15 +1,14 @@
 -- The part of the module table and of Pal that is built so far.
-use Rattle.std.specs.Prelude.{pos, Bool, true, false, ◌&&◌, ◌==◌, is_none, length}
+use Rattle.std.specs.Prelude.{Bool, true, false, ◌&&◌, ◌||◌, ◌==◌, nat_le, is_none, length}
 use Rattle.std.specs.List.{list_all, list_any}
-use Rattle.std.specs.Ordering.{int_eq}
 use Rattle.apex_types.specs.declared.codes.PartitionAction.{PartitionAction}
 use Rattle.apex_types.specs.declared.codes.PartitionAction.TheVariants as action
 use Rattle.apex_types.specs.declared.row.HealthTable.{HealthTable}
 use Rattle.apex_types.specs.declared.service.Service.{Service}
-use Rattle.apex_types.specs.declared.service.Service.TheVariants as service
 use Rattle.apex_meaning.specs.Image.{Partition, Table, Image}
+use Rattle.apex_meaning.specs.ServiceTable.{number_of}
 use Rattle.apex_meaning.specs.Syntax as written
-use Rattle.apex_meaning.specs.Program.{Expr, Literal, Exprs, NoExpr, MoreExprs, Stmt, If, IfElse, While, CallService, Block, NoStmt, MoreStmts, Procedure, Process, Program}
+use Rattle.apex_meaning.specs.Program.{Stmt, If, IfElse, While, CallService, Block, NoStmt, MoreStmts, Procedure, Process, Program}
 
 -- ---- the table: no port and no channel, and every error of a partition ignored; what is done on
 -- ---- a fault of the module is not judged
@@ -36,26 +35,11 @@ is_table_of_part t = (length t.channels == 0) && list_all is_row_of_part t.parti
 abbrev pub is_image_of_part : Image → Bool
 is_image_of_part image = length image.channels == 0
 
--- ---- programs: without objects and a handler, with aperiodic processes that have no deadline
+-- ---- programs: without objects and a handler
 
--- the literal 3 alone, which is NORMAL
-abbrev pub is_three : Expr → Bool
-is_three (Literal value) = int_eq value (pos 3)
-is_three _ = false
-
-abbrev pub is_normal : Exprs → Bool
-is_normal (MoreExprs e NoExpr) = is_three e
-is_normal _ = false
-
--- a call of one of the six services that are built
-abbrev pub is_request_of_part : Service → Exprs → Bool
-is_request_of_part service.SetPartitionMode arguments = is_normal arguments
-is_request_of_part service.CreateProcess arguments = true
-is_request_of_part service.Start arguments = true
-is_request_of_part service.TimedWait arguments = true
-is_request_of_part service.GetTime arguments = true
-is_request_of_part service.ReportApplicationMessage arguments = true
-is_request_of_part _ arguments = false
+-- the services on the partition, on processes and on time, and the application message
+abbrev pub is_built_service : Service → Bool
+is_built_service s = nat_le (number_of s) 20 || (number_of s == 54)
 
 -- all statements, with no other call of a service in them
 abbrev mutual
@@ -63,7 +47,7 @@ abbrev mutual
   is_stmt_of_part (If test block) = is_block_of_part block
   is_stmt_of_part (IfElse test block other) = is_block_of_part block && is_block_of_part other
   is_stmt_of_part (While test block) = is_block_of_part block
-  is_stmt_of_part (CallService service arguments targets) = is_request_of_part service arguments
+  is_stmt_of_part (CallService service arguments targets) = is_built_service service
   is_stmt_of_part _ = true
 
   pub is_block_of_part : Block → Bool
@@ -74,7 +58,7 @@ abbrev pub is_procedure_of_part : Procedure → Bool
 is_procedure_of_part p = is_block_of_part p.block
 
 abbrev pub is_process_of_part : Process → Bool
-is_process_of_part p = is_none p.period && is_none p.capacity && is_block_of_part p.body.block
+is_process_of_part p = is_block_of_part p.body.block
 
 abbrev pub is_program_of_part : Program → Bool
 is_program_of_part p =

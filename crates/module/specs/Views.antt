@@ -1,18 +1,10 @@
--- The partitions of a running module as the definitions see them, over any executor.
-use Rattle.std.specs.Prelude.{List, map}
+-- A running module as the definitions see it, over any executor.
 use Rattle.apex_meaning.specs.Module as meaning
-use Rattle.apex_meaning.specs.Partition as one
-use Rattle.partition.specs.Members.{member_of}
 use Rattle.partition_base.specs.declared.executor.Executor.{Ghosts}
+use Rattle.regions.specs.Space.{Space}
 use Rattle.window_table.specs.Schedules.{schedule_of}
-use Rattle.module.specs.declared.member.Member.{Member}
+use Rattle.module.specs.Members.{members_of}
 use Rattle.module.specs.declared.member.Module.{Module}
 
-abbrev pub view_of : {E X : Type 0} → (g : Ghosts E X) → Member E X g → one.Member g.Control
-view_of g m = member_of g m.partition m.mem
-
-abbrev pub members_of : {E X : Type 0} → (g : Ghosts E X) → List (Member E X g) → List (one.Member g.Control)
-members_of g ms = map (view_of g) ms
-
-abbrev pub module_of : {E X : Type 0} → (g : Ghosts E X) → Module E X g → meaning.Module g.Control
-module_of g m = record { schedule = schedule_of m.schedule; members = members_of g m.members.items }
+abbrev pub module_of : {E : Type 0} → (g : Ghosts E Space) → Module E g → meaning.Module g.Control
+module_of g m = record { schedule = schedule_of m.schedule; members = members_of g m.partitions.items m.memory }

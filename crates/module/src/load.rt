@@ -1,21 +1,24 @@
 //! From an image to its partitions, ready to start.
 
-ghost use Rattle.std.specs.Prelude.{◌≡◌, ◌≤◌, length, IfOk};
+ghost use Rattle.std.specs.Prelude.{◌≡◌, ◌≤◌, length, map, IfOk};
 ghost use Rattle.apex_meaning.specs.TwoMeanings.{fixed_of, machine_member, machine_members, machine_module};
 ghost use Rattle.image.specs.Items.{items_of, partition_of, section_of};
 ghost use Rattle.image.specs.Views.{image_of};
 ghost use Rattle.partition.specs.View.{fixed_of as view};
 ghost use Rattle.partition_base.specs.contracts.machine.MachineExecutor.TheImpl.{ghosts as machine};
-ghost use Rattle.partition_base.specs.Sections.{IsFittingSection};
-ghost use Rattle.module.specs.Loading.{AreFittingItems};
-ghost use Rattle.module.specs.Views.{view_of, members_of, module_of};
+ghost use Rattle.partition.specs.Members.{member_of};
+ghost use Rattle.partition_base.specs.Machines.{laid_of, layout_of};
+ghost use Rattle.module.specs.Loading.{AreFittingItems, IsFittingItem, fresh_item};
+ghost use Rattle.module.specs.Members.{members_of, AreFitting};
+ghost use Rattle.module.specs.Views.{module_of};
 ghost use Rattle.window_table.specs.Schedules.{schedule_of};
 
-use crate::member::{Member, Module};
+use crate::member::Module;
 use apex_types::PartitionId;
 use image::{Image, PartitionItem};
 use partition::{Fixed, Kernel, Partition};
-use partition_base::Machine;
+use partition_base::{Machine, memory_plan};
+use regions::Memory;
 use std::alloc::{AllocError, Global};
 use window_table::{PartitionRow, Schedule};
 
@@ -26,29 +29,46 @@ impl Module<Machine> {
         ensures { IfOk result (λ loaded. module_of machine loaded ≡ machine_module (image_of image.now)) }
     {
         let schedule = image.schedule.try_clone(alloc)?;
-        let members = load_members(alloc, &schedule, image.partitions.as_slice())?;
-        Ok(Module { schedule, members })
+        let partitions = load_partitions(alloc, &schedule, image.partitions.as_slice())?;
+        let memory = load_memory(alloc, image.partitions.as_slice())?;
+        Ok(Module {
+            schedule,
+            partitions,
+            memory,
+        })
     }
 }
 
+/// The memory of all partitions: the initial data of each, and stacks of zeros.
+fn load_memory(alloc: Global, items: &[PartitionItem]) -> Result<Memory, AllocError>
+    ensures { IfOk result (λ memory. memory ≡ map fresh_item items.now) }
+{
+    let mut plan = Vec::with_capacity(alloc, items.len())?;
+    for item in items {
+        plan.push(memory_plan(alloc, &item.section)?)?;
+    }
+    Memory::new(alloc, &plan)
+}
+
 /// Each partition in order, with its number.
-fn load_members(
+fn load_partitions(
     alloc: Global,
     schedule: &Schedule,
     items: &[PartitionItem],
-) -> Result<Vec<Member<Machine>>, AllocError>
+) -> Result<Vec<Partition<Machine>>, AllocError>
     requires fit { AreFittingItems items.now }
     requires few { length items.now ≤ 16 }
-    ensures { IfOk result (λ members. members_of machine members.items ≡ machine_members (schedule_of schedule.now) 1 (items_of items.now)) }
+    ensures members { IfOk result (λ partitions. members_of machine partitions.items (map fresh_item items.now) ≡ machine_members (schedule_of schedule.now) 1 (items_of items.now)) }
+    ensures fit { IfOk result (λ partitions. AreFitting machine partitions.items (map fresh_item items.now)) }
 {
-    let mut members = Vec::with_capacity(alloc, items.len())?;
+    let mut partitions = Vec::with_capacity(alloc, items.len())?;
     let mut number = 1u8;
     for item in items {
         let fixed = fixed(alloc, schedule, PartitionId(number), &item.row)?;
-        members.push(load_member(alloc, fixed, item)?)?;
+        partitions.push(load_partition(alloc, fixed, item)?)?;
         number += 1;
     }
-    Ok(members)
+    Ok(partitions)
 }
 
 /// What no tick of a partition changes.
@@ -70,20 +90,18 @@ fn fixed(
     })
 }
 
-fn load_member(
+/// A partition, idle; its memory is to be the one that its section asks for.
+fn load_partition(
     alloc: Global,
     fixed: Fixed,
     item: &PartitionItem,
-) -> Result<Member<Machine>, AllocError>
-    requires { IsFittingSection item.now.section }
-    ensures { IfOk result (λ member. view_of machine member ≡ machine_member (view fixed) (section_of item.now.section)) }
+) -> Result<Partition<Machine>, AllocError>
+    requires { IsFittingItem item.now }
+    ensures member { IfOk result (λ partition. member_of machine partition (fresh_item item.now) ≡ machine_member (view fixed) (section_of item.now.section)) }
+    ensures fits { IfOk result (λ partition. laid_of (fresh_item item.now) ≡ layout_of partition.executor) }
 {
     let section = &item.section;
     let executor = Machine::new(alloc, section)?;
-    let mem = executor.new_data(alloc)?;
     let kernel = Kernel::new(alloc, fixed, &section.processes)?;
-    Ok(Member {
-        partition: Partition::new(kernel, executor),
-        mem,
-    })
+    Ok(Partition::new(kernel, executor))
 }

@@ -1,22 +1,18 @@
-//! The partitions of a module, each with its data, over any executor.
+//! The partitions of a module and the memory of all of them, over any executor.
 
-ghost use Rattle.partition.specs.Members.{member_of, IsWhole};
+ghost use Rattle.module.specs.Members.{AreFitting};
 
 use partition::Partition;
 use partition_base::Executor;
+use regions::{Memory, PartitionMem};
 use window_table::Schedule;
 
-/// A partition with the data that its processes share.
+/// The partitions of an image in their order, the memory of all of them, and the major frame with
+/// its windows. Each partition is lent its own part of the memory.
 #[derive(Drop)]
-pub struct Member<E: Executor> {
-    pub partition: Partition<E>,
-    pub mem: E::Mem,
-    ghost whole: { IsWhole (member_of E.Executor partition mem) },
-}
-
-/// The partitions of an image in their order, and the major frame with its windows.
-#[derive(Drop)]
-pub struct Module<E: Executor> {
+pub struct Module<E: Executor<Mem = PartitionMem>> {
     pub schedule: Schedule,
-    pub members: Vec<Member<E>>,
+    pub partitions: Vec<Partition<E>>,
+    pub memory: Memory,
+    ghost fit: { AreFitting E.Executor partitions.items memory },
 }

@@ -3,14 +3,14 @@
 ghost use Rattle.std.specs.Prelude.{◌≡◌, []};
 ghost use Rattle.std.specs.List.{list_all, list_any};
 ghost use Rattle.image.specs.Views.{image_of};
-ghost use Rattle.pal_base.specs.ProgramView.{expr_of, exprs_of, stmt_of, block_of, procedure_of, process_of, program_of};
+ghost use Rattle.pal_base.specs.ProgramView.{stmt_of, block_of, procedure_of, process_of, program_of};
 ghost use Rattle.pal_base.specs.View as written;
 ghost use Rattle.window_table.specs.Views.{partition_view, table_of};
-ghost use Rattle.module.specs.Part.{ignores_all, is_image_of_part, is_row_of_part, is_table_of_part, is_normal, is_three, is_request_of_part, is_stmt_of_part, is_block_of_part, is_procedure_of_part, is_process_of_part, is_program_of_part, is_ignored, is_port, declares_port};
+ghost use Rattle.module.specs.Part.{ignores_all, is_image_of_part, is_row_of_part, is_table_of_part, is_built_service, is_stmt_of_part, is_block_of_part, is_procedure_of_part, is_process_of_part, is_program_of_part, is_ignored, is_port, declares_port};
 
 use apex_types::{HealthTable, PartitionAction, Service};
 use image::Image;
-use pal_base::program::{Expr, Procedure, Process, Program, Stmt};
+use pal_base::program::{Procedure, Process, Program, Stmt};
 use pal_base::syntax::{self, Declaration, DeclarationKind};
 use window_table::{ModuleTable, PartitionRow};
 
@@ -82,8 +82,8 @@ fn is_port(kind: &DeclarationKind) -> bool
     matches!(kind, DeclarationKind::Port)
 }
 
-/// Whether a program is of the part: without objects and a handler, with aperiodic processes that
-/// have no deadline, and with no service but those of the part.
+/// Whether a program is of the part: without objects and a handler, and with no service but those
+/// that are built.
 #[tactic(auto, using(crate::proofs::Parts::program_is))]
 pub fn is_program_of_part(program: &Program) -> bool
     ensures { result ≡ is_program_of_part (program_of program.now) }
@@ -121,7 +121,7 @@ fn are_processes_of_part(processes: &[Process]) -> bool
 fn is_process_of_part(process: &Process) -> bool
     ensures { result ≡ is_process_of_part (process_of process.now) }
 {
-    process.period.is_none() && process.capacity.is_none() && is_block_of_part(&process.body.block)
+    is_block_of_part(&process.body.block)
 }
 
 #[cycle(is_stmt_of_part)]
@@ -138,50 +138,24 @@ fn is_block_of_part(block: &[Stmt]) -> bool
 
 /// Statements are walked for the services that they call.
 #[cycle(is_stmt_of_part)]
+#[tactic(auto, using(crate::proofs::Parts::branch_is, crate::proofs::Parts::loop_is))]
 fn is_stmt_of_part(stmt: &Stmt) -> bool
     ensures { result ≡ is_stmt_of_part (stmt_of stmt.now) }
 {
     match stmt {
-        Stmt::If(_, block) => is_block_of_part(block),
         Stmt::IfElse(_, block, other) => is_block_of_part(block) && is_block_of_part(other),
+        Stmt::If(_, block) => is_block_of_part(block),
         Stmt::While(_, block) => is_block_of_part(block),
-        Stmt::CallService(service, arguments, _) => is_request_of_part(*service, arguments),
+        Stmt::CallService(service, _, _) => is_built_service(*service),
         Stmt::Assign(..) | Stmt::AssignElement(..) | Stmt::Work(_) | Stmt::Return(_) => true,
     }
 }
 
-/// SET_PARTITION_MODE with the literal 3, CREATE_PROCESS, START, TIMED_WAIT, GET_TIME and
+/// Whether a service is built: those on the partition, on processes and on time, and
 /// REPORT_APPLICATION_MESSAGE.
-fn is_request_of_part(service: Service, arguments: &[Expr]) -> bool
-    ensures { result ≡ is_request_of_part service (exprs_of arguments.now) }
+fn is_built_service(service: Service) -> bool
+    ensures { result ≡ is_built_service service }
 {
-    match service {
-        Service::SetPartitionMode => is_normal(arguments),
-        Service::CreateProcess
-        | Service::Start
-        | Service::TimedWait
-        | Service::GetTime
-        | Service::ReportApplicationMessage => true,
-        _ => false,
-    }
-}
-
-/// The literal 3 alone, which is NORMAL.
-#[tactic(auto, using(crate::proofs::Parts::normal_is))]
-fn is_normal(arguments: &[Expr]) -> bool
-    ensures { result ≡ is_normal (exprs_of arguments.now) }
-{
-    match arguments.split_first() {
-        Some((first, others)) => others.is_empty() && is_three(first),
-        None => false,
-    }
-}
-
-fn is_three(expr: &Expr) -> bool
-    ensures { result ≡ is_three (expr_of expr.now) }
-{
-    match expr {
-        Expr::Literal(value) => *value == 3,
-        _ => false,
-    }
+    let number = service.number();
+    number <= 20 || number == 54
 }

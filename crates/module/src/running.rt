@@ -10,7 +10,8 @@ ghost use Rattle.image.specs.Views.{image_of};
 ghost use Rattle.window_table.specs.Schedules.{schedule_of};
 ghost use Rattle.module.specs.Part.{is_image_of_part};
 ghost use Rattle.module.specs.Promises.{IsRefused, Means, Runs};
-ghost use Rattle.module.specs.Views.{members_of, module_of};
+ghost use Rattle.module.specs.Members.{members_of};
+ghost use Rattle.module.specs.Views.{module_of};
 
 use crate::advance::FIRST_TICK;
 use crate::building::build;
@@ -20,6 +21,7 @@ use crate::part::is_image_of_part;
 use apex_types::{At, Events, Sink, SinkFault, Ticks, write_events};
 use image::{Image, ImageFault, load_image};
 use partition_base::{Executor, Machine};
+use regions::PartitionMem;
 use std::alloc::Global;
 
 /// The most ticks of a run, 2^40.
@@ -74,7 +76,7 @@ fn load(alloc: Global, bytes: &[u8]) -> Result<Image, RunFault>
 }
 
 /// The start of each partition, then so many ticks; without a tick nothing happens.
-fn run_module<E: Executor, S: Sink>(
+fn run_module<E: Executor<Mem = PartitionMem>, S: Sink>(
     running: &mut Module<E>,
     ticks: u64,
     sink: &mut S,
@@ -95,7 +97,7 @@ fn run_module<E: Executor, S: Sink>(
 }
 
 /// The first start of each partition, in order.
-fn start<E: Executor, S: Sink>(
+fn start<E: Executor<Mem = PartitionMem>, S: Sink>(
     running: &mut Module<E>,
     events: &mut Events,
     sink: &mut S,
@@ -103,15 +105,15 @@ fn start<E: Executor, S: Sink>(
     requires empty { events.old.items ≡ [] }
     requires failures { S.failures sink.old < 2 ^ 64 - 1 }
     ensures schedule { schedule_of running.new.schedule ≡ schedule_of running.old.schedule }
-    ensures members { OnOk result (members_of E.Executor running.new.members.items ≡ (meaning.starts (members_of E.Executor running.old.members.items)).members) }
-    ensures ok { OnOk result (Appends (S.taken sink.old) (S.taken sink.new) (text_of (meaning.starts (members_of E.Executor running.old.members.items)).lines)) }
+    ensures members { OnOk result (members_of E.Executor running.new.partitions.items running.new.memory ≡ (meaning.starts (members_of E.Executor running.old.partitions.items running.old.memory)).members) }
+    ensures ok { OnOk result (Appends (S.taken sink.old) (S.taken sink.new) (text_of (meaning.starts (members_of E.Executor running.old.partitions.items running.old.memory)).lines)) }
     ensures quiet { OnOk result (S.failures sink.new ≡ S.failures sink.old) }
     ensures failed { OnErr result (S.failures sink.new ≡ S.failures sink.old + 1) }
-    ensures beginning { OnErr result (TakesBeginning (S.taken sink.old) (S.taken sink.new) (text_of (meaning.starts (members_of E.Executor running.old.members.items)).lines)) }
+    ensures beginning { OnErr result (TakesBeginning (S.taken sink.old) (S.taken sink.new) (text_of (meaning.starts (members_of E.Executor running.old.partitions.items running.old.memory)).lines)) }
     ensures empty { OnOk result (events.new.items ≡ []) }
 {
     let mut place = 0;
-    while place < running.members.len() {
+    while place < running.partitions.len() {
         running.start_at(place, events);
         write_events(events.as_slice(), sink)?;
         events.clear();
@@ -121,7 +123,7 @@ fn start<E: Executor, S: Sink>(
 }
 
 /// So many ticks from tick 0 on.
-fn run_ticks<E: Executor, S: Sink>(
+fn run_ticks<E: Executor<Mem = PartitionMem>, S: Sink>(
     running: &mut Module<E>,
     ticks: u64,
     events: &mut Events,
@@ -130,10 +132,10 @@ fn run_ticks<E: Executor, S: Sink>(
     requires ticks { ticks ≤ 2 ^ 40 }
     requires empty { events.old.items ≡ [] }
     requires failures { S.failures sink.old < 2 ^ 64 - 1 }
-    ensures ok { OnOk result (Appends (S.taken sink.old) (S.taken sink.new) (text_of (meaning.trace_from (schedule_of running.old.schedule) ticks meaning.first_tick (members_of E.Executor running.old.members.items)))) }
+    ensures ok { OnOk result (Appends (S.taken sink.old) (S.taken sink.new) (text_of (meaning.trace_from (schedule_of running.old.schedule) ticks meaning.first_tick (members_of E.Executor running.old.partitions.items running.old.memory)))) }
     ensures quiet { OnOk result (S.failures sink.new ≡ S.failures sink.old) }
     ensures failed { OnErr result (S.failures sink.new ≡ S.failures sink.old + 1) }
-    ensures beginning { OnErr result (TakesBeginning (S.taken sink.old) (S.taken sink.new) (text_of (meaning.trace_from (schedule_of running.old.schedule) ticks meaning.first_tick (members_of E.Executor running.old.members.items)))) }
+    ensures beginning { OnErr result (TakesBeginning (S.taken sink.old) (S.taken sink.new) (text_of (meaning.trace_from (schedule_of running.old.schedule) ticks meaning.first_tick (members_of E.Executor running.old.partitions.items running.old.memory)))) }
 {
     let mut left = ticks;
     let mut at = FIRST_TICK;

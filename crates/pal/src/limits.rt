@@ -1,6 +1,6 @@
 //! Tests that each number, count, name and frame is within its limit.
 
-ghost use Rattle.std.specs.Prelude.{◌≡◌, ◌&&◌, List, ℕ, Some, map, length, nat_le, is_none, is_some, option_map, IfOk};
+ghost use Rattle.std.specs.Prelude.{◌≡◌, ◌&&◌, List, ℕ, Some, map, length, nat_le, is_ok, is_some, option_map, IfOk};
 ghost use Rattle.std.specs.List.{list_all};
 ghost use Rattle.apex_types.specs.NameText as name_text;
 ghost use Rattle.apex_meaning.specs.Resolve.{no_counts};
@@ -12,7 +12,7 @@ ghost use Rattle.pal_base.specs.View.{texts, name_of, number_of, integer_of, exp
 ghost use Rattle.pal.specs.Tables.{entries_of};
 ghost use Rattle.pal.specs.Parts.{limits_hold_among};
 
-use crate::lines::{earlier, unless};
+use crate::lines::{Check, Line, check_that, earliest};
 use crate::meanings::Counts;
 use crate::numbers::value_of;
 use crate::resolving::{limited_count, resolve_body, resolve_statements};
@@ -26,387 +26,396 @@ use pal_base::syntax::{
 };
 use std::alloc::{AllocError, Global};
 
-/// The first line with something outside its limit.
-pub fn limit_fault(
+/// Checks that everything in a program is within its limit.
+pub fn check_limits(
     alloc: Global,
     declared: &NameTable,
     program: &Program,
-) -> Result<Option<u32>, AllocError>
-    ensures { IfOk result (λ fault. is_none fault ≡ limits_hold_among (entries_of declared.now) (program_of program.now)) }
+) -> Result<Check, AllocError>
+    ensures { IfOk result (λ checked. is_ok checked ≡ limits_hold_among (entries_of declared.now) (program_of program.now)) }
 {
     let names = &program.names;
-    let counts = count_fault(&program.declarations);
-    let declarations = declarations_fault(alloc, names, declared, &program.declarations)?;
-    let init = stack_body_fault(alloc, names, declared, &program.init)?;
-    let handler = handler_fault(alloc, names, declared, &program.handler)?;
-    let processes = processes_fault(alloc, names, declared, &program.processes)?;
-    let count = process_count_fault(&program.processes);
-    let bodies = earlier(earlier(earlier(counts, declarations), init), handler);
-    Ok(earlier(earlier(bodies, processes), count))
+    let counts = check_counts(&program.declarations);
+    let declarations = check_declarations(alloc, names, declared, &program.declarations)?;
+    let init = check_stack_body(alloc, names, declared, &program.init)?;
+    let handler = check_handler(alloc, names, declared, &program.handler)?;
+    let processes = check_processes(alloc, names, declared, &program.processes)?;
+    let count = check_process_count(&program.processes);
+    let bodies = earliest(earliest(earliest(counts, declarations), init), handler);
+    Ok(earliest(earliest(bodies, processes), count))
 }
 
-/// The line of the first declaration that makes too many words of data, or too many of a kind.
-fn count_fault(declarations: &[Declaration]) -> Option<u32>
-    ensures { (names : List (List ℕ)) → is_none result ≡ keeps_counts no_counts (map (view.declaration_of names) declarations.now) }
+/// Checks the words of data and how many there are of each kind. The error is the line of the first
+/// declaration that makes too many.
+fn check_counts(declarations: &[Declaration]) -> Check
+    ensures { (names : List (List ℕ)) → is_ok result ≡ keeps_counts no_counts (map (view.declaration_of names) declarations.now) }
 {
     let mut counts = Counts::NONE;
     for declaration in declarations {
         match counts.after(&declaration.kind) {
             Some(next) => counts = next,
-            None => return Some(declaration.line),
+            None => return Err(Line(declaration.line)),
         }
     }
-    None
+    Ok(())
 }
 
-fn process_count_fault(processes: &[Process]) -> Option<u32>
-    ensures { is_none result ≡ nat_le (length processes.now) MOST_PROCESSES }
+/// Checks how many processes there are. The error is the line of the first one too many.
+fn check_process_count(processes: &[Process]) -> Check
+    ensures { is_ok result ≡ nat_le (length processes.now) MOST_PROCESSES }
 {
     match processes.get(usize::from(MOST_PROCESSES)) {
-        Some(process) => Some(process.line),
-        None => None,
+        Some(process) => Err(Line(process.line)),
+        None => Ok(()),
     }
 }
 
-/// The line, if the number is outside these limits.
-fn outside(low: u64, high: u64, number: &Numeral, line: u32) -> Option<u32>
-    ensures { is_none result ≡ is_between low high (number_of number.now) }
+/// Checks that the number is within these limits. The error is the line, or that of a number above
+/// 2^63 - 1.
+fn check_between(low: u64, high: u64, number: &Numeral, line: u32) -> Check
+    ensures { is_ok result ≡ is_between low high (number_of number.now) }
 {
     match value_of(number) {
-        Some(value) => unless(low <= value && value <= high, line),
-        None => Some(number.line),
+        Some(value) => check_that(low <= value && value <= high, line),
+        None => Err(Line(number.line)),
     }
 }
 
-/// The line, if the count is above the number.
-fn count_above(count: usize, most: &Numeral, line: u32) -> Option<u32>
-    ensures { is_none result ≡ value_at_most (Some count) (number_of most.now) }
+/// Checks that the count is at most the number. The error is the line, or that of a number above
+/// 2^63 - 1.
+fn check_count(count: usize, most: &Numeral, line: u32) -> Check
+    ensures { is_ok result ≡ value_at_most (Some count) (number_of most.now) }
 {
     match value_of(most) {
-        Some(most) => unless(count as u64 <= most, line),
-        None => Some(most.line),
+        Some(most) => check_that(count as u64 <= most, line),
+        None => Err(Line(most.line)),
     }
 }
 
-/// The line, if the first number is above the second.
-fn above(number: &Numeral, most: &Numeral, line: u32) -> Option<u32>
-    ensures { is_none result ≡ value_at_most (number_of number.now) (number_of most.now) }
+/// Checks that the first number is at most the second. The error is the line, or that of a number
+/// above 2^63 - 1.
+fn check_at_most(number: &Numeral, most: &Numeral, line: u32) -> Check
+    ensures { is_ok result ≡ value_at_most (number_of number.now) (number_of most.now) }
 {
     match (value_of(number), value_of(most)) {
-        (Some(value), Some(most)) => unless(value <= most, line),
-        (None, _) => Some(number.line),
-        (Some(_), None) => Some(most.line),
+        (Some(value), Some(most)) => check_that(value <= most, line),
+        (None, _) => Err(Line(number.line)),
+        (Some(_), None) => Err(Line(most.line)),
     }
 }
 
-/// The line of the number, if it is above 2^63 - 1.
-fn too_large(number: &Numeral) -> Option<u32>
-    ensures number { is_none result ≡ is_some (number_of number.now) }
-    ensures word { is_none result ≡ is_word (integer_of number.now) }
+/// Checks that the number is at most 2^63 - 1. The error is its line.
+fn check_word(number: &Numeral) -> Check
+    ensures number { is_ok result ≡ is_some (number_of number.now) }
+    ensures word { is_ok result ≡ is_word (integer_of number.now) }
 {
-    unless(value_of(number).is_some(), number.line)
+    check_that(value_of(number).is_some(), number.line)
 }
 
-/// The line, if the number is not a time: -1, or 1 to 2^40 ticks.
-fn no_time(number: &Numeral, line: u32) -> Option<u32>
-    ensures { is_none result ≡ is_time (integer_of number.now) }
+/// Checks that the number is a time: -1, or 1 to 2^40 ticks. The error is the line, or that of a
+/// number above 2^63 - 1.
+fn check_time(number: &Numeral, line: u32) -> Check
+    ensures { is_ok result ≡ is_time (integer_of number.now) }
 {
     if number.negative {
-        outside(1, 1, number, line)
+        check_between(1, 1, number, line)
     } else {
-        outside(1, 1_099_511_627_776, number, line)
+        check_between(1, 1_099_511_627_776, number, line)
     }
 }
 
-/// The line of the word, if it does not have the form of a name, 1 to 30 characters.
-fn no_name(names: &IndexSet<String>, name: Identifier) -> Option<u32>
-    ensures { is_none result ≡ name_text.is_name (name_of (texts names.now.keys) name) }
+/// Checks that the word has the form of a name, 1 to 30 characters. The error is its line.
+fn check_name_form(names: &IndexSet<String>, name: Identifier) -> Check
+    ensures { is_ok result ≡ name_text.is_name (name_of (texts names.now.keys) name) }
 {
     match Name::new(text_of(names, name.name).as_bytes()) {
-        Some(_) => None,
-        None => Some(name.line),
+        Some(_) => Ok(()),
+        None => Err(Line(name.line)),
     }
 }
 
-fn names_fault(names: &IndexSet<String>, identifiers: &[Identifier]) -> Option<u32>
-    ensures { is_none result ≡ list_all name_text.is_name (map (name_of (texts names.now.keys)) identifiers.now) }
+fn check_name_forms(names: &IndexSet<String>, identifiers: &[Identifier]) -> Check
+    ensures { is_ok result ≡ list_all name_text.is_name (map (name_of (texts names.now.keys)) identifiers.now) }
 {
-    let mut fault = None;
     for name in identifiers {
-        fault = earlier(fault, no_name(names, *name));
+        check_name_form(names, *name)?;
     }
-    fault
+    Ok(())
 }
 
-fn numbers_fault(numbers: &[Numeral]) -> Option<u32>
-    ensures { is_none result ≡ list_all is_word (map integer_of numbers.now) }
+fn check_numbers(numbers: &[Numeral]) -> Check
+    ensures { is_ok result ≡ list_all is_word (map integer_of numbers.now) }
 {
-    let mut fault = None;
     for number in numbers {
-        fault = earlier(fault, too_large(number));
+        check_word(number)?;
     }
-    fault
+    Ok(())
 }
 
-fn declarations_fault(
+fn check_declarations(
     alloc: Global,
     names: &IndexSet<String>,
     declared: &NameTable,
     declarations: &[Declaration],
-) -> Result<Option<u32>, AllocError>
-    ensures { IfOk result (λ fault. is_none fault ≡ list_all (keeps_declaration (entries_of declared.now)) (map (view.declaration_of (texts names.now.keys)) declarations.now)) }
+) -> Result<Check, AllocError>
+    ensures { IfOk result (λ checked. is_ok checked ≡ list_all (keeps_declaration (entries_of declared.now)) (map (view.declaration_of (texts names.now.keys)) declarations.now)) }
 {
-    let mut fault = None;
+    let mut checked = Ok(());
     for declaration in declarations {
-        let name = no_name(names, declaration.name);
+        let name = check_name_form(names, declaration.name);
         let line = declaration.line;
-        let kind = kind_fault(alloc, names, declared, line, &declaration.kind)?;
-        fault = earlier(fault, earlier(name, kind));
+        let kind = check_kind(alloc, names, declared, line, &declaration.kind)?;
+        checked = earliest(checked, earliest(name, kind));
     }
-    Ok(fault)
+    Ok(checked)
 }
 
-fn kind_fault(
+fn check_kind(
     alloc: Global,
     names: &IndexSet<String>,
     declared: &NameTable,
     line: u32,
     kind: &DeclarationKind,
-) -> Result<Option<u32>, AllocError>
-    ensures { IfOk result (λ fault. is_none fault ≡ keeps_kind (entries_of declared.now) (view.declared_of (texts names.now.keys) kind.now)) }
+) -> Result<Check, AllocError>
+    ensures { IfOk result (λ checked. is_ok checked ≡ keeps_kind (entries_of declared.now) (view.declared_of (texts names.now.keys) kind.now)) }
 {
     Ok(match kind {
-        DeclarationKind::Variable(None) | DeclarationKind::Event | DeclarationKind::Port => None,
-        DeclarationKind::Variable(Some(value)) => too_large(value),
+        DeclarationKind::Variable(None) | DeclarationKind::Event | DeclarationKind::Port => Ok(()),
+        DeclarationKind::Variable(Some(value)) => check_word(value),
         DeclarationKind::Array { size, values } => {
-            earlier(count_above(values.len(), size, line), numbers_fault(values))
+            earliest(check_count(values.len(), size, line), check_numbers(values))
         }
-        DeclarationKind::Semaphore { first, maximum, .. } => earlier(
-            outside(1, 1_000_000, maximum, line),
-            above(first, maximum, line),
+        DeclarationKind::Semaphore { first, maximum, .. } => earliest(
+            check_between(1, 1_000_000, maximum, line),
+            check_at_most(first, maximum, line),
         ),
         DeclarationKind::Buffer {
             words,
             messages,
             ..
-        } => earlier(outside(1, 16, words, line), outside(1, 32, messages, line)),
-        DeclarationKind::Blackboard { words } => outside(1, 16, words, line),
+        } => earliest(
+            check_between(1, 16, words, line),
+            check_between(1, 32, messages, line),
+        ),
+        DeclarationKind::Blackboard { words } => check_between(1, 16, words, line),
         DeclarationKind::Procedure { parameters, body } => {
-            procedure_fault(alloc, names, declared, line, parameters, body)?
+            check_procedure(alloc, names, declared, line, parameters, body)?
         }
     })
 }
 
-fn procedure_fault(
+fn check_procedure(
     alloc: Global,
     names: &IndexSet<String>,
     declared: &NameTable,
     line: u32,
     parameters: &[Identifier],
     body: &Body,
-) -> Result<Option<u32>, AllocError>
-    ensures { IfOk result (λ fault. is_none fault ≡ keeps_kind (entries_of declared.now) (tree.Procedure (map (name_of (texts names.now.keys)) parameters.now) (body_of (texts names.now.keys) body.now))) }
+) -> Result<Check, AllocError>
+    ensures { IfOk result (λ checked. is_ok checked ≡ keeps_kind (entries_of declared.now) (tree.Procedure (map (name_of (texts names.now.keys)) parameters.now) (body_of (texts names.now.keys) body.now))) }
 {
-    let count = unless(parameters.len() <= 8, line);
-    let inside = body_fault(names, body);
+    let count = check_that(parameters.len() <= 8, line);
+    let inside = check_body(names, body);
     let block = resolve_statements(alloc, names, declared, parameters, body)?;
     let slots = limited_count(8, parameters.len());
     let frame = frame_of_procedure(slots, limited_count(64, body.locals.len()), &block);
-    let before = earlier(count, names_fault(names, parameters));
-    Ok(earlier(earlier(before, inside), unless(frame <= 4_096, body.line)))
+    let before = earliest(count, check_name_forms(names, parameters));
+    Ok(earliest(
+        earliest(before, inside),
+        check_that(frame <= 4_096, body.line),
+    ))
 }
 
 /// INIT or the handler.
-fn stack_body_fault(
+fn check_stack_body(
     alloc: Global,
     names: &IndexSet<String>,
     declared: &NameTable,
     body: &StackBody,
-) -> Result<Option<u32>, AllocError>
-    ensures { IfOk result (λ fault. is_none fault ≡ keeps_stack_body (entries_of declared.now) (number_of body.now.stack) (body_of (texts names.now.keys) body.now.body)) }
+) -> Result<Check, AllocError>
+    ensures { IfOk result (λ checked. is_ok checked ≡ keeps_stack_body (entries_of declared.now) (number_of body.now.stack) (body_of (texts names.now.keys) body.now.body)) }
 {
-    stack_fault(alloc, names, declared, body.line, &body.stack, &body.body)
+    check_stack(alloc, names, declared, body.line, &body.stack, &body.body)
 }
 
-fn handler_fault(
+fn check_handler(
     alloc: Global,
     names: &IndexSet<String>,
     declared: &NameTable,
     handler: &Option<StackBody>,
-) -> Result<Option<u32>, AllocError>
-    ensures { IfOk result (λ fault. is_none fault ≡ keeps_handler (entries_of declared.now) (option_map (view.stack_body_of (texts names.now.keys)) handler.now)) }
+) -> Result<Check, AllocError>
+    ensures { IfOk result (λ checked. is_ok checked ≡ keeps_handler (entries_of declared.now) (option_map (view.stack_body_of (texts names.now.keys)) handler.now)) }
 {
     match handler {
-        Some(handler) => stack_body_fault(alloc, names, declared, handler),
-        None => Ok(None),
+        Some(handler) => check_stack_body(alloc, names, declared, handler),
+        None => Ok(Ok(())),
     }
 }
 
-/// The first line with a stack outside its limits or below the frame of its body, or with
-/// something outside a limit in the body.
-fn stack_fault(
+/// Checks the stack of a body, and what is in the body.
+fn check_stack(
     alloc: Global,
     names: &IndexSet<String>,
     declared: &NameTable,
     line: u32,
     stack: &Numeral,
     body: &Body,
-) -> Result<Option<u32>, AllocError>
-    ensures { IfOk result (λ fault. is_none fault ≡ keeps_stack_body (entries_of declared.now) (number_of stack.now) (body_of (texts names.now.keys) body.now)) }
+) -> Result<Check, AllocError>
+    ensures { IfOk result (λ checked. is_ok checked ≡ keeps_stack_body (entries_of declared.now) (number_of stack.now) (body_of (texts names.now.keys) body.now)) }
 {
-    let frame = frame_fault(alloc, names, declared, line, stack, body)?;
-    Ok(earlier(frame, body_fault(names, body)))
+    let frame = check_frame(alloc, names, declared, line, stack, body)?;
+    Ok(earliest(frame, check_body(names, body)))
 }
 
-/// The line of a stack outside its limits, or below the frame of its body.
-fn frame_fault(
+/// Checks that a stack is within its limits, and at least the frame of its body.
+fn check_frame(
     alloc: Global,
     names: &IndexSet<String>,
     declared: &NameTable,
     line: u32,
     stack: &Numeral,
     body: &Body,
-) -> Result<Option<u32>, AllocError>
-    ensures { IfOk result (λ fault. is_none fault ≡ (is_between 16 4096 (number_of stack.now) && well_formed.fits_stack (entries_of declared.now) (number_of stack.now) (body_of (texts names.now.keys) body.now))) }
+) -> Result<Check, AllocError>
+    ensures { IfOk result (λ checked. is_ok checked ≡ (is_between 16 4096 (number_of stack.now) && well_formed.fits_stack (entries_of declared.now) (number_of stack.now) (body_of (texts names.now.keys) body.now))) }
 {
     let Some(words) = value_of(stack) else {
-        return Ok(Some(stack.line));
+        return Ok(Err(Line(stack.line)));
     };
     if words < 16 || 4_096 < words {
-        return Ok(Some(line));
+        return Ok(Err(Line(line)));
     }
     let shape = resolve_body(alloc, names, declared, stack, body)?;
-    Ok(unless(frame_of_body(&shape) <= words, body.line))
+    Ok(check_that(frame_of_body(&shape) <= words, body.line))
 }
 
-fn processes_fault(
+fn check_processes(
     alloc: Global,
     names: &IndexSet<String>,
     declared: &NameTable,
     processes: &[Process],
-) -> Result<Option<u32>, AllocError>
-    ensures { IfOk result (λ fault. is_none fault ≡ list_all (keeps_process (entries_of declared.now)) (map (view.process_of (texts names.now.keys)) processes.now)) }
+) -> Result<Check, AllocError>
+    ensures { IfOk result (λ checked. is_ok checked ≡ list_all (keeps_process (entries_of declared.now)) (map (view.process_of (texts names.now.keys)) processes.now)) }
 {
-    let mut fault = None;
+    let mut checked = Ok(());
     for process in processes {
-        fault = earlier(fault, process_fault(alloc, names, declared, process)?);
+        checked = earliest(checked, check_process(alloc, names, declared, process)?);
     }
-    Ok(fault)
+    Ok(checked)
 }
 
-fn process_fault(
+fn check_process(
     alloc: Global,
     names: &IndexSet<String>,
     declared: &NameTable,
     process: &Process,
-) -> Result<Option<u32>, AllocError>
-    ensures { IfOk result (λ fault. is_none fault ≡ keeps_process (entries_of declared.now) (view.process_of (texts names.now.keys) process.now)) }
+) -> Result<Check, AllocError>
+    ensures { IfOk result (λ checked. is_ok checked ≡ keeps_process (entries_of declared.now) (view.process_of (texts names.now.keys) process.now)) }
 {
     let line = process.line;
-    let row = earlier(
-        no_name(names, process.name),
-        outside(1, 239, &process.priority, line),
+    let row = earliest(
+        check_name_form(names, process.name),
+        check_between(1, 239, &process.priority, line),
     );
-    let period = earlier(row, no_time(&process.period, line));
-    let times = earlier(period, no_time(&process.capacity, line));
-    let body = stack_fault(alloc, names, declared, line, &process.stack, &process.body)?;
-    Ok(earlier(times, body))
+    let period = earliest(row, check_time(&process.period, line));
+    let times = earliest(period, check_time(&process.capacity, line));
+    let body = check_stack(alloc, names, declared, line, &process.stack, &process.body)?;
+    Ok(earliest(times, body))
 }
 
-fn body_fault(names: &IndexSet<String>, body: &Body) -> Option<u32>
-    ensures { is_none result ≡ keeps_body (body_of (texts names.now.keys) body.now) }
+fn check_body(names: &IndexSet<String>, body: &Body) -> Check
+    ensures { is_ok result ≡ keeps_body (body_of (texts names.now.keys) body.now) }
 {
-    let count = unless(body.locals.len() <= 64, body.line);
-    let locals = earlier(count, names_fault(names, &body.locals));
-    earlier(locals, block_fault(names, &body.statements))
+    check_that(body.locals.len() <= 64, body.line)?;
+    check_name_forms(names, &body.locals)?;
+    check_block(names, &body.statements)
 }
 
 #[cycle(limits_statement)]
-fn block_fault(names: &IndexSet<String>, block: &[Stmt]) -> Option<u32>
-    ensures { is_none result ≡ keeps_block (block_of (texts names.now.keys) block.now) }
+fn check_block(names: &IndexSet<String>, block: &[Stmt]) -> Check
+    ensures { is_ok result ≡ keeps_block (block_of (texts names.now.keys) block.now) }
 {
-    let mut fault = None;
     for statement in block {
-        let inside = statement_fault(names, statement.line, &statement.kind);
-        fault = earlier(fault, inside);
+        check_statement(names, statement.line, &statement.kind)?;
     }
-    fault
+    Ok(())
 }
 
 #[cycle(limits_statement)]
-fn statement_fault(names: &IndexSet<String>, line: u32, statement: &StmtKind) -> Option<u32>
-    ensures { is_none result ≡ keeps_stmt (view.kind_of (texts names.now.keys) statement.now) }
+fn check_statement(names: &IndexSet<String>, line: u32, statement: &StmtKind) -> Check
+    ensures { is_ok result ≡ keeps_stmt (view.kind_of (texts names.now.keys) statement.now) }
 {
     match statement {
         StmtKind::Assign(target, value) => {
-            earlier(no_name(names, *target), expression_fault(names, value))
+            check_name_form(names, *target)?;
+            check_expression(names, value)
         }
-        StmtKind::AssignElement(array, index, value) => earlier(
-            no_name(names, *array),
-            earlier(
-                expression_fault(names, index),
-                expression_fault(names, value),
-            ),
-        ),
+        StmtKind::AssignElement(array, index, value) => {
+            check_name_form(names, *array)?;
+            check_expression(names, index)?;
+            check_expression(names, value)
+        }
         StmtKind::If(test, then) => {
-            earlier(expression_fault(names, test), block_fault(names, then))
+            check_expression(names, test)?;
+            check_block(names, then)
         }
         StmtKind::While(test, block) => {
-            earlier(expression_fault(names, test), block_fault(names, block))
+            check_expression(names, test)?;
+            check_block(names, block)
         }
-        StmtKind::IfElse(test, then, other) => earlier(
-            expression_fault(names, test),
-            earlier(block_fault(names, then), block_fault(names, other)),
-        ),
-        StmtKind::Work(ticks) => outside(1, 1_000_000, ticks, line),
-        StmtKind::Return(value) => expression_fault(names, value),
-        StmtKind::CallService(_, arguments, targets) => earlier(
-            expressions_fault(names, arguments),
-            names_fault(names, targets),
-        ),
+        StmtKind::IfElse(test, then, other) => {
+            check_expression(names, test)?;
+            check_block(names, then)?;
+            check_block(names, other)
+        }
+        StmtKind::Work(ticks) => check_between(1, 1_000_000, ticks, line),
+        StmtKind::Return(value) => check_expression(names, value),
+        StmtKind::CallService(_, arguments, targets) => {
+            check_expressions(names, arguments)?;
+            check_name_forms(names, targets)
+        }
     }
 }
 
 #[cycle(limits_expression)]
-fn expression_fault(names: &IndexSet<String>, expression: &Expr) -> Option<u32>
-    ensures { is_none result ≡ keeps_expr (expr_of (texts names.now.keys) expression.now) }
+fn check_expression(names: &IndexSet<String>, expression: &Expr) -> Check
+    ensures { is_ok result ≡ keeps_expr (expr_of (texts names.now.keys) expression.now) }
 {
     match expression {
-        Expr::Number(number) => too_large(number),
-        Expr::Name(name) => no_name(names, *name),
+        Expr::Number(number) => check_word(number),
+        Expr::Name(name) => check_name_form(names, *name),
         Expr::Element(array, index) => {
-            earlier(no_name(names, *array), expression_fault(names, index))
+            check_name_form(names, *array)?;
+            check_expression(names, index)
         }
-        Expr::Apply(procedure, arguments) => earlier(
-            no_name(names, *procedure),
-            expressions_fault(names, arguments),
-        ),
-        Expr::Parenthesis(inside) => expression_fault(names, inside),
-        Expr::Unary(_, operand) => expression_fault(names, operand),
+        Expr::Apply(procedure, arguments) => {
+            check_name_form(names, *procedure)?;
+            check_expressions(names, arguments)
+        }
+        Expr::Parenthesis(inside) => check_expression(names, inside),
+        Expr::Unary(_, operand) => check_expression(names, operand),
         Expr::Chain(first, rest) => {
-            earlier(expression_fault(names, first), links_fault(names, rest))
+            check_expression(names, first)?;
+            check_links(names, rest)
         }
     }
 }
 
 #[cycle(limits_expression)]
-fn expressions_fault(names: &IndexSet<String>, expressions: &[Expr]) -> Option<u32>
-    ensures { is_none result ≡ keeps_exprs (exprs_of (texts names.now.keys) expressions.now) }
+fn check_expressions(names: &IndexSet<String>, expressions: &[Expr]) -> Check
+    ensures { is_ok result ≡ keeps_exprs (exprs_of (texts names.now.keys) expressions.now) }
 {
-    let mut fault = None;
     for expression in expressions {
-        fault = earlier(fault, expression_fault(names, expression));
+        check_expression(names, expression)?;
     }
-    fault
+    Ok(())
 }
 
 #[cycle(limits_expression)]
-fn links_fault(names: &IndexSet<String>, links: &[Link]) -> Option<u32>
-    ensures { is_none result ≡ keeps_links (links_of (texts names.now.keys) links.now) }
+fn check_links(names: &IndexSet<String>, links: &[Link]) -> Check
+    ensures { is_ok result ≡ keeps_links (links_of (texts names.now.keys) links.now) }
 {
-    let mut fault = None;
     for link in links {
-        fault = earlier(fault, expression_fault(names, &link.operand));
+        check_expression(names, &link.operand)?;
     }
-    fault
+    Ok(())
 }

@@ -1,21 +1,31 @@
-//! The line of a fault, if there is one.
+//! What the check of a rule answers: nothing, or the line that breaks the rule.
 
-ghost use Rattle.std.specs.Prelude.{◌≡◌, ◌&&◌, is_none};
+ghost use Rattle.std.specs.Prelude.{◌≡◌, ◌&&◌, is_ok};
 
-/// The earlier of two lines; if there is only one, that one.
-pub fn earlier(one: Option<u32>, other: Option<u32>) -> Option<u32>
-    ensures { is_none result ≡ (is_none one && is_none other) }
+/// A line of a source text, from 1.
+#[derive(Clone, Copy, Debug, PartialEq, Eq)]
+pub struct Line(pub u32);
+
+/// The answer of a check: nothing if the rule holds, else the first line that breaks it.
+///
+/// A check that goes through the text in its order stops at the first error with `?`. Where a later
+/// test may be about an earlier line, [`earliest`] takes both answers.
+pub type Check = Result<(), Line>;
+
+/// Both checks; if both fail, the earlier of the two lines.
+pub fn earliest(one: Check, other: Check) -> Check
+    ensures { is_ok result ≡ (is_ok one && is_ok other) }
 {
     match (one, other) {
-        (Some(one), Some(other)) => Some(one.min(other)),
-        (Some(line), None) | (None, Some(line)) => Some(line),
-        (None, None) => None,
+        (Err(Line(one)), Err(Line(other))) => Err(Line(one.min(other))),
+        (Err(line), Ok(())) | (Ok(()), Err(line)) => Err(line),
+        (Ok(()), Ok(())) => Ok(()),
     }
 }
 
-/// The line, if the test there failed; none if it `holds`.
-pub fn unless(holds: bool, line: u32) -> Option<u32>
-    ensures { is_none result ≡ holds }
+/// The answer of a test at a line.
+pub fn check_that(holds: bool, line: u32) -> Check
+    ensures { is_ok result ≡ holds }
 {
-    if holds { None } else { Some(line) }
+    if holds { Ok(()) } else { Err(Line(line)) }
 }

@@ -1,6 +1,6 @@
 //! What the declared names of a program stand for.
 
-ghost use Rattle.std.specs.Prelude.{◌≡◌, ◌+◌, ◌++◌, ◌&&◌, [], List, ℕ, ◌<◌, map, take, position, is_none, true, option_map, IfOk, IfSome};
+ghost use Rattle.std.specs.Prelude.{◌≡◌, ◌+◌, ◌++◌, ◌&&◌, [], List, ℕ, ◌<◌, map, take, position, is_ok, true, option_map, IfOk, IfSome};
 ghost use Rattle.apex_meaning.specs.Resolve as meant;
 ghost use Rattle.apex_meaning.specs.Resolve.{Entry, declared_entries, declaration_entries, process_entries, no_counts, declared_meaning};
 ghost use Rattle.apex_meaning.specs.WellFormed.{are_new};
@@ -9,7 +9,7 @@ ghost use Rattle.pal_base.specs.View as view;
 ghost use Rattle.pal_base.specs.View.{texts, declaration_of, declared_of, process_of, program_of};
 ghost use Rattle.pal.specs.Tables.{entries_of, counts_of};
 
-use crate::lines::{earlier, unless};
+use crate::lines::{Check, check_that, earliest};
 use crate::numbers::{limited, value_of};
 use crate::table::{NameTable, text_of};
 use apex_types::{Denotation, MOST_PROCESSES, ObjectKind, Place, PortRow};
@@ -153,8 +153,8 @@ impl Counts {
 #[derive(Drop)]
 pub struct Declared<'a> {
     pub table: NameTable<'a>,
-    /// The line of the first name that is declared twice.
-    pub fault: Option<u32>,
+    /// Whether each name is new. An error is the line of the first that is declared twice.
+    pub fresh: Check,
 }
 
 /// Enters the names of the declarations and of the processes, in the order of the text.
@@ -163,8 +163,8 @@ pub fn declared_names<'a>(
     program: &'a Program,
     ports: &[PortRow],
 ) -> Result<Declared<'a>, AllocError>
-    ensures fresh { IfOk result (λ d. is_none d.fault ≡ are_new [] [] (declared_entries ports.now (program_of program.now))) }
-    ensures behind { IfOk result (λ d. is_none d.fault ≡ true → entries_of d.table ≡ declared_entries ports.now (program_of program.now)) }
+    ensures fresh { IfOk result (λ d. is_ok d.fresh ≡ are_new [] [] (declared_entries ports.now (program_of program.now))) }
+    ensures behind { IfOk result (λ d. is_ok d.fresh ≡ true → entries_of d.table ≡ declared_entries ports.now (program_of program.now)) }
 {
     let names = &program.names;
     let mut table = NameTable::new(alloc);
@@ -172,7 +172,7 @@ pub fn declared_names<'a>(
     let other = enter_processes(names, &mut table, &program.processes)?;
     Ok(Declared {
         table,
-        fault: earlier(one, other),
+        fresh: earliest(one, other),
     })
 }
 
@@ -181,38 +181,38 @@ fn enter_declarations<'a>(
     table: &mut NameTable<'a>,
     declarations: &[Declaration],
     ports: &[PortRow],
-) -> Result<Option<u32>, AllocError>
-    ensures fresh { IfOk result (λ fault. (rest : List Entry) → (is_none fault && are_new [] (entries_of table.new) rest) ≡ are_new [] (entries_of table.old) (declaration_entries ports.now no_counts (map (declaration_of (texts names.now.keys)) declarations.now) ++ rest)) }
-    ensures behind { IfOk result (λ fault. is_none fault ≡ true → entries_of table.new ≡ entries_of table.old ++ declaration_entries ports.now no_counts (map (declaration_of (texts names.now.keys)) declarations.now)) }
+) -> Result<Check, AllocError>
+    ensures fresh { IfOk result (λ checked. (rest : List Entry) → (is_ok checked && are_new [] (entries_of table.new) rest) ≡ are_new [] (entries_of table.old) (declaration_entries ports.now no_counts (map (declaration_of (texts names.now.keys)) declarations.now) ++ rest)) }
+    ensures behind { IfOk result (λ checked. is_ok checked ≡ true → entries_of table.new ≡ entries_of table.old ++ declaration_entries ports.now no_counts (map (declaration_of (texts names.now.keys)) declarations.now)) }
 {
     let mut counts = Counts::NONE;
-    let mut fault = None;
+    let mut checked = Ok(());
     for declaration in declarations {
         let text = text_of(names, declaration.name.name);
         let meaning = counts.meaning(&declaration.kind, ports, text);
         let is_new = table.enter(text, meaning)?;
-        fault = earlier(fault, unless(is_new, declaration.line));
+        checked = earliest(checked, check_that(is_new, declaration.line));
         counts = counts.after(&declaration.kind).unwrap_or(counts);
     }
-    Ok(fault)
+    Ok(checked)
 }
 
 fn enter_processes<'a>(
     names: &'a IndexSet<String>,
     table: &mut NameTable<'a>,
     processes: &[Process],
-) -> Result<Option<u32>, AllocError>
-    ensures fresh { IfOk result (λ fault. (rest : List Entry) → (is_none fault && are_new [] (entries_of table.new) rest) ≡ are_new [] (entries_of table.old) (process_entries 0 (map (process_of (texts names.now.keys)) processes.now) ++ rest)) }
-    ensures behind { IfOk result (λ fault. is_none fault ≡ true → entries_of table.new ≡ entries_of table.old ++ process_entries 0 (map (process_of (texts names.now.keys)) processes.now)) }
+) -> Result<Check, AllocError>
+    ensures fresh { IfOk result (λ checked. (rest : List Entry) → (is_ok checked && are_new [] (entries_of table.new) rest) ≡ are_new [] (entries_of table.old) (process_entries 0 (map (process_of (texts names.now.keys)) processes.now) ++ rest)) }
+    ensures behind { IfOk result (λ checked. is_ok checked ≡ true → entries_of table.new ≡ entries_of table.old ++ process_entries 0 (map (process_of (texts names.now.keys)) processes.now)) }
 {
     let mut count = 0;
-    let mut fault = None;
+    let mut checked = Ok(());
     for process in processes {
         let text = text_of(names, process.name.name);
         let number = next(PROCESSES, count);
         let is_new = table.enter(text, Denotation::Object(ObjectKind::Process, number))?;
-        fault = earlier(fault, unless(is_new, process.line));
+        checked = earliest(checked, check_that(is_new, process.line));
         count = counted(PROCESSES, count, 1).unwrap_or(count);
     }
-    Ok(fault)
+    Ok(checked)
 }

@@ -1,25 +1,24 @@
 //! Tests that the period of each process is a multiple of its partition's.
 
-ghost use Rattle.std.specs.Prelude.{◌≡◌, ◌&&◌, List, ℕ, map, is_none, true, if◌then◌else◌};
+ghost use Rattle.std.specs.Prelude.{◌≡◌, ◌&&◌, List, ℕ, map, is_ok, true, if◌then◌else◌};
 ghost use Rattle.std.specs.List.{list_all};
 ghost use Rattle.apex_meaning.specs.WellFormed.{keeps_period, is_multiple};
 ghost use Rattle.pal_base.specs.View as view;
 ghost use Rattle.pal_base.specs.View.{number_of};
 
-use crate::lines::{earlier, unless};
+use crate::lines::{Check, check_that};
 use crate::numbers::value_of;
 use pal_base::syntax::{Numeral, Process};
 
-/// The line of the first process whose period is finite and not a multiple of the partition's.
-pub fn period_fault(processes: &[Process], partition: u32) -> Option<u32>
-    ensures { (names : List (List ℕ)) → is_none result ≡ list_all (keeps_period partition) (map (view.process_of names) processes.now) }
+/// Checks that each finite period is a multiple of the partition's. The error is the line of the
+/// first process for which it is not.
+pub fn check_periods(processes: &[Process], partition: u32) -> Check
+    ensures { (names : List (List ℕ)) → is_ok result ≡ list_all (keeps_period partition) (map (view.process_of names) processes.now) }
 {
-    let mut fault = None;
     for process in processes {
-        let holds = is_aligned(partition, &process.period);
-        fault = earlier(fault, unless(holds, process.line));
+        check_that(is_aligned(partition, &process.period), process.line)?;
     }
-    fault
+    Ok(())
 }
 
 /// Whether a period is infinite or a multiple of the partition's.

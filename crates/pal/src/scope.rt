@@ -1,6 +1,6 @@
 //! The names that a body sees.
 
-ghost use Rattle.std.specs.Prelude.{◌≡◌, ◌++◌, ◌&&◌, ◌+◌, [], List, ℕ, map, is_none, is_some, IfOk, OnOk};
+ghost use Rattle.std.specs.Prelude.{◌≡◌, ◌++◌, ◌&&◌, ◌+◌, [], List, ℕ, map, is_ok, is_some, IfOk, OnOk};
 ghost use Rattle.apex_meaning.specs.Resolve as resolve;
 ghost use Rattle.apex_meaning.specs.Resolve.{Entry, own_entries, scope_of, find, place_of, array_place_of, array_size_of, object_number_of, procedure_number_of};
 ghost use Rattle.apex_meaning.specs.WellFormed as well_formed;
@@ -9,7 +9,7 @@ ghost use Rattle.pal_base.specs.View.{texts, name_of};
 ghost use Rattle.pal.specs.Tables.{entries_of};
 ghost use Rattle.pal.specs.Scopes.{names_of, sees};
 
-use crate::lines::{earlier, unless};
+use crate::lines::{Check, Line, check_that, earliest};
 use crate::meanings::slot;
 use crate::table::{NameTable, text_of};
 use apex_types::{Denotation, ObjectKind, Place};
@@ -25,11 +25,12 @@ pub struct Scope<'a> {
     pub own: NameTable<'a>,
 }
 
-/// The scope of a body, and the first line that declares a name again as a parameter or local.
+/// The scope of a body, and whether its parameters and locals are new names.
 #[derive(Drop)]
 pub struct Entered<'a> {
     pub scope: Scope<'a>,
-    pub fault: Option<u32>,
+    /// An error is the first line that declares a name again.
+    pub fresh: Check,
 }
 
 /// Enters the parameters and the locals of a body.
@@ -42,7 +43,7 @@ pub fn enter_body<'a>(
 ) -> Result<Entered<'a>, AllocError>
     ensures names { IfOk result (λ e. names_of e.scope ≡ texts names.now.keys) }
     ensures sees { IfOk result (λ e. sees e.scope ≡ scope_of (own_entries 0 (map (name_of (texts names.now.keys)) parameters.now ++ map (name_of (texts names.now.keys)) locals.now)) (entries_of declared.now)) }
-    ensures fresh { IfOk result (λ e. is_none e.fault ≡ are_new (entries_of declared.now) [] (own_entries 0 (map (name_of (texts names.now.keys)) parameters.now ++ map (name_of (texts names.now.keys)) locals.now))) }
+    ensures fresh { IfOk result (λ e. is_ok e.fresh ≡ are_new (entries_of declared.now) [] (own_entries 0 (map (name_of (texts names.now.keys)) parameters.now ++ map (name_of (texts names.now.keys)) locals.now))) }
 {
     let mut own = NameTable::new(alloc);
     let one = enter_names(names, declared, &mut own, 0, parameters)?;
@@ -54,7 +55,7 @@ pub fn enter_body<'a>(
     };
     Ok(Entered {
         scope,
-        fault: earlier(one, other),
+        fresh: earliest(one, other),
     })
 }
 
@@ -65,20 +66,23 @@ fn enter_names<'a>(
     own: &mut NameTable<'a>,
     before: usize,
     identifiers: &[Identifier],
-) -> Result<Option<u32>, AllocError>
+) -> Result<Check, AllocError>
     ensures sees { OnOk result ((name : List ℕ) (rest : List Entry) → find name (entries_of own.new ++ rest) ≡ find name (entries_of own.old ++ (own_entries before (map (name_of (texts names.now.keys)) identifiers.now) ++ rest))) }
-    ensures fresh { IfOk result (λ fault. (rest : List Entry) → (is_none fault && are_new (entries_of declared.now) (entries_of own.new) rest) ≡ are_new (entries_of declared.now) (entries_of own.old) (own_entries before (map (name_of (texts names.now.keys)) identifiers.now) ++ rest)) }
+    ensures fresh { IfOk result (λ checked. (rest : List Entry) → (is_ok checked && are_new (entries_of declared.now) (entries_of own.new) rest) ≡ are_new (entries_of declared.now) (entries_of own.old) (own_entries before (map (name_of (texts names.now.keys)) identifiers.now) ++ rest)) }
 {
-    let mut fault = None;
+    let mut checked = Ok(());
     for (index, identifier) in identifiers.iter().enumerate() {
         let text = text_of(names, identifier.name);
         let is_free = declared.get(text).is_none();
         let meaning = Denotation::Scalar(Place::Slot(slot(before, index)));
         let is_new = own.enter(text, meaning)?;
         let line = identifier.line;
-        fault = earlier(fault, earlier(unless(is_new, line), unless(is_free, line)));
+        checked = earliest(
+            checked,
+            earliest(check_that(is_new, line), check_that(is_free, line)),
+        );
     }
-    Ok(fault)
+    Ok(checked)
 }
 
 impl<'a> Scope<'a> {
@@ -93,53 +97,54 @@ impl<'a> Scope<'a> {
         }
     }
 
-    /// The line of the name, if it stands for nothing.
-    pub fn unknown(&self, name: Identifier) -> Option<u32>
-        ensures { is_none result ≡ is_some (sees self.now (name_of (names_of self.now) name)) }
+    /// Checks that the name stands for something. The error is its line.
+    pub fn check_known(&self, name: Identifier) -> Check
+        ensures { is_ok result ≡ is_some (sees self.now (name_of (names_of self.now) name)) }
     {
-        unless(self.get(name).is_some(), name.line)
+        check_that(self.get(name).is_some(), name.line)
     }
 
-    /// The line of the name, if it is not that of a scalar.
-    pub fn no_scalar(&self, name: Identifier) -> Option<u32>
-        ensures { is_none result ≡ well_formed.is_scalar (sees self.now (name_of (names_of self.now) name)) }
+    /// Checks that the name is that of a scalar. The error is its line.
+    pub fn check_scalar(&self, name: Identifier) -> Check
+        ensures { is_ok result ≡ well_formed.is_scalar (sees self.now (name_of (names_of self.now) name)) }
     {
         match self.get(name) {
-            Some(Denotation::Scalar(_)) => None,
-            _ => Some(name.line),
+            Some(Denotation::Scalar(_)) => Ok(()),
+            _ => Err(Line(name.line)),
         }
     }
 
-    /// The line of the name, if it is not that of an array.
-    pub fn no_array(&self, name: Identifier) -> Option<u32>
-        ensures { is_none result ≡ well_formed.is_array (sees self.now (name_of (names_of self.now) name)) }
+    /// Checks that the name is that of an array. The error is its line.
+    pub fn check_array(&self, name: Identifier) -> Check
+        ensures { is_ok result ≡ well_formed.is_array (sees self.now (name_of (names_of self.now) name)) }
     {
         match self.get(name) {
-            Some(Denotation::Array(_, _)) => None,
-            _ => Some(name.line),
+            Some(Denotation::Array(_, _)) => Ok(()),
+            _ => Err(Line(name.line)),
         }
     }
 
-    /// The line of the name, if it is not that of a procedure with this many parameters.
-    pub fn no_procedure(&self, name: Identifier, arguments: usize) -> Option<u32>
-        ensures { is_none result ≡ well_formed.is_procedure arguments (sees self.now (name_of (names_of self.now) name)) }
+    /// Checks that the name is that of a procedure with this many parameters. The error is its line.
+    pub fn check_procedure(&self, name: Identifier, arguments: usize) -> Check
+        ensures { is_ok result ≡ well_formed.is_procedure arguments (sees self.now (name_of (names_of self.now) name)) }
     {
         match self.get(name) {
-            Some(Denotation::Procedure(_, parameters)) => unless(
+            Some(Denotation::Procedure(_, parameters)) => check_that(
                 parameters == arguments,
                 name.line,
             ),
-            _ => Some(name.line),
+            _ => Err(Line(name.line)),
         }
     }
 
-    /// The line of the name, if it is not that of an object, a port or a process of this kind.
-    pub fn no_object(&self, name: Identifier, kind: ObjectKind) -> Option<u32>
-        ensures { is_none result ≡ well_formed.is_object kind (sees self.now (name_of (names_of self.now) name)) }
+    /// Checks that the name is that of an object, a port or a process of this kind. The error is
+    /// its line.
+    pub fn check_object(&self, name: Identifier, kind: ObjectKind) -> Check
+        ensures { is_ok result ≡ well_formed.is_object kind (sees self.now (name_of (names_of self.now) name)) }
     {
         match self.get(name) {
-            Some(Denotation::Object(found, _)) => unless(is_same_kind(found, kind), name.line),
-            _ => Some(name.line),
+            Some(Denotation::Object(found, _)) => check_that(is_same_kind(found, kind), name.line),
+            _ => Err(Line(name.line)),
         }
     }
 

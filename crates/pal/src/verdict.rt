@@ -1,16 +1,16 @@
 //! The verdict on a program.
 
-ghost use Rattle.std.specs.Prelude.{◌≡◌};
+ghost use Rattle.std.specs.Prelude.{◌≡◌, is_ok, IfErr};
 ghost use Rattle.apex_meaning.specs.WellFormed as well_formed;
 ghost use Rattle.pal_base.specs.View.{program_of};
 ghost use Rattle.pal.specs.Verdicts.{Answers};
 
-use crate::kinds::kind_fault;
-use crate::limits::limit_fault;
-use crate::lines::earlier;
+use crate::kinds::check_kinds;
+use crate::limits::check_limits;
+use crate::lines::{Check, Line, earliest};
 use crate::meanings::declared_names;
-use crate::names::name_fault;
-use crate::periods::period_fault;
+use crate::names::check_names;
+use crate::periods::check_periods;
 use crate::resolving::resolve;
 use pal_base::fault::{PalFault, Refusal};
 use pal_base::program;
@@ -38,23 +38,25 @@ fn judged(alloc: Global, program: &Program, row: &PartitionRow) -> Result<Checke
     ensures { Answers result (well_formed.verdict row.now.ports.items row.now.period (program_of program.now)) }
 {
     let declared = declared_names(alloc, program, &row.ports)?;
-    let names = name_fault(alloc, &declared.table, program)?;
-    if let Some(line) = earlier(declared.fault, names) {
-        let refusal = Refusal::Name;
-        return Err(PalFault { refusal, line });
-    }
-    if let Some(line) = kind_fault(alloc, &declared.table, program)? {
-        let refusal = Refusal::Kind;
-        return Err(PalFault { refusal, line });
-    }
-    if let Some(line) = limit_fault(alloc, &declared.table, program)? {
-        let refusal = Refusal::Limit;
-        return Err(PalFault { refusal, line });
-    }
-    if let Some(line) = period_fault(&program.processes, row.period) {
-        let refusal = Refusal::Period;
-        return Err(PalFault { refusal, line });
-    }
+    let names = check_names(alloc, &declared.table, program)?;
+    refused_by(Refusal::Name, earliest(declared.fresh, names))?;
+    let kinds = check_kinds(alloc, &declared.table, program)?;
+    refused_by(Refusal::Kind, kinds)?;
+    let limits = check_limits(alloc, &declared.table, program)?;
+    refused_by(Refusal::Limit, limits)?;
+    let periods = check_periods(&program.processes, row.period);
+    refused_by(Refusal::Period, periods)?;
     let program = resolve(alloc, &declared.table, program)?;
     Ok(Checked { program })
+}
+
+/// The answer of a check, and for which rule it refuses.
+fn refused_by(refusal: Refusal, checked: Check) -> Result<(), PalFault>
+    ensures holds { is_ok result ≡ is_ok checked }
+    ensures refusal { IfErr result (λ fault. fault.refusal ≡ refusal) }
+{
+    match checked {
+        Ok(()) => Ok(()),
+        Err(Line(line)) => Err(PalFault { refusal, line }),
+    }
 }

@@ -1,5 +1,5 @@
--- A partition with the data that its processes share, as the member of the definitions.
-use Rattle.std.specs.Prelude.{◌≡◌, List, ◌++◌, length}
+-- A partition with its memory, as the member of the definitions.
+use Rattle.std.specs.Prelude.{◌≡◌, List, ◌++◌}
 use Rattle.apex_types.specs.declared.event.Event.{Event}
 use Rattle.apex_types.specs.declared.process.Action.{Action}
 use Rattle.apex_meaning.specs.Kernel.{Kernel}
@@ -7,19 +7,15 @@ use Rattle.apex_meaning.specs.Partition.{Member, Moved, with_world, act, act_all
 use Rattle.partition_base.specs.declared.executor.Executor.{Ghosts}
 use Rattle.partition.specs.declared.partition.Partition.{Partition}
 
--- a kernel over an executor, with the data
+-- a kernel over an executor, with the memory
 abbrev pub member_at : {E X : Type 0} → (g : Ghosts E X) → Kernel → E → X → Member g.Control
 member_at g kernel executor mem = record {
   engine = g.engine executor;
-  world = record { kernel = kernel; controls = g.controls executor; words = g.words mem; initial = g.initial executor };
+  world = record { kernel = kernel; controls = g.controls executor mem; words = g.words mem; initial = g.initial executor };
 }
 
 abbrev pub member_of : {E X : Type 0} → (g : Ghosts E X) → Partition E X → X → Member g.Control
 member_of g p mem = member_at g p.kernel p.executor mem
-
--- the data are as many words as the initial data
-abbrev pub IsWhole : {C : Type 0} → Member C → Type 0
-IsWhole x = length x.world.words ≡ length x.world.initial
 
 abbrev pub acts : {C : Type 0} → Action → Member C → Member C
 acts action x = with_world x (act x.engine action x.world)

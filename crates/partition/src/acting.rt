@@ -2,23 +2,23 @@
 
 ghost use Rattle.std.specs.Prelude.{◌≡◌, ◌≤◌, ◌+◌, [], ◌++◌, length};
 ghost use Rattle.apex_meaning.specs.Partition.{line, told};
-ghost use Rattle.partition.specs.Members.{member_at, IsWhole, acts, acts_all};
+ghost use Rattle.partition.specs.Members.{member_at, acts, acts_all};
 
 use crate::kernel::Kernel;
 use apex_types::{Action, At, Event, EventKind, Events, Happenings, Name};
 use partition_base::Executor;
 
-/// Does what the kernel asks of the processor and the data. No error waits for a handler yet.
+/// Does what the kernel asks of the processor and the memory. No error waits for a handler yet.
 fn act<E: Executor>(kernel: &mut Kernel, executor: &mut E, mem: &mut E::Mem, action: &Action)
-    requires { IsWhole (member_at E.Executor kernel.old executor.old mem.old) }
-    ensures whole { IsWhole (member_at E.Executor kernel.new executor.new mem.new) }
+    requires { E.laid mem.old ≡ E.layout executor.old }
+    ensures fits { E.laid mem.new ≡ E.layout executor.new }
     ensures member { member_at E.Executor kernel.new executor.new mem.new ≡ acts action.now (member_at E.Executor kernel.old executor.old mem.old) }
 {
     match action {
-        Action::Begin(runner) => executor.begin(*runner),
-        Action::Stop(runner) => executor.stop(*runner),
-        Action::StopAll => executor.stop_all(),
-        Action::Reply(runner, answer) => executor.reply(*runner, answer),
+        Action::Begin(runner) => executor.begin(mem, *runner),
+        Action::Stop(runner) => executor.stop(mem, *runner),
+        Action::StopAll => executor.stop_all(mem),
+        Action::Reply(runner, answer) => executor.reply(mem, *runner, answer),
         Action::Restore => executor.restore(mem),
         Action::Write(place, words) => executor.write(mem, *place, words),
         Action::Queue(..) => {}
@@ -32,8 +32,8 @@ pub(crate) fn act_all<E: Executor>(
     mem: &mut E::Mem,
     actions: &[Action],
 )
-    requires { IsWhole (member_at E.Executor kernel.old executor.old mem.old) }
-    ensures whole { IsWhole (member_at E.Executor kernel.new executor.new mem.new) }
+    requires { E.laid mem.old ≡ E.layout executor.old }
+    ensures fits { E.laid mem.new ≡ E.layout executor.new }
     ensures member { member_at E.Executor kernel.new executor.new mem.new ≡ acts_all actions.now (member_at E.Executor kernel.old executor.old mem.old) }
 {
     for action in actions {

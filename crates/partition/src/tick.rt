@@ -6,7 +6,7 @@ ghost use Rattle.apex_meaning.specs.Kernel.{of_processes};
 ghost use Rattle.apex_meaning.specs.Partition as meaning;
 ghost use Rattle.apex_meaning.specs.PartitionServices.{clears};
 ghost use Rattle.apex_meaning.specs.Step.{IsMade};
-ghost use Rattle.partition.specs.Members.{member_of, acts_all, IsWhole, IsMoved};
+ghost use Rattle.partition.specs.Members.{member_of, acts_all, IsMoved};
 ghost use Rattle.processor.specs.Views.{asks_of};
 
 use crate::acting::{act_all, tell};
@@ -31,9 +31,9 @@ impl<E: Executor> Partition<E> {
 
     /// What a step asked for is done, and what happened is told.
     fn finish(&mut self, mem: &mut E::Mem, name: Name, at: At, events: &mut Events)
-        requires whole { IsWhole (member_of E.Executor self.old mem.old) }
+        requires fits { E.laid mem.old ≡ E.layout self.old.executor }
         requires room { length events.old.items + length self.old.out.lines.items ≤ 256 }
-        ensures whole { IsWhole (member_of E.Executor self.new mem.new) }
+        ensures fits { E.laid mem.new ≡ E.layout self.new.executor }
         ensures member { member_of E.Executor self.new mem.new ≡ acts_all self.old.out.actions.items (member_of E.Executor self.old mem.old) }
         ensures events { events.new.items ≡ events.old.items ++ meaning.told name at self.old.out.lines.items }
         ensures empty { IsEmpty self.new.out }
@@ -56,9 +56,9 @@ impl<E: Executor> Partition<E> {
         condition: StartCondition,
         events: &mut Events,
     )
-        requires whole { IsWhole (member_of E.Executor self.old mem.old) }
+        requires fits { E.laid mem.old ≡ E.layout self.old.executor }
         requires empty { events.old.items ≡ [] }
-        ensures whole { IsWhole (member_of E.Executor self.new mem.new) }
+        ensures fits { E.laid mem.new ≡ E.layout self.new.executor }
         ensures moved { IsMoved (meaning.cold_start at condition (member_of E.Executor self.old mem.old)) (member_of E.Executor self.old mem.old) (member_of E.Executor self.new mem.new) events.old.items events.new.items }
     {
         let name = self.kernel.name();
@@ -70,10 +70,10 @@ impl<E: Executor> Partition<E> {
     /// What is due is treated.
     fn treat_due(&mut self, mem: &mut E::Mem, at: At, events: &mut Events)
         requires now { at.now.0 ≤ 2 ^ 40 }
-        requires whole { IsWhole (member_of E.Executor self.old mem.old) }
+        requires fits { E.laid mem.old ≡ E.layout self.old.executor }
         requires idle { IsEmpty self.old.out }
         requires room { length events.old.items + 96 ≤ 256 }
-        ensures whole { IsWhole (member_of E.Executor self.new mem.new) }
+        ensures fits { E.laid mem.new ≡ E.layout self.new.executor }
         ensures idle { IsEmpty self.new.out }
         ensures moved { let x = member_of E.Executor self.old mem.old in IsMoved (meaning.due_phase x.engine at x.world) x (member_of E.Executor self.new mem.new) events.old.items events.new.items }
         ensures few { length events.new.items ≤ length events.old.items + 96 }
@@ -85,10 +85,10 @@ impl<E: Executor> Partition<E> {
 
     /// The choice of who runs.
     fn choose(&mut self, mem: &mut E::Mem, at: At, events: &mut Events)
-        requires whole { IsWhole (member_of E.Executor self.old mem.old) }
+        requires fits { E.laid mem.old ≡ E.layout self.old.executor }
         requires idle { IsEmpty self.old.out }
         requires room { length events.old.items + 2 ≤ 256 }
-        ensures whole { IsWhole (member_of E.Executor self.new mem.new) }
+        ensures fits { E.laid mem.new ≡ E.layout self.new.executor }
         ensures idle { IsEmpty self.new.out }
         ensures moved { let x = member_of E.Executor self.old mem.old in IsMoved (meaning.choice_phase x.engine at x.world) x (member_of E.Executor self.new mem.new) events.old.items events.new.items }
         ensures few { length events.new.items ≤ length events.old.items + 2 }
@@ -102,10 +102,10 @@ impl<E: Executor> Partition<E> {
     fn spend(&mut self, mem: &mut E::Mem, at: At, runner: Runner, events: &mut Events)
         requires past { at.origin.0 ≤ at.now.0 }
         requires now { at.now.0 ≤ 2 ^ 40 }
-        requires whole { IsWhole (member_of E.Executor self.old mem.old) }
+        requires fits { E.laid mem.old ≡ E.layout self.old.executor }
         requires idle { IsEmpty self.old.out }
         requires room { length events.old.items + 34 ≤ 256 }
-        ensures whole { IsWhole (member_of E.Executor self.new mem.new) }
+        ensures fits { E.laid mem.new ≡ E.layout self.new.executor }
         ensures idle { IsEmpty self.new.out }
         ensures moved { let x = member_of E.Executor self.old mem.old in IsMoved (meaning.spends x.engine at runner x.world) x (member_of E.Executor self.new mem.new) events.old.items events.new.items }
     {
@@ -134,9 +134,9 @@ impl<E: Executor> Partition<E> {
     pub fn tick(&mut self, mem: &mut E::Mem, at: At, events: &mut Events)
         requires past { at.origin.0 ≤ at.now.0 }
         requires now { at.now.0 ≤ 2 ^ 40 }
-        requires whole { IsWhole (member_of E.Executor self.old mem.old) }
+        requires fits { E.laid mem.old ≡ E.layout self.old.executor }
         requires empty { events.old.items ≡ [] }
-        ensures whole { IsWhole (member_of E.Executor self.new mem.new) }
+        ensures fits { E.laid mem.new ≡ E.layout self.new.executor }
         ensures moved { let x = member_of E.Executor self.old mem.old in IsMoved (meaning.advances at x) x (member_of E.Executor self.new mem.new) events.old.items events.new.items }
     {
         self.out.clear();

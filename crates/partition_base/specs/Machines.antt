@@ -1,9 +1,11 @@
 -- The processor of a partition as the definitions see it.
-use Rattle.std.specs.Prelude.{ℤ, List, Option, map}
+use Rattle.std.specs.Prelude.{ℕ, ℤ, List, ◌∷◌, Option, length, map}
+use Rattle.apex_types.specs.declared.row.BodyRow.{BodyRow}
 use Rattle.apex_meaning.specs.Engine.{Engine}
 use Rattle.apex_meaning.specs.MachineControl.{MachineControl, machine_engine}
-use Rattle.apex_meaning.specs.SourceControl.{body_at}
-use Rattle.partition_base.specs.Slots.{control_of_slot}
+use Rattle.apex_meaning.specs.SourceControl.{body_at, or_init}
+use Rattle.regions.specs.Space.{Space, stacks_of}
+use Rattle.partition_base.specs.Slots.{controls_from, stack_lengths, stack_of_body}
 use Rattle.partition_base.specs.declared.machine.Machine.{Machine}
 
 -- The engine that it is: its code, its routines, and the body of each that may run.
@@ -11,8 +13,20 @@ abbrev pub engine_of : Machine → Engine MachineControl
 engine_of m = machine_engine m.code.instructions.items m.code.routines.items (body_at m.init m.handler m.processes.items)
 
 -- the control of INIT, of the handler and of each process, where it has something left to do
-abbrev pub controls_of : Machine → List (Option MachineControl)
-controls_of m = map control_of_slot m.slots.items
+abbrev pub controls_of : Machine → Space → List (Option MachineControl)
+controls_of m s = controls_from m.slots.items (stacks_of s)
 
 abbrev pub initial_of : Machine → List ℤ
 initial_of m = m.initial.items
+
+-- the bodies of INIT, of the handler and of the processes, in order
+abbrev pub bodies_in : Machine → List BodyRow
+bodies_in m = m.init ∷ or_init m.init m.handler ∷ m.processes.items
+
+-- how many words a machine wants of the data and of each stack
+abbrev pub layout_of : Machine → List ℕ
+layout_of m = length m.initial.items ∷ map stack_of_body (bodies_in m)
+
+-- how many words the data of a memory have, and each stack
+abbrev pub laid_of : Space → List ℕ
+laid_of s = length s.words ∷ stack_lengths s

@@ -1,5 +1,5 @@
 -- What the processor of a partition counts on in a loaded section, and how it is seen.
-use Rattle.std.specs.Prelude.{◌≤◌, List, map, length}
+use Rattle.std.specs.Prelude.{◌≤◌, List, ◌∷◌, map, length}
 use Rattle.apex_types.specs.declared.identity.TheConstants.{MOST_PROCESSES}
 use Rattle.apex_types.specs.declared.row.BodyRow.{BodyRow}
 use Rattle.apex_types.specs.declared.row.Section.{Section}
@@ -9,7 +9,8 @@ use Rattle.apex_meaning.specs.MachineControl.{MachineControl, machine_engine}
 use Rattle.apex_meaning.specs.SourceControl.{body_at, or_init}
 use Rattle.apex_meaning.specs.TwoMeanings.{body_of_row}
 use Rattle.processor.specs.Fitting.{IsFittingBody, AreFitting}
-use Rattle.partition_base.specs.Slots.{AreFittingBodies}
+use Rattle.regions.specs.Space.{Space, seen, zeros}
+use Rattle.partition_base.specs.Slots.{AreFittingBodies, stack_of_body}
 
 -- the bodies of a section's processes, in order
 abbrev pub bodies_of : Section → List BodyRow
@@ -28,3 +29,12 @@ pub record IsFittingSection (s : Section) : Type 0 where
   pub init : IsFittingBody s.init
   pub handler : IsFittingBody (or_init s.init s.handler)
   pub bodies : AreFittingBodies (bodies_of s)
+
+-- the bodies of INIT, of the handler and of the processes, in order
+abbrev pub runners_of : Section → List BodyRow
+runners_of s = s.init ∷ or_init s.init s.handler ∷ bodies_of s
+
+-- The memory of a section's partition before its first start: the initial data, and for each body
+-- a stack of zeros.
+abbrev pub fresh_memory : Section → Space
+fresh_memory s = seen s.initial.items (map zeros (map stack_of_body (runners_of s))) 0

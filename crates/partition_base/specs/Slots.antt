@@ -1,22 +1,37 @@
 -- The slots of a partition as the definitions see them.
-use Rattle.std.specs.Prelude.{◌≡◌, ℕ, Bool, true, false, List, Option, Some, None, length, slice_get}
+use Rattle.std.specs.Prelude.{◌≡◌, ℕ, ℤ, Bool, true, false, List, [], ◌∷◌, Option, Some, None, length, map, slice_get}
 use Rattle.apex_types.specs.declared.row.BodyRow.{BodyRow}
 use Rattle.apex_meaning.specs.MachineControl.{MachineControl}
 use Rattle.processor.specs.Fitting.{IsFittingBody}
-use Rattle.processor.specs.Views.{control_of}
+use Rattle.processor.specs.declared.context.Context.{Context}
+use Rattle.regions.specs.Space.{Space, stacks_of}
 use Rattle.partition_base.specs.declared.slot.Slot.{Slot}
+
+-- the control of a context on a stack
+abbrev pub control_on : Context → List ℤ → MachineControl
+control_on c stack = record { pc = c.pc; fp = c.fp; sp = c.sp; stack = stack; spent = c.spent; awaits = c.awaits }
 
 -- the control of a context, where there is something left to do
 abbrev pub control_while : Bool → MachineControl → Option MachineControl
 control_while true control = Some control
 control_while false control = None
 
-abbrev pub control_of_slot : Slot → Option MachineControl
-control_of_slot slot = control_while slot.is_active (control_of slot.context)
+abbrev pub control_of_slot : Slot → List ℤ → Option MachineControl
+control_of_slot slot stack = control_while slot.is_active (control_on slot.context stack)
 
--- the words of a slot's stack, and of that of a body
-abbrev pub stack_of_slot : Slot → ℕ
-stack_of_slot slot = length slot.context.stack.items
+-- the control of a slot on no stack: whether it has something left to do
+abbrev pub alone : Slot → Option MachineControl
+alone slot = control_of_slot slot []
+
+-- the controls of slots on their stacks, in order
+abbrev pub controls_from : List Slot → List (List ℤ) → List (Option MachineControl)
+controls_from [] stacks = []
+controls_from (slot ∷ slots) [] = []
+controls_from (slot ∷ slots) (stack ∷ stacks) = control_of_slot slot stack ∷ controls_from slots stacks
+
+-- how many words each stack of a memory has
+abbrev pub stack_lengths : Space → List ℕ
+stack_lengths s = map length (stacks_of s)
 
 abbrev pub stack_of_body : BodyRow → ℕ
 stack_of_body body = body.stack
@@ -24,6 +39,6 @@ stack_of_body body = body.stack
 abbrev pub AreFittingBodies : List BodyRow → Type 0
 AreFittingBodies bodies = (place : ℕ) (body : BodyRow) → slice_get bodies place ≡ Some body → IsFittingBody body
 
--- a body that is not begun has no control
-abbrev pub unbegun : BodyRow → Option MachineControl
-unbegun body = None
+-- whether a slot has something left to do
+abbrev pub is_begun : Slot → Bool
+is_begun slot = slot.is_active

@@ -1,6 +1,6 @@
-//! The processor as the kernel sees it: who runs, over a partition's data.
+//! The processor as the kernel sees it: who runs, over a partition's memory.
 
-ghost use Rattle.std.specs.Prelude.{◌≡◌, ◌≤◌, ℕ, ℤ, List, length, Option, Some, None, map, slice_set};
+ghost use Rattle.std.specs.Prelude.{◌≡◌, ◌≤◌, ℕ, ℤ, List, Option, Some, None, map, slice_set};
 ghost use Rattle.apex_types.specs.Runners.{place_of};
 ghost use Rattle.apex_meaning.specs.Engine.{Engine, Ticked};
 ghost use Rattle.apex_meaning.specs.Partition.{control_at, no_control, replied, ticked, message_from, written};
@@ -11,52 +11,70 @@ use processor::Outcome;
 
 /// Runs INIT, the error handler and the processes of one partition. A runner without a control has
 /// nothing left to do; a process that does not exist never has a control. No call takes memory.
+///
+/// Each call is lent the partition's memory. How many words each part of it has, its layout, is the
+/// one that the executor was made for, and stays so.
 pub trait Executor {
-    /// The partition's data, which is lent to each call that reaches it.
+    /// The partition's memory: its data, and what its runners need beside them.
     type Mem;
 
     ghost Control: { Type 0 };
 
     ghost engine: { Self → Engine Control };
 
-    ghost controls: { Self → List (Option Control) };
+    ghost controls: { Self → Self.Mem → List (Option Control) };
 
     ghost words: { Self.Mem → List ℤ };
 
     ghost initial: { Self → List ℤ };
 
+    ghost layout: { Self → List ℕ };
+
+    ghost laid: { Self.Mem → List ℕ };
+
     /// The runner begins its body afresh.
-    fn begin(&mut self, runner: Runner)
+    fn begin(&mut self, mem: &mut Self::Mem, runner: Runner)
+        requires { laid mem.old ≡ layout self.old }
+        ensures fits { laid mem.new ≡ layout self.new }
         ensures engine { engine self.new ≡ engine self.old }
         ensures initial { initial self.new ≡ initial self.old }
-        ensures controls { controls self.new ≡ slice_set (controls self.old) (place_of runner) (Some ((engine self.old).start runner)) };
+        ensures controls { controls self.new mem.new ≡ slice_set (controls self.old mem.old) (place_of runner) (Some ((engine self.old).start runner)) }
+        ensures words { words mem.new ≡ words mem.old };
 
     /// The runner has nothing left to do.
-    fn stop(&mut self, runner: Runner)
+    fn stop(&mut self, mem: &Self::Mem, runner: Runner)
+        requires { laid mem.now ≡ layout self.old }
+        ensures fits { laid mem.now ≡ layout self.new }
         ensures engine { engine self.new ≡ engine self.old }
         ensures initial { initial self.new ≡ initial self.old }
-        ensures controls { controls self.new ≡ slice_set (controls self.old) (place_of runner) None };
+        ensures controls { controls self.new mem.now ≡ slice_set (controls self.old mem.now) (place_of runner) None };
 
     /// No runner has anything left to do.
-    fn stop_all(&mut self)
+    fn stop_all(&mut self, mem: &Self::Mem)
+        requires { laid mem.now ≡ layout self.old }
+        ensures fits { laid mem.now ≡ layout self.new }
         ensures engine { engine self.new ≡ engine self.old }
         ensures initial { initial self.new ≡ initial self.old }
-        ensures controls { controls self.new ≡ map no_control (controls self.old) };
+        ensures controls { controls self.new mem.now ≡ map no_control (controls self.old mem.now) };
 
     /// One tick of the runner.
     fn tick(&mut self, mem: &mut Self::Mem, runner: Runner) -> Outcome
+        requires { laid mem.old ≡ layout self.old }
+        ensures fits { laid mem.new ≡ layout self.new }
         ensures engine { engine self.new ≡ engine self.old }
         ensures initial { initial self.new ≡ initial self.old }
-        ensures controls { controls self.new ≡ slice_set (controls self.old) (place_of runner) (ticked (engine self.old) (control_at (controls self.old) (place_of runner)) (words mem.old)).control }
-        ensures words { words mem.new ≡ (ticked (engine self.old) (control_at (controls self.old) (place_of runner)) (words mem.old)).words }
-        ensures asks { asks_of result ≡ (ticked (engine self.old) (control_at (controls self.old) (place_of runner)) (words mem.old)).asks }
-        ensures length { length (words mem.new) ≡ length (words mem.old) };
+        ensures controls { controls self.new mem.new ≡ slice_set (controls self.old mem.old) (place_of runner) (ticked (engine self.old) (control_at (controls self.old mem.old) (place_of runner)) (words mem.old)).control }
+        ensures words { words mem.new ≡ (ticked (engine self.old) (control_at (controls self.old mem.old) (place_of runner)) (words mem.old)).words }
+        ensures asks { asks_of result ≡ (ticked (engine self.old) (control_at (controls self.old mem.old) (place_of runner)) (words mem.old)).asks };
 
     /// The answer to the runner's service call: the code, then the outputs.
-    fn reply(&mut self, runner: Runner, answer: &Words)
+    fn reply(&mut self, mem: &mut Self::Mem, runner: Runner, answer: &Words)
+        requires { laid mem.old ≡ layout self.old }
+        ensures fits { laid mem.new ≡ layout self.new }
         ensures engine { engine self.new ≡ engine self.old }
         ensures initial { initial self.new ≡ initial self.old }
-        ensures controls { controls self.new ≡ slice_set (controls self.old) (place_of runner) (replied (engine self.old) (control_at (controls self.old) (place_of runner)) answer.now.items) };
+        ensures controls { controls self.new mem.new ≡ slice_set (controls self.old mem.old) (place_of runner) (replied (engine self.old) (control_at (controls self.old mem.old) (place_of runner)) answer.now.items) }
+        ensures words { words mem.new ≡ words mem.old };
 
     /// At most 16 words of the data, from a place on.
     fn read(&self, mem: &Self::Mem, place: i64, count: u8) -> Words
@@ -66,11 +84,15 @@ pub trait Executor {
     /// Words go into the data, one after the other from a place on. A word whose place is outside
     /// of the data is dropped.
     fn write(&self, mem: &mut Self::Mem, place: i64, array: &Words)
-        ensures words { words mem.new ≡ written place array.now.items (words mem.old) }
-        ensures length { length (words mem.new) ≡ length (words mem.old) };
+        requires { laid mem.old ≡ layout self.now }
+        ensures fits { laid mem.new ≡ layout self.now }
+        ensures controls { controls self.now mem.new ≡ controls self.now mem.old }
+        ensures words { words mem.new ≡ written place array.now.items (words mem.old) };
 
-    /// The data, which are as many words as the initial data, become those.
+    /// The data become the initial data.
     fn restore(&self, mem: &mut Self::Mem)
-        requires { length (words mem.old) ≡ length (initial self.now) }
-        ensures { words mem.new ≡ initial self.now };
+        requires { laid mem.old ≡ layout self.now }
+        ensures fits { laid mem.new ≡ layout self.now }
+        ensures controls { controls self.now mem.new ≡ controls self.now mem.old }
+        ensures words { words mem.new ≡ initial self.now };
 }

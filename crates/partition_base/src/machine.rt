@@ -1,18 +1,21 @@
 //! The processor of one partition.
 
-ghost use Rattle.std.specs.Prelude.{◌≡◌, ◌≤◌, ◌<◌, ◌+◌, ◌^◌, ◌∷◌, length, map, slice_get, slice_set, Some, IfOk};
+ghost use Rattle.std.specs.Prelude.{◌≡◌, ◌≤◌, ◌<◌, ◌+◌, ◌^◌, ◌∷◌, false, length, map, replicate, slice_get, Some, IfOk};
 ghost use Rattle.apex_types.specs.Runners.{place_of};
 ghost use Rattle.apex_meaning.specs.Partition.{message_from};
 ghost use Rattle.apex_meaning.specs.SourceControl.{or_init};
 ghost use Rattle.apex_meaning.specs.Words.{put_words};
 ghost use Rattle.apex_meaning.specs.TwoMeanings.{body_of_row};
 ghost use Rattle.processor.specs.Fitting.{IsFittingBody};
-ghost use Rattle.partition_base.specs.Slots.{AreFittingBodies, control_of_slot, stack_of_slot, stack_of_body, unbegun};
+ghost use Rattle.regions.specs.Space.{planned, put};
+ghost use Rattle.partition_base.specs.Sections.{fresh_memory};
+ghost use Rattle.partition_base.specs.Slots.{AreFittingBodies, stack_of_body, is_begun};
 
 use crate::executor::Executor;
 use crate::slot::{self, Slot};
 use apex_types::{BodyRow, ProcessRow, Runner, Section, Words};
-use processor::{Code, Data, Outcome};
+use processor::{Code, Outcome};
+use regions::{MemoryPlan, PartitionMem, Region};
 use std::alloc::{AllocError, Global};
 
 /// The processor of one partition: its code and its bodies, a slot for INIT, one for the error
@@ -29,7 +32,6 @@ pub struct Machine {
     ghost init_fits: { IsFittingBody init },
     ghost handler_fits: { IsFittingBody (or_init init handler) },
     ghost bodies_fit: { AreFittingBodies processes.items },
-    ghost stacks: { map stack_of_slot slots.items ≡ map stack_of_body (init ∷ or_init init handler ∷ processes.items) },
 }
 
 /// The bodies of processes, in order.
@@ -53,20 +55,48 @@ fn fresh_slots(
     requires init_fits { IsFittingBody init.now }
     requires handler_fits { IsFittingBody handler.now }
     requires bodies_fit { AreFittingBodies processes.now }
-    ensures controls { IfOk result (λ slots. map control_of_slot slots.items ≡ map unbegun (init.now ∷ handler.now ∷ processes.now)) }
-    ensures stacks { IfOk result (λ slots. map stack_of_slot slots.items ≡ map stack_of_body (init.now ∷ handler.now ∷ processes.now)) }
+    ensures { IfOk result (λ slots. map is_begun slots.items ≡ replicate (2 + length processes.now) false) }
 {
     let mut slots = Vec::with_capacity(alloc, processes.len() + 2)?;
-    slots.push(Slot::new(alloc, init)?)?;
-    slots.push(Slot::new(alloc, handler)?)?;
+    slots.push(Slot::new(init))?;
+    slots.push(Slot::new(handler))?;
     for body in processes {
-        slots.push(Slot::new(alloc, body)?)?;
+        slots.push(Slot::new(body))?;
     }
     Ok(slots)
 }
 
+/// The words of the stack of each body, in order.
+fn stack_sizes(
+    alloc: Global,
+    init: &BodyRow,
+    handler: &BodyRow,
+    processes: &[ProcessRow],
+) -> Result<Vec<u16>, AllocError>
+    ensures { IfOk result (λ sizes. sizes.items ≡ map stack_of_body (init.now ∷ handler.now ∷ map body_of_row processes.now)) }
+{
+    let mut sizes = Vec::with_capacity(alloc, processes.len() + 2)?;
+    sizes.push(init.stack)?;
+    sizes.push(handler.stack)?;
+    for process in processes {
+        sizes.push(process.body.stack)?;
+    }
+    Ok(sizes)
+}
+
+/// The memory that a section's partition asks for. An error is one of memory.
+pub fn memory_plan(alloc: Global, section: &Section) -> Result<MemoryPlan, AllocError>
+    ensures { IfOk result (λ plan. planned plan ≡ fresh_memory section.now) }
+{
+    let handler = section.handler.unwrap_or(section.init);
+    Ok(MemoryPlan {
+        initial: Vec::from_slice(alloc, &section.initial)?,
+        stacks: stack_sizes(alloc, &section.init, &handler, &section.processes)?,
+    })
+}
+
 /// At most 16 words, from a place on.
-fn message(words: &[i64], place: i64, count: u8) -> Words
+pub fn message(words: &[i64], place: i64, count: u8) -> Words
     requires { count ≤ 16 }
     ensures { result.items ≡ message_from place count words.now }
 {
@@ -81,39 +111,30 @@ fn message(words: &[i64], place: i64, count: u8) -> Words
     message
 }
 
-/// Writes a word, where there is such a place.
-#[tactic(auto, using(crate::proofs::Places::views))]
-fn put_one(words: &mut [i64], place: usize, word: i64)
-    ensures { words.new ≡ slice_set words.old place word }
-{
-    if place < words.len() {
-        words[place] = word;
-    }
-}
-
-/// Writes words one after the other from a place on, as far as there are places.
-fn put(words: &mut [i64], place: usize, array: &[i64])
+/// Writes words into the data one after the other from a place on, as far as there are places.
+pub fn put(memory: &mut PartitionMem, place: usize, array: &[i64])
     requires { place < 2 ^ 63 }
-    ensures { words.new ≡ put_words words.old place array.now }
+    ensures { memory.new ≡ put memory.old memory.old.stack (put_words memory.old.words place array.now) }
 {
     let mut next = place;
     for word in array {
-        put_one(words, next, *word);
+        let _ = memory.store(Region::Data, next, *word);
         next += 1;
     }
 }
 
 impl Machine {
-    ghost use Rattle.std.specs.Prelude.{replicate, None};
+    ghost use Rattle.std.specs.Prelude.{None};
     ghost use Rattle.apex_meaning.specs.SourceControl.{body_at};
-    ghost use Rattle.partition_base.specs.Machines.{engine_of, controls_of, initial_of};
-    ghost use Rattle.partition_base.specs.Sections.{IsFittingSection, engine_of_section};
+    ghost use Rattle.partition_base.specs.Machines.{engine_of, controls_of, initial_of, bodies_in, layout_of, laid_of};
+    ghost use Rattle.partition_base.specs.Sections.{IsFittingSection, engine_of_section, fresh_memory};
 
     /// The processor of a partition's section, with nothing begun. An error is one of memory.
     pub fn new(alloc: Global, section: &Section) -> Result<Machine, AllocError>
         requires { IsFittingSection section.now }
         ensures engine { IfOk result (λ machine. engine_of machine ≡ engine_of_section section.now) }
-        ensures controls { IfOk result (λ machine. controls_of machine ≡ replicate (2 + length section.now.processes.items) None) }
+        ensures controls { IfOk result (λ machine. controls_of machine (fresh_memory section.now) ≡ replicate (2 + length section.now.processes.items) None) }
+        ensures fits { IfOk result (λ machine. laid_of (fresh_memory section.now) ≡ layout_of machine) }
         ensures initial { IfOk result (λ machine. initial_of machine ≡ section.now.initial.items) }
     {
         let routines = Vec::from_slice(alloc, &section.routines)?;
@@ -129,20 +150,11 @@ impl Machine {
         })
     }
 
-    /// The data as they are at first, in memory of their own. An error is one of memory.
-    pub fn new_data(&self, alloc: Global) -> Result<Data, AllocError>
-        ensures { IfOk result (λ memory. memory.words.items ≡ initial_of self.now) }
-    {
-        Ok(Data {
-            words: Vec::from_slice(alloc, &self.initial)?,
-        })
-    }
-
     /// The body of INIT, of the handler or of a process; INIT's where there is none.
     fn body(&self, runner: Runner) -> BodyRow
         ensures body { result ≡ body_at self.now.init self.now.handler self.now.processes.items runner }
         ensures fits { IsFittingBody result }
-        ensures stack { place_of runner < length self.now.slots.items → slice_get (map stack_of_slot self.now.slots.items) (place_of runner) ≡ Some result.stack }
+        ensures stack { place_of runner < length (bodies_in self.now) → slice_get (map stack_of_body (bodies_in self.now)) (place_of runner) ≡ Some result.stack }
     {
         match runner {
             Runner::Init => self.init,
@@ -157,9 +169,9 @@ impl Machine {
 
 impl Executor for Machine {
     ghost use Rattle.apex_meaning.specs.MachineControl.{MachineControl};
-    ghost use Rattle.partition_base.specs.Machines.{engine_of, controls_of, initial_of};
+    ghost use Rattle.partition_base.specs.Machines.{engine_of, controls_of, initial_of, layout_of, laid_of};
 
-    type Mem = Data;
+    type Mem = PartitionMem;
 
     ghost Control = { MachineControl };
 
@@ -167,42 +179,48 @@ impl Executor for Machine {
 
     ghost controls = { controls_of };
 
-    ghost words = { λ m. m.words.items };
+    ghost words = { λ s. s.words };
 
     ghost initial = { initial_of };
 
-    fn begin(&mut self, runner: Runner) {
+    ghost layout = { layout_of };
+
+    ghost laid = { laid_of };
+
+    #[tactic(auto, using(crate::proofs::Layouts::layouts))]
+    fn begin(&mut self, mem: &mut PartitionMem, runner: Runner) {
         let body = self.body(runner);
-        slot::begin_at(&mut self.slots, runner.place(), &body);
+        slot::begin_at(&mut self.slots, runner.place(), mem, &body);
     }
 
-    fn stop(&mut self, runner: Runner) {
+    fn stop(&mut self, _mem: &PartitionMem, runner: Runner) {
         slot::stop_at(&mut self.slots, runner.place());
     }
 
-    fn stop_all(&mut self) {
+    fn stop_all(&mut self, _mem: &PartitionMem) {
         slot::stop_all(&mut self.slots);
     }
 
-    fn tick(&mut self, mem: &mut Data, runner: Runner) -> Outcome {
+    fn tick(&mut self, mem: &mut PartitionMem, runner: Runner) -> Outcome {
         slot::tick_at(&mut self.slots, runner.place(), mem, &self.code)
     }
 
-    fn reply(&mut self, runner: Runner, answer: &Words) {
-        slot::reply_at(&mut self.slots, runner.place(), answer);
+    fn reply(&mut self, mem: &mut PartitionMem, runner: Runner, answer: &Words) {
+        slot::reply_at(&mut self.slots, runner.place(), mem, answer);
     }
 
-    fn read(&self, mem: &Data, place: i64, count: u8) -> Words {
-        message(&mem.words, place, count)
+    fn read(&self, mem: &PartitionMem, place: i64, count: u8) -> Words {
+        message(mem.data(), place, count)
     }
 
-    fn write(&self, mem: &mut Data, place: i64, array: &Words) {
+    fn write(&self, mem: &mut PartitionMem, place: i64, array: &Words) {
         if place >= 0 {
-            put(&mut mem.words, place.unsigned_abs() as usize, array);
+            put(mem, place.unsigned_abs() as usize, array);
         }
     }
 
-    fn restore(&self, mem: &mut Data) {
-        mem.words.copy_from_slice(&self.initial);
+    #[tactic(auto, using(crate::proofs::Layouts::layouts))]
+    fn restore(&self, mem: &mut PartitionMem) {
+        mem.restore(&self.initial);
     }
 }

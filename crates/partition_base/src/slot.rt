@@ -1,17 +1,18 @@
 //! The slots of a partition: those of INIT, of its error handler and of its processes.
 
-ghost use Rattle.std.specs.Prelude.{◌≡◌, ◌<◌, List, length, map, slice_get, slice_set, Some, None, IfOk};
+ghost use Rattle.std.specs.Prelude.{◌≡◌, ◌<◌, ℤ, List, length, map, slice_get, slice_set, Some, None, false};
 ghost use Rattle.apex_types.specs.declared.identity.Runner.{Runner};
 ghost use Rattle.apex_types.specs.declared.row.BodyRow.{BodyRow};
 ghost use Rattle.apex_meaning.specs.MachineControl.{machine_engine, machine_start};
 ghost use Rattle.apex_meaning.specs.Partition.{control_at, no_control, replied, ticked};
 ghost use Rattle.processor.specs.Fitting.{IsFittingBody};
 ghost use Rattle.processor.specs.Views.{asks_of};
-ghost use Rattle.partition_base.specs.Slots.{control_of_slot, stack_of_slot};
+ghost use Rattle.regions.specs.Space.{put, stacks_of, zeros};
+ghost use Rattle.partition_base.specs.Slots.{alone, control_of_slot, controls_from, stack_lengths};
 
 use apex_types::BodyRow;
-use processor::{Code, Context, Data, Outcome, step};
-use std::alloc::{AllocError, Global};
+use processor::{Code, Context, Outcome, step};
+use regions::PartitionMem;
 
 /// A runner on the processor: its context, and whether it has something left to do.
 #[derive(Drop)]
@@ -22,43 +23,42 @@ pub(crate) struct Slot {
 
 impl Slot {
     /// The slot of a body that is not begun.
-    pub(crate) fn new(alloc: Global, body: &BodyRow) -> Result<Slot, AllocError>
+    pub(crate) fn new(body: &BodyRow) -> Slot
         requires { IsFittingBody body.now }
-        ensures control { IfOk result (λ slot. control_of_slot slot ≡ None) }
-        ensures stack { IfOk result (λ slot. stack_of_slot slot ≡ body.now.stack) }
+        ensures { result.is_active ≡ false }
     {
-        Ok(Slot {
-            context: Context::new(alloc, body)?,
+        Slot {
+            context: Context::new(body),
             is_active: false,
-        })
+        }
     }
 
-    /// Begins a body afresh.
-    fn begin(&mut self, body: &BodyRow)
+    /// Begins a body afresh on the own stack.
+    fn begin(&mut self, memory: &mut PartitionMem, body: &BodyRow)
         requires fits { IsFittingBody body.now }
-        requires stack { stack_of_slot self.old ≡ body.now.stack }
-        ensures control { control_of_slot self.new ≡ Some (machine_start body.now) }
-        ensures stack { stack_of_slot self.new ≡ stack_of_slot self.old }
+        requires stack { length memory.old.stack ≡ body.now.stack }
+        ensures control { control_of_slot self.new memory.new.stack ≡ Some (machine_start body.now) }
+        ensures memory { memory.new ≡ put memory.old (zeros body.now.stack) memory.old.words }
     {
-        self.context.start(body);
+        self.context.start(memory, body);
         self.is_active = true;
     }
 
     /// Nothing is left to do.
     fn stop(&mut self)
-        ensures control { control_of_slot self.new ≡ None }
-        ensures stack { stack_of_slot self.new ≡ stack_of_slot self.old }
+        ensures { self.new.is_active ≡ false }
     {
         self.is_active = false;
     }
 
-    /// One tick, where something is left to do.
-    fn tick(&mut self, memory: &mut Data, code: &Code) -> Outcome
-        ensures control { (bodies : Runner → BodyRow) → control_of_slot self.new ≡ (ticked (machine_engine code.now.instructions.items code.now.routines.items bodies) (control_of_slot self.old) memory.old.words.items).control }
-        ensures stack { stack_of_slot self.new ≡ stack_of_slot self.old }
-        ensures words { (bodies : Runner → BodyRow) → memory.new.words.items ≡ (ticked (machine_engine code.now.instructions.items code.now.routines.items bodies) (control_of_slot self.old) memory.old.words.items).words }
-        ensures asks { (bodies : Runner → BodyRow) → asks_of result ≡ (ticked (machine_engine code.now.instructions.items code.now.routines.items bodies) (control_of_slot self.old) memory.old.words.items).asks }
-        ensures length { length memory.new.words.items ≡ length memory.old.words.items }
+    /// One tick on the own stack, where something is left to do.
+    fn tick(&mut self, memory: &mut PartitionMem, code: &Code) -> Outcome
+        ensures control { (bodies : Runner → BodyRow) → control_of_slot self.new memory.new.stack ≡ (ticked (machine_engine code.now.instructions.items code.now.routines.items bodies) (control_of_slot self.old memory.old.stack) memory.old.words).control }
+        ensures memory { memory.new ≡ put memory.old memory.new.stack memory.new.words }
+        ensures words { (bodies : Runner → BodyRow) → memory.new.words ≡ (ticked (machine_engine code.now.instructions.items code.now.routines.items bodies) (control_of_slot self.old memory.old.stack) memory.old.words).words }
+        ensures asks { (bodies : Runner → BodyRow) → asks_of result ≡ (ticked (machine_engine code.now.instructions.items code.now.routines.items bodies) (control_of_slot self.old memory.old.stack) memory.old.words).asks }
+        ensures stack { length memory.new.stack ≡ length memory.old.stack }
+        ensures length { length memory.new.words ≡ length memory.old.words }
     {
         if !self.is_active {
             return Outcome::Busy;
@@ -67,49 +67,62 @@ impl Slot {
     }
 
     /// The answer to a service call, where something is left to do.
-    fn reply(&mut self, answer: &[i64])
-        ensures control { (code : _) (routines : _) (bodies : Runner → BodyRow) → control_of_slot self.new ≡ replied (machine_engine code routines bodies) (control_of_slot self.old) answer.now }
-        ensures stack { stack_of_slot self.new ≡ stack_of_slot self.old }
+    fn reply(&mut self, memory: &mut PartitionMem, answer: &[i64])
+        ensures control { (code : _) (routines : _) (bodies : Runner → BodyRow) → control_of_slot self.new memory.new.stack ≡ replied (machine_engine code routines bodies) (control_of_slot self.old memory.old.stack) answer.now }
+        ensures memory { memory.new ≡ put memory.old memory.new.stack memory.old.words }
+        ensures stack { length memory.new.stack ≡ length memory.old.stack }
     {
         if self.is_active {
-            self.context.reply(answer);
+            self.context.reply(memory, answer);
         }
     }
 }
 
 /// The runner of a place begins a body afresh; where there is none, nothing changes.
 #[tactic(auto, using(crate::proofs::Places::views))]
-pub(crate) fn begin_at(slots: &mut Vec<Slot>, place: usize, body: &BodyRow)
-    requires fits { place < length slots.old.items → IsFittingBody body.now }
-    requires stack { place < length slots.old.items → slice_get (map stack_of_slot slots.old.items) place ≡ Some body.now.stack }
-    ensures controls { map control_of_slot slots.new.items ≡ slice_set (map control_of_slot slots.old.items) place (Some (machine_start body.now)) }
-    ensures stacks { map stack_of_slot slots.new.items ≡ map stack_of_slot slots.old.items }
+pub(crate) fn begin_at(
+    slots: &mut Vec<Slot>,
+    place: usize,
+    memory: &mut PartitionMem,
+    body: &BodyRow,
+)
+    requires fits { IsFittingBody body.now }
+    requires stack { place < length (stacks_of memory.old) → slice_get (stack_lengths memory.old) place ≡ Some body.now.stack }
+    ensures controls { controls_from slots.new.items (stacks_of memory.new) ≡ slice_set (controls_from slots.old.items (stacks_of memory.old)) place (Some (machine_start body.now)) }
+    ensures words { memory.new.words ≡ memory.old.words }
+    ensures stacks { stack_lengths memory.new ≡ stack_lengths memory.old }
 {
+    if !memory.select(place) {
+        return;
+    }
     if let Some(slot) = slots.get_mut(place) {
-        slot.begin(body);
+        slot.begin(memory, body);
     }
 }
 
 /// The runner of a place has nothing left to do.
-#[tactic(auto, using(crate::proofs::Places::views))]
 pub(crate) fn stop_at(slots: &mut Vec<Slot>, place: usize)
-    ensures controls { map control_of_slot slots.new.items ≡ slice_set (map control_of_slot slots.old.items) place None }
-    ensures stacks { map stack_of_slot slots.new.items ≡ map stack_of_slot slots.old.items }
+    ensures { (stacks : List (List ℤ)) → controls_from slots.new.items stacks ≡ slice_set (controls_from slots.old.items stacks) place None }
 {
     if let Some(slot) = slots.get_mut(place) {
+        slot.stop();
+    }
+}
+
+/// Each slot has nothing left to do.
+fn stop_each(slots: &mut Vec<Slot>)
+    ensures { map alone slots.new.items ≡ map no_control (map alone slots.old.items) }
+{
+    for slot in slots.iter_mut() {
         slot.stop();
     }
 }
 
 /// No runner has anything left to do.
-#[tactic(auto, using(crate::proofs::Places::views))]
 pub(crate) fn stop_all(slots: &mut Vec<Slot>)
-    ensures controls { map control_of_slot slots.new.items ≡ map no_control (map control_of_slot slots.old.items) }
-    ensures stacks { map stack_of_slot slots.new.items ≡ map stack_of_slot slots.old.items }
+    ensures { (stacks : List (List ℤ)) → controls_from slots.new.items stacks ≡ map no_control (controls_from slots.old.items stacks) }
 {
-    for slot in slots.iter_mut() {
-        slot.stop();
-    }
+    stop_each(slots);
 }
 
 /// One tick of the runner of a place.
@@ -117,15 +130,18 @@ pub(crate) fn stop_all(slots: &mut Vec<Slot>)
 pub(crate) fn tick_at(
     slots: &mut Vec<Slot>,
     place: usize,
-    memory: &mut Data,
+    memory: &mut PartitionMem,
     code: &Code,
 ) -> Outcome
-    ensures controls { (bodies : Runner → BodyRow) → map control_of_slot slots.new.items ≡ slice_set (map control_of_slot slots.old.items) place (ticked (machine_engine code.now.instructions.items code.now.routines.items bodies) (control_at (map control_of_slot slots.old.items) place) memory.old.words.items).control }
-    ensures stacks { map stack_of_slot slots.new.items ≡ map stack_of_slot slots.old.items }
-    ensures words { (bodies : Runner → BodyRow) → memory.new.words.items ≡ (ticked (machine_engine code.now.instructions.items code.now.routines.items bodies) (control_at (map control_of_slot slots.old.items) place) memory.old.words.items).words }
-    ensures asks { (bodies : Runner → BodyRow) → asks_of result ≡ (ticked (machine_engine code.now.instructions.items code.now.routines.items bodies) (control_at (map control_of_slot slots.old.items) place) memory.old.words.items).asks }
-    ensures length { length memory.new.words.items ≡ length memory.old.words.items }
+    ensures controls { (bodies : Runner → BodyRow) → controls_from slots.new.items (stacks_of memory.new) ≡ slice_set (controls_from slots.old.items (stacks_of memory.old)) place (ticked (machine_engine code.now.instructions.items code.now.routines.items bodies) (control_at (controls_from slots.old.items (stacks_of memory.old)) place) memory.old.words).control }
+    ensures words { (bodies : Runner → BodyRow) → memory.new.words ≡ (ticked (machine_engine code.now.instructions.items code.now.routines.items bodies) (control_at (controls_from slots.old.items (stacks_of memory.old)) place) memory.old.words).words }
+    ensures asks { (bodies : Runner → BodyRow) → asks_of result ≡ (ticked (machine_engine code.now.instructions.items code.now.routines.items bodies) (control_at (controls_from slots.old.items (stacks_of memory.old)) place) memory.old.words).asks }
+    ensures stacks { stack_lengths memory.new ≡ stack_lengths memory.old }
+    ensures length { length memory.new.words ≡ length memory.old.words }
 {
+    if !memory.select(place) {
+        return Outcome::Busy;
+    }
     match slots.get_mut(place) {
         Some(slot) => slot.tick(memory, code),
         None => Outcome::Busy,
@@ -134,11 +150,20 @@ pub(crate) fn tick_at(
 
 /// The answer to the service call of the runner of a place.
 #[tactic(auto, using(crate::proofs::Places::views))]
-pub(crate) fn reply_at(slots: &mut Vec<Slot>, place: usize, answer: &[i64])
-    ensures controls { (code : _) (routines : _) (bodies : Runner → BodyRow) → map control_of_slot slots.new.items ≡ slice_set (map control_of_slot slots.old.items) place (replied (machine_engine code routines bodies) (control_at (map control_of_slot slots.old.items) place) answer.now) }
-    ensures stacks { map stack_of_slot slots.new.items ≡ map stack_of_slot slots.old.items }
+pub(crate) fn reply_at(
+    slots: &mut Vec<Slot>,
+    place: usize,
+    memory: &mut PartitionMem,
+    answer: &[i64],
+)
+    ensures controls { (code : _) (routines : _) (bodies : Runner → BodyRow) → controls_from slots.new.items (stacks_of memory.new) ≡ slice_set (controls_from slots.old.items (stacks_of memory.old)) place (replied (machine_engine code routines bodies) (control_at (controls_from slots.old.items (stacks_of memory.old)) place) answer.now) }
+    ensures words { memory.new.words ≡ memory.old.words }
+    ensures stacks { stack_lengths memory.new ≡ stack_lengths memory.old }
 {
+    if !memory.select(place) {
+        return;
+    }
     if let Some(slot) = slots.get_mut(place) {
-        slot.reply(answer);
+        slot.reply(memory, answer);
     }
 }

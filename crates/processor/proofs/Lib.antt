@@ -1,4 +1,5 @@
+pub mod Arguments
 pub mod Bytes
-pub mod Effects
+pub mod Outcomes
 pub mod Spelling
 pub mod Stack

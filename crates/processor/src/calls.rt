@@ -1,60 +1,84 @@
 //! Routines and services: CALL, RET and SVC.
 
-ghost use Rattle.std.specs.Prelude.{◌≡◌, ◌-◌, ◌+◌, ◌≤◌, ◌++◌, ◌∷◌, [], length, pos, replicate};
+ghost use Rattle.std.specs.Prelude.{◌≡◌, ◌-◌, ◌+◌, ◌≤◌, ◌++◌, ◌∷◌, [], pos, replicate, slice_get};
+ghost use Rattle.regions.specs.Space.{put};
+ghost use Rattle.apex_meaning.specs.MachineControl.{popped, saved_within};
 ghost use Rattle.apex_meaning.specs.Words.{put_words};
 ghost use Rattle.processor.specs.Fitting.{IsFittingRoutine};
 
+use crate::access::{holds, load};
 use crate::code::Code;
-use crate::context::Context;
-use crate::data::Data;
+use crate::context::{Context, stack_word};
 use crate::outcome::Outcome;
-use apex_types::{Call, ErrorKind, RoutineRow, Service, array_of, call_of};
+use apex_types::{Call, ErrorKind, RoutineRow, Service, Words, array_of, call_of};
+use regions::{PartitionMem, Region};
 
-/// Sets the words of the stack from one place up to another to 0.
-fn clear(stack: &mut Vec<i64>, from: u32, to: u32)
-    requires { to ≤ length stack.old.items }
-    ensures words { stack.new.items ≡ put_words stack.old.items from (replicate (to - from) (pos 0)) }
-    ensures len { length stack.new.items ≡ length stack.old.items }
+/// Sets the words of the own stack from one place up to another to 0.
+fn clear(memory: &mut PartitionMem, from: u32, to: u32)
+    ensures { memory.new ≡ put memory.old (put_words memory.old.stack from (replicate (to - from) (pos 0))) memory.old.words }
 {
     for place in from..to {
-        stack[place as usize] = 0;
+        let _ = memory.store(Region::Stack, place as usize, 0);
     }
 }
 
 /// Clears the locals of a routine whose frame begins at a place, and saves behind its slots the
 /// instruction after the call and the caller's frame.
-fn save(stack: &mut Vec<i64>, frame: u32, routine: &RoutineRow, next: u32, caller: u32)
+fn save(memory: &mut PartitionMem, frame: u32, routine: &RoutineRow, next: u32, caller: u32)
     requires fits { IsFittingRoutine routine.now }
-    requires small { length stack.old.items ≤ 65_535 }
-    requires room { frame + routine.now.slots + 2 ≤ length stack.old.items }
-    ensures words { stack.new.items ≡ put_words stack.old.items (frame + routine.now.parameters) (replicate (routine.now.slots - routine.now.parameters) (pos 0) ++ pos next ∷ pos caller ∷ []) }
-    ensures len { length stack.new.items ≡ length stack.old.items }
+    requires small { frame ≤ 65_535 }
+    ensures { memory.new ≡ put memory.old (put_words memory.old.stack (frame + routine.now.parameters) (replicate (routine.now.slots - routine.now.parameters) (pos 0) ++ pos next ∷ pos caller ∷ [])) memory.old.words }
 {
     let slots = frame + u32::from(routine.slots);
-    clear(stack, frame + u32::from(routine.parameters), slots);
-    stack[slots as usize] = i64::from(next);
-    stack[slots as usize + 1] = i64::from(caller);
+    clear(memory, frame + u32::from(routine.parameters), slots);
+    let _ = memory.store(Region::Stack, slots as usize, i64::from(next));
+    let _ = memory.store(Region::Stack, slots as usize + 1, i64::from(caller));
+}
+
+/// The words of the own stack from one place up to another, at most 16.
+fn popped(memory: &PartitionMem, from: u32, to: u32) -> Words
+    requires order { from ≤ to }
+    requires few { to ≤ from + 16 }
+    ensures { result.items ≡ popped (to - from) memory.now.stack to [] }
+{
+    let mut words = Words::new();
+    for place in from..to {
+        words.push(stack_word(memory, place));
+    }
+    words
+}
+
+/// A saved word of the own stack up to a limit.
+fn saved(memory: &PartitionMem, place: usize, limit: u32) -> Option<u32>
+    ensures { result ≡ saved_within limit (slice_get memory.now.stack place) }
+{
+    let word = load(memory, Region::Stack, place)?;
+    if word < 0 || word > i64::from(limit) {
+        return None;
+    }
+    Some(word as u32)
 }
 
 impl Context {
-    ghost use Rattle.std.specs.Prelude.{◌≡◌, ◌+◌, ◌-◌, ◌<◌, ◌≤◌, ◌^◌, [], length, slice_get, ℕ, Option};
-    ghost use Rattle.apex_meaning.specs.MachineControl.{executes, enters_at, enters, saved_within, gives_back, popped, arguments, calls, calls_numbered, with_operands, code_limit};
-    ghost use Rattle.processor.specs.Views.{control_of, outcome_of};
+    ghost use Rattle.std.specs.Prelude.{◌≡◌, ◌+◌, ◌-◌, ◌<◌, ◌≤◌, ◌^◌, []};
+    ghost use Rattle.apex_meaning.specs.MachineControl.{executes, enters_at, arguments, calls};
+    ghost use Rattle.processor.specs.Views.{control_of, outcome_of, IsChanged};
     ghost use Rattle.apex_types.specs.declared.instruction.Instr.{Instr};
-    ghost use Rattle.apex_meaning.specs.ServiceTable.{argument_words, answer_words, call_of};
+    ghost use Rattle.apex_meaning.specs.ServiceTable.{argument_words, call_of};
 
     /// Enters a routine, the frame of which begins at its arguments.
-    fn enter_at(&mut self, frame: u32, routine: &RoutineRow) -> Outcome
+    fn enter_at(&mut self, memory: &mut PartitionMem, frame: u32, routine: &RoutineRow) -> Outcome
         requires next { self.old.pc + 1 < 2 ^ 32 }
         requires fits { IsFittingRoutine routine.now }
-        requires small { frame ≤ 65_535 }
-        ensures control { control_of self.new ≡ (enters_at frame routine.now (control_of self.old) []).control }
-        ensures outcome { result ≡ outcome_of (enters_at frame routine.now (control_of self.old) []).asks }
+        requires small { frame ≤ 65_536 }
+        ensures control { control_of self.new memory.new ≡ (enters_at frame routine.now (control_of self.old memory.old) memory.old.words).control }
+        ensures memory { IsChanged (enters_at frame routine.now (control_of self.old memory.old) memory.old.words) memory.old memory.new }
+        ensures outcome { result ≡ outcome_of (enters_at frame routine.now (control_of self.old memory.old) memory.old.words).asks }
     {
-        if self.stack.len() < (frame + routine.frame) as usize {
+        if memory.stack_len() < (frame + routine.frame) as usize {
             return Outcome::Fault(ErrorKind::StackOverflow);
         }
-        save(&mut self.stack, frame, routine, self.pc + 1, self.fp);
+        save(memory, frame, routine, self.pc + 1, self.fp);
         self.pc = routine.entry;
         self.fp = frame;
         self.spent = 0;
@@ -64,10 +88,11 @@ impl Context {
     }
 
     /// CALL: the routine of that number, from 0.
-    pub(crate) fn enter(&mut self, code: &Code, x: u32) -> Outcome
+    pub(crate) fn enter(&mut self, memory: &mut PartitionMem, code: &Code, x: u32) -> Outcome
         requires next { self.old.pc + 1 < 2 ^ 32 }
-        ensures control { control_of self.new ≡ (executes code.now.routines.items (Instr.Call x) (control_of self.old) []).control }
-        ensures outcome { result ≡ outcome_of (executes code.now.routines.items (Instr.Call x) (control_of self.old) []).asks }
+        ensures control { control_of self.new memory.new ≡ (executes code.now.routines.items (Instr.Call x) (control_of self.old memory.old) memory.old.words).control }
+        ensures memory { IsChanged (executes code.now.routines.items (Instr.Call x) (control_of self.old memory.old) memory.old.words) memory.old memory.new }
+        ensures outcome { result ≡ outcome_of (executes code.now.routines.items (Instr.Call x) (control_of self.old memory.old) memory.old.words).asks }
     {
         match code.routines.get(x as usize) {
             Some(routine) => {
@@ -75,36 +100,26 @@ impl Context {
                 if self.operands() < parameters {
                     return Outcome::Fault(ErrorKind::IllegalRequest);
                 }
-                self.enter_at(self.sp - parameters, routine)
+                self.enter_at(memory, self.sp - parameters, routine)
             }
             None => Outcome::Fault(ErrorKind::IllegalRequest),
         }
     }
 
-    /// A saved word up to a limit.
-    fn saved(&self, place: usize, limit: u32) -> Option<u32>
-        ensures { result ≡ saved_within limit (slice_get self.now.stack.items place) }
-    {
-        let word = self.stack.get(place).copied()?;
-        if word < 0 || word > i64::from(limit) {
-            return None;
-        }
-        Some(word as u32)
-    }
-
     /// RET: gives the top operand back to the frame and the instruction that were saved behind `x` words.
-    pub(crate) fn give_back(&mut self, x: u32) -> Outcome
-        ensures control { control_of self.new ≡ (executes [] (Instr.Return x) (control_of self.old) []).control }
-        ensures outcome { result ≡ outcome_of (executes [] (Instr.Return x) (control_of self.old) []).asks }
+    pub(crate) fn give_back(&mut self, memory: &mut PartitionMem, x: u32) -> Outcome
+        ensures control { control_of self.new memory.new ≡ (executes [] (Instr.Return x) (control_of self.old memory.old) memory.old.words).control }
+        ensures memory { IsChanged (executes [] (Instr.Return x) (control_of self.old memory.old) memory.old.words) memory.old memory.new }
+        ensures outcome { result ≡ outcome_of (executes [] (Instr.Return x) (control_of self.old memory.old) memory.old.words).asks }
     {
         if self.operands() < 1 {
             return Outcome::Fault(ErrorKind::IllegalRequest);
         }
         let place = self.fp as usize + x as usize;
-        match (self.saved(place, 65_536), self.saved(place + 1, self.fp)) {
+        match (saved(memory, place, 65_536), saved(memory, place + 1, self.fp)) {
             (Some(pc), Some(fp)) => {
-                let value = self.top();
-                self.stack[self.fp as usize] = value;
+                let value = self.top(memory);
+                let _ = memory.store(Region::Stack, self.fp as usize, value);
                 self.pc = pc;
                 self.spent = 0;
                 self.awaits = 0;
@@ -117,28 +132,30 @@ impl Context {
     }
 
     /// The call that the operands on top are the arguments of.
-    fn called(&self, service: Service) -> Call
-        requires { self.now.fp + argument_words service ≤ self.now.sp }
-        ensures { result ≡ call_of service (arguments service (control_of self.now)) }
+    #[tactic(auto, using(crate::proofs::Arguments::few))]
+    fn called(&self, memory: &PartitionMem, service: Service) -> Call
+        requires { argument_words service ≤ self.now.sp }
+        ensures { result ≡ call_of service (arguments service (control_of self.now memory.now)) }
     {
-        let first = self.sp - service.argument_words();
-        call_of(service, &self.stack[first as usize..self.sp as usize])
+        let words = popped(memory, self.sp - service.argument_words(), self.sp);
+        call_of(service, &words)
     }
 
     /// Calls a service whose arguments are there.
-    fn call_service(&mut self, memory: &Data, service: Service) -> Outcome
+    fn call_service(&mut self, memory: &PartitionMem, service: Service) -> Outcome
         requires next { self.old.pc + 1 < 2 ^ 32 }
-        requires operands { self.old.fp + argument_words service ≤ self.old.sp }
-        ensures control { control_of self.new ≡ (calls service (control_of self.old) memory.now.words.items).control }
-        ensures outcome { result ≡ outcome_of (calls service (control_of self.old) memory.now.words.items).asks }
+        requires operands { argument_words service ≤ self.old.sp }
+        ensures control { control_of self.new memory.now ≡ (calls service (control_of self.old memory.now) memory.now.words).control }
+        ensures memory { IsChanged (calls service (control_of self.old memory.now) memory.now.words) memory.now memory.now }
+        ensures outcome { result ≡ outcome_of (calls service (control_of self.old memory.now) memory.now.words).asks }
     {
-        let call = self.called(service);
-        if !memory.holds(array_of(call)) {
+        let call = self.called(memory, service);
+        if !holds(memory, array_of(call)) {
             return Outcome::Fault(ErrorKind::MemoryViolation);
         }
         let sp = self.sp - service.argument_words();
         let awaits = service.answer_words();
-        if self.stack.len() < sp as usize + usize::from(awaits) {
+        if memory.stack_len() < sp as usize + usize::from(awaits) {
             return Outcome::Fault(ErrorKind::StackOverflow);
         }
         self.pc += 1;
@@ -149,10 +166,11 @@ impl Context {
     }
 
     /// SVC: the service of that number.
-    pub(crate) fn call_numbered(&mut self, memory: &Data, x: u32) -> Outcome
+    pub(crate) fn call_numbered(&mut self, memory: &PartitionMem, x: u32) -> Outcome
         requires next { self.old.pc + 1 < 2 ^ 32 }
-        ensures control { control_of self.new ≡ (executes [] (Instr.Service x) (control_of self.old) memory.now.words.items).control }
-        ensures outcome { result ≡ outcome_of (executes [] (Instr.Service x) (control_of self.old) memory.now.words.items).asks }
+        ensures control { control_of self.new memory.now ≡ (executes [] (Instr.Service x) (control_of self.old memory.now) memory.now.words).control }
+        ensures memory { IsChanged (executes [] (Instr.Service x) (control_of self.old memory.now) memory.now.words) memory.now memory.now }
+        ensures outcome { result ≡ outcome_of (executes [] (Instr.Service x) (control_of self.old memory.now) memory.now.words).asks }
     {
         match Service::from_number(x) {
             Some(service) => {

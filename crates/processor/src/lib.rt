@@ -4,12 +4,12 @@
 //! takes as many ticks as the table says, and has its effect, or its fault, in the last of them.
 #![tactic(auto)]
 
+mod access;
 mod arithmetic;
 mod calls;
 mod code;
 mod codec;
 mod context;
-mod data;
 mod execute;
 mod memory;
 mod outcome;
@@ -17,6 +17,5 @@ mod outcome;
 pub use code::Code;
 pub use codec::{decode, encode, encode_and_decode_agree, fields, op_name};
 pub use context::Context;
-pub use data::Data;
 pub use execute::step;
 pub use outcome::Outcome;

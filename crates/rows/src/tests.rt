@@ -1,8 +1,10 @@
 mod files;
 mod first_run;
+mod flushes;
 mod greatest;
 mod images;
 mod largest;
+mod limits;
 mod lines;
 mod memory;
 mod shelf;

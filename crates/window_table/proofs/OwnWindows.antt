@@ -1,6 +1,6 @@
 -- The windows of one partition begin within the frame, as all do.
-use Rattle.std.proofs.Common.{◌≡◌, ℕ, Bool, true, false, List, [], ◌∷◌, refl, cond}
-use Rattle.std.specs.Prelude.{◌==◌, filter, ◌||◌, if◌then◌else◌}
+use Rattle.std.proofs.Common.{◌≡◌, ℕ, Bool, true, false, List, [], ◌∷◌, refl, sym, subst, cond}
+use Rattle.std.specs.Prelude.{filter, ◌||◌, if◌then◌else◌}
 use Rattle.std.specs.List.{list_any}
 use Rattle.apex_types.specs.declared.row.WindowRow.{WindowRow}
 use Rattle.apex_meaning.specs.Windows.{BeginWithin, begins_late}
@@ -23,5 +23,6 @@ any_of_some late own (w ∷ ws) h =
       | false ↦ rest
     ]
 
-pub begin_within : (frame partition : ℕ) (windows : List WindowRow) → BeginWithin frame windows → BeginWithin frame (filter (λ w. w.partition.0 == partition) windows)
-begin_within frame partition windows h = any_of_some (begins_late frame) (λ w. w.partition.0 == partition) windows h
+-- what is taken out of windows that begin within a frame begins within it
+pub begin_within : (frame : ℕ) (own : WindowRow → Bool) (windows taken : List WindowRow) → taken ≡ filter own windows → BeginWithin frame windows → BeginWithin frame taken
+begin_within frame own windows taken is h = subst (BeginWithin frame) (sym is) (any_of_some (begins_late frame) own windows h)

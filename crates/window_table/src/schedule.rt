@@ -164,6 +164,16 @@ impl Schedule {
         least
     }
 
+    /// The tick of the next release; of a partition without a release window a frame later.
+    fn release_after(&self, partition: PartitionId, at: At) -> Ticks
+        requires past { at.origin.0 ≤ at.now.0 }
+        requires tick_limit { at.now.0 ≤ 2 ^ 40 }
+        ensures computed { result.0 ≡ next_release (schedule_of self.now) partition.0 at }
+        ensures soon { result.0 ≤ 2 ^ 41 }
+    {
+        Ticks(at.now.0 + self.until_release(partition, at).0)
+    }
+
     /// The least tick after this one at which a release window of a partition starts; of a partition
     /// without a release window a frame later.
     pub fn next_release(&self, partition: PartitionId, at: At) -> Ticks
@@ -173,6 +183,6 @@ impl Schedule {
         ensures soon { result.0 ≤ 2 ^ 41 }
         ensures least { IsTrue (has_release self.now.windows.items partition.0) → IsNextRelease (schedule_of self.now) partition.0 at result.0 }
     {
-        Ticks(at.now.0 + self.until_release(partition, at).0)
+        self.release_after(partition, at)
     }
 }

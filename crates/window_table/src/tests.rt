@@ -1,5 +1,7 @@
 //! Worked tables: one text for each refusal, with a later fault in the same text.
 
+mod schedules;
+
 use crate::read_table;
 use std::alloc::Global;
 

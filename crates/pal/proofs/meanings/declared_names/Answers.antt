@@ -1,4 +1,4 @@
-use Rattle.std.proofs.Common.{[], map, is_none}
+use Rattle.std.proofs.Common.{[], map, is_ok}
 use Rattle.apex_meaning.specs.Resolve.{no_counts, declaration_entries, process_entries}
 use Rattle.pal_base.specs.View.{texts, declaration_of, process_of}
 use Rattle.pal.specs.Tables.{entries_of}
@@ -11,5 +11,5 @@ returns-clause-fresh c =
     both_fresh [] (entries_of c.new-table.result) (entries_of c.enter_declarations.new.table) (entries_of c.enter_processes.new.table)
     (declaration_entries c.args.ports.now no_counts (map (declaration_of names) c.args.program.now.declarations.items))
     (process_entries 0 (map (process_of names) c.args.program.now.processes.items))
-    (is_none c.in_ok-one.one) (is_none c.in_ok-other.other) (is_none c.earlier.result) c.new-table.ensures c.earlier.ensures
+    (is_ok c.in_ok-one.one) (is_ok c.in_ok-other.other) (is_ok c.earliest.result) c.new-table.ensures c.earliest.ensures
     (rw (← c.deref.ensures.value) c.in_ok-one.ensures.fresh) (rw (← c.deref-2.ensures.value) c.in_ok-other.ensures.fresh)

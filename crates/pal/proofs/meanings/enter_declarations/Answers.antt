@@ -1,4 +1,4 @@
-use Rattle.std.proofs.Common.{◌≡◌, ◌∙◌, ◌+◌, ◌&&◌, [], map, drop, ap, is_none}
+use Rattle.std.proofs.Common.{◌≡◌, ◌∙◌, ◌+◌, ◌&&◌, [], map, drop, ap, is_ok}
 use Rattle.apex_meaning.specs.Resolve.{Entry, no_counts, declaration_entries, after}
 use Rattle.pal_base.specs.View.{texts, declaration_of, declared_of}
 use Rattle.pal.specs.Tables.{entries_of, counts_of}
@@ -23,10 +23,10 @@ loop-declaration-preserved c =
     (counts_of c.loop-declaration.counts) (counts_of c.unwrap_or-counts.result) c.text_of-text.result.now c.meaning-meaning.result
     c.loop-declaration-test.true c.declaration-item.is c.text_of-text.ensures (c.meaning-meaning.ensures names)
     (counts_next c.after.result c.loop-declaration.counts c.unwrap_or-counts.result (after (counts_of c.loop-declaration.counts) (declared_of names x.kind)) c.unwrap_or-counts.ensures (c.after.ensures names)) in
-    let f = is_none c.loop-declaration.fault in
-    let g = is_none c.earlier-fault.result in
+    let f = is_ok c.loop-declaration.checked in
+    let g = is_ok c.earliest-checked.result in
     let new = c.in_ok-is_new.is_new in
-    let flag : g ≡ (f && new) = c.earlier-fault.ensures ∙ ap (λ b. f && b) c.unless.ensures in (
+    let flag : g ≡ (f && new) = c.earliest-checked.ensures ∙ ap (λ b. f && b) c.check_that.ensures in (
       fresh_step [] first now next left later all e new f g split (flag ∙ and_unit f new) c.in_ok-is_new.ensures.fresh c.loop-declaration.invariant.0,
       list_step first now next left later all e new f g split flag c.in_ok-is_new.ensures.behind c.loop-declaration.invariant.1,
     )

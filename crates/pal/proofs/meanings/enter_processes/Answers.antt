@@ -1,4 +1,4 @@
-use Rattle.std.proofs.Common.{◌≡◌, ◌∙◌, ◌+◌, ◌&&◌, [], map, drop, ap, is_none}
+use Rattle.std.proofs.Common.{◌≡◌, ◌∙◌, ◌+◌, ◌&&◌, [], map, drop, ap, is_ok}
 use Rattle.std.specs.Option.{unwrap_or}
 use Rattle.apex_types.specs.declared.denotation.Denotation.TheVariants.{Object}
 use Rattle.apex_types.specs.declared.denotation.ObjectKind.TheVariants as object
@@ -24,10 +24,10 @@ loop-process-preserved c =
     c.loop-process.count c.unwrap_or-count.result c.next-number.result c.text_of-text.result.now
     c.loop-process-test.true c.process-item.is c.text_of-text.ensures c.next-number.ensures
     (c.unwrap_or-count.ensures ∙ ap (λ o. unwrap_or o c.loop-process.count) c.counted.ensures) in
-    let f = is_none c.loop-process.fault in
-    let g = is_none c.earlier-fault.result in
+    let f = is_ok c.loop-process.checked in
+    let g = is_ok c.earliest-checked.result in
     let new = c.in_ok-is_new.is_new in
-    let flag : g ≡ (f && new) = c.earlier-fault.ensures ∙ ap (λ b. f && b) c.unless.ensures in (
+    let flag : g ≡ (f && new) = c.earliest-checked.ensures ∙ ap (λ b. f && b) c.check_that.ensures in (
       fresh_step [] first now next left later all e new f g split (flag ∙ and_unit f new) c.in_ok-is_new.ensures.fresh c.loop-process.invariant.0,
       list_step first now next left later all e new f g split flag c.in_ok-is_new.ensures.behind c.loop-process.invariant.1,
     )

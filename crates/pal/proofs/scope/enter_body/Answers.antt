@@ -1,4 +1,4 @@
-use Rattle.std.proofs.Common.{◌∙◌, [], length, map, is_none, ap, sym}
+use Rattle.std.proofs.Common.{◌∙◌, [], length, map, is_ok, ap, sym}
 use Rattle.apex_meaning.specs.Resolve.{own_entries, scope_of}
 use Rattle.apex_meaning.specs.WellFormed.{are_new}
 use Rattle.pal_base.specs.View.{texts, name_of}
@@ -22,5 +22,5 @@ returns-clause-fresh c =
     let ls = c.args.locals.now in
     both_fresh (entries_of c.args.declared.now) (entries_of c.new-own.result) (entries_of c.enter_names.new.own) (entries_of c.enter_names-2.new.own)
     (own_entries 0 (map (name_of names) ps)) (own_entries (length ps) (map (name_of names) ls))
-    (is_none c.in_ok-one.one) (is_none c.in_ok-other.other) (is_none c.earlier.result) c.new-own.ensures c.earlier.ensures c.in_ok-one.ensures.fresh c.in_ok-other.ensures.fresh
+    (is_ok c.in_ok-one.one) (is_ok c.in_ok-other.other) (is_ok c.earliest.result) c.new-own.ensures c.earliest.ensures c.in_ok-one.ensures.fresh c.in_ok-other.ensures.fresh
     ∙ ap (are_new (entries_of c.args.declared.now) []) (sym (own_both (name_of names) ps ls))

@@ -1,4 +1,4 @@
-use Rattle.std.proofs.Common.{◌≡◌, ◌∙◌, ◌+◌, ◌&&◌, not, map, drop, ap, is_none, is_some}
+use Rattle.std.proofs.Common.{◌≡◌, ◌∙◌, ◌+◌, ◌&&◌, not, map, drop, ap, is_ok, is_some}
 use Rattle.apex_types.specs.declared.place.Place.TheVariants.{Slot}
 use Rattle.apex_types.specs.declared.denotation.Denotation.TheVariants.{Scalar}
 use Rattle.apex_meaning.specs.Resolve.{Entry, own_entries, find}
@@ -22,12 +22,12 @@ loop-index-preserved c =
     let all = own_entries b (map (name_of names) xs) in
     let e : Entry = record { name = c.text_of-text.result.now; meaning = Scalar (Slot c.slot.result) } in
     let split = own_left (name_of names) xs i b _ c.text_of-text.result.now c.slot.result c.loop-index-test.true c.text_of-text.ensures c.slot.ensures in
-    let f = is_none c.loop-index.fault in
-    let g = is_none c.earlier-fault.result in
+    let f = is_ok c.loop-index.checked in
+    let g = is_ok c.earliest-checked.result in
     let new = c.in_ok-is_new.is_new in
     let free : is_some c.get.result ≡ is_some (find e.name declared) = ap is_some c.get.ensures in
     let flag : g ≡ (f && (new && not (is_some (find e.name declared)))) =
-    c.earlier-fault.ensures ∙ ap (λ b. f && b) (c.earlier.ensures ∙ ap (λ b. b && is_none c.unless-in-loop-index.result) c.unless.ensures ∙ ap (λ b. new && b) (c.unless-in-loop-index.ensures ∙ flipped (is_some c.get.result) c.is_none-is_free.result c.is_none-is_free.ensures ∙ ap not free)) in (
+    c.earliest-checked.ensures ∙ ap (λ b. f && b) (c.earliest.ensures ∙ ap (λ b. b && is_ok c.check_that-in-loop-index.result) c.check_that.ensures ∙ ap (λ b. new && b) (c.check_that-in-loop-index.ensures ∙ flipped (is_some c.get.result) c.is_none-is_free.result c.is_none-is_free.ensures ∙ ap not free)) in (
       sees_step first now next left later all e split c.in_ok-is_new.ensures.sees c.loop-index.invariant.0,
       fresh_step declared first now next left later all e new f g split flag c.in_ok-is_new.ensures.fresh c.loop-index.invariant.1,
     )

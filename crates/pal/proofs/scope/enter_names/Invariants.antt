@@ -1,4 +1,4 @@
-use Rattle.std.proofs.Common.{◌≡◌, ℕ, ◌+◌, ◌&&◌, List, ◌++◌, map, drop, is_none}
+use Rattle.std.proofs.Common.{◌≡◌, ℕ, ◌+◌, ◌&&◌, List, ◌++◌, map, drop, is_ok}
 use Rattle.apex_meaning.specs.Resolve.{Entry, find, own_entries}
 use Rattle.apex_meaning.specs.WellFormed.{are_new}
 use Rattle.pal_base.specs.View.{texts, name_of}
@@ -10,4 +10,4 @@ invariant-loop-index l =
     let left = own_entries (l.before + l.index) (map (name_of (texts l.names.keys)) (drop l.index l.identifiers)) in
     let all = own_entries l.before (map (name_of (texts l.names.keys)) l.identifiers) in
     ((name : List ℕ) (rest : List Entry) → find name (entries_of l.own ++ (left ++ rest)) ≡ find name (entries_of l.fn.own ++ (all ++ rest)))
-    × ((rest : List Entry) → (is_none l.fault && are_new (entries_of l.declared) (entries_of l.own) (left ++ rest)) ≡ are_new (entries_of l.declared) (entries_of l.fn.own) (all ++ rest))
+    × ((rest : List Entry) → (is_ok l.checked && are_new (entries_of l.declared) (entries_of l.own) (left ++ rest)) ≡ are_new (entries_of l.declared) (entries_of l.fn.own) (all ++ rest))

@@ -1,9 +1,6 @@
-use Rattle.std.proofs.Common.{◌≡◌, ◌∷◌, map, take}
-use Rattle.partition_base.specs.Slots.{control_of_slot, stack_of_slot, stack_of_body, unbegun}
+use Rattle.std.proofs.Common.{◌≡◌, ◌+◌, map, replicate, false}
+use Rattle.partition_base.specs.Slots.{is_begun}
 use Rattle.partition_base.proofs.machine.fresh_slots.Given as goal
 
 abbrev pub invariant-loop-body : goal.invariant-loop-body
-invariant-loop-body l = record {
-  controls : map control_of_slot l.slots.items ≡ map unbegun (l.init ∷ l.handler ∷ take l.body-index l.processes);
-  stacks : map stack_of_slot l.slots.items ≡ map stack_of_body (l.init ∷ l.handler ∷ take l.body-index l.processes);
-}
+invariant-loop-body l = map is_begun l.slots.items ≡ replicate (2 + l.body-index) false

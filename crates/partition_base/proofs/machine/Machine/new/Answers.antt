@@ -1,13 +1,22 @@
-use Rattle.std.proofs.Common.{◌∷◌, map, ap, ◌∙◌}
+use Rattle.std.proofs.Common.{◌≡◌, ◌∷◌, length, map, ap, sym, ◌∙◌, rules}
+use Rattle.apex_meaning.specs.SourceControl.{or_init}
 use Rattle.apex_meaning.specs.TwoMeanings.{body_of_row}
-use Rattle.partition_base.specs.Slots.{unbegun}
-use Rattle.partition_base.proofs.Places.{all_unbegun}
+use Rattle.partition_base.specs.Sections.{runners_of}
+use Rattle.regions.specs.Space.{zeros}
+use Rattle.partition_base.specs.Slots.{stack_of_body}
+use Rattle.partition_base.proofs.Places.{fresh_controls, fresh_lengths}
 use Rattle.partition_base.proofs.machine.Machine.new.Goals as goal
 
 pub returns-clause-controls : goal.returns-clause-controls
 returns-clause-controls c =
-    let section = c.args.section.now in
-    let handler = c.unwrap_or-handler.result in
-    c.in_ok-fresh_slots.ensures.controls
-    ∙ ap (λ bodies. map unbegun (section.init ∷ handler ∷ bodies)) (c.deref-4.ensures.value ∙ c.in_ok-processes.ensures ∙ ap (λ rows. map body_of_row rows) c.deref-2.ensures.value)
-    ∙ all_unbegun section.init handler section.processes.items
+    let s = c.args.section.now in
+    let rows : c.in_ok-processes.processes.items ≡ map body_of_row s.processes.items = c.in_ok-processes.ensures ∙ ap (λ ps. map body_of_row ps) c.deref-2.ensures.value in
+    fresh_controls c.in_ok-fresh_slots.field-0.items s.init (or_init s.init s.handler) c.deref-4.result.now s.processes.items c.in_ok-fresh_slots.ensures (c.deref-4.ensures.value ∙ rows)
+
+pub returns-clause-fits : goal.returns-clause-fits
+returns-clause-fits c =
+    let s = c.args.section.now in
+    let rows : c.in_ok-processes.processes.items ≡ map body_of_row s.processes.items = c.in_ok-processes.ensures ∙ ap (λ ps. map body_of_row ps) c.deref-2.ensures.value in
+    let words = sym (ap length (c.in_ok-from_slice.ensures.items ∙ c.deref-5.ensures.value)) in
+    ap (λ n. n ∷ map length (map zeros (map stack_of_body (runners_of s)))) words
+    ∙ ap (λ ns. length c.in_ok-from_slice.field-0.items ∷ ns) (fresh_lengths (map stack_of_body (runners_of s)) ∙ ap (λ ps. map stack_of_body (s.init ∷ or_init s.init s.handler ∷ ps)) (sym rows))

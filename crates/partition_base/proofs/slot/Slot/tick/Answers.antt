@@ -1,14 +1,18 @@
 use Rattle.std.proofs.Common.{length, ap, ◌∙◌}
-use Rattle.processor.specs.Views.{control_of}
 use Rattle.apex_meaning.proofs.StackLength.{tick_keeps_stack, tick_keeps_words}
+use Rattle.apex_meaning.specs.MachineControl.{MachineControl}
+use Rattle.processor.specs.Views.{control_of}
+use Rattle.regions.specs.Space.{Space}
 use Rattle.partition_base.proofs.slot.Slot.tick.Goals as goal
 
 pub returns-clause-stack : goal.returns-clause-stack
 returns-clause-stack c =
     let code = c.args.code.now in
-    ap (λ m. length m.stack) c.step.ensures.control ∙ tick_keeps_stack code.instructions.items code.routines.items (control_of c.args.self.now.context) c.args.memory.now.words.items
+    let memory = c.args.memory.now in
+    ap (λ (m : MachineControl). length m.stack) c.step.ensures.control ∙ tick_keeps_stack code.instructions.items code.routines.items (control_of c.args.self.now.context memory) memory.words
 
 pub returns-clause-length : goal.returns-clause-length
 returns-clause-length c =
     let code = c.args.code.now in
-    ap length c.step.ensures.words ∙ tick_keeps_words code.instructions.items code.routines.items (control_of c.args.self.now.context) c.args.memory.now.words.items
+    let memory = c.args.memory.now in
+    ap (λ (s : Space). length s.words) c.step.ensures.memory ∙ tick_keeps_words code.instructions.items code.routines.items (control_of c.args.self.now.context memory) memory.words

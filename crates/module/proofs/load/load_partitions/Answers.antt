@@ -1,0 +1,45 @@
+use Rattle.std.proofs.Common.{rules, ◌≡◌, ◌+◌, ◌++◌, ◌∷◌, [], drop, take, map, ap, subst, sym, ◌∙◌, arith, List}
+use Rattle.std.specs.Prelude.{Some}
+use Rattle.std.proofs.lemmas.List.{drop_more, take_more, map-append}
+use Rattle.std.proofs.lemmas.Option.{slice_get-get_or}
+use Rattle.apex_meaning.specs.TwoMeanings.{fixed_of, machine_member, machine_members}
+use Rattle.image.specs.Items.{item_of, items_of, partition_of, section_of}
+use Rattle.image.specs.declared.item.PartitionItem.{PartitionItem}
+use Rattle.partition.specs.Members.{member_of}
+use Rattle.partition_base.specs.contracts.machine.MachineExecutor.TheImpl.{ghosts as machine}
+use Rattle.regions.specs.Space.{Space}
+use Rattle.window_table.specs.Schedules.{schedule_of}
+use Rattle.module.specs.Loading.{fresh_item}
+use Rattle.module.specs.Members.{members_of, AreFitting}
+use Rattle.module.proofs.Lawful.{one_more_loaded}
+use Rattle.module.proofs.Members.{one_more_member, one_more_fits}
+use Rattle.module.proofs.load.load_partitions.Goals as goal
+
+pub load_partition-requires : goal.load_partition-requires
+load_partition-requires c =
+    c.requires.fit c.loop-item.item-index c.item-item.result (slice_get-get_or c.args.items.now c.loop-item.item-index c.item-item.result c.loop-item-test.true ∙ ap Some (sym c.item-item.is))
+
+pub loop-item-preserved : goal.loop-item-preserved
+loop-item-preserved c =
+    let i = c.loop-item.item-index in
+    let items = c.args.items.now in
+    let item = c.item-item.result in
+    let before = c.loop-item.partitions.items in
+    let p = c.in_ok-load_partition.field-0 in
+    let fresh = map fresh_item (take i items) in
+    let left : drop i items ≡ item ∷ drop (i + 1) items = drop_more items i item c.loop-item-test.true ∙ ap (λ (x : PartitionItem). x ∷ drop (i + 1) items) (sym c.item-item.is) in
+    let here : take (i + 1) items ≡ take i items ++ item ∷ [] = take_more items i item c.loop-item-test.true ∙ ap (λ (x : PartitionItem). take i items ++ x ∷ []) (sym c.item-item.is) in
+    let more : map fresh_item (take (i + 1) items) ≡ fresh ++ fresh_item item ∷ [] = ap (λ xs. map fresh_item xs) here ∙ map-append fresh_item (take i items) (item ∷ []) in
+    let so_far = rw left at c.loop-item.invariant.members in
+    let next : c.push.new.self.items ≡ before ++ p ∷ [] = search rules in
+    let pushed : members_of machine c.push.new.self.items (map fresh_item (take (i + 1) items)) ≡ members_of machine before fresh ++ member_of machine p (fresh_item item) ∷ [] =
+    ap (λ ps. members_of machine ps (map fresh_item (take (i + 1) items))) next
+    ∙ ap (λ ss. members_of machine (before ++ p ∷ []) ss) more
+    ∙ one_more_member machine before fresh p (fresh_item item) c.loop-item.invariant.fit in
+    let fits : AreFitting machine (before ++ p ∷ []) (fresh ++ fresh_item item ∷ []) = one_more_fits machine before fresh p (fresh_item item) c.loop-item.invariant.fit c.in_ok-load_partition.ensures.fits in
+    let same : member_of machine p (fresh_item item) ≡ machine_member (fixed_of (schedule_of c.args.schedule.now) c.loop-item.number (partition_of item.row)) (section_of item.section) = search rules in
+    record {
+      number = omega arith;
+      fit = subst (λ ps. AreFitting machine ps (map fresh_item (take (i + 1) items))) (sym next) (subst (λ ss. AreFitting machine (before ++ p ∷ []) ss) (sym more) fits);
+      members = one_more_loaded (schedule_of c.args.schedule.now) c.loop-item.number (members_of machine before fresh) (members_of machine c.push.new.self.items (map fresh_item (take (i + 1) items))) (machine_members (schedule_of c.args.schedule.now) 1 (items_of items)) (member_of machine p (fresh_item item)) (item_of item) (items_of (drop (i + 1) items)) pushed same so_far;
+    }

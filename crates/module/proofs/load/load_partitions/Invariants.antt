@@ -1,0 +1,15 @@
+use Rattle.std.proofs.Common.{◌≡◌, ◌+◌, ◌++◌, drop, map, take}
+use Rattle.apex_meaning.specs.TwoMeanings.{machine_members}
+use Rattle.image.specs.Items.{items_of}
+use Rattle.partition_base.specs.contracts.machine.MachineExecutor.TheImpl.{ghosts as machine}
+use Rattle.window_table.specs.Schedules.{schedule_of}
+use Rattle.module.specs.Loading.{fresh_item}
+use Rattle.module.specs.Members.{members_of, AreFitting}
+use Rattle.module.proofs.load.load_partitions.Given as goal
+
+abbrev pub invariant-loop-item : goal.invariant-loop-item
+invariant-loop-item l = record {
+  number : l.number ≡ l.item-index + 1;
+  fit : AreFitting machine l.partitions.items (map fresh_item (take l.item-index l.items));
+  members : members_of machine l.partitions.items (map fresh_item (take l.item-index l.items)) ++ machine_members (schedule_of l.schedule) l.number (items_of (drop l.item-index l.items)) ≡ machine_members (schedule_of l.schedule) 1 (items_of l.fn.items);
+}

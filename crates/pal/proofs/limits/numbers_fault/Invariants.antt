@@ -1,9 +1,0 @@
-use Rattle.std.proofs.Common.{◌≡◌, ◌&&◌, map, drop, is_none}
-use Rattle.std.specs.List.{list_all}
-use Rattle.pal_base.specs.View as view
-use Rattle.pal_base.specs.View.{texts, name_of, expr_of, exprs_of, links_of, stmt_of, block_of}
-use Rattle.apex_meaning.specs.WellFormed.{is_word}
-use Rattle.pal.proofs.limits.numbers_fault.Given as goal
-
-abbrev pub invariant-loop-number : goal.invariant-loop-number
-invariant-loop-number l = (is_none l.fault && list_all is_word (map view.integer_of (drop l.number-index l.numbers))) ≡ list_all is_word (map view.integer_of l.numbers)

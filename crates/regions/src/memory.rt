@@ -1,0 +1,51 @@
+//! The memory of all partitions.
+
+use crate::partition_mem::PartitionMem;
+use crate::plan::MemoryPlan;
+use std::alloc::{AllocError, Global};
+use std::marker::Model;
+
+/// The memory of all partitions, in their order. How many words each part has never changes.
+#[derive(Drop)]
+pub struct Memory {
+    parts: Vec<PartitionMem>,
+}
+
+impl Model for Memory {
+    ghost use Rattle.std.specs.Prelude.{List};
+    ghost use Rattle.regions.specs.Space.{Space};
+
+    ghost Value = { List Space };
+
+    ghost view = { λ m. m.parts.items };
+}
+
+impl Memory {
+    ghost use Rattle.std.specs.Prelude.{◌≡◌, ◌<◌, IfOk, Some, length, map, slice_get, slice_set};
+    ghost use Rattle.std.specs.Borrow.{sem, Lends};
+    ghost use Rattle.regions.specs.Space.{planned};
+    ghost use Rattle.regions.specs.contracts.memory.Memory.{the_row};
+    ghost use Rattle.regions.specs.contracts.partition_mem.PartitionMem.{the_row as part_row};
+
+    /// The memory of all partitions at once: of each its initial data, and stacks of zeros. An
+    /// error is one of memory.
+    pub fn new(alloc: Global, plan: &[MemoryPlan]) -> Result<Memory, AllocError>
+        ensures { IfOk result (λ memory. memory ≡ map planned plan.now) }
+    {
+        let mut parts = Vec::with_capacity(alloc, plan.len())?;
+        for part in plan {
+            parts.push(PartitionMem::new(alloc, part)?)?;
+        }
+        Ok(Memory { parts })
+    }
+
+    /// The words of the partition at a place, from 0. After the loan these are as the borrower left
+    /// them, and all others are as they were.
+    pub fn lend(&mut self, place: usize) -> &mut PartitionMem
+        requires { place < length self.old }
+        ensures* back { sem 𝓛 (Lends the_row part_row self.entry result (λ w. slice_set self.entry.now place w)) }
+        ensures lent { slice_get self.old place ≡ Some result.now }
+    {
+        &mut self.parts[place]
+    }
+}

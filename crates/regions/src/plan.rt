@@ -1,0 +1,12 @@
+//! What memory a partition is to have.
+
+ghost use Rattle.std.specs.Prelude.{◌<◌, length};
+
+/// The memory that a partition asks for: its initial data, and the words of the stack of each that
+/// may run in it. There is one stack at least.
+#[derive(Drop)]
+pub struct MemoryPlan {
+    pub initial: Vec<i64>,
+    pub stacks: Vec<u16>,
+    pub ghost some: { 0 < length stacks.items },
+}

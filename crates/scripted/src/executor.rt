@@ -1,0 +1,82 @@
+//! The executor that plays the scripts of a partition.
+
+use crate::part::Part;
+use apex_types::{Runner, Words};
+use partition_base::{Executor, message, put};
+use processor::Outcome;
+use regions::PartitionMem;
+
+/// Plays the scripts of INIT, of the error handler and of the processes, in this order.
+#[derive(Drop)]
+pub struct Scripted {
+    pub parts: Vec<Part>,
+    pub initial: Vec<i64>,
+}
+
+impl Executor for Scripted {
+    ghost use Rattle.std.specs.Prelude.{List};
+    ghost use Rattle.apex_meaning.specs.Engine.{Asks};
+    ghost use Rattle.scripted.specs.Plays.{engine_of, controls_of, initial_of, layout_of, laid_of};
+
+    type Mem = PartitionMem;
+
+    ghost Control = { List Asks };
+
+    ghost engine = { engine_of };
+
+    ghost controls = { controls_of };
+
+    ghost words = { λ s. s.words };
+
+    ghost initial = { initial_of };
+
+    ghost layout = { layout_of };
+
+    ghost laid = { laid_of };
+
+    #[tactic(auto, using(crate::proofs::Parts::views))]
+    fn begin(&mut self, _mem: &mut PartitionMem, runner: Runner) {
+        if let Some(part) = self.parts.get_mut(runner.place()) {
+            part.begin();
+        }
+    }
+
+    #[tactic(auto, using(crate::proofs::Parts::views))]
+    fn stop(&mut self, _mem: &PartitionMem, runner: Runner) {
+        if let Some(part) = self.parts.get_mut(runner.place()) {
+            part.stop();
+        }
+    }
+
+    #[tactic(auto, using(crate::proofs::Parts::views))]
+    fn stop_all(&mut self, _mem: &PartitionMem) {
+        for part in self.parts.iter_mut() {
+            part.stop();
+        }
+    }
+
+    #[tactic(auto, using(crate::proofs::Parts::views))]
+    fn tick(&mut self, _mem: &mut PartitionMem, runner: Runner) -> Outcome {
+        match self.parts.get_mut(runner.place()) {
+            Some(part) => part.tick(),
+            None => Outcome::Busy,
+        }
+    }
+
+    #[tactic(auto, using(crate::proofs::Parts::views))]
+    fn reply(&mut self, _mem: &mut PartitionMem, _runner: Runner, _answer: &Words) {}
+
+    fn read(&self, mem: &PartitionMem, place: i64, count: u8) -> Words {
+        message(mem.data(), place, count)
+    }
+
+    fn write(&self, mem: &mut PartitionMem, place: i64, array: &Words) {
+        if place >= 0 {
+            put(mem, place.unsigned_abs() as usize, array);
+        }
+    }
+
+    fn restore(&self, mem: &mut PartitionMem) {
+        mem.restore(&self.initial);
+    }
+}

@@ -1,0 +1,65 @@
+//! A runner with its script.
+
+ghost use Rattle.std.specs.Prelude.{◌≡◌, ◌<◌, ℤ, List, Some, None, length};
+ghost use Rattle.apex_meaning.specs.Partition.{ticked};
+ghost use Rattle.processor.specs.Views.{asks_of};
+ghost use Rattle.scripted.specs.Plays.{control_of, script_of};
+ghost use Rattle.scripted.specs.Scripts.{script_engine};
+
+use processor::Outcome;
+
+/// A runner with its script.
+#[derive(Drop)]
+pub struct Part {
+    /// What its ticks come to, one after the other. Behind the last one it is busy.
+    pub(crate) outcomes: Vec<Outcome>,
+    /// The place of the next one, where something is left to do.
+    pub(crate) next: Option<usize>,
+}
+
+impl Part {
+    /// A runner that is not begun.
+    pub fn new(outcomes: Vec<Outcome>) -> Part
+        ensures control { control_of result ≡ None }
+        ensures outcomes { result.outcomes ≡ outcomes }
+    {
+        Part {
+            outcomes,
+            next: None,
+        }
+    }
+
+    /// The script begins anew.
+    pub(crate) fn begin(&mut self)
+        ensures control { control_of self.new ≡ Some (script_of self.old) }
+        ensures script { script_of self.new ≡ script_of self.old }
+    {
+        self.next = Some(0);
+    }
+
+    /// Nothing is left to do.
+    pub(crate) fn stop(&mut self)
+        ensures control { control_of self.new ≡ None }
+        ensures script { script_of self.new ≡ script_of self.old }
+    {
+        self.next = None;
+    }
+
+    /// The next of the script, where something is left to do.
+    #[tactic(auto, using(std::proofs::lemmas::List::drop_more))]
+    pub(crate) fn tick(&mut self) -> Outcome
+        ensures control { (scripts : _) (words : List ℤ) → control_of self.new ≡ (ticked (script_engine scripts) (control_of self.old) words).control }
+        ensures asks { (scripts : _) (words : List ℤ) → asks_of result ≡ (ticked (script_engine scripts) (control_of self.old) words).asks }
+        ensures script { script_of self.new ≡ script_of self.old }
+    {
+        let Some(place) = self.next else {
+            return Outcome::Busy;
+        };
+        if place >= self.outcomes.len() {
+            return Outcome::Busy;
+        }
+        let outcome = self.outcomes[place];
+        self.next = Some(place + 1);
+        outcome
+    }
+}
