@@ -44,7 +44,7 @@ timed_wait at s p delay =
 
 -- ---- PERIODIC_WAIT
 
--- its deadline is kept: it waits for its next release, a period after the last
+-- it has kept its deadline, and waits for its next release, a period after the last
 abbrev pub waits_for_period : Processes → Runner → ProcessStatus → Option Ticks → Step Processes
 waits_for_period s p r None = nothing s
 waits_for_period s p r (Some period) = waits s p (record r { deadline = None }) (wait.Service service.PeriodicWait) (Some (due_time.Release (ticks (r.release.0 + period.0))))

@@ -63,7 +63,7 @@ fn wait_for(table: &mut ProcessTable, at: At, caller: Runner, delay: i64, out: &
 }
 
 /// PERIODIC_WAIT (ARINC 653 Part 1, time management): the caller waits for its next release, a period
-/// after the last; its deadline is kept. INVALID_MODE: the caller may not wait, or is aperiodic.
+/// after the last; it has kept its deadline. INVALID_MODE: the caller may not wait, or is aperiodic.
 pub fn periodic_wait(table: &mut ProcessTable, caller: Runner, out: &mut Out)
     requires { HasRoom 1 out.old }
     ensures step { IsMade (meaning.periodic_wait table.old caller) table.new out.old out.new }

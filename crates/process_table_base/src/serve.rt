@@ -68,7 +68,7 @@ impl ProcessTable {
         }
     }
 
-    /// A periodic process keeps its deadline, and waits for its next release, a period after the
+    /// A periodic process has kept its deadline, and waits for its next release, a period after the
     /// last.
     #[tactic(auto, using(crate::proofs::Bounds::bounds))]
     pub fn wait_for_period(

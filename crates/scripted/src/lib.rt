@@ -7,3 +7,6 @@ mod part;
 
 pub use executor::Scripted;
 pub use part::Part;
+
+#[cfg(test)]
+mod tests;
