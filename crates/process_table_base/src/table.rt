@@ -31,7 +31,7 @@ pub struct ProcessTable {
 
 impl Model for ProcessTable {
     ghost use Rattle.apex_meaning.specs.Processes as meaning;
-ghost use Rattle.apex_meaning.specs.ProcessServices.{level_of};
+    ghost use Rattle.apex_meaning.specs.ProcessServices.{level_of};
 
     ghost Value = { meaning.Processes };
 

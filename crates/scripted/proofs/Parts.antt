@@ -6,7 +6,8 @@ use Rattle.std.proofs.lemmas.List.{map-set, set_past}
 use Rattle.std.proofs.lemmas.Option.{slice_get-map, slice_get_past, slice_get-get_or, none-some, same_Some}
 use Rattle.apex_meaning.specs.Engine.{Asks}
 use Rattle.apex_meaning.specs.Partition.{control_at, no_control, replied}
-use Rattle.scripted.specs.Plays.{script_of}
+use Rattle.regions.specs.Space.{Space}
+use Rattle.scripted.specs.Plays.{script_of, laid_of}
 use Rattle.scripted.specs.Scripts.{script_engine}
 use Rattle.scripted.specs.declared.part.Part.{Part}
 
@@ -17,6 +18,11 @@ script_there (p ∷ parts) zero part e = ap script_of (sym (same_Some p part e))
 script_there (p ∷ parts) (suc place) part e = script_there parts place part e
 
 pub ruleset views = (script_there, map-set, map-set_same, set_past, slice_get-map, slice_get_past, slice_get-get_or)
+
+-- the lengths in the first part of a memory
+pub laid_first : (parts : List Space) (part : Space) → map laid_of parts ≡ (0 ∷ []) ∷ [] → slice_get parts 0 ≡ Some part → laid_of part ≡ 0 ∷ []
+laid_first [] part all e = absurd (none-some part e)
+laid_first (p ∷ parts) part all e = ap laid_of (sym (same_Some p part e)) ∙ ap (λ l. get_or l 0 []) all
 
 -- ---- an answer changes no script
 

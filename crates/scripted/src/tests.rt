@@ -29,6 +29,30 @@ length = 20
 release = true
 ";
 
+const CREATED: &str = "0000000000000 flight STATE INIT RUNNING
+0000000000000 flight RET INIT CREATE_PROCESS 0
+";
+
+const STARTED: &str = "0000000000001 flight RET INIT START 0
+0000000000001 flight STATE p WAITING
+";
+
+const NORMAL: &str = "0000000000002 flight RET INIT SET_PARTITION_MODE 0
+0000000000002 flight STATE INIT DORMANT
+0000000000002 flight MODE NORMAL
+0000000000002 flight STATE p READY
+";
+
+const RUNNING: &str = "0000000000003 flight STATE p RUNNING
+";
+
+const ASKED: &str = "0000000000004 flight RET p GET_TIME 0
+";
+
+const FAULTY: &str = "0000000000005 flight STATE p DORMANT
+0000000000005 flight HM NUMERIC_ERROR p PARTITION IGNORE
+";
+
 const HEALTH: HealthTable = HealthTable {
     deadline_missed: PartitionAction::Ignore,
     application_error: PartitionAction::Ignore,
@@ -41,7 +65,9 @@ const HEALTH: HealthTable = HealthTable {
 
 /// INIT creates and starts the process and enters normal mode, a call a tick. The process asks for
 /// the time in its second tick, and is faulty in its third.
-fn scripted(alloc: Global) -> Result<Scripted, AllocError> {
+fn scripted(alloc: Global) -> Result<Scripted, AllocError>
+    ensures { IfOk result (λ executor. layout_of executor ≡ 0 ∷ []) }
+{
     let create = Outcome::Call(Call::CreateProcess { name: 1 });
     let start = Outcome::Call(Call::Start { process: 1 });
     let normal = Outcome::Call(Call::SetPartitionMode { mode: 3 });
@@ -124,6 +150,7 @@ fn tick(
 }
 
 #[test]
+#[tactic(auto, using(crate::proofs::Parts::laid_first))]
 fn scripts_are_played(rt: HostRuntime) -> Result<(), Fail> {
     let alloc = rt.alloc();
     let mut partition = partition(alloc)?;
@@ -135,9 +162,19 @@ fn scripts_are_played(rt: HostRuntime) -> Result<(), Fail> {
         origin: Ticks(0),
     };
     partition.clear(mem, start, StartCondition::NormalStart, &mut events);
-    assert_eq!(rt;
-        tick(alloc, &mut partition, mem, 0)?.as_slice(),
-        b"".as_slice()
-    );
+    let created = tick(alloc, &mut partition, mem, 0)?;
+    assert_eq!(rt; created.as_slice(), CREATED.as_bytes());
+    let started = tick(alloc, &mut partition, mem, 1)?;
+    assert_eq!(rt; started.as_slice(), STARTED.as_bytes());
+    let normal = tick(alloc, &mut partition, mem, 2)?;
+    assert_eq!(rt; normal.as_slice(), NORMAL.as_bytes());
+    let running = tick(alloc, &mut partition, mem, 3)?;
+    assert_eq!(rt; running.as_slice(), RUNNING.as_bytes());
+    let asked = tick(alloc, &mut partition, mem, 4)?;
+    assert_eq!(rt; asked.as_slice(), ASKED.as_bytes());
+    let faulty = tick(alloc, &mut partition, mem, 5)?;
+    assert_eq!(rt; faulty.as_slice(), FAULTY.as_bytes());
+    let idle = tick(alloc, &mut partition, mem, 6)?;
+    assert!(rt; idle.as_slice().is_empty());
     Ok(())
 }
