@@ -5,7 +5,7 @@ use Rattle.std.specs.Prelude.{◌<ℤ◌, ◌≤ℤ◌, slice_get}
 use Rattle.apex_types.specs.declared.identity.Runner.TheVariants as runner
 use Rattle.apex_types.specs.declared.process.ProcessStatus.{ProcessStatus}
 use Rattle.apex_meaning.specs.Partition.{most_words}
-use Rattle.apex_meaning.specs.HealthServices.{first_words}
+use Rattle.apex_meaning.specs.Step.{first_words}
 use Rattle.apex_meaning.specs.Processes.{Processes, process_at, numbered, index, row_of}
 use Rattle.std.specs.Prelude.{take, min}
 

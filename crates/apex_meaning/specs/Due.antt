@@ -21,17 +21,23 @@ use Rattle.apex_types.specs.declared.process.Due.TheVariants as due_time
 use Rattle.apex_types.specs.declared.process.ProcessStatus.{ProcessStatus}
 use Rattle.apex_types.specs.declared.process.Wait.{Wait}
 use Rattle.apex_types.specs.declared.process.Wait.TheVariants as wait
+use Rattle.apex_types.specs.declared.service.Service.TheVariants as service
 use Rattle.apex_meaning.specs.Processes.{Processes, row_of, index, put_row, released}
 use Rattle.apex_meaning.specs.Starts.{released_at}
 use Rattle.apex_meaning.specs.Step.{Step, nothing, after, message}
 
 -- ---- due times
 
+-- One that suspended itself is suspended no longer at its time-out; any other stays suspended.
+abbrev pub timed_out : ProcessStatus → Wait → ProcessStatus
+timed_out r (wait.Service service.SuspendSelf) = record r { suspended = false }
+timed_out r _ = r
+
 -- A release point is reached, a delay is over, or a wait was in vain.
 abbrev pub ends_wait : Processes → Runner → ProcessStatus → Due → Step Processes
 ends_wait s p r (due_time.Release tick) = released s p (released_at tick r) code.NoError
 ends_wait s p r (due_time.Delay tick) = released s p r code.NoError
-ends_wait s p r (due_time.TimeOut tick) = released s p (record r { suspended = false }) code.TimedOut
+ends_wait s p r (due_time.TimeOut tick) = released s p (timed_out r r.wait) code.TimedOut
 
 abbrev pub tick_of : Due → ℕ
 tick_of (due_time.Release tick) = tick.0

@@ -18,18 +18,13 @@ use Rattle.apex_meaning.specs.Due.{mode_of_action}
 use Rattle.apex_meaning.specs.Kernel.{Kernel, of_processes}
 use Rattle.apex_meaning.specs.PartitionServices.{clears, rests_found}
 use Rattle.apex_meaning.specs.Processes.{Processes, row_of, subject, answers, refuses}
-use Rattle.apex_meaning.specs.Step.{Step, nothing, after, message, row}
+use Rattle.apex_meaning.specs.Step.{Step, nothing, after, message, first_words, row}
 
 -- ---- REPORT_APPLICATION_MESSAGE
 
 -- 1 to 16 words, and no more than the array has
 abbrev pub is_message_length : ℤ → ℤ → Bool
 is_message_length size length = int_le (pos 1) length && int_le length (pos 16) && int_le length size
-
--- so many of the words
-abbrev pub first_words : ℤ → List ℤ → List ℤ
-first_words (pos n) words = take n words
-first_words (negsuc n) words = []
 
 abbrev pub reports : Processes → Runner → List ℤ → Step Processes
 reports s p words = record { part = s; lines = event.Report (subject s p) (message words) ∷ []; actions = [] }

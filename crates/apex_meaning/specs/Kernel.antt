@@ -3,7 +3,9 @@ use Rattle.std.specs.Prelude.{ℕ, List}
 use Rattle.apex_types.specs.declared.codes.Mode.{Mode}
 use Rattle.apex_types.specs.declared.codes.StartCondition.{StartCondition}
 use Rattle.apex_types.specs.declared.row.HealthTable.{HealthTable}
+use Rattle.apex_meaning.specs.Objects.{Objects}
 use Rattle.apex_meaning.specs.Processes.{Processes}
+use Rattle.apex_meaning.specs.Sharing.{Sharing}
 use Rattle.apex_meaning.specs.Step.{Step, lifted}
 use Rattle.apex_meaning.specs.Windows.{Schedule}
 
@@ -16,9 +18,6 @@ pub record Fixed : Type 0 where
   pub duration : ℕ
   pub schedule : Schedule
   pub health : HealthTable
-
--- buffers, blackboards, semaphores and events; there are none yet
-pub record Objects : Type 0 where
 
 -- the ports of the partition; there are none yet
 pub record Ports : Type 0 where
@@ -41,3 +40,14 @@ with_processes k s = record k { processes = s }
 -- a step of the processes is one of the partition
 abbrev pub of_processes : Kernel → Step Processes → Step Kernel
 of_processes k s = lifted (with_processes k) s
+
+-- the processes and the objects
+abbrev pub sharing : Kernel → Sharing
+sharing k = record { processes = k.processes; objects = k.objects }
+
+abbrev pub with_sharing : Kernel → Sharing → Kernel
+with_sharing k b = record k { processes = b.processes; objects = b.objects }
+
+-- a step of the processes and the objects is one of the partition
+abbrev pub of_sharing : Kernel → Step Sharing → Step Kernel
+of_sharing k s = lifted (with_sharing k) s

@@ -26,10 +26,14 @@ use Rattle.apex_types.specs.declared.service.Call.TheVariants as call
 use Rattle.apex_meaning.specs.Due.{Treated, due}
 use Rattle.apex_meaning.specs.Engine.{Engine, Ticked, Asks, Nothing, Calls, Faults, Ends}
 use Rattle.apex_meaning.specs.HealthServices.{action_of, faults, report}
-use Rattle.apex_meaning.specs.Kernel.{Kernel, of_processes}
+use Rattle.apex_meaning.specs.BlackboardServices.{create_blackboard, display_blackboard, read_blackboard, clear_blackboard, get_blackboard_id, get_blackboard_status}
+use Rattle.apex_meaning.specs.BufferServices.{create_buffer, send_buffer, receive_buffer, get_buffer_id, get_buffer_status}
+use Rattle.apex_meaning.specs.EventServices.{create_event, set_event, reset_event, wait_event, get_event_id, get_event_status}
+use Rattle.apex_meaning.specs.Kernel.{Kernel, of_processes, of_sharing, sharing}
 use Rattle.apex_meaning.specs.PartitionServices.{clears, ends_body, get_partition_status, next_release_of, set_partition_mode}
 use Rattle.apex_meaning.specs.Processes.{Processes, row_of, put_row, is_same}
 use Rattle.apex_meaning.specs.ProcessServices.{get_process_id, get_process_status, create_process, set_priority, suspend_self, suspend, resume, stop, start, delayed_start, lock_preemption, unlock_preemption, get_my_id, number_of, is_ready_state}
+use Rattle.apex_meaning.specs.SemaphoreServices.{create_semaphore, wait_semaphore, signal_semaphore, get_semaphore_id, get_semaphore_status}
 use Rattle.apex_meaning.specs.ServiceTable.{array_of}
 use Rattle.apex_meaning.specs.Step.{Step, nothing, after}
 use Rattle.apex_meaning.specs.TimeServices.{get_time, timed_wait, periodic_wait, replenish}
@@ -121,34 +125,60 @@ abbrev pub given : Asks → List ℤ → List ℤ
 given (Calls c) words = handed (array_of c) words
 given _ words = []
 
--- the services on processes and on time; one that the kernel does not serve leaves its caller without an
--- answer
-abbrev pub serves_processes : At → Kernel → Runner → Call → Step Kernel
-serves_processes at k p (call.GetProcessId name) = of_processes k (get_process_id k.processes p name)
-serves_processes at k p (call.GetProcessStatus id) = of_processes k (get_process_status k.processes p id)
-serves_processes at k p (call.CreateProcess name) = of_processes k (create_process k.mode k.processes p name)
-serves_processes at k p (call.SetPriority id v) = of_processes k (set_priority k.processes p id v)
-serves_processes at k p (call.SuspendSelf limit) = of_processes k (suspend_self at k.processes p limit)
-serves_processes at k p (call.Suspend id) = of_processes k (suspend k.processes p id)
-serves_processes at k p (call.Resume id) = of_processes k (resume k.processes p id)
-serves_processes at k p (call.Stop id) = of_processes k (stop k.processes p id)
-serves_processes at k p (call.Start id) = of_processes k (start k.mode at (next_release_of at k) k.processes p id)
-serves_processes at k p (call.DelayedStart id delay) = of_processes k (delayed_start k.mode at (next_release_of at k) k.processes p id delay)
-serves_processes at k p call.LockPreemption = of_processes k (lock_preemption k.mode k.processes p)
-serves_processes at k p call.UnlockPreemption = of_processes k (unlock_preemption k.mode k.processes p)
-serves_processes at k p call.GetMyId = of_processes k (get_my_id k.processes p (number_of p))
-serves_processes at k p (call.TimedWait delay) = of_processes k (timed_wait at k.processes p delay)
-serves_processes at k p call.PeriodicWait = of_processes k (periodic_wait k.processes p)
-serves_processes at k p call.GetTime = of_processes k (get_time at k.processes p)
-serves_processes at k p (call.Replenish budget) = of_processes k (replenish k.mode at k.processes p budget)
-serves_processes at k p _ = nothing k
+-- the services on semaphores, events, buffers and blackboards; one that the kernel does not serve leaves
+-- its caller without an answer
+abbrev pub serves_objects : At → Kernel → Runner → Call → List ℤ → Step Kernel
+serves_objects at k p (call.CreateBuffer name) words = of_sharing k (create_buffer k.mode (sharing k) p name)
+serves_objects at k p (call.SendBuffer id array length limit) words = of_sharing k (send_buffer at (sharing k) p id array length limit words)
+serves_objects at k p (call.ReceiveBuffer id array limit) words = of_sharing k (receive_buffer at (sharing k) p id array limit)
+serves_objects at k p (call.GetBufferId name) words = of_sharing k (get_buffer_id (sharing k) p name)
+serves_objects at k p (call.GetBufferStatus id) words = of_sharing k (get_buffer_status (sharing k) p id)
+serves_objects at k p (call.CreateBlackboard name) words = of_sharing k (create_blackboard k.mode (sharing k) p name)
+serves_objects at k p (call.DisplayBlackboard id array length) words = of_sharing k (display_blackboard (sharing k) p id array length words)
+serves_objects at k p (call.ReadBlackboard id array limit) words = of_sharing k (read_blackboard at (sharing k) p id array limit)
+serves_objects at k p (call.ClearBlackboard id) words = of_sharing k (clear_blackboard (sharing k) p id)
+serves_objects at k p (call.GetBlackboardId name) words = of_sharing k (get_blackboard_id (sharing k) p name)
+serves_objects at k p (call.GetBlackboardStatus id) words = of_sharing k (get_blackboard_status (sharing k) p id)
+serves_objects at k p (call.CreateSemaphore name) words = of_sharing k (create_semaphore k.mode (sharing k) p name)
+serves_objects at k p (call.WaitSemaphore id limit) words = of_sharing k (wait_semaphore at (sharing k) p id limit)
+serves_objects at k p (call.SignalSemaphore id) words = of_sharing k (signal_semaphore (sharing k) p id)
+serves_objects at k p (call.GetSemaphoreId name) words = of_sharing k (get_semaphore_id (sharing k) p name)
+serves_objects at k p (call.GetSemaphoreStatus id) words = of_sharing k (get_semaphore_status (sharing k) p id)
+serves_objects at k p (call.CreateEvent name) words = of_sharing k (create_event k.mode (sharing k) p name)
+serves_objects at k p (call.SetEvent id) words = of_sharing k (set_event (sharing k) p id)
+serves_objects at k p (call.ResetEvent id) words = of_sharing k (reset_event (sharing k) p id)
+serves_objects at k p (call.WaitEvent id limit) words = of_sharing k (wait_event at (sharing k) p id limit)
+serves_objects at k p (call.GetEventId name) words = of_sharing k (get_event_id (sharing k) p name)
+serves_objects at k p (call.GetEventStatus id) words = of_sharing k (get_event_status (sharing k) p id)
+serves_objects at k p _ words = nothing k
+
+-- the services on processes and on time, then those on objects
+abbrev pub serves_processes : At → Kernel → Runner → Call → List ℤ → Step Kernel
+serves_processes at k p (call.GetProcessId name) words = of_processes k (get_process_id k.processes p name)
+serves_processes at k p (call.GetProcessStatus id) words = of_processes k (get_process_status k.processes p id)
+serves_processes at k p (call.CreateProcess name) words = of_processes k (create_process k.mode k.processes p name)
+serves_processes at k p (call.SetPriority id v) words = of_processes k (set_priority k.processes p id v)
+serves_processes at k p (call.SuspendSelf limit) words = of_processes k (suspend_self at k.processes p limit)
+serves_processes at k p (call.Suspend id) words = of_processes k (suspend k.processes p id)
+serves_processes at k p (call.Resume id) words = of_processes k (resume k.processes p id)
+serves_processes at k p (call.Stop id) words = of_processes k (stop k.processes p id)
+serves_processes at k p (call.Start id) words = of_processes k (start k.mode at (next_release_of at k) k.processes p id)
+serves_processes at k p (call.DelayedStart id delay) words = of_processes k (delayed_start k.mode at (next_release_of at k) k.processes p id delay)
+serves_processes at k p call.LockPreemption words = of_processes k (lock_preemption k.mode k.processes p)
+serves_processes at k p call.UnlockPreemption words = of_processes k (unlock_preemption k.mode k.processes p)
+serves_processes at k p call.GetMyId words = of_processes k (get_my_id k.processes p (number_of p))
+serves_processes at k p (call.TimedWait delay) words = of_processes k (timed_wait at k.processes p delay)
+serves_processes at k p call.PeriodicWait words = of_processes k (periodic_wait k.processes p)
+serves_processes at k p call.GetTime words = of_processes k (get_time at k.processes p)
+serves_processes at k p (call.Replenish budget) words = of_processes k (replenish k.mode at k.processes p budget)
+serves_processes at k p c words = serves_objects at k p c words
 
 abbrev pub serves : At → Kernel → Runner → Call → List ℤ → Step Kernel
 serves at k p call.GetPartitionStatus words = get_partition_status k p
 serves at k p (call.SetPartitionMode m) words = set_partition_mode at k p m
 serves at k p call.StopSelf words = ends_body k p
 serves at k p (call.ReportApplicationMessage array length) words = of_processes k (report k.processes p array length words)
-serves at k p c words = serves_processes at k p c
+serves at k p c words = serves_processes at k p c words
 
 abbrev pub treats_asked : At → Kernel → Runner → Asks → List ℤ → Step Kernel
 treats_asked at k p Nothing words = nothing k

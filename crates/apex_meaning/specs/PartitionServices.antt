@@ -19,6 +19,8 @@ use Rattle.apex_types.specs.declared.process.ProcessStatus.{ProcessStatus}
 use Rattle.apex_types.specs.declared.process.Wait.TheVariants as wait
 use Rattle.apex_types.specs.declared.service.Service.TheVariants as service
 use Rattle.apex_meaning.specs.Kernel.{Kernel, of_processes}
+use Rattle.apex_meaning.specs.Objects.{cleared_objects}
+use Rattle.apex_meaning.specs.Queues.{emptied}
 use Rattle.apex_meaning.specs.Processes.{Processes, row_of, rests, answers, refuses, is_normal}
 use Rattle.apex_meaning.specs.ProcessServices.{level_of}
 use Rattle.apex_meaning.specs.Starts.{start_all_waiting}
@@ -44,12 +46,12 @@ abbrev pub started_rows : Mode → List ProcessStatus → List ProcessStatus
 started_rows mode.Idle rows = rows
 started_rows _ rows = ready_init (slice_get rows 0) rows
 
--- no process is created, and no one runs or holds the lock
+-- no process is created, and no one runs, waits or holds the lock
 abbrev pub cleared_processes : Mode → Processes → Processes
-cleared_processes m s = record { rows = started_rows m (map forgotten s.rows); ready = []; running = None; lock = lock.Free }
+cleared_processes m s = record { rows = started_rows m (map forgotten s.rows); ready = []; running = None; lock = lock.Free; queues = emptied s.queues; handed = s.handed }
 
 abbrev pub cleared : Kernel → Mode → StartCondition → Kernel
-cleared k m c = record k { mode = m; condition = c; processes = cleared_processes m k.processes }
+cleared k m c = record k { mode = m; condition = c; processes = cleared_processes m k.processes; objects = cleared_objects k.objects }
 
 abbrev pub clear_actions : Mode → List Action
 clear_actions mode.Idle = action.StopAll ∷ []

@@ -2,8 +2,10 @@
 --
 -- Those that are ready stand in one list in the order of choice: the highest priority first, among
 -- equals the one that is ready longest. INIT and the error handler are in no list: their records say
--- whether they are ready.
+-- whether they are ready. Those that wait for an object or a port stand in its list, in the order in
+-- which they are released.
 use Rattle.std.specs.Prelude.{ℕ, zero, suc, ℤ, pos, negsuc, ◌==◌, ◌||◌, Bool, true, false, not, is_some, nat_lt, List, [], ◌∷◌, Option, Some, None, if◌then◌else◌, slice_get, slice_set, filter}
+use Rattle.arrayvec.specs.ArrayVec.{ArrayVec}
 use Rattle.apex_types.specs.Runners.{place_of}
 use Rattle.apex_types.specs.declared.codes.Mode.{Mode}
 use Rattle.apex_types.specs.declared.codes.Mode.TheVariants as mode
@@ -27,6 +29,8 @@ use Rattle.apex_types.specs.declared.process.ProcessStatus.{ProcessStatus}
 use Rattle.apex_types.specs.declared.process.Wait.{Wait}
 use Rattle.apex_types.specs.declared.process.Wait.TheVariants as wait
 use Rattle.apex_types.specs.declared.service.Service.{Service}
+pub use Rattle.apex_meaning.specs.Entries.{entry, is_entry_of, without, behind_equals}
+use Rattle.apex_meaning.specs.Queues.{without_in_all}
 use Rattle.apex_meaning.specs.Step.{Step, nothing, after, answered, zeros}
 
 pub record Processes : Type 0 where
@@ -36,6 +40,10 @@ pub record Processes : Type 0 where
   -- the one that is running, which is the one chosen last
   pub running : Option Runner
   pub lock : Lock
+  -- the waiting lists, one for each object and port
+  pub queues : List (List Entry)
+  -- for each process in the order of the source, the message of the call in which it waits
+  pub handed : List (ArrayVec ℤ)
 
 abbrev pub row_of : Processes → Runner → Option ProcessStatus
 row_of s p = slice_get s.rows (place_of p)
@@ -53,21 +61,6 @@ index place = record { 0 = place }
 
 -- ---- the list of those that are ready
 
-abbrev pub is_entry_of : ℕ → Entry → Bool
-is_entry_of p e = p == e.process.0
-
--- all but those of p
-abbrev pub without : ℕ → List Entry → List Entry
-without p entries = filter (λ e. not (is_entry_of p e)) entries
-
--- behind all that have its priority or a higher one
-abbrev pub behind_equals : Entry → List Entry → List Entry
-behind_equals e [] = e ∷ []
-behind_equals e (x ∷ xs) = if nat_lt x.priority.0 e.priority.0 then e ∷ x ∷ xs else x ∷ behind_equals e xs
-
-abbrev pub entry : ProcessIndex → Priority → Entry
-entry p priority = record { process = p; priority = priority }
-
 -- p is not ready
 abbrev pub leaves : Runner → List Entry → List Entry
 leaves (runner.Process p) ready = without p.0 ready
@@ -77,6 +70,16 @@ leaves _ ready = ready
 abbrev pub goes_last : Runner → Priority → List Entry → List Entry
 goes_last (runner.Process p) priority ready = behind_equals (entry p priority) (without p.0 ready)
 goes_last _ priority ready = ready
+
+-- ---- the lists of those that wait
+
+-- p waits in no list
+abbrev pub leaves_queues : Runner → List (List Entry) → List (List Entry)
+leaves_queues (runner.Process p) queues = without_in_all p.0 queues
+leaves_queues _ queues = queues
+
+abbrev pub no_longer_waits : Processes → Runner → Processes
+no_longer_waits s p = record s { queues = leaves_queues p s.queues }
 
 -- ---- the one that runs, and the one that holds the lock
 
@@ -115,7 +118,7 @@ put_unready s p r = record s { rows = slice_set s.rows (place_of p) r; ready = l
 
 -- with this record, in no list and without the lock
 abbrev pub put_dormant : Processes → Runner → ProcessStatus → Processes
-put_dormant s p r = record s { rows = slice_set s.rows (place_of p) r; ready = leaves p s.ready; running = not_running p s.running; lock = without_holder p s.lock }
+put_dormant s p r = record s { rows = slice_set s.rows (place_of p) r; ready = leaves p s.ready; running = not_running p s.running; lock = without_holder p s.lock; queues = leaves_queues p s.queues }
 
 -- ---- changes of one process, each with its line
 
@@ -162,14 +165,25 @@ refuses s p service c = answers s p service c (zeros service)
 
 -- ---- the end of a wait
 
--- The RET line and the answer of the service in which a process waits, if it waits in one.
-abbrev pub answers_wait : Processes → Runner → ProcessStatus → ReturnCode → Wait → Step Processes
-answers_wait s p r c (wait.Service service) = answered s p r.who service c []
-answers_wait s p r c _ = nothing s
+-- the outputs of the service in which a process waits, in vain
+abbrev pub zeros_of_wait : Wait → List ℤ
+zeros_of_wait (wait.Service service) = zeros service
+zeros_of_wait (wait.Object service array) = zeros service
+zeros_of_wait _ = []
 
--- its service answers, and it is ready
+-- The RET line and the answer of the service in which a process waits, if it waits in one.
+abbrev pub answers_wait : Processes → Runner → ProcessStatus → ReturnCode → List ℤ → Wait → Step Processes
+answers_wait s p r c outputs (wait.Service service) = answered s p r.who service c outputs
+answers_wait s p r c outputs (wait.Object service array) = answered s p r.who service c outputs
+answers_wait s p r c outputs _ = nothing s
+
+-- its service answers with these outputs, and it is ready
+abbrev pub released_with : Processes → Runner → ProcessStatus → ReturnCode → List ℤ → Step Processes
+released_with s p r c outputs = after (answers_wait s p r c outputs r.wait) (wakes (no_longer_waits s p) p r)
+
+-- its service answers with outputs of 0, and it is ready
 abbrev pub released : Processes → Runner → ProcessStatus → ReturnCode → Step Processes
-released s p r c = after (answers_wait s p r c r.wait) (wakes s p r)
+released s p r c = released_with s p r c (zeros_of_wait r.wait)
 
 -- ---- processes by the number that a program gives
 

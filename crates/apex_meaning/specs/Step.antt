@@ -1,6 +1,6 @@
 -- What a step of the kernel gives, and how steps are put together. A service is a step over the part
 -- of a partition's state that it reads and changes.
-use Rattle.std.specs.Prelude.{◌≡◌, ℕ, ◌-◌, ℤ, pos, replicate, Bool, List, [], ◌∷◌, ◌++◌, if◌then◌else◌}
+use Rattle.std.specs.Prelude.{◌≡◌, ℕ, ◌-◌, ℤ, pos, negsuc, replicate, take, Bool, List, [], ◌∷◌, ◌++◌, if◌then◌else◌}
 use Rattle.arrayvec.specs.ArrayVec.{ArrayVec}
 use Rattle.apex_types.specs.declared.codes.ReturnCode.{ReturnCode}
 use Rattle.apex_types.specs.declared.codes.ReturnCode.TheVariants as code
@@ -41,6 +41,11 @@ row refused (check ∷ checks) effect = if check.0 then refused check.1 else row
 
 abbrev pub message : List ℤ → ArrayVec ℤ
 message words = record { items = words }
+
+-- so many of the words
+abbrev pub first_words : ℤ → List ℤ → List ℤ
+first_words (pos n) words = take n words
+first_words (negsuc n) words = []
 
 abbrev pub code_number : ReturnCode → ℕ
 code_number code.NoError = 0

@@ -1,6 +1,8 @@
 -- The two meanings of a module: of its sources, and of its image. Kernel, windows and trace are
 -- the same in both; they differ in the engine on which processes run.
-use Rattle.std.specs.Prelude.{ℕ, ◌+◌, ℤ, List, [], ◌∷◌, Option, None, option_map, map, false}
+use Rattle.std.specs.Prelude.{ℕ, ◌+◌, ℤ, List, [], ◌∷◌, Option, None, option_map, map, replicate, false}
+use Rattle.arrayvec.specs.ArrayVec.{ArrayVec}
+use Rattle.apex_types.specs.declared.identity.TheConstants.{WAITING_LISTS}
 use Rattle.apex_types.specs.declared.codes.Mode.TheVariants as mode
 use Rattle.apex_types.specs.declared.codes.ProcessState.TheVariants.{Dormant}
 use Rattle.apex_types.specs.declared.codes.StartCondition.TheVariants as condition
@@ -21,10 +23,12 @@ use Rattle.apex_meaning.specs.Instructions.{reading}
 use Rattle.apex_meaning.specs.Kernel.{Fixed, Kernel}
 use Rattle.apex_meaning.specs.MachineControl.{MachineControl, machine_engine}
 use Rattle.apex_meaning.specs.Module.{Module, trace}
+use Rattle.apex_meaning.specs.Objects.{Objects, fresh_objects}
 use Rattle.apex_meaning.specs.Partition.{World, Member}
 use Rattle.apex_meaning.specs.Processes.{Processes}
 use Rattle.apex_meaning.specs.Program as program
 pub use Rattle.apex_meaning.specs.Starts.{ticks}
+use Rattle.apex_meaning.specs.Step.{message}
 use Rattle.apex_meaning.specs.Windows.{Schedule, schedule_of_partition}
 use Rattle.apex_meaning.specs.SourceControl.{SourceControl, source_engine, body_at}
 
@@ -53,17 +57,20 @@ init_row = fresh_row Init (record { 0 = 0 }) None None
 abbrev pub handler_row : ProcessStatus
 handler_row = fresh_row Handler (record { 0 = 0 }) None None
 
--- no process is created, and none runs
+abbrev pub no_message : ProcessStatus → ArrayVec ℤ
+no_message r = message []
+
+-- no process is created, and none runs or waits
 abbrev pub fresh_processes : List ProcessStatus → Processes
-fresh_processes rows = record { rows = init_row ∷ handler_row ∷ rows; ready = []; running = None; lock = lock.Free }
+fresh_processes rows = record { rows = init_row ∷ handler_row ∷ rows; ready = []; running = None; lock = lock.Free; queues = replicate WAITING_LISTS []; handed = map no_message rows }
 
 -- what is fixed of the partition with a number
 abbrev pub fixed_of : Schedule → ℕ → Partition → Fixed
 fixed_of schedule number p = record { name = p.name; number = number; period = p.period; duration = p.duration; schedule = schedule_of_partition number schedule; health = p.health }
 
--- a partition in idle mode with nothing created, of these processes
-abbrev pub fresh_kernel : Fixed → List ProcessStatus → Kernel
-fresh_kernel fixed rows = record { fixed = fixed; mode = mode.Idle; condition = condition.NormalStart; processes = fresh_processes rows; objects = record {}; ports = record {}; errors = record {} }
+-- a partition in idle mode with nothing created, of these processes and objects
+abbrev pub fresh_kernel : Fixed → List ProcessStatus → Objects → Kernel
+fresh_kernel fixed rows objects = record { fixed = fixed; mode = mode.Idle; condition = condition.NormalStart; processes = fresh_processes rows; objects = objects; ports = record {}; errors = record {} }
 
 abbrev pub no_control_for : {C : Type 0} → ProcessStatus → Option C
 no_control_for r = None
@@ -76,8 +83,11 @@ fresh_world k initial = record { kernel = k; controls = map no_control_for k.pro
 abbrev pub source_row : program.Process → ProcessStatus
 source_row p = fresh_row (Process p.name) (record { 0 = p.priority }) p.period p.capacity
 
+abbrev pub source_objects : program.Program → Objects
+source_objects s = fresh_objects s.semaphores s.events s.buffers s.blackboards
+
 abbrev pub source_member : Fixed → program.Program → Member SourceControl
-source_member fixed source = record { engine = source_engine source; world = fresh_world (fresh_kernel fixed (map source_row source.processes)) source.initial }
+source_member fixed source = record { engine = source_engine source; world = fresh_world (fresh_kernel fixed (map source_row source.processes) (source_objects source)) source.initial }
 
 -- each partition with its source, in order, with their numbers
 abbrev pub source_members : Schedule → ℕ → List Partition → List program.Program → List (Member SourceControl)
@@ -108,8 +118,11 @@ machine_body s p = body_at s.init s.handler (map body_of_row s.processes) p
 abbrev pub section_engine : Section → Engine MachineControl
 section_engine s = machine_engine (map reading s.code) s.routines (machine_body s)
 
+abbrev pub section_objects : Section → Objects
+section_objects s = fresh_objects s.semaphores s.events s.buffers s.blackboards
+
 abbrev pub machine_member : Fixed → Section → Member MachineControl
-machine_member fixed s = record { engine = section_engine s; world = fresh_world (fresh_kernel fixed (map machine_row s.processes)) s.initial }
+machine_member fixed s = record { engine = section_engine s; world = fresh_world (fresh_kernel fixed (map machine_row s.processes) (section_objects s)) s.initial }
 
 -- each partition in order, with their numbers
 abbrev pub machine_members : Schedule → ℕ → List Item → List (Member MachineControl)

@@ -56,6 +56,17 @@ impl Runner {
     }
 }
 
+/// The most objects of a kind in a partition, and the most ports.
+pub const MOST_OBJECTS: u8 = 16;
+
+/// The waiting lists of a partition: one for each semaphore, event, buffer, blackboard and port that
+/// it may have.
+pub const WAITING_LISTS: u8 = 5 * MOST_OBJECTS;
+
+/// A waiting list of a partition, from 0.
+#[derive(Clone, Copy, Debug, PartialEq, Eq)]
+pub struct ListId(pub u8);
+
 /// A process priority, 1 to 239; a higher number goes first.
 #[derive(Clone, Copy, Debug, Default, PartialEq, Eq, PartialOrd, Ord)]
 pub struct Priority(pub u8);

@@ -33,13 +33,14 @@ pub use cost::{
 pub use denotation::{Denotation, ObjectKind};
 pub use event::{Event, EventKind, Events, Subject, Words};
 pub use identity::{
-    At, MOST_PROCESSES, MOST_RUNNERS, PartitionId, PortId, Priority, ProcessIndex, Runner, Ticks,
+    At, ListId, MOST_OBJECTS, MOST_PROCESSES, MOST_RUNNERS, PartitionId, PortId, Priority,
+    ProcessIndex, Runner, Ticks, WAITING_LISTS,
 };
 pub use instruction::{BinaryOperator, Instr, UnaryOperator};
 pub use name::Name;
 pub use out::{Actions, Happenings, Out};
 pub use place::Place;
-pub use process::{Action, Due, Entry, Lock, ProcessStatus, Wait};
+pub use process::{Action, Due, Entry, Lock, ProcessStatus, Wait, Waiting};
 pub use row::{
     BlackboardRow, BodyRow, BufferRow, ChannelEnd, HealthTable, PortDirection, PortKind, PortRow,
     ProcessRow, RoutineRow, Section, SemaphoreRow, WindowRow,

@@ -1,9 +1,8 @@
 //! What the kernel keeps of a process, and what it asks of the processor that runs one.
 
-use crate::codes::{ErrorKind, ProcessState};
-use crate::denotation::ObjectKind;
+use crate::codes::{Discipline, ErrorKind, ProcessState};
 use crate::event::{Subject, Words};
-use crate::identity::{Priority, ProcessIndex, Runner, Ticks};
+use crate::identity::{ListId, Priority, ProcessIndex, Runner, Ticks};
 use crate::service::{ArrayPlace, Service};
 
 /// What a waiting process waits for.
@@ -17,14 +16,23 @@ pub enum Wait {
     FirstRelease,
     /// A service on time or a suspension of its own, which answers at its due time or before it.
     Service(Service),
-    /// A service on an object or a port: it is in the waiting list of the object with this number,
-    /// and a receiver has this array.
+    /// A service on an object or a port: it is in the waiting list of that object, and a receiver has
+    /// this array.
     Object {
         service: Service,
-        kind: ObjectKind,
-        number: u8,
         array: Option<ArrayPlace>,
     },
+}
+
+/// Where and how a process is to wait at an object or a port.
+#[derive(Clone, Copy, Debug, PartialEq, Eq)]
+pub struct Waiting {
+    pub service: Service,
+    /// The waiting list of the object.
+    pub list: ListId,
+    pub discipline: Discipline,
+    /// The array of a receiver.
+    pub array: Option<ArrayPlace>,
 }
 
 /// What happens at the due time of a process.
@@ -58,7 +66,7 @@ pub struct ProcessStatus {
     pub deadline: Option<Ticks>,
 }
 
-/// A process that is ready, with its priority then.
+/// A process in a list of those that are ready or that wait, with its priority when it came there.
 #[derive(Clone, Copy, Debug, Default, PartialEq, Eq)]
 pub struct Entry {
     pub process: ProcessIndex,
