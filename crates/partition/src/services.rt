@@ -56,9 +56,9 @@ impl Kernel {
     )
         requires past { at.origin.0 ≤ at.now.0 }
         requires now { at.now.0 ≤ 2 ^ 40 }
-        requires room { HasRoom 64 out.old }
+        requires room { HasRoom 94 out.old }
         ensures step { IsMade (meaning.treats_asked at self.old runner (asks_of outcome) words.items) self.new out.old out.new }
-        ensures grows { Grows 64 out.old out.new }
+        ensures grows { Grows 94 out.old out.new }
     {
         match outcome {
             Outcome::Busy | Outcome::Local => {}
@@ -72,9 +72,9 @@ impl Kernel {
     fn serve(&mut self, at: At, caller: Runner, call: Call, words: Words, out: &mut Out)
         requires past { at.origin.0 ≤ at.now.0 }
         requires now { at.now.0 ≤ 2 ^ 40 }
-        requires room { HasRoom 64 out.old }
+        requires room { HasRoom 94 out.old }
         ensures step { IsMade (meaning.serves at self.old caller call words.items) self.new out.old out.new }
-        ensures grows { Grows 64 out.old out.new }
+        ensures grows { Grows 94 out.old out.new }
     {
         match call {
             Call::GetPartitionStatus => self.get_partition_status(caller, out),
@@ -91,9 +91,9 @@ impl Kernel {
     fn serve_processes(&mut self, at: At, caller: Runner, call: Call, words: Words, out: &mut Out)
         requires past { at.origin.0 ≤ at.now.0 }
         requires now { at.now.0 ≤ 2 ^ 40 }
-        requires room { HasRoom 64 out.old }
+        requires room { HasRoom 94 out.old }
         ensures step { IsMade (meaning.serves_processes at self.old caller call words.items) self.new out.old out.new }
-        ensures grows { Grows 64 out.old out.new }
+        ensures grows { Grows 94 out.old out.new }
     {
         let mode = self.mode;
         let table = &mut self.processes;
@@ -132,9 +132,9 @@ impl Kernel {
     /// its caller without an answer.
     fn serve_objects(&mut self, at: At, caller: Runner, call: Call, words: Words, out: &mut Out)
         requires now { at.now.0 ≤ 2 ^ 40 }
-        requires room { HasRoom 64 out.old }
+        requires room { HasRoom 94 out.old }
         ensures step { IsMade (meaning.serves_objects at self.old caller call words.items) self.new out.old out.new }
-        ensures grows { Grows 64 out.old out.new }
+        ensures grows { Grows 94 out.old out.new }
     {
         let mode = self.mode;
         let table = &mut self.processes;

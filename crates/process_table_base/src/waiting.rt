@@ -5,7 +5,7 @@ ghost use Rattle.apex_types.specs.Room.{HasRoom, Grows};
 ghost use Rattle.apex_types.specs.Runners.{place_of};
 ghost use Rattle.apex_meaning.specs.Durations.{is_duration};
 ghost use Rattle.apex_meaning.specs.Processes as processes;
-ghost use Rattle.apex_meaning.specs.Step.{IsMade, IsTold};
+ghost use Rattle.apex_meaning.specs.Step.{IsMade};
 ghost use Rattle.apex_meaning.specs.Waiting as meaning;
 ghost use Rattle.process_table_base.specs.Bounds.{IsBounded};
 
@@ -38,7 +38,8 @@ fn put_message(handed: &mut Vec<Words>, process: ProcessIndex, message: Words)
 /// The words go into an array, if there is one.
 pub fn fill(array: Option<ArrayPlace>, message: &Words, out: &mut Out)
     requires { HasRoom 1 out.old }
-    ensures step { {P : Type 0} (part : P) → IsTold (meaning.fills part array message.now) out.old out.new }
+    ensures lines { out.new.lines.items ≡ out.old.lines.items }
+    ensures actions { out.new.actions.items ≡ out.old.actions.items ++ meaning.writes array message.now }
     ensures grows { Grows 1 out.old out.new }
 {
     if let Some(array) = array {
@@ -175,8 +176,9 @@ impl ProcessTable {
         ensures step { IsMade (meaning.releases_all entries.now self.old) self.new out.old out.new }
         ensures grows { Grows (2 * length entries.now) out.old out.new }
     {
-        for entry in entries {
+        if let Some((entry, rest)) = entries.split_first() {
             self.release_found(entry.process, out);
+            self.release_each(rest, out);
         }
     }
 
@@ -195,9 +197,9 @@ impl ProcessTable {
     pub fn give(&mut self, runner: Runner, row: ProcessStatus, message: &Words, out: &mut Out)
         requires runner { place_of runner < MOST_RUNNERS }
         requires bounded { IsBounded row }
-        requires room { HasRoom 2 out.old }
+        requires room { HasRoom 3 out.old }
         ensures step { IsMade (meaning.gives self.old runner row message.now) self.new out.old out.new }
-        ensures grows { Grows 2 out.old out.new }
+        ensures grows { Grows 3 out.old out.new }
     {
         fill(array_of_wait(row.wait), message, out);
         let length = message.len() as i64;
@@ -206,9 +208,9 @@ impl ProcessTable {
 
     /// Gives a message to one that is found.
     fn give_found(&mut self, process: ProcessIndex, message: &Words, out: &mut Out)
-        requires { HasRoom 2 out.old }
+        requires { HasRoom 3 out.old }
         ensures step { IsMade (meaning.gives_found self.old (processes.numbered process (processes.row_of self.old (Runner.Process process))) message.now) self.new out.old out.new }
-        ensures grows { Grows 2 out.old out.new }
+        ensures grows { Grows 3 out.old out.new }
     {
         if let Some((runner, row)) = self.numbered(process) {
             self.give(runner, row, message, out);
@@ -218,20 +220,21 @@ impl ProcessTable {
     /// Gives a message to each of these in turn.
     fn give_each(&mut self, entries: &[Entry], message: &Words, out: &mut Out)
         requires few { length entries.now ≤ MOST_PROCESSES }
-        requires room { HasRoom (2 * length entries.now) out.old }
+        requires room { HasRoom (3 * length entries.now) out.old }
         ensures step { IsMade (meaning.gives_all entries.now message.now self.old) self.new out.old out.new }
-        ensures grows { Grows (2 * length entries.now) out.old out.new }
+        ensures grows { Grows (3 * length entries.now) out.old out.new }
     {
-        for entry in entries {
+        if let Some((entry, rest)) = entries.split_first() {
             self.give_found(entry.process, message, out);
+            self.give_each(rest, message, out);
         }
     }
 
     /// Gives a message to all who wait in a list, in its order.
     pub fn give_all(&mut self, list: ListId, message: &Words, out: &mut Out)
-        requires { HasRoom 62 out.old }
+        requires { HasRoom 93 out.old }
         ensures step { IsMade (meaning.gives_all (meaning.waiting self.old list.0) message.now self.old) self.new out.old out.new }
-        ensures grows { Grows 62 out.old out.new }
+        ensures grows { Grows 93 out.old out.new }
     {
         let entries = self.queues.entries(list);
         self.give_each(entries.as_slice(), message, out);
