@@ -85,12 +85,12 @@ impl Buffer {
         ensures status { result ≡ buffer_status self.now }
         ensures within { result.messages ≤ result.row.depth }
     {
-        let row = self.row;
-        let messages = self.messages.len() as u8;
+        let messages = self.messages.len();
+        prove!(messages <= usize::from(self.row.depth));
         BufferStatus {
-            row,
+            row: self.row,
             created: self.created,
-            messages,
+            messages: messages as u8,
         }
     }
 }
