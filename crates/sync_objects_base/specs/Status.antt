@@ -1,5 +1,5 @@
 -- What is told of buffers and blackboards in place of their messages.
-use Rattle.std.specs.Prelude.{ℕ, List, length, Option, Some, None, is_some, slice_index_or}
+use Rattle.std.specs.Prelude.{ℕ, List, length, drop, Option, Some, None, is_some, slice_index_or}
 use Rattle.apex_types.specs.declared.codes.Discipline.TheVariants as discipline
 use Rattle.apex_meaning.specs.Objects.{Objects, Buffer, Blackboard, fresh_buffer, fresh_blackboard}
 use Rattle.sync_objects_base.specs.declared.buffer.BufferStatus.{BufferStatus}
@@ -28,3 +28,7 @@ buffer_of_status o (Some f) = Some (f.0, buffer_at o f.0)
 abbrev pub blackboard_of_status : Objects → Option (ℕ × BlackboardStatus) → Option (ℕ × Blackboard)
 blackboard_of_status o None = None
 blackboard_of_status o (Some f) = Some (f.0, blackboard_at o f.0)
+
+-- its first message is gone
+abbrev pub without_first : Buffer → Buffer
+without_first x = record x { messages = drop 1 x.messages }

@@ -1,6 +1,6 @@
 //! Buffers of messages.
 
-ghost use Rattle.std.specs.Prelude.{◌≡◌, ◌<◌, ◌≤◌, ◌++◌, [], ◌∷◌, drop, length, slice_get, true, IfOk};
+ghost use Rattle.std.specs.Prelude.{◌≡◌, ◌<◌, ◌≤◌, ◌++◌, [], ◌∷◌, drop, length, slice_get, true, IfOk, IsNone, OnSome};
 ghost use Rattle.apex_meaning.specs.Objects as meaning;
 ghost use Rattle.sync_objects_base.specs.Status.{buffer_status};
 
@@ -77,6 +77,8 @@ impl Buffer {
     pub(crate) fn pop(&mut self) -> Option<Words>
         ensures first { result ≡ slice_get self.old.messages 0 }
         ensures rest { self.new ≡ record self.old { messages = drop 1 self.old.messages } }
+        ensures empty { IsNone result → self.new ≡ self.old }
+        ensures room { OnSome result (length self.new.messages < self.new.row.depth) }
     {
         self.messages.pop_front()
     }

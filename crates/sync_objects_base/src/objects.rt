@@ -1,9 +1,9 @@
 //! The objects of a partition, and the few ways in which they change.
 
-ghost use Rattle.std.specs.Prelude.{◌≡◌, ◌<◌, ◌≤◌, ◌++◌, [], ◌∷◌, drop, length, map, replicate, slice_get, IfOk, IfSome, true};
+ghost use Rattle.std.specs.Prelude.{◌≡◌, ◌<◌, ◌≤◌, ◌++◌, [], ◌∷◌, drop, length, map, replicate, slice_get, IfOk, IfSome, IsNone, OnSome, true};
 ghost use Rattle.apex_types.specs.declared.identity.TheConstants.{MOST_OBJECTS};
 ghost use Rattle.apex_meaning.specs.Objects as meaning;
-ghost use Rattle.sync_objects_base.specs.Status.{buffer_at, buffer_of_status, buffer_status, blackboard_at, blackboard_of_status, blackboard_status};
+ghost use Rattle.sync_objects_base.specs.Status.{buffer_at, buffer_of_status, buffer_status, blackboard_at, blackboard_of_status, blackboard_status, without_first};
 
 use crate::blackboard::{Blackboard, BlackboardStatus};
 use crate::buffer::{Buffer, BufferStatus};
@@ -182,7 +182,6 @@ impl Objects {
         ensures found { meaning.buffer self.now id ≡ buffer_of_status self.now result }
         ensures status { IfSome result (λ found. found.1 ≡ buffer_status (buffer_at self.now found.0)) }
         ensures within { IfSome result (λ found. found.0 < MOST_OBJECTS) }
-        ensures few { IfSome result (λ found. found.1.messages ≤ found.1.row.depth) }
     {
         let place = place_of(&self.buffers, id)?;
         Some((place as u8, self.buffers[place].status()))
@@ -209,7 +208,10 @@ impl Objects {
     /// Takes the first message of a buffer.
     pub fn pop_message(&mut self, place: u8) -> Option<Words>
         ensures first { result ≡ slice_get (buffer_at self.old place).messages 0 }
-        ensures rest { let x = buffer_at self.old place in self.new ≡ meaning.put_buffer self.old place (record x { messages = drop 1 x.messages }) }
+        ensures empty { IsNone result → self.new ≡ self.old }
+        ensures rest { OnSome result (self.new ≡ meaning.put_buffer self.old place (without_first (buffer_at self.old place))) }
+        ensures left { OnSome result (buffer_at self.new place ≡ without_first (buffer_at self.old place)) }
+        ensures room { OnSome result (let x = buffer_at self.new place in length x.messages < x.row.depth) }
     {
         let buffer = self.buffers.get_mut(usize::from(place))?;
         buffer.pop()

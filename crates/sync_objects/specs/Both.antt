@@ -1,0 +1,7 @@
+-- The processes and the objects of a partition as what the services read and change.
+use Rattle.apex_meaning.specs.Objects.{Objects}
+use Rattle.apex_meaning.specs.Processes.{Processes}
+use Rattle.apex_meaning.specs.Sharing.{Sharing}
+
+abbrev pub both : Processes → Objects → Sharing
+both processes objects = record { processes = processes; objects = objects }
