@@ -1,2 +1,16 @@
-//! To come.
+//! The semaphores, events, buffers and blackboards of a partition: their records by the numbers of
+//! programs, and the changes of one that services are made of.
 #![tactic(auto)]
+
+mod blackboard;
+mod buffer;
+mod event;
+mod find;
+mod objects;
+mod semaphore;
+
+pub use blackboard::BlackboardStatus;
+pub use buffer::BufferStatus;
+pub use event::Event;
+pub use objects::Objects;
+pub use semaphore::Semaphore;

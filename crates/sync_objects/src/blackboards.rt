@@ -1,0 +1,200 @@
+//! The services on blackboards.
+
+ghost use Rattle.std.specs.Prelude.{◌≡◌, ◌<◌, ◌≤◌, ◌+◌, ◌^◌, length, pos};
+ghost use Rattle.apex_types.specs.Room.{HasRoom, Grows};
+ghost use Rattle.apex_meaning.specs.BlackboardServices as meaning;
+ghost use Rattle.apex_meaning.specs.Step.{IsMade, IsTold};
+ghost use Rattle.sync_objects.specs.Both.{both, number_of_occupied};
+
+use crate::messages::{first_words, is_large_enough, is_length};
+use crate::waiting::list_of;
+use apex_types::{
+    Action, ArrayPlace, At, Discipline, Mode, ObjectKind, Out, ReturnCode, Runner, Service,
+    Waiting, Words,
+};
+use process_table_base::{ProcessTable, is_duration};
+use sync_objects_base::Objects;
+
+/// CREATE_BLACKBOARD (ARINC 653 Part 1, intrapartition communication): the blackboard of that number
+/// exists, and its output is its number; it is empty. INVALID_MODE: in normal mode; INVALID_CONFIG: no
+/// such blackboard is declared; NO_ACTION: it exists.
+pub fn create_blackboard(
+    table: &ProcessTable,
+    objects: &mut Objects,
+    mode: Mode,
+    caller: Runner,
+    name: i64,
+    out: &mut Out,
+)
+    requires { HasRoom 1 out.old }
+    ensures step { IsMade (meaning.create_blackboard mode (both table.now objects.old) caller name) (both table.now objects.new) out.old out.new }
+    ensures grows { Grows 1 out.old out.new }
+{
+    let service = Service::CreateBlackboard;
+    if mode == Mode::Normal {
+        return table.refuse(caller, service, ReturnCode::InvalidMode, &[0], out);
+    }
+    let Some((place, blackboard)) = objects.blackboard(name) else {
+        return table.refuse(caller, service, ReturnCode::InvalidConfig, &[0], out);
+    };
+    if blackboard.created {
+        return table.refuse(caller, service, ReturnCode::NoAction, &[0], out);
+    }
+    table.answer(caller, service, ReturnCode::NoError, &[name], out);
+    objects.create_blackboard(place);
+}
+
+/// GET_BLACKBOARD_ID (ARINC 653 Part 1, intrapartition communication): the number of a blackboard, as
+/// its output. INVALID_CONFIG: no blackboard of this number was created.
+pub fn get_blackboard_id(
+    table: &ProcessTable,
+    objects: &Objects,
+    caller: Runner,
+    name: i64,
+    out: &mut Out,
+)
+    requires { HasRoom 1 out.old }
+    ensures step { IsTold (meaning.get_blackboard_id (both table.now objects.now) caller name) out.old out.new }
+    ensures grows { Grows 1 out.old out.new }
+{
+    let service = Service::GetBlackboardId;
+    match objects.blackboard(name) {
+        Some((_, blackboard)) if blackboard.created => {
+            table.answer(caller, service, ReturnCode::NoError, &[name], out)
+        }
+        _ => table.refuse(caller, service, ReturnCode::InvalidConfig, &[0], out),
+    }
+}
+
+/// DISPLAY_BLACKBOARD (ARINC 653 Part 1, intrapartition communication): a blackboard displays the first
+/// words of those that the call hands in, and all who wait take them in the order in which they came.
+/// INVALID_PARAM: no blackboard of this number was created, or a length below 1, above the
+/// blackboard's or above the array's.
+pub fn display_blackboard(
+    table: &mut ProcessTable,
+    objects: &mut Objects,
+    caller: Runner,
+    id: i64,
+    array: ArrayPlace,
+    length: i64,
+    words: Words,
+    out: &mut Out,
+)
+    requires { HasRoom 63 out.old }
+    ensures step { IsMade (meaning.display_blackboard (both table.old objects.old) caller id array length words.items) (both table.new objects.new) out.old out.new }
+    ensures grows { Grows 63 out.old out.new }
+{
+    let service = Service::DisplayBlackboard;
+    let Some((place, blackboard)) = objects.blackboard(id) else {
+        return table.refuse(caller, service, ReturnCode::InvalidParam, &[], out);
+    };
+    if !blackboard.created || !is_length(blackboard.row.words, array, length) {
+        return table.refuse(caller, service, ReturnCode::InvalidParam, &[], out);
+    }
+    let message = first_words(length, words);
+    table.answer(caller, service, ReturnCode::NoError, &[], out);
+    table.give_all(list_of(ObjectKind::Blackboard, place), &message, out);
+    objects.show(place, Some(message));
+}
+
+/// CLEAR_BLACKBOARD (ARINC 653 Part 1, intrapartition communication): a blackboard displays nothing.
+/// INVALID_PARAM: no blackboard of this number was created.
+pub fn clear_blackboard(
+    table: &ProcessTable,
+    objects: &mut Objects,
+    caller: Runner,
+    id: i64,
+    out: &mut Out,
+)
+    requires { HasRoom 1 out.old }
+    ensures step { IsMade (meaning.clear_blackboard (both table.now objects.old) caller id) (both table.now objects.new) out.old out.new }
+    ensures grows { Grows 1 out.old out.new }
+{
+    let service = Service::ClearBlackboard;
+    match objects.blackboard(id) {
+        Some((place, blackboard)) if blackboard.created => {
+            table.answer(caller, service, ReturnCode::NoError, &[], out);
+            objects.show(place, None)
+        }
+        _ => table.refuse(caller, service, ReturnCode::InvalidParam, &[], out),
+    }
+}
+
+/// READ_BLACKBOARD (ARINC 653 Part 1, intrapartition communication): the message that a blackboard
+/// displays goes into the array, and its words are counted. While it displays none the caller waits,
+/// at most so many ticks; -1 is without limit. INVALID_PARAM: no blackboard of this number was created,
+/// an array without room for its longest message, or a limit below -1 or above 2^40 ticks;
+/// NOT_AVAILABLE: it displays none and the limit is 0; INVALID_MODE: the caller may not wait;
+/// TIMED_OUT: it waited for so long.
+pub fn read_blackboard(
+    table: &mut ProcessTable,
+    objects: &Objects,
+    at: At,
+    caller: Runner,
+    id: i64,
+    array: ArrayPlace,
+    limit: i64,
+    out: &mut Out,
+)
+    requires now { at.now.0 ≤ 2 ^ 40 }
+    requires room { HasRoom 2 out.old }
+    ensures step { IsMade (meaning.read_blackboard at (both table.old objects.now) caller id array limit) (both table.new objects.now) out.old out.new }
+    ensures grows { Grows 2 out.old out.new }
+{
+    let service = Service::ReadBlackboard;
+    let Some((place, blackboard)) = objects.blackboard(id) else {
+        return table.refuse(caller, service, ReturnCode::InvalidParam, &[0], out);
+    };
+    let good = is_large_enough(blackboard.row.words, array) && is_duration(limit);
+    if !blackboard.created || !good {
+        return table.refuse(caller, service, ReturnCode::InvalidParam, &[0], out);
+    }
+    if let Some(message) = objects.shown(place) {
+        let count = message.len() as i64;
+        table.answer(caller, service, ReturnCode::NoError, &[count], out);
+        out.actions.push(Action::Write(array.base, message));
+        return;
+    }
+    let waiting = Waiting {
+        service,
+        list: list_of(ObjectKind::Blackboard, place),
+        discipline: Discipline::Fifo,
+        array: Some(array),
+    };
+    table.block(at, caller, limit, waiting, Words::new(), out);
+}
+
+/// 0 for empty, 1 for occupied.
+fn indicator(occupied: bool) -> i64
+    ensures { result ≡ pos (number_of_occupied occupied) }
+{
+    if occupied { 1 } else { 0 }
+}
+
+/// GET_BLACKBOARD_STATUS (ARINC 653 Part 1, intrapartition communication): 0 for an empty blackboard
+/// and 1 for one that displays a message, the most words of one, and how many processes wait.
+/// INVALID_PARAM: no blackboard of this number was created.
+#[tactic(auto, using(crate::proofs::Showing::showing))]
+pub fn get_blackboard_status(
+    table: &ProcessTable,
+    objects: &Objects,
+    caller: Runner,
+    id: i64,
+    out: &mut Out,
+)
+    requires { HasRoom 1 out.old }
+    ensures step { IsTold (meaning.get_blackboard_status (both table.now objects.now) caller id) out.old out.new }
+    ensures grows { Grows 1 out.old out.new }
+{
+    let service = Service::GetBlackboardStatus;
+    match objects.blackboard(id) {
+        Some((place, blackboard)) if blackboard.created => {
+            let occupied = indicator(blackboard.occupied);
+            let words = i64::from(blackboard.row.words);
+            let waiting = table.waiting_count(list_of(ObjectKind::Blackboard, place));
+            let outputs = [occupied, words, i64::from(waiting)];
+            table.answer(caller, service, ReturnCode::NoError, &outputs, out)
+        }
+        _ => table.refuse(caller, service, ReturnCode::InvalidParam, &[0, 0, 0], out),
+    }
+}

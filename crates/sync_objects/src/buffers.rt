@@ -1,0 +1,231 @@
+//! The services on buffers.
+
+ghost use Rattle.std.specs.Prelude.{◌≡◌, ◌<◌, ◌≤◌, ◌+◌, ◌^◌, length, true};
+ghost use Rattle.apex_types.specs.Room.{HasRoom, Grows};
+ghost use Rattle.apex_types.specs.declared.identity.TheConstants.{MOST_OBJECTS};
+ghost use Rattle.apex_meaning.specs.BufferServices as meaning;
+ghost use Rattle.apex_meaning.specs.Durations as durations;
+ghost use Rattle.apex_meaning.specs.Step.{IsMade, IsTold};
+ghost use Rattle.apex_meaning.specs.Waiting.{first_waiting};
+ghost use Rattle.sync_objects_base.specs.Status.{buffer_at};
+ghost use Rattle.sync_objects.specs.Both.{both};
+
+use crate::messages::{first_words, is_large_enough, is_length};
+use crate::waiting::list_of;
+use apex_types::{
+    Action, ArrayPlace, At, Mode, ObjectKind, Out, ReturnCode, Runner, Service, Waiting, Words,
+};
+use process_table_base::{ProcessTable, is_duration};
+use sync_objects_base::Objects;
+
+/// CREATE_BUFFER (ARINC 653 Part 1, intrapartition communication): the buffer of that number exists,
+/// and its output is its number; it is empty. INVALID_MODE: in normal mode; INVALID_CONFIG: no such
+/// buffer is declared; NO_ACTION: it exists.
+pub fn create_buffer(
+    table: &ProcessTable,
+    objects: &mut Objects,
+    mode: Mode,
+    caller: Runner,
+    name: i64,
+    out: &mut Out,
+)
+    requires { HasRoom 1 out.old }
+    ensures step { IsMade (meaning.create_buffer mode (both table.now objects.old) caller name) (both table.now objects.new) out.old out.new }
+    ensures grows { Grows 1 out.old out.new }
+{
+    let service = Service::CreateBuffer;
+    if mode == Mode::Normal {
+        return table.refuse(caller, service, ReturnCode::InvalidMode, &[0], out);
+    }
+    let Some((place, buffer)) = objects.buffer(name) else {
+        return table.refuse(caller, service, ReturnCode::InvalidConfig, &[0], out);
+    };
+    if buffer.created {
+        return table.refuse(caller, service, ReturnCode::NoAction, &[0], out);
+    }
+    table.answer(caller, service, ReturnCode::NoError, &[name], out);
+    objects.create_buffer(place);
+}
+
+/// GET_BUFFER_ID (ARINC 653 Part 1, intrapartition communication): the number of a buffer, as its
+/// output. INVALID_CONFIG: no buffer of this number was created.
+pub fn get_buffer_id(
+    table: &ProcessTable,
+    objects: &Objects,
+    caller: Runner,
+    name: i64,
+    out: &mut Out,
+)
+    requires { HasRoom 1 out.old }
+    ensures step { IsTold (meaning.get_buffer_id (both table.now objects.now) caller name) out.old out.new }
+    ensures grows { Grows 1 out.old out.new }
+{
+    let service = Service::GetBufferId;
+    match objects.buffer(name) {
+        Some((_, buffer)) if buffer.created => {
+            table.answer(caller, service, ReturnCode::NoError, &[name], out)
+        }
+        _ => table.refuse(caller, service, ReturnCode::InvalidConfig, &[0], out),
+    }
+}
+
+/// SEND_BUFFER (ARINC 653 Part 1, intrapartition communication): the first words of those that the
+/// call hands in go to the first receiver that waits, else behind the other messages of a buffer.
+/// While it is full the caller waits, at most so many ticks; -1 is without limit. INVALID_PARAM: no
+/// buffer of this number was created, a length below 1, above the buffer's or above the array's, or a
+/// limit below -1 or above 2^40 ticks; NOT_AVAILABLE: it is full and the limit is 0; INVALID_MODE: the
+/// caller may not wait; TIMED_OUT: it waited for so long.
+pub fn send_buffer(
+    table: &mut ProcessTable,
+    objects: &mut Objects,
+    at: At,
+    caller: Runner,
+    id: i64,
+    array: ArrayPlace,
+    length: i64,
+    limit: i64,
+    words: Words,
+    out: &mut Out,
+)
+    requires now { at.now.0 ≤ 2 ^ 40 }
+    requires room { HasRoom 3 out.old }
+    ensures step { IsMade (meaning.send_buffer at (both table.old objects.old) caller id array length limit words.items) (both table.new objects.new) out.old out.new }
+    ensures grows { Grows 3 out.old out.new }
+{
+    let service = Service::SendBuffer;
+    let Some((place, buffer)) = objects.buffer(id) else {
+        return table.refuse(caller, service, ReturnCode::InvalidParam, &[], out);
+    };
+    let good = is_length(buffer.row.words, array, length) && is_duration(limit);
+    if !buffer.created || !good {
+        return table.refuse(caller, service, ReturnCode::InvalidParam, &[], out);
+    }
+    let message = first_words(length, words);
+    let list = list_of(ObjectKind::Buffer, place);
+    if buffer.messages >= buffer.row.depth {
+        let discipline = buffer.row.discipline;
+        let waiting = Waiting {
+            service,
+            list,
+            discipline,
+            array: None,
+        };
+        return table.block(at, caller, limit, waiting, message, out);
+    }
+    table.answer(caller, service, ReturnCode::NoError, &[], out);
+    match table.first_waiting(list) {
+        Some((receiver, row)) => table.give(receiver, row, &message, out),
+        None => objects.push_message(place, message),
+    }
+}
+
+/// The message of the first sender that waits comes behind the others, and the sender is released.
+fn admit(table: &mut ProcessTable, objects: &mut Objects, place: u8, out: &mut Out)
+    requires place { place < MOST_OBJECTS }
+    requires free { let x = buffer_at objects.old place in length x.messages < x.row.depth }
+    requires room { HasRoom 2 out.old }
+    ensures step { IsMade (meaning.admits (both table.old objects.old) place (buffer_at objects.old place) (first_waiting table.old (meaning.list place))) (both table.new objects.new) out.old out.new }
+    ensures grows { Grows 2 out.old out.new }
+{
+    if let Some((sender, row)) = table.first_waiting(list_of(ObjectKind::Buffer, place)) {
+        objects.push_message(place, table.handed_by(sender));
+        table.release(sender, row, ReturnCode::NoError, out);
+    }
+}
+
+/// The first message of a buffer goes into an array, and the first sender that waits goes on. While
+/// there is no message the caller waits.
+#[tactic(auto, using(crate::proofs::Receiving::receiving))]
+fn receive(
+    table: &mut ProcessTable,
+    objects: &mut Objects,
+    at: At,
+    caller: Runner,
+    waiting: Waiting,
+    array: ArrayPlace,
+    limit: i64,
+    place: u8,
+    out: &mut Out,
+)
+    requires now { at.now.0 ≤ 2 ^ 40 }
+    requires limit { durations.is_duration limit ≡ true }
+    requires place { place < MOST_OBJECTS }
+    requires waiting { waiting ≡ meaning.receiver place (buffer_at objects.old place) array }
+    requires room { HasRoom 4 out.old }
+    ensures step { let x = buffer_at objects.old place in IsMade (meaning.receives at (both table.old objects.old) caller array limit place x x.messages) (both table.new objects.new) out.old out.new }
+    ensures grows { Grows 4 out.old out.new }
+{
+    let Some(message) = objects.pop_message(place) else {
+        return table.block(at, caller, limit, waiting, Words::new(), out);
+    };
+    let count = message.len() as i64;
+    table.answer(caller, waiting.service, ReturnCode::NoError, &[count], out);
+    out.actions.push(Action::Write(array.base, message));
+    admit(table, objects, place, out);
+}
+
+/// RECEIVE_BUFFER (ARINC 653 Part 1, intrapartition communication): the first message of a buffer goes
+/// into the array, and its words are counted; the message of the first sender that waits comes behind
+/// the others. While there is none the caller waits, at most so many ticks; -1 is without limit.
+/// INVALID_PARAM: no buffer of this number was created, an array without room for its longest message,
+/// or a limit below -1 or above 2^40 ticks; NOT_AVAILABLE: it is empty and the limit is 0;
+/// INVALID_MODE: the caller may not wait; TIMED_OUT: it waited for so long.
+pub fn receive_buffer(
+    table: &mut ProcessTable,
+    objects: &mut Objects,
+    at: At,
+    caller: Runner,
+    id: i64,
+    array: ArrayPlace,
+    limit: i64,
+    out: &mut Out,
+)
+    requires now { at.now.0 ≤ 2 ^ 40 }
+    requires room { HasRoom 4 out.old }
+    ensures step { IsMade (meaning.receive_buffer at (both table.old objects.old) caller id array limit) (both table.new objects.new) out.old out.new }
+    ensures grows { Grows 4 out.old out.new }
+{
+    let service = Service::ReceiveBuffer;
+    let Some((place, buffer)) = objects.buffer(id) else {
+        return table.refuse(caller, service, ReturnCode::InvalidParam, &[0], out);
+    };
+    let good = is_large_enough(buffer.row.words, array) && is_duration(limit);
+    if !buffer.created || !good {
+        return table.refuse(caller, service, ReturnCode::InvalidParam, &[0], out);
+    }
+    let waiting = Waiting {
+        service,
+        list: list_of(ObjectKind::Buffer, place),
+        discipline: buffer.row.discipline,
+        array: Some(array),
+    };
+    receive(table, objects, at, caller, waiting, array, limit, place, out);
+}
+
+/// GET_BUFFER_STATUS (ARINC 653 Part 1, intrapartition communication): how many messages a buffer
+/// holds, how many it has room for, the most words of one, and how many processes wait.
+/// INVALID_PARAM: no buffer of this number was created.
+pub fn get_buffer_status(
+    table: &ProcessTable,
+    objects: &Objects,
+    caller: Runner,
+    id: i64,
+    out: &mut Out,
+)
+    requires { HasRoom 1 out.old }
+    ensures step { IsTold (meaning.get_buffer_status (both table.now objects.now) caller id) out.old out.new }
+    ensures grows { Grows 1 out.old out.new }
+{
+    let service = Service::GetBufferStatus;
+    match objects.buffer(id) {
+        Some((place, buffer)) if buffer.created => {
+            let messages = i64::from(buffer.messages);
+            let depth = i64::from(buffer.row.depth);
+            let words = i64::from(buffer.row.words);
+            let waiting = table.waiting_count(list_of(ObjectKind::Buffer, place));
+            let outputs = [messages, depth, words, i64::from(waiting)];
+            table.answer(caller, service, ReturnCode::NoError, &outputs, out)
+        }
+        _ => table.refuse(caller, service, ReturnCode::InvalidParam, &[0, 0, 0, 0], out),
+    }
+}

@@ -1,0 +1,181 @@
+//! The services on events.
+
+ghost use Rattle.std.specs.Prelude.{◌≡◌, ◌<◌, ◌≤◌, ◌+◌, ◌^◌, length, pos};
+ghost use Rattle.apex_types.specs.Room.{HasRoom, Grows};
+ghost use Rattle.apex_meaning.specs.EventServices as meaning;
+ghost use Rattle.apex_meaning.specs.Step.{IsMade, IsTold};
+ghost use Rattle.sync_objects.specs.Both.{both};
+
+use crate::waiting::list_of;
+use apex_types::{
+    At, Discipline, Mode, ObjectKind, Out, ReturnCode, Runner, Service, Waiting, Words,
+};
+use process_table_base::{ProcessTable, is_duration};
+use sync_objects_base::Objects;
+
+/// CREATE_EVENT (ARINC 653 Part 1, intrapartition communication): the event of that number exists,
+/// and its output is its number; it is down. INVALID_MODE: in normal mode; INVALID_CONFIG: no such
+/// event is declared; NO_ACTION: it exists.
+pub fn create_event(
+    table: &ProcessTable,
+    objects: &mut Objects,
+    mode: Mode,
+    caller: Runner,
+    name: i64,
+    out: &mut Out,
+)
+    requires { HasRoom 1 out.old }
+    ensures step { IsMade (meaning.create_event mode (both table.now objects.old) caller name) (both table.now objects.new) out.old out.new }
+    ensures grows { Grows 1 out.old out.new }
+{
+    let service = Service::CreateEvent;
+    if mode == Mode::Normal {
+        return table.refuse(caller, service, ReturnCode::InvalidMode, &[0], out);
+    }
+    let Some((place, event)) = objects.event(name) else {
+        return table.refuse(caller, service, ReturnCode::InvalidConfig, &[0], out);
+    };
+    if event.is_created() {
+        return table.refuse(caller, service, ReturnCode::NoAction, &[0], out);
+    }
+    table.answer(caller, service, ReturnCode::NoError, &[name], out);
+    objects.put_event(place, event.created());
+}
+
+/// GET_EVENT_ID (ARINC 653 Part 1, intrapartition communication): the number of an event, as its
+/// output. INVALID_CONFIG: no event of this number was created.
+pub fn get_event_id(
+    table: &ProcessTable,
+    objects: &Objects,
+    caller: Runner,
+    name: i64,
+    out: &mut Out,
+)
+    requires { HasRoom 1 out.old }
+    ensures step { IsTold (meaning.get_event_id (both table.now objects.now) caller name) out.old out.new }
+    ensures grows { Grows 1 out.old out.new }
+{
+    let service = Service::GetEventId;
+    match objects.event(name) {
+        Some((_, event)) if event.is_created() => {
+            table.answer(caller, service, ReturnCode::NoError, &[name], out)
+        }
+        _ => table.refuse(caller, service, ReturnCode::InvalidConfig, &[0], out),
+    }
+}
+
+/// SET_EVENT (ARINC 653 Part 1, intrapartition communication): an event is up, and all who wait for it
+/// are released in the order in which they came. INVALID_PARAM: no event of this number was created.
+pub fn set_event(
+    table: &mut ProcessTable,
+    objects: &mut Objects,
+    caller: Runner,
+    id: i64,
+    out: &mut Out,
+)
+    requires { HasRoom 63 out.old }
+    ensures step { IsMade (meaning.set_event (both table.old objects.old) caller id) (both table.new objects.new) out.old out.new }
+    ensures grows { Grows 63 out.old out.new }
+{
+    let service = Service::SetEvent;
+    match objects.event(id) {
+        Some((place, event)) if event.is_created() => {
+            table.answer(caller, service, ReturnCode::NoError, &[], out);
+            objects.put_event(place, event.with_state(true));
+            table.release_all(list_of(ObjectKind::Event, place), out)
+        }
+        _ => table.refuse(caller, service, ReturnCode::InvalidParam, &[], out),
+    }
+}
+
+/// RESET_EVENT (ARINC 653 Part 1, intrapartition communication): an event is down. INVALID_PARAM: no
+/// event of this number was created.
+pub fn reset_event(
+    table: &ProcessTable,
+    objects: &mut Objects,
+    caller: Runner,
+    id: i64,
+    out: &mut Out,
+)
+    requires { HasRoom 1 out.old }
+    ensures step { IsMade (meaning.reset_event (both table.now objects.old) caller id) (both table.now objects.new) out.old out.new }
+    ensures grows { Grows 1 out.old out.new }
+{
+    let service = Service::ResetEvent;
+    match objects.event(id) {
+        Some((place, event)) if event.is_created() => {
+            table.answer(caller, service, ReturnCode::NoError, &[], out);
+            objects.put_event(place, event.with_state(false))
+        }
+        _ => table.refuse(caller, service, ReturnCode::InvalidParam, &[], out),
+    }
+}
+
+/// WAIT_EVENT (ARINC 653 Part 1, intrapartition communication): while an event is down the caller
+/// waits, at most so many ticks; -1 is without limit. INVALID_PARAM: no event of this number was
+/// created, or a limit below -1 or above 2^40 ticks; NOT_AVAILABLE: it is down and the limit is 0;
+/// INVALID_MODE: the caller may not wait; TIMED_OUT: it waited for so long.
+pub fn wait_event(
+    table: &mut ProcessTable,
+    objects: &Objects,
+    at: At,
+    caller: Runner,
+    id: i64,
+    limit: i64,
+    out: &mut Out,
+)
+    requires now { at.now.0 ≤ 2 ^ 40 }
+    requires room { HasRoom 1 out.old }
+    ensures step { IsMade (meaning.wait_event at (both table.old objects.now) caller id limit) (both table.new objects.now) out.old out.new }
+    ensures grows { Grows 1 out.old out.new }
+{
+    let service = Service::WaitEvent;
+    let Some((place, event)) = objects.event(id) else {
+        return table.refuse(caller, service, ReturnCode::InvalidParam, &[], out);
+    };
+    if !event.is_created() || !is_duration(limit) {
+        return table.refuse(caller, service, ReturnCode::InvalidParam, &[], out);
+    }
+    if event.is_up() {
+        return table.answer(caller, service, ReturnCode::NoError, &[], out);
+    }
+    let waiting = Waiting {
+        service,
+        list: list_of(ObjectKind::Event, place),
+        discipline: Discipline::Fifo,
+        array: None,
+    };
+    table.block(at, caller, limit, waiting, Words::new(), out);
+}
+
+/// 0 for down, 1 for up.
+fn number_of_state(up: bool) -> i64
+    ensures { result ≡ pos (meaning.number_of_state up) }
+{
+    if up { 1 } else { 0 }
+}
+
+/// GET_EVENT_STATUS (ARINC 653 Part 1, intrapartition communication): the state of an event, 0 for
+/// down and 1 for up, and how many processes wait. INVALID_PARAM: no event of this number was created.
+pub fn get_event_status(
+    table: &ProcessTable,
+    objects: &Objects,
+    caller: Runner,
+    id: i64,
+    out: &mut Out,
+)
+    requires { HasRoom 1 out.old }
+    ensures step { IsTold (meaning.get_event_status (both table.now objects.now) caller id) out.old out.new }
+    ensures grows { Grows 1 out.old out.new }
+{
+    let service = Service::GetEventStatus;
+    match objects.event(id) {
+        Some((place, event)) if event.is_created() => {
+            let state = number_of_state(event.is_up());
+            let waiting = table.waiting_count(list_of(ObjectKind::Event, place));
+            let outputs = [state, i64::from(waiting)];
+            table.answer(caller, service, ReturnCode::NoError, &outputs, out)
+        }
+        _ => table.refuse(caller, service, ReturnCode::InvalidParam, &[0, 0], out),
+    }
+}

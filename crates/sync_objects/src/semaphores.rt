@@ -1,0 +1,161 @@
+//! The services on semaphores.
+
+ghost use Rattle.std.specs.Prelude.{◌≡◌, ◌<◌, ◌≤◌, ◌+◌, ◌^◌, length};
+ghost use Rattle.apex_types.specs.Room.{HasRoom, Grows};
+ghost use Rattle.apex_meaning.specs.SemaphoreServices as meaning;
+ghost use Rattle.apex_meaning.specs.Step.{IsMade, IsTold};
+ghost use Rattle.sync_objects.specs.Both.{both};
+
+use crate::waiting::list_of;
+use apex_types::{At, Mode, ObjectKind, Out, ReturnCode, Runner, Service, Waiting, Words};
+use process_table_base::{ProcessTable, is_duration};
+use sync_objects_base::Objects;
+
+/// CREATE_SEMAPHORE (ARINC 653 Part 1, intrapartition communication): the semaphore of that number
+/// exists, and its output is its number. INVALID_MODE: in normal mode; INVALID_CONFIG: no such
+/// semaphore is declared; NO_ACTION: it exists.
+pub fn create_semaphore(
+    table: &ProcessTable,
+    objects: &mut Objects,
+    mode: Mode,
+    caller: Runner,
+    name: i64,
+    out: &mut Out,
+)
+    requires { HasRoom 1 out.old }
+    ensures step { IsMade (meaning.create_semaphore mode (both table.now objects.old) caller name) (both table.now objects.new) out.old out.new }
+    ensures grows { Grows 1 out.old out.new }
+{
+    let service = Service::CreateSemaphore;
+    if mode == Mode::Normal {
+        return table.refuse(caller, service, ReturnCode::InvalidMode, &[0], out);
+    }
+    let Some((place, semaphore)) = objects.semaphore(name) else {
+        return table.refuse(caller, service, ReturnCode::InvalidConfig, &[0], out);
+    };
+    if semaphore.is_created() {
+        return table.refuse(caller, service, ReturnCode::NoAction, &[0], out);
+    }
+    table.answer(caller, service, ReturnCode::NoError, &[name], out);
+    objects.put_semaphore(place, semaphore.created());
+}
+
+/// GET_SEMAPHORE_ID (ARINC 653 Part 1, intrapartition communication): the number of a semaphore, as
+/// its output. INVALID_CONFIG: no semaphore of this number was created.
+pub fn get_semaphore_id(
+    table: &ProcessTable,
+    objects: &Objects,
+    caller: Runner,
+    name: i64,
+    out: &mut Out,
+)
+    requires { HasRoom 1 out.old }
+    ensures step { IsTold (meaning.get_semaphore_id (both table.now objects.now) caller name) out.old out.new }
+    ensures grows { Grows 1 out.old out.new }
+{
+    let service = Service::GetSemaphoreId;
+    match objects.semaphore(name) {
+        Some((_, semaphore)) if semaphore.is_created() => {
+            table.answer(caller, service, ReturnCode::NoError, &[name], out)
+        }
+        _ => table.refuse(caller, service, ReturnCode::InvalidConfig, &[0], out),
+    }
+}
+
+/// WAIT_SEMAPHORE (ARINC 653 Part 1, intrapartition communication): the value of a semaphore falls by
+/// one. At 0 the caller waits, at most so many ticks; -1 is without limit. INVALID_PARAM: no
+/// semaphore of this number was created, or a limit below -1 or above 2^40 ticks; NOT_AVAILABLE: the
+/// value is 0 and so is the limit; INVALID_MODE: the caller may not wait; TIMED_OUT: it waited for so
+/// long.
+pub fn wait_semaphore(
+    table: &mut ProcessTable,
+    objects: &mut Objects,
+    at: At,
+    caller: Runner,
+    id: i64,
+    limit: i64,
+    out: &mut Out,
+)
+    requires now { at.now.0 ≤ 2 ^ 40 }
+    requires room { HasRoom 1 out.old }
+    ensures step { IsMade (meaning.wait_semaphore at (both table.old objects.old) caller id limit) (both table.new objects.new) out.old out.new }
+    ensures grows { Grows 1 out.old out.new }
+{
+    let service = Service::WaitSemaphore;
+    let Some((place, semaphore)) = objects.semaphore(id) else {
+        return table.refuse(caller, service, ReturnCode::InvalidParam, &[], out);
+    };
+    if !semaphore.is_created() || !is_duration(limit) {
+        return table.refuse(caller, service, ReturnCode::InvalidParam, &[], out);
+    }
+    let value = semaphore.value();
+    if 0 < value {
+        table.answer(caller, service, ReturnCode::NoError, &[], out);
+        return objects.put_semaphore(place, semaphore.with_value(value - 1));
+    }
+    let waiting = Waiting {
+        service,
+        list: list_of(ObjectKind::Semaphore, place),
+        discipline: semaphore.discipline(),
+        array: None,
+    };
+    table.block(at, caller, limit, waiting, Words::new(), out);
+}
+
+/// SIGNAL_SEMAPHORE (ARINC 653 Part 1, intrapartition communication): the first who waits for a
+/// semaphore is released; where nobody waits, its value rises by one. INVALID_PARAM: no semaphore of
+/// this number was created; NO_ACTION: its value is its maximum.
+pub fn signal_semaphore(
+    table: &mut ProcessTable,
+    objects: &mut Objects,
+    caller: Runner,
+    id: i64,
+    out: &mut Out,
+)
+    requires { HasRoom 3 out.old }
+    ensures step { IsMade (meaning.signal_semaphore (both table.old objects.old) caller id) (both table.new objects.new) out.old out.new }
+    ensures grows { Grows 3 out.old out.new }
+{
+    let service = Service::SignalSemaphore;
+    let Some((place, semaphore)) = objects.semaphore(id) else {
+        return table.refuse(caller, service, ReturnCode::InvalidParam, &[], out);
+    };
+    if !semaphore.is_created() {
+        return table.refuse(caller, service, ReturnCode::InvalidParam, &[], out);
+    }
+    let value = semaphore.value();
+    if value >= semaphore.maximum() {
+        return table.refuse(caller, service, ReturnCode::NoAction, &[], out);
+    }
+    table.answer(caller, service, ReturnCode::NoError, &[], out);
+    match table.first_waiting(list_of(ObjectKind::Semaphore, place)) {
+        Some((first, row)) => table.release(first, row, ReturnCode::NoError, out),
+        None => objects.put_semaphore(place, semaphore.with_value(value + 1)),
+    }
+}
+
+/// GET_SEMAPHORE_STATUS (ARINC 653 Part 1, intrapartition communication): the value of a semaphore,
+/// its maximum, and how many processes wait. INVALID_PARAM: no semaphore of this number was created.
+pub fn get_semaphore_status(
+    table: &ProcessTable,
+    objects: &Objects,
+    caller: Runner,
+    id: i64,
+    out: &mut Out,
+)
+    requires { HasRoom 1 out.old }
+    ensures step { IsTold (meaning.get_semaphore_status (both table.now objects.now) caller id) out.old out.new }
+    ensures grows { Grows 1 out.old out.new }
+{
+    let service = Service::GetSemaphoreStatus;
+    match objects.semaphore(id) {
+        Some((place, semaphore)) if semaphore.is_created() => {
+            let value = i64::from(semaphore.value());
+            let maximum = i64::from(semaphore.maximum());
+            let waiting = table.waiting_count(list_of(ObjectKind::Semaphore, place));
+            let outputs = [value, maximum, i64::from(waiting)];
+            table.answer(caller, service, ReturnCode::NoError, &outputs, out)
+        }
+        _ => table.refuse(caller, service, ReturnCode::InvalidParam, &[0, 0, 0], out),
+    }
+}

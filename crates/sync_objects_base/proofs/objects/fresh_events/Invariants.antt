@@ -1,0 +1,6 @@
+use Rattle.std.proofs.Common.{◌≡◌, ◌≤◌, ◌++◌, length, map, replicate, take, drop}
+use Rattle.apex_meaning.specs.Objects.{fresh_event}
+use Rattle.sync_objects_base.proofs.objects.fresh_events.Given as goal
+
+abbrev pub invariant-loop-number : goal.invariant-loop-number
+invariant-loop-number l = l.all.items ≡ replicate l._number fresh_event

@@ -1,0 +1,3 @@
+pub mod Found
+pub mod Status
+pub mod View

@@ -1,0 +1,34 @@
+-- What is told of buffers and blackboards in place of their messages.
+use Rattle.std.specs.Prelude.{ℕ, List, length, drop, Option, Some, None, is_some, slice_index_or}
+use Rattle.apex_types.specs.declared.codes.Discipline.TheVariants as discipline
+use Rattle.apex_meaning.specs.Objects.{Objects, Buffer, Blackboard, fresh_buffer, fresh_blackboard}
+use Rattle.sync_objects_base.specs.declared.buffer.BufferStatus.{BufferStatus}
+use Rattle.sync_objects_base.specs.declared.blackboard.BlackboardStatus.{BlackboardStatus}
+
+abbrev pub buffer_status : Buffer → BufferStatus
+buffer_status x = record { row = x.row; created = x.created; messages = length x.messages }
+
+abbrev pub blackboard_status : Blackboard → BlackboardStatus
+blackboard_status x = record { row = x.row; created = x.created; occupied = is_some x.shown }
+
+-- the buffer at a place
+abbrev pub buffer_at : Objects → ℕ → Buffer
+buffer_at o place = slice_index_or o.buffers place (fresh_buffer (record { words = 0; depth = 0; discipline = discipline.Fifo }))
+
+-- the blackboard at a place
+abbrev pub blackboard_at : Objects → ℕ → Blackboard
+blackboard_at o place = slice_index_or o.blackboards place (fresh_blackboard (record { words = 0 }))
+
+-- the buffer that a status with its place is of
+abbrev pub buffer_of_status : Objects → Option (ℕ × BufferStatus) → Option (ℕ × Buffer)
+buffer_of_status o None = None
+buffer_of_status o (Some f) = Some (f.0, buffer_at o f.0)
+
+-- the blackboard that a status with its place is of
+abbrev pub blackboard_of_status : Objects → Option (ℕ × BlackboardStatus) → Option (ℕ × Blackboard)
+blackboard_of_status o None = None
+blackboard_of_status o (Some f) = Some (f.0, blackboard_at o f.0)
+
+-- its first message is gone
+abbrev pub without_first : Buffer → Buffer
+without_first x = record x { messages = drop 1 x.messages }

@@ -1,0 +1,98 @@
+//! Blackboards.
+
+ghost use Rattle.std.specs.Prelude.{◌≡◌, true, false, option_map};
+ghost use Rattle.apex_meaning.specs.Objects as meaning;
+ghost use Rattle.sync_objects_base.specs.Status.{blackboard_status};
+
+use apex_types::{BlackboardRow, Words};
+use std::marker::Model;
+
+/// A blackboard. A contract sees it as the blackboard of the definitions.
+#[derive(Drop)]
+pub(crate) struct Blackboard {
+    row: BlackboardRow,
+    created: bool,
+    shown: Option<Words>,
+}
+
+impl Model for Blackboard {
+    ghost use Rattle.apex_meaning.specs.Objects as meaning;
+
+    ghost Value = { meaning.Blackboard };
+
+    ghost use Rattle.sync_objects_base.specs.View.{blackboard_of};
+
+    ghost view = { blackboard_of };
+}
+
+/// How a blackboard stands, without its message.
+#[derive(Clone, Copy, Debug, PartialEq, Eq)]
+pub struct BlackboardStatus {
+    pub row: BlackboardRow,
+    pub created: bool,
+    /// Whether it displays a message.
+    pub occupied: bool,
+}
+
+/// The same words once more.
+fn copied(words: &Words) -> Words
+    ensures { result ≡ words.now }
+{
+    let mut copy = Words::new();
+    copy.try_extend_from_slice(words.as_slice()).unwrap();
+    copy
+}
+
+impl Blackboard {
+    /// A blackboard before it is created.
+    pub(crate) fn fresh(row: BlackboardRow) -> Blackboard
+        ensures { result ≡ meaning.fresh_blackboard row }
+    {
+        Blackboard {
+            row,
+            created: false,
+            shown: None,
+        }
+    }
+
+    /// The blackboard is not created, and displays nothing.
+    pub(crate) fn clear(&mut self)
+        ensures { self.new ≡ meaning.cleared_blackboard self.old }
+    {
+        self.created = false;
+        self.shown = None;
+    }
+
+    pub(crate) fn create(&mut self)
+        ensures { self.new ≡ record self.old { created = true } }
+    {
+        self.created = true;
+    }
+
+    /// It displays a message, or none.
+    pub(crate) fn show(&mut self, shown: Option<Words>)
+        ensures { self.new ≡ record self.old { shown = shown } }
+    {
+        self.shown = shown;
+    }
+
+    /// The message that it displays.
+    pub(crate) fn shown(&self) -> Option<Words>
+        ensures { result ≡ self.now.shown }
+    {
+        match &self.shown {
+            Some(words) => Some(copied(words)),
+            None => None,
+        }
+    }
+
+    pub(crate) fn status(&self) -> BlackboardStatus
+        ensures { result ≡ blackboard_status self.now }
+    {
+        BlackboardStatus {
+            row: self.row,
+            created: self.created,
+            occupied: self.shown.is_some(),
+        }
+    }
+}

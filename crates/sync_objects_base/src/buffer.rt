@@ -1,0 +1,98 @@
+//! Buffers of messages.
+
+ghost use Rattle.std.specs.Prelude.{◌≡◌, ◌<◌, ◌≤◌, ◌++◌, [], ◌∷◌, drop, length, slice_get, true, IfOk, IsNone, OnSome};
+ghost use Rattle.apex_meaning.specs.Objects as meaning;
+ghost use Rattle.sync_objects_base.specs.Status.{buffer_status};
+
+use apex_types::{BufferRow, Words};
+use circular_buffer::HeapCircularBuffer;
+use std::alloc::{AllocError, Global};
+use std::marker::Model;
+
+/// A buffer of messages. A contract sees it as the buffer of the definitions.
+#[derive(Drop)]
+pub(crate) struct Buffer {
+    row: BufferRow,
+    created: bool,
+    messages: HeapCircularBuffer<Words>,
+}
+
+impl Model for Buffer {
+    ghost use Rattle.apex_meaning.specs.Objects as meaning;
+
+    ghost Value = { meaning.Buffer };
+
+    ghost use Rattle.sync_objects_base.specs.View.{buffer_of, HasRing};
+
+    ghost view = { buffer_of };
+
+    ghost invariant = { HasRing };
+}
+
+/// How a buffer stands, without its messages.
+#[derive(Clone, Copy, Debug, PartialEq, Eq)]
+pub struct BufferStatus {
+    pub row: BufferRow,
+    pub created: bool,
+    /// How many messages it holds.
+    pub messages: u8,
+}
+
+impl Buffer {
+    /// A buffer before it is created, with memory for its messages.
+    pub(crate) fn fresh(alloc: Global, row: BufferRow) -> Result<Buffer, AllocError>
+        ensures { IfOk result (λ buffer. buffer ≡ meaning.fresh_buffer row) }
+    {
+        let messages = HeapCircularBuffer::with_capacity(alloc, usize::from(row.depth))?;
+        Ok(Buffer {
+            row,
+            created: false,
+            messages,
+        })
+    }
+
+    /// The buffer is not created, and holds no message.
+    pub(crate) fn clear(&mut self)
+        ensures { self.new ≡ meaning.cleared_buffer self.old }
+    {
+        self.created = false;
+        self.messages.clear();
+    }
+
+    pub(crate) fn create(&mut self)
+        ensures { self.new ≡ record self.old { created = true } }
+    {
+        self.created = true;
+    }
+
+    /// A message goes behind the others.
+    pub(crate) fn push(&mut self, message: Words)
+        requires { length self.old.messages < self.old.row.depth }
+        ensures { self.new ≡ record self.old { messages = self.old.messages ++ message ∷ [] } }
+    {
+        let _ = self.messages.try_push_back(message);
+    }
+
+    /// Takes the first message.
+    pub(crate) fn pop(&mut self) -> Option<Words>
+        ensures first { result ≡ slice_get self.old.messages 0 }
+        ensures rest { self.new ≡ record self.old { messages = drop 1 self.old.messages } }
+        ensures empty { IsNone result → self.new ≡ self.old }
+        ensures room { OnSome result (length self.new.messages < self.new.row.depth) }
+    {
+        self.messages.pop_front()
+    }
+
+    pub(crate) fn status(&self) -> BufferStatus
+        ensures status { result ≡ buffer_status self.now }
+        ensures within { result.messages ≤ result.row.depth }
+    {
+        let messages = self.messages.len();
+        prove!(messages <= usize::from(self.row.depth));
+        BufferStatus {
+            row: self.row,
+            created: self.created,
+            messages: messages as u8,
+        }
+    }
+}

@@ -1,0 +1,67 @@
+//! Events.
+
+ghost use Rattle.std.specs.Prelude.{◌≡◌, true, false};
+ghost use Rattle.apex_meaning.specs.Objects as meaning;
+
+use std::marker::Model;
+
+/// An event. A contract sees it as the event of the definitions.
+#[derive(Clone, Copy)]
+pub struct Event {
+    created: bool,
+    up: bool,
+}
+
+impl Model for Event {
+    ghost use Rattle.apex_meaning.specs.Objects as meaning;
+
+    ghost Value = { meaning.Event };
+
+    ghost use Rattle.sync_objects_base.specs.View.{event_of, event_fields};
+
+    ghost view = { event_of };
+
+    ghost inverse = { event_fields };
+}
+
+impl Event {
+    /// An event before it is created.
+    pub(crate) fn fresh() -> Event
+        ensures { result ≡ meaning.fresh_event }
+    {
+        Event {
+            created: false,
+            up: false,
+        }
+    }
+
+    /// Whether it is created.
+    pub fn is_created(self) -> bool
+        ensures { result ≡ self.created }
+    {
+        self.created
+    }
+
+    pub fn is_up(self) -> bool
+        ensures { result ≡ self.up }
+    {
+        self.up
+    }
+
+    /// The same event, created.
+    pub fn created(self) -> Event
+        ensures { result ≡ record self { created = true } }
+    {
+        Event {
+            created: true,
+            ..self
+        }
+    }
+
+    /// The same event, up or down.
+    pub fn with_state(self, up: bool) -> Event
+        ensures { result ≡ record self { up = up } }
+    {
+        Event { up, ..self }
+    }
+}
