@@ -147,7 +147,7 @@ impl Kernel {
                 length,
                 timeout,
             } => send_buffer(
-                table, objects, at, caller, buffer, array, length, timeout, &words, out,
+                table, objects, at, caller, buffer, array, length, timeout, words, out,
             ),
             Call::ReceiveBuffer {
                 buffer,
@@ -166,7 +166,7 @@ impl Kernel {
                 array,
                 length,
             } => display_blackboard(
-                table, objects, caller, blackboard, array, length, &words, out,
+                table, objects, caller, blackboard, array, length, words, out,
             ),
             Call::ReadBlackboard {
                 blackboard,
