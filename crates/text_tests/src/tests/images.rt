@@ -1,6 +1,8 @@
-use super::*;
+//! Images that are loaded, written again, and refused.
+
+use image::{Image, ImageFault, load_image, write_image};
 use std::alloc::Global;
-use std::test::*;
+use std::test::Fail;
 
 /// The image of one partition whose INIT asks for the mode NORMAL: its section stands from byte 40 to
 /// byte 146.

@@ -3,7 +3,6 @@
 ghost use Rattle.std.specs.Prelude.{◌≡◌, [], ◌∷◌, length, map, IfOk};
 ghost use Rattle.scripted.specs.Plays.{laid_of, layout_of};
 
-use crate::{Part, Scripted};
 use apex_types::{
     At, BodyRow, Call, ErrorKind, Events, HealthTable, Name, PartitionAction, PartitionId,
     Priority, ProcessRow, StartCondition, Ticks, WriterSink, write_events,
@@ -11,6 +10,7 @@ use apex_types::{
 use partition::{Fixed, Kernel, Partition};
 use processor::Outcome;
 use regions::{Memory, MemoryPlan, PartitionMem};
+use scripted::{Part, Scripted};
 use std::alloc::{AllocError, Global};
 use std::test::Fail;
 use window_table::read_table;
@@ -150,7 +150,7 @@ fn tick(
 }
 
 #[test]
-#[tactic(auto, using(crate::proofs::Parts::laid_first))]
+#[tactic(auto, using(scripted::proofs::Parts::laid_first))]
 fn scripts_are_played(rt: HostRuntime) -> Result<(), Fail> {
     let alloc = rt.alloc();
     let mut partition = partition(alloc)?;

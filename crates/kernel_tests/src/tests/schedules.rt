@@ -2,10 +2,10 @@
 
 ghost use Rattle.std.specs.Prelude.{◌≤◌, ◌^◌};
 
-use crate::{Schedule, read_table};
 use apex_types::{At, PartitionId, Ticks};
 use std::process::Abort;
 use std::test::Fail;
+use window_table::{Schedule, read_table};
 
 /// Two partitions in three windows. The last window is no release window, and ticks 10, 11, 18 and
 /// 19 of the frame have no owner.

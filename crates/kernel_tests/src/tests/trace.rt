@@ -1,14 +1,11 @@
+//! The lines of events, and names and numbers.
+
 ghost use Rattle.std.specs.Prelude.{◌≡◌, ◌≤◌, ◌^◌, Some};
 
-use crate::codes::{
-    ErrorKind, Mode, ModuleAction, PartitionAction, ProcessState, Response, ReturnCode,
+use apex_types::{
+    ErrorKind, Event, EventKind, Mode, ModuleAction, Name, PartitionAction, ProcessState, Response,
+    ReturnCode, Service, Sink, SinkFault, Subject, Ticks, Words, write_event,
 };
-use crate::event::{Event, EventKind, Subject, Words};
-use crate::identity::Ticks;
-use crate::name::Name;
-use crate::service::Service;
-use crate::sink::{Sink, SinkFault};
-use crate::text::write_event;
 use arrayvec::ArrayVec;
 use std::process::Abort;
 

@@ -1,9 +1,7 @@
 //! Worked tables: one text for each refusal, with a later fault in the same text.
 
-mod schedules;
-
-use crate::read_table;
 use std::alloc::Global;
+use window_table::read_table;
 
 /// A text in four parts, so that a case tells only what is its own.
 struct Case {

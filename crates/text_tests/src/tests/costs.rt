@@ -1,7 +1,7 @@
 //! Programs that are checked for a partition and priced.
 
-use crate::{BodyCost, BodyName, Checked, check, cost_report};
 use apex_types::{HealthTable, Name, PartitionAction};
+use pal::{BodyCost, BodyName, Checked, check, cost_report};
 use pal_base::fault::PalFault;
 use pal_base::parse::parse;
 use std::alloc::Global;

@@ -1,11 +1,10 @@
+//! What commands answer over a shelf of other files, and the line of each refusal.
+
 ghost use Rattle.std.specs.Prelude.{◌≡◌};
 
-use crate::command;
-use crate::files::{FileFault, Files};
-use crate::first_run::{SOURCE, TABLE};
-use crate::refusal::Refusal;
-use crate::stream::Stream;
+use super::texts::TABLE;
 use apex_types::Name;
+use command_line::{FileFault, Files, Refusal, Stream, command};
 use module::{BuildFault, RunFault};
 use pal_base::fault::{PalFault, Refusal as SourceRefusal};
 use std::alloc::Global;
@@ -15,6 +14,29 @@ use std::test::Fail;
 use window_table::TableFault;
 
 const USAGE: &str = "(usage)";
+
+/// The source of the stored first module.
+const SOURCE: &str = "\
+array m[2];
+
+init stack 16 {
+    local r;
+    local i;
+    CREATE_PROCESS(p) -> r, i;
+    START(i) -> r;
+    SET_PARTITION_MODE(3) -> r;
+}
+
+process p priority 5 period -1 capacity -1 stack 16 {
+    local r;
+    local t;
+    work 3;
+    GET_TIME() -> r, t;
+    m[0] := t;
+    m[1] := 7;
+    REPORT_APPLICATION_MESSAGE(m, 2) -> r;
+}
+";
 
 /// Three files that are there, with their names as their bytes, the first module's two, and one
 /// that takes no writing. It counts what is written.

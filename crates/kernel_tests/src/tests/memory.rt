@@ -1,10 +1,10 @@
-//! Each public call once, a refused load and a refused store.
+//! Each public call of the memory once, a refused load and a refused store.
 
 ghost use Rattle.std.specs.Prelude.{◌≡◌, IfOk, length};
 
-use crate::{Memory, MemoryPlan, Region, Rights};
 use apex_types::ErrorKind;
 use bitflags::Flags;
+use regions::{Memory, MemoryPlan, Region, Rights};
 use std::alloc::{AllocError, Global};
 use std::test::Fail;
 
@@ -68,7 +68,7 @@ fn each_process_has_its_own_stack(rt: HostRuntime) -> Result<(), Fail> {
 }
 
 #[test]
-#[tactic(auto, using(crate::proofs::Lists::stacks))]
+#[tactic(auto, using(regions::proofs::Lists::stacks))]
 fn a_loan_leaves_the_other_partitions(rt: HostRuntime) -> Result<(), Fail> {
     let mut memory = memory(rt.alloc())?;
     let part = memory.lend(0);
