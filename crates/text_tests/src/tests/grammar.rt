@@ -1,6 +1,5 @@
 //! Texts that are of the grammar, and the first line of a text that is not.
 
-use pal_base::fault::{PalFault, Refusal};
 use pal_base::parse::parse;
 use std::alloc::Global;
 use std::process::Abort;
