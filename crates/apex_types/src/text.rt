@@ -14,9 +14,6 @@ use crate::service::Service;
 use crate::sink::{Sink, SinkFault, put_all};
 use arrayvec::ArrayVec;
 
-#[cfg(test)]
-mod tests;
-
 /// The bytes of one line. The longest has a tick of 13, two names of 30, a word of 6 and 16
 /// words of at most 20 bytes with a space before each.
 type Line = ArrayVec<u8, 512>;

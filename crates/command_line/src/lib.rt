@@ -18,11 +18,10 @@ mod refusal;
 mod running;
 mod stream;
 mod telling;
-#[cfg(test)]
-mod tests;
 
 use commands::perform;
 pub use files::{FileFault, Files};
+pub use refusal::Refusal;
 use std::alloc::Global;
 use std::convert::AsStr;
 use std::io::Write;

@@ -6,8 +6,6 @@ mod item;
 mod load;
 mod reading;
 mod rules;
-#[cfg(test)]
-mod tests;
 mod value;
 mod write;
 mod writing;

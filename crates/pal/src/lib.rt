@@ -2,8 +2,6 @@
 //! what its bodies cost.
 #![tactic(auto)]
 
-#[cfg(test)]
-mod examples;
 mod kinds;
 mod limits;
 mod lines;

@@ -192,6 +192,3 @@ impl Source {
         Ok((process, rest))
     }
 }
-
-#[cfg(test)]
-mod tests;

@@ -13,6 +13,3 @@ pub use memory::Memory;
 pub use partition_mem::PartitionMem;
 pub use plan::MemoryPlan;
 pub use region::{Region, Rights};
-
-#[cfg(test)]
-mod tests;

@@ -7,6 +7,3 @@ mod part;
 
 pub use executor::Scripted;
 pub use part::Part;
-
-#[cfg(test)]
-mod tests;

@@ -13,8 +13,6 @@ mod read;
 mod row;
 mod schedule;
 mod table;
-#[cfg(test)]
-mod tests;
 mod words;
 mod written;
 

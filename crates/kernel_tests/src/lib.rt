@@ -1,0 +1,6 @@
+//! Tests of the crates that the kernel stands on: the lines of a trace, the module table and its
+//! schedule, the memory of partitions, and a partition whose processes play scripts.
+#![tactic(auto)]
+
+#[cfg(test)]
+mod tests;

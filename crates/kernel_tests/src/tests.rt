@@ -1,0 +1,5 @@
+mod memory;
+mod schedules;
+mod scripts;
+mod tables;
+mod trace;

@@ -1,0 +1,181 @@
+//! A partition of INIT and one process that play scripts: the lines of its ticks.
+
+ghost use Rattle.std.specs.Prelude.{◌≡◌, [], ◌∷◌, length, map, IfOk};
+ghost use Rattle.scripted.specs.Plays.{laid_of, layout_of};
+
+use apex_types::{
+    At, BodyRow, Call, ErrorKind, Events, HealthTable, Name, PartitionAction, PartitionId,
+    Priority, ProcessRow, StartCondition, Ticks, WriterSink, write_events,
+};
+use partition::{Fixed, Kernel, Partition};
+use processor::Outcome;
+use regions::{Memory, MemoryPlan, PartitionMem};
+use scripted::{Part, Scripted};
+use std::alloc::{AllocError, Global};
+use std::test::Fail;
+use window_table::read_table;
+
+const TABLE: &str = "frame = 20
+fault = 'RESET'
+[[partition]]
+name = 'flight'
+period = 20
+duration = 20
+hm = { DEADLINE_MISSED = 'IGNORE', APPLICATION_ERROR = 'IGNORE', NUMERIC_ERROR = 'IGNORE', ILLEGAL_REQUEST = 'IGNORE', STACK_OVERFLOW = 'IGNORE', MEMORY_VIOLATION = 'IGNORE', HARDWARE_FAULT = 'IGNORE' }
+[[window]]
+partition = 'flight'
+offset = 0
+length = 20
+release = true
+";
+
+const CREATED: &str = "0000000000000 flight STATE INIT RUNNING
+0000000000000 flight RET INIT CREATE_PROCESS 0
+";
+
+const STARTED: &str = "0000000000001 flight RET INIT START 0
+0000000000001 flight STATE p WAITING
+";
+
+const NORMAL: &str = "0000000000002 flight RET INIT SET_PARTITION_MODE 0
+0000000000002 flight STATE INIT DORMANT
+0000000000002 flight MODE NORMAL
+0000000000002 flight STATE p READY
+";
+
+const RUNNING: &str = "0000000000003 flight STATE p RUNNING
+";
+
+const ASKED: &str = "0000000000004 flight RET p GET_TIME 0
+";
+
+const FAULTY: &str = "0000000000005 flight STATE p DORMANT
+0000000000005 flight HM NUMERIC_ERROR p PARTITION IGNORE
+";
+
+const HEALTH: HealthTable = HealthTable {
+    deadline_missed: PartitionAction::Ignore,
+    application_error: PartitionAction::Ignore,
+    numeric_error: PartitionAction::Ignore,
+    illegal_request: PartitionAction::Ignore,
+    stack_overflow: PartitionAction::Ignore,
+    memory_violation: PartitionAction::Ignore,
+    hardware_fault: PartitionAction::Ignore,
+};
+
+/// INIT creates and starts the process and enters normal mode, a call a tick. The process asks for
+/// the time in its second tick, and is faulty in its third.
+fn scripted(alloc: Global) -> Result<Scripted, AllocError>
+    ensures { IfOk result (λ executor. layout_of executor ≡ 0 ∷ []) }
+{
+    let create = Outcome::Call(Call::CreateProcess { name: 1 });
+    let start = Outcome::Call(Call::Start { process: 1 });
+    let normal = Outcome::Call(Call::SetPartitionMode { mode: 3 });
+    let init = vec![in alloc; create, start, normal]?;
+    let time = Outcome::Call(Call::GetTime);
+    let fault = Outcome::Fault(ErrorKind::NumericError);
+    let process = vec![in alloc; Outcome::Local, time, fault]?;
+    let mut parts = Vec::new(alloc);
+    parts.push(Part::new(init))?;
+    parts.push(Part::new(Vec::new(alloc)))?;
+    parts.push(Part::new(process))?;
+    Ok(Scripted {
+        parts,
+        initial: Vec::new(alloc),
+    })
+}
+
+/// A memory of one partition without data, and with a stack of no words.
+fn memory(alloc: Global) -> Result<Memory, AllocError>
+    ensures count { IfOk result (λ memory. length memory ≡ 1) }
+    ensures laid { IfOk result (λ memory. map laid_of memory ≡ (0 ∷ []) ∷ []) }
+{
+    let mut plan = Vec::new(alloc);
+    plan.push(MemoryPlan {
+        initial: Vec::new(alloc),
+        stacks: vec![in alloc; 0]?,
+    })?;
+    Memory::new(alloc, &plan)
+}
+
+/// The partition of the table, with the process `p`.
+fn partition(alloc: Global) -> Result<Partition<Scripted>, Fail>
+    ensures { IfOk result (λ partition. layout_of partition.executor ≡ 0 ∷ []) }
+{
+    let table = read_table(alloc, TABLE.as_bytes())?;
+    let body = BodyRow {
+        stack: 2,
+        entry: 0,
+        slots: 0,
+        frame: 2,
+    };
+    let rows = [ProcessRow {
+        name: Name::new(b"p").ok_or(AllocError)?,
+        priority: Priority(5),
+        period: None,
+        capacity: None,
+        body,
+    }];
+    let fixed = Fixed {
+        name: Name::new(b"flight").ok_or(AllocError)?,
+        number: PartitionId(1),
+        period: 20,
+        duration: 20,
+        schedule: table.schedule,
+        health: HEALTH,
+    };
+    let objects = Objects::new(alloc, &[], 0, &[], &[])?;
+    let kernel = Kernel::new(alloc, fixed, &rows, objects)?;
+    Ok(Partition::new(kernel, scripted(alloc)?))
+}
+
+/// The text of the lines of a tick.
+fn tick(
+    alloc: Global,
+    partition: &mut Partition<Scripted>,
+    mem: &mut PartitionMem,
+    now: u8,
+) -> Result<Vec<u8>, Fail>
+    requires { laid_of mem.old ≡ layout_of partition.old.executor }
+    ensures { laid_of mem.new ≡ layout_of partition.new.executor }
+{
+    let mut events = Events::new();
+    let at = At {
+        now: Ticks(u64::from(now)),
+        origin: Ticks(0),
+    };
+    partition.tick(mem, at, &mut events);
+    let mut sink = WriterSink::new(Vec::new(alloc));
+    let _ = write_events(events.as_slice(), &mut sink);
+    Ok(sink.writer)
+}
+
+#[test]
+#[tactic(auto, using(scripted::proofs::Parts::laid_first))]
+fn scripts_are_played(rt: HostRuntime) -> Result<(), Fail> {
+    let alloc = rt.alloc();
+    let mut partition = partition(alloc)?;
+    let mut memory = memory(alloc)?;
+    let mem = memory.lend(0);
+    let mut events = Events::new();
+    let start = At {
+        now: Ticks(0),
+        origin: Ticks(0),
+    };
+    partition.clear(mem, start, StartCondition::NormalStart, &mut events);
+    let created = tick(alloc, &mut partition, mem, 0)?;
+    assert_eq!(rt; created.as_slice(), CREATED.as_bytes());
+    let started = tick(alloc, &mut partition, mem, 1)?;
+    assert_eq!(rt; started.as_slice(), STARTED.as_bytes());
+    let normal = tick(alloc, &mut partition, mem, 2)?;
+    assert_eq!(rt; normal.as_slice(), NORMAL.as_bytes());
+    let running = tick(alloc, &mut partition, mem, 3)?;
+    assert_eq!(rt; running.as_slice(), RUNNING.as_bytes());
+    let asked = tick(alloc, &mut partition, mem, 4)?;
+    assert_eq!(rt; asked.as_slice(), ASKED.as_bytes());
+    let faulty = tick(alloc, &mut partition, mem, 5)?;
+    assert_eq!(rt; faulty.as_slice(), FAULTY.as_bytes());
+    let idle = tick(alloc, &mut partition, mem, 6)?;
+    assert!(rt; idle.as_slice().is_empty());
+    Ok(())
+}

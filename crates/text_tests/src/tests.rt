@@ -1,0 +1,3 @@
+mod costs;
+mod grammar;
+mod images;
