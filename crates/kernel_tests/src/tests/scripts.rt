@@ -13,6 +13,7 @@ use regions::{Memory, MemoryPlan, PartitionMem};
 use scripted::{Part, Scripted};
 use std::alloc::{AllocError, Global};
 use std::test::Fail;
+use sync_objects_base::Objects;
 use window_table::read_table;
 
 const TABLE: &str = "frame = 20
