@@ -3,7 +3,7 @@ use Rattle.std.proofs.Common.{◌≡◌, ℕ, zero, suc, ◌+◌, ◌<◌, ◌�
 use Rattle.std.specs.Prelude.{nat_eq, nat_lt, slice_get, slice_set, slice_index_or, Option, Some, None, IfSome, if◌then◌else◌}
 use Rattle.std.proofs.lemmas.Bool.Decides.{nat_tests}
 use Rattle.std.proofs.lemmas.Bool.{cases_lt, cases_eq}
-use Rattle.std.proofs.lemmas.List.{get_or_past, get_or-map, get_or-replicate, length-replicate, map-set, set_past}
+use Rattle.std.proofs.lemmas.List.{get_or_past, get_or-map, get_or-replicate, length-replicate, map-set}
 use Rattle.std.proofs.lemmas.Grind.{get_or-set_at}
 use Rattle.std.proofs.Math.ListN as listn
 use Rattle.arrayvec.specs.ArrayVec.{ArrayVec}
@@ -12,7 +12,7 @@ use Rattle.apex_types.specs.declared.codes.Discipline.TheVariants as discipline
 use Rattle.apex_types.specs.declared.identity.ListId.{ListId}
 use Rattle.apex_types.specs.declared.process.Entry.{Entry}
 use Rattle.apex_meaning.specs.Entries.{without, behind_equals}
-use Rattle.apex_meaning.specs.Queues.{without_in_all, list_at, put_list, joined, joins, emptied, no_entries}
+use Rattle.apex_meaning.specs.Queues.{without_in_all, list_at, put_list, joined, emptied, no_entries}
 use Rattle.apex_meaning.specs.Ready.{times_listed, AreBelow, IsListed}
 use Rattle.apex_meaning.proofs.ReadyLists.{length-without}
 use Rattle.links.specs.OneHome.{entries_of, once_at, IsHomed}
@@ -91,7 +91,7 @@ without-absent p (e ∷ es) h = elim (cases_eq p e.process.0) [
 list_at-without : (p : ℕ) (lists : List (List Entry)) (k : ℕ) → list_at (without_in_all p lists) k ≡ without p (list_at lists k)
 list_at-without p lists k = listn.get_or-map (without p) lists k []
 
-pub without-nobody : (p : ℕ) (lists : List (List Entry)) → ((j : ℕ) → times_listed p (list_at lists j) ≡ 0) → without_in_all p lists ≡ lists
+without-nobody : (p : ℕ) (lists : List (List Entry)) → ((j : ℕ) → times_listed p (list_at lists j) ≡ 0) → without_in_all p lists ≡ lists
 without-nobody p [] h = refl
 without-nobody p (x ∷ xs) h =
     let here : without p x ≡ x = without-absent p x (h 0) in
@@ -113,10 +113,10 @@ without-one p (suc k) (x ∷ xs) h =
 pub leaves-home : (p : ℕ) (home : ListId) (lists : List (List Entry)) (homes : List (Option ListId)) → IsHomed lists homes → slice_index_or homes p None ≡ Some home → put_list lists home.0 (without p (list_at lists home.0)) ≡ without_in_all p lists
 leaves-home p home lists homes h is =
     without-one p home.0 lists (λ j ne.
-      let back : (home.0 ≡ j → ⊥) = λ q. ne (sym q) in
-      let none : once_at (Some home) j ≡ 0 = test_other home.0 j back in
-      let found : times_listed p (list_at lists j) ≡ once_at (Some home) j = rw is at (h p j) in
-      omega arith)
+    let back : (home.0 ≡ j → ⊥) = λ q. ne (sym q) in
+    let none : once_at (Some home) j ≡ 0 = test_other home.0 j back in
+    let found : times_listed p (list_at lists j) ≡ once_at (Some home) j = rw is at (h p j) in
+    omega arith)
 
 pub leaves-none : (p : ℕ) (lists : List (List Entry)) (homes : List (Option ListId)) → IsHomed lists homes → slice_index_or homes p None ≡ None → without_in_all p lists ≡ lists
 leaves-none p lists homes h is = without-nobody p lists (λ j. rw is at (h p j))
@@ -150,18 +150,17 @@ once-le (Some home) k = test_le home.0 k
 
 below : (n : ℕ) (es : List Entry) → ((p : ℕ) → n ≤ p → times_listed p es ≡ 0) → AreBelow n es
 below n [] h = tt
-below n (e ∷ es) h =
-    (
-      elim (cases_lt e.process.0 n) [
-        | inl lt ↦ lt
-        | inr le ↦
-            let one : one_if (nat_eq e.process.0 e.process.0) ≡ 1 = test_same e.process.0 e.process.0 refl in
-            absurd (omega (arith, h e.process.0 le))
-      ],
-      below n es (λ p le. omega (arith, h p le)),
-    )
+below n (e ∷ es) h = (
+  elim (cases_lt e.process.0 n) [
+    | inl lt ↦ lt
+    | inr le ↦
+        let one : one_if (nat_eq e.process.0 e.process.0) ≡ 1 = test_same e.process.0 e.process.0 refl in
+        absurd (omega (arith, h e.process.0 le))
+  ],
+  below n es (λ p le. omega (arith, h p le)),
+)
 
-pub listed : (n : ℕ) (lists : List (List Entry)) (homes : List (Option ListId)) → length homes ≡ n → IsHomed lists homes → (k : ℕ) → IsListed n (list_at lists k)
+listed : (n : ℕ) (lists : List (List Entry)) (homes : List (Option ListId)) → length homes ≡ n → IsHomed lists homes → (k : ℕ) → IsListed n (list_at lists k)
 listed n lists homes full h k = record {
   below = below n (list_at lists k) (λ p le. rw (get_or_past homes p None (omega arith)) at (h p k));
   once = λ p. omega (arith, h p k, once-le (slice_index_or homes p None) k);
@@ -232,10 +231,6 @@ IsHomed-joins d e home lists homes h there within none = λ q j.
           ]
     ]
 
--- where there is no such list, one has left its own
-pub joins-nowhere : (k : ℕ) (d : Discipline) (e : Entry) (lists old : List (List Entry)) → lists ≡ without_in_all e.process.0 old → length lists ≤ k → lists ≡ joins k d e old
-joins-nowhere k d e lists old is past = rw (← is) (sym (set_past lists k (joined d e (list_at lists k)) past))
-
 -- ---- the first of a list is released
 
 once-elsewhere : (home : Option ListId) (k j : ℕ) → once_at home k ≡ 1 → (j ≡ k → ⊥) → once_at home j ≡ 0
@@ -262,7 +257,7 @@ first-leaves e (x ∷ xs) is h =
     let gone : times_listed e.process.0 xs ≡ 0 = omega arith in
     record { one = omega arith; rest = rw test (without-absent e.process.0 xs gone) }
 
-pub pops : (k : ℕ) (e : Entry) (lists : List (List Entry)) (homes : List (Option ListId)) → IsHomed lists homes → slice_get (list_at lists k) 0 ≡ Some e → without_in_all e.process.0 lists ≡ put_list lists k (drop 1 (list_at lists k))
+pops : (k : ℕ) (e : Entry) (lists : List (List Entry)) (homes : List (Option ListId)) → IsHomed lists homes → slice_get (list_at lists k) 0 ≡ Some e → without_in_all e.process.0 lists ≡ put_list lists k (drop 1 (list_at lists k))
 pops k e lists homes h is =
     let first = first-leaves e (list_at lists k) is (omega (arith, h e.process.0 k, once-le (slice_index_or homes e.process.0 None) k)) in
     let one : once_at (slice_index_or homes e.process.0 None) k ≡ 1 = omega (arith, h e.process.0 k, first.one) in
@@ -273,12 +268,3 @@ pub pops-seen : (k : ℕ) (e : Entry) (lists seen : List (List Entry)) (homes : 
 pops-seen k e lists seen homes same h is =
     let found : slice_get (list_at lists k) 0 ≡ Some e = subst (λ (ls : List (List Entry)). slice_get (list_at ls k) 0 ≡ Some e) (sym same) is in
     subst (λ (ls : List (List Entry)). without_in_all e.process.0 ls ≡ put_list ls k (drop 1 (list_at ls k))) same (pops k e lists homes h found)
-
-pub pops-nobody : (k : ℕ) (lists : List (List Entry)) → slice_get (list_at lists k) 0 ≡ None → lists ≡ put_list lists k (drop 1 (list_at lists k))
-pops-nobody zero [] is = refl
-pops-nobody (suc k) [] is = refl
-pops-nobody zero ([] ∷ lists) is = refl
-pops-nobody zero ((e ∷ es) ∷ lists) is = absurd (cc)
-pops-nobody (suc k) (es ∷ lists) is =
-    let rest : lists ≡ put_list lists k (drop 1 (list_at lists k)) = pops-nobody k lists is in
-    cc

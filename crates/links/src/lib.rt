@@ -3,8 +3,8 @@
 
 mod entries;
 mod homes;
-mod lists;
 mod links;
+mod lists;
 
 pub use entries::Entries;
 pub use links::Links;

@@ -1,4 +1,4 @@
-use Rattle.std.proofs.Common.{◌≡◌, ◌∙◌, length-set, arith}
+use Rattle.std.proofs.Common.{◌∙◌, length-set, arith}
 use Rattle.std.proofs.lemmas.List.{length-map}
 use Rattle.links.specs.OneHome.{entries_of}
 use Rattle.links.proofs.OneHome.{absent, room, IsHomed-joins}
