@@ -1,0 +1,9 @@
+use Rattle.std.proofs.Common.{◌≡◌, ◌≤◌, ◌-◌, ◌++◌, length, take, drop}
+use Rattle.apex_meaning.specs.Entries.{behind_equals}
+use Rattle.links.proofs.entries.enter.Given as goal
+
+abbrev pub invariant-loop-place : goal.invariant-loop-place
+invariant-loop-place l = (l.place ≤ length l.entries.items) × (behind_equals l.entry l.entries.items ≡ take l.place l.entries.items ++ behind_equals l.entry (drop l.place l.entries.items))
+
+abbrev pub decreases-loop-place : goal.decreases-loop-place
+decreases-loop-place l = length l.entries.items - l.place

@@ -1,0 +1,6 @@
+use Rattle.std.proofs.Common.{◌≡◌, [], map, replicate}
+use Rattle.links.specs.OneHome.{entries_of}
+use Rattle.links.proofs.lists.empty_lists.Given as goal
+
+abbrev pub invariant-loop : goal.invariant-loop
+invariant-loop l = map entries_of l.lists.items ≡ replicate l.counter []

@@ -1,0 +1,8 @@
+use Rattle.std.proofs.Common.{rules}
+use Rattle.apex_meaning.specs.Entries.{without}
+use Rattle.links.proofs.OneHome.{put-entries}
+use Rattle.links.proofs.lists.leave_at.Goals as goal
+
+pub returns-in-Some : goal.returns-in-Some
+returns-in-Some c =
+    put-entries c.args.lists.now.items c.from.result c.args.list.0 c.in-Some.entries.now c.leave.new.entries (without c.args.process.0) c.from.ensures (search rules) c.in-Some.ensures.value c.leave.ensures

@@ -1,0 +1,2 @@
+pub mod OneHome
+pub mod View

@@ -1,0 +1,14 @@
+-- How the waiting lists are seen, and what always holds of them.
+use Rattle.std.specs.Prelude.{◌≡◌, List, length, map}
+use Rattle.apex_types.specs.declared.identity.TheConstants.{MOST_PROCESSES}
+use Rattle.apex_types.specs.declared.process.Entry.{Entry}
+use Rattle.links.specs.OneHome.{entries_of, IsHomed}
+use Rattle.links.specs.declared.links.Links.TheInside.{Inside}
+
+abbrev pub lists_of : Inside → List (List Entry)
+lists_of l = map entries_of l.lists.items
+
+-- there is a home for each process, and each stands in its home alone
+pub record IsSound (l : Inside) : Type 0 where
+  pub complete : length l.homes ≡ MOST_PROCESSES
+  pub homed : IsHomed (lists_of l) l.homes

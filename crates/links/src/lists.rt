@@ -1,0 +1,91 @@
+//! All lists, each with its number.
+
+ghost use Rattle.std.specs.Prelude.{◌≡◌, ◌<◌, ◌≤◌, [], length, map, replicate, slice_get, IfOk};
+ghost use Rattle.apex_meaning.specs.Entries.{without};
+ghost use Rattle.apex_meaning.specs.Queues.{emptied, joined, list_at, put_list};
+ghost use Rattle.links.specs.OneHome.{entries_of};
+
+use crate::entries::{self, Entries};
+use apex_types::{Discipline, Entry, ListId, MOST_PROCESSES, ProcessIndex};
+use std::alloc::{AllocError, Global};
+
+/// So many empty lists.
+pub(crate) fn empty_lists(alloc: Global, count: u8) -> Result<Vec<Entries>, AllocError>
+    ensures { IfOk result (λ lists. map entries_of lists.items ≡ replicate count []) }
+{
+    let mut lists = Vec::with_capacity(alloc, usize::from(count))?;
+    for _ in 0..count {
+        lists.push(Entries::new())?;
+    }
+    Ok(lists)
+}
+
+/// The one of a list who is released next.
+pub(crate) fn front_at(lists: &[Entries], list: ListId) -> Option<Entry>
+    ensures { result ≡ slice_get (list_at (map entries_of lists.now) list.0) 0 }
+{
+    match lists.get(usize::from(list.0)) {
+        Some(entries) => entries::front(entries),
+        None => None,
+    }
+}
+
+/// How many stand in a list.
+pub(crate) fn count_at(lists: &[Entries], list: ListId) -> u8
+    ensures count { result ≡ length (list_at (map entries_of lists.now) list.0) }
+    ensures most { result ≤ MOST_PROCESSES }
+{
+    match lists.get(usize::from(list.0)) {
+        Some(entries) => entries.len() as u8,
+        None => 0,
+    }
+}
+
+/// A copy of one list.
+fn copy_of(entries: &Entries) -> Entries
+    ensures { result.items ≡ entries.now.items }
+{
+    let mut copy = Entries::new();
+    for entry in entries.as_slice() {
+        copy.push(*entry);
+    }
+    copy
+}
+
+/// A copy of a list.
+pub(crate) fn copy_at(lists: &[Entries], list: ListId) -> Entries
+    ensures { result.items ≡ list_at (map entries_of lists.now) list.0 }
+{
+    match lists.get(usize::from(list.0)) {
+        Some(entries) => copy_of(entries),
+        None => Entries::new(),
+    }
+}
+
+/// Takes a process out of a list.
+pub(crate) fn leave_at(lists: &mut Vec<Entries>, list: ListId, process: ProcessIndex)
+    ensures { map entries_of lists.new.items ≡ put_list (map entries_of lists.old.items) list.0 (without process.0 (list_at (map entries_of lists.old.items) list.0)) }
+{
+    if let Some(entries) = lists.get_mut(usize::from(list.0)) {
+        entries::leave(entries, process);
+    }
+}
+
+/// Puts an entry into a list as its discipline says.
+pub(crate) fn join_at(lists: &mut Vec<Entries>, list: ListId, discipline: Discipline, entry: Entry)
+    requires { length (list_at (map entries_of lists.old.items) list.0) < MOST_PROCESSES }
+    ensures { map entries_of lists.new.items ≡ put_list (map entries_of lists.old.items) list.0 (joined discipline entry (list_at (map entries_of lists.old.items) list.0)) }
+{
+    if let Some(entries) = lists.get_mut(usize::from(list.0)) {
+        entries::join(entries, discipline, entry);
+    }
+}
+
+/// Empties all lists.
+pub(crate) fn clear_all(lists: &mut Vec<Entries>)
+    ensures { map entries_of lists.new.items ≡ emptied (map entries_of lists.old.items) }
+{
+    for entries in lists.iter_mut() {
+        entries.clear();
+    }
+}
