@@ -31,7 +31,7 @@ ordered_without number p (x ∷ xs) h =
       | false ↦ (each_without number p x xs h.0, ordered_without number p xs h.1)
     ]
 
-below_without : (number : ℕ → ℕ) (next p : ℕ) (es : List Entry) → AreNumbersBelow number next es → AreNumbersBelow number next (without p es)
+pub below_without : (number : ℕ → ℕ) (next p : ℕ) (es : List Entry) → AreNumbersBelow number next es → AreNumbersBelow number next (without p es)
 below_without number next p [] h = tt
 below_without number next p (x ∷ xs) h =
     elim (nat_eq p x.process.0) as (λ b. AreNumbersBelow number next (cond (not b) (x ∷ without p xs) (without p xs))) [
@@ -45,11 +45,11 @@ leaves number next p ready h = record { ordered = ordered_without number p ready
 -- ---- one takes a number
 
 -- none of these is p
-abbrev AreOthers : ℕ → List Entry → Type 0
+abbrev pub AreOthers : ℕ → List Entry → Type 0
 AreOthers p [] = Unit {0}
 AreOthers p (x ∷ xs) = (nat_eq p x.process.0 ≡ false) × AreOthers p xs
 
-others_without : (p : ℕ) (es : List Entry) → AreOthers p (without p es)
+pub others_without : (p : ℕ) (es : List Entry) → AreOthers p (without p es)
 others_without p [] = tt
 others_without p (x ∷ xs) =
     (elim (nat_eq p x.process.0) as (λ b. nat_eq p x.process.0 ≡ b → AreOthers p (cond (not b) (x ∷ without p xs) (without p xs))) [
@@ -57,13 +57,13 @@ others_without p (x ∷ xs) =
       | false ↦ λ q. (q, others_without p xs)
     ]) refl
 
-same_number : (number : ℕ → ℕ) (p n q : ℕ) → nat_eq p q ≡ false → takes number p n q ≡ number q
+pub same_number : (number : ℕ → ℕ) (p n q : ℕ) → nat_eq p q ≡ false → takes number p n q ≡ number q
 same_number number p n q e = ap (λ b. cond b n (number q)) e
 
-own_number : (number : ℕ → ℕ) (p n : ℕ) → takes number p n p ≡ n
+pub own_number : (number : ℕ → ℕ) (p n : ℕ) → takes number p n p ≡ n
 own_number number p n = ap (λ b. cond b n (number p)) (eq-eqb p p refl)
 
-before_other : (number other : ℕ → ℕ) (e f : Entry) → other e.process.0 ≡ number e.process.0 → other f.process.0 ≡ number f.process.0 → IsBefore number e f → IsBefore other e f
+pub before_other : (number other : ℕ → ℕ) (e f : Entry) → other e.process.0 ≡ number e.process.0 → other f.process.0 ≡ number f.process.0 → IsBefore number e f → IsBefore other e f
 before_other number other e f same_e same_f (inl higher) = inl higher
 before_other number other e f same_e same_f (inr equals) = inr (equals.0, omega (arith, same_e, same_f, equals.1))
 
@@ -76,7 +76,7 @@ ordered_takes : (number : ℕ → ℕ) (p n : ℕ) (es : List Entry) → AreOthe
 ordered_takes number p n [] others h = tt
 ordered_takes number p n (x ∷ xs) others h = (each_takes number p n x xs others.0 others.1 h.0, ordered_takes number p n xs others.1 h.1)
 
-below_takes : (number : ℕ → ℕ) (p n : ℕ) (es : List Entry) → AreOthers p es → AreNumbersBelow number n es → AreNumbersBelow (takes number p n) n es
+pub below_takes : (number : ℕ → ℕ) (p n : ℕ) (es : List Entry) → AreOthers p es → AreNumbersBelow number n es → AreNumbersBelow (takes number p n) n es
 below_takes number p n [] others h = tt
 below_takes number p n (x ∷ xs) others h =
     let same = same_number number p n x.process.0 others.0 in
@@ -108,7 +108,7 @@ older_before number x e least older = by_case (nat_lt e.priority.0 x.priority.0)
     by_case true q = inl (ltb-true e.priority.0 x.priority.0 q)
     by_case false q = let most = ltb-false e.priority.0 x.priority.0 q in inr (omega (arith, least, most), older)
 
-ordered_behind : (number : ℕ → ℕ) (next : ℕ) (e : Entry) (xs : List Entry) → number e.process.0 ≡ next → AreNumbersBelow number next xs → IsOrdered number xs → IsOrdered number (behind_equals e xs)
+pub ordered_behind : (number : ℕ → ℕ) (next : ℕ) (e : Entry) (xs : List Entry) → number e.process.0 ≡ next → AreNumbersBelow number next xs → IsOrdered number xs → IsOrdered number (behind_equals e xs)
 ordered_behind number next e [] own below h = (tt, tt)
 ordered_behind number next e (x ∷ xs) own below h =
     (elim (nat_lt x.priority.0 e.priority.0) as (λ b. nat_lt x.priority.0 e.priority.0 ≡ b → IsOrdered number (cond b (e ∷ x ∷ xs) (x ∷ behind_equals e xs))) [
@@ -119,7 +119,7 @@ ordered_behind number next e (x ∷ xs) own below h =
           (each_behind number x e xs (older_before number x e least (omega (arith, older, own))) h.0, ordered_behind number next e xs own below.1 h.1)
     ]) refl
 
-below_behind : (number : ℕ → ℕ) (next : ℕ) (e : Entry) (xs : List Entry) → number e.process.0 ≡ next → AreNumbersBelow number next xs → AreNumbersBelow number (next + 1) (behind_equals e xs)
+pub below_behind : (number : ℕ → ℕ) (next : ℕ) (e : Entry) (xs : List Entry) → number e.process.0 ≡ next → AreNumbersBelow number next xs → AreNumbersBelow number (next + 1) (behind_equals e xs)
 below_behind number next e [] own below = (omega (arith, own), tt)
 below_behind number next e (x ∷ xs) own below =
     let one : number x.process.0 < next + 1 = let older = below.0 in omega (arith, older) in
@@ -146,7 +146,7 @@ goes_last number next e ready h =
 
 -- ---- the choice
 
-not_both : (number : ℕ → ℕ) (e f : Entry) → IsBefore number e f → IsBefore number f e → ⊥
+pub not_both : (number : ℕ → ℕ) (e f : Entry) → IsBefore number e f → IsBefore number f e → ⊥
 not_both number e f (inl h) (inl k) = omega (arith, h, k)
 not_both number e f (inl h) (inr k) = let same = k.0 in omega (arith, h, same)
 not_both number e f (inr h) (inl k) = let same = h.0 in omega (arith, k, same)

@@ -32,6 +32,7 @@ pub mod NextRelease
 pub mod Releases
 pub mod Spelled
 pub mod Choosing
+pub mod WaitingOrder
 pub mod Counts
 pub mod Shaped
 pub mod Longer

@@ -28,6 +28,7 @@ pub mod Partition
 pub mod Instructions
 pub mod MachineControl
 pub mod Choice
+pub mod WaitingOrder
 pub mod Constructs
 pub mod Cost
 pub mod SourceControl

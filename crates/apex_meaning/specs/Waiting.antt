@@ -7,6 +7,7 @@ use Rattle.apex_types.specs.declared.denotation.ObjectKind.TheVariants as kind
 use Rattle.apex_types.specs.declared.identity.At.{At}
 use Rattle.apex_types.specs.declared.identity.Runner.{Runner}
 use Rattle.apex_types.specs.declared.identity.Runner.TheVariants as runner
+use Rattle.apex_types.specs.declared.process.Action.{Action}
 use Rattle.apex_types.specs.declared.process.Action.TheVariants as asks
 use Rattle.apex_types.specs.declared.process.Entry.{Entry}
 use Rattle.apex_types.specs.declared.process.ProcessStatus.{ProcessStatus}
@@ -92,10 +93,13 @@ releases_all (e ∷ es) s =
     let t = releases_found s (numbered e.process (row_of s (runner.Process e.process))) in
     after t (releases_all es t.part)
 
+abbrev pub writes : Option ArrayPlace → ArrayVec ℤ → List Action
+writes None message = []
+writes (Some array) message = asks.Write array.base message ∷ []
+
 -- the words go into an array, if there is one
 abbrev pub fills : {P : Type 0} → P → Option ArrayPlace → ArrayVec ℤ → Step P
-fills part None message = nothing part
-fills part (Some array) message = record { part = part; lines = []; actions = asks.Write array.base message ∷ [] }
+fills part array message = record { part = part; lines = []; actions = writes array message }
 
 abbrev pub array_of_wait : Wait → Option ArrayPlace
 array_of_wait (wait.Object service array) = array

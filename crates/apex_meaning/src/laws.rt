@@ -6,3 +6,4 @@ pub mod costs;
 pub mod grammar;
 pub mod image;
 pub mod tables;
+pub mod waiting;

@@ -14,9 +14,9 @@ use Rattle.apex_meaning.specs.Kernel.{Fixed, Kernel}
 use Rattle.apex_meaning.specs.Partition.{Member}
 use Rattle.apex_meaning.specs.SourceControl.{or_init}
 use Rattle.apex_meaning.specs.Windows.{Schedule}
-use Rattle.apex_meaning.specs.ImageLimits.{EachBeside, IsRoutine, IsBody, IsHandler, IsDuration, IsProcess, IsSection, IsItem}
+use Rattle.apex_meaning.specs.ImageLimits.{AreObjects, EachBeside, IsRoutine, IsBody, IsHandler, IsDuration, IsProcess, IsSection, IsItem}
 use Rattle.apex_meaning.specs.MachineControl.{MachineControl}
-use Rattle.apex_meaning.specs.TwoMeanings.{ticks, body_of_row, init_row, handler_row, machine_row, no_control_for, section_engine, fresh_kernel, fixed_of, machine_member, machine_members}
+use Rattle.apex_meaning.specs.TwoMeanings.{ticks, body_of_row, init_row, handler_row, machine_row, no_control_for, section_engine, fresh_kernel, fixed_of, machine_member, machine_members, section_objects}
 use Rattle.image.specs.declared.value.Image.{Image}
 use Rattle.image.specs.declared.item.PartitionItem.{PartitionItem}
 use Rattle.image.specs.Items.{item_of, items_of, section_of}
@@ -24,7 +24,7 @@ use Rattle.partition_base.specs.Sections.{IsFittingSection, engine_of_section}
 use Rattle.partition_base.specs.Slots.{AreFittingBodies}
 use Rattle.processor.specs.Fitting.{IsFittingRoutine, AreFitting, IsFittingBody}
 use Rattle.process_table_base.specs.Bounds.{IsAtMost, IsShort, AreShort}
-use Rattle.module.specs.Loading.{IsFittingItem, AreFittingItems}
+use Rattle.module.specs.Loading.{AreFewObjects, IsFittingItem, AreFittingItems}
 
 routines_fit : (before rows : List RoutineRow) → EachBeside (λ _. IsRoutine) before rows → AreFitting rows
 routines_fit before [] h place row e = absurd (none-some row e)
@@ -64,8 +64,11 @@ all_short : (unit : ℕ) (before rows : List ProcessRow) → EachBeside (IsProce
 all_short unit before [] h = tt
 all_short unit before (r ∷ rows) h = (short r h.0.period h.0.capacity, all_short unit (before ++ r ∷ []) rows h.1)
 
+few_objects : (s : Section) → AreObjects (objects_in (section_of s)) → AreFewObjects s
+few_objects s h = record { semaphores = h.semaphore_count.most; events = h.events.most; buffers = h.buffer_count.most; blackboards = h.blackboard_count.most }
+
 item_fits : (unit : ℕ) (i : PartitionItem) → IsSection unit (section_of i.section) → IsFittingItem i
-item_fits unit i h = record { section = section_fits unit i.section h; times = all_short unit [] i.section.processes.items h.bodies.processes }
+item_fits unit i h = record { section = section_fits unit i.section h; times = all_short unit [] i.section.processes.items h.bodies.processes; objects = few_objects i.section h.objects }
 
 items_fit : (frame : ℕ) (before : List Item) (items : List PartitionItem) → EachBeside (IsItem frame) before (items_of items) → AreFittingItems items
 items_fit frame before [] h place item e = absurd (none-some item e)
@@ -91,7 +94,7 @@ all_idle rows =
     ap (λ n. replicate n None) count ∙ ap (λ l. None ∷ None ∷ l) (idle_processes rows)
 
 abbrev idle : Fixed → Section → Kernel
-idle fixed s = fresh_kernel fixed (map machine_row s.processes.items)
+idle fixed s = fresh_kernel fixed (map machine_row s.processes.items) (section_objects (section_of s))
 
 abbrev member : Engine MachineControl → Kernel → List (Option MachineControl) → List ℤ → List ℤ → Member MachineControl
 member engine k controls words initial = record { engine = engine; world = record { kernel = k; controls = controls; words = words; initial = initial } }

@@ -47,17 +47,15 @@ table_is t = same_table
     (ap (λ n. n == 0) (length-map t.channels.items channel_view))
     (list_all-map is_row_of_part partition_view t.partitions.items)
 
-same_program : (a b : Bool) {c d e f g h : Bool} → c ≡ d → e ≡ f → g ≡ h → (a && c && b && e && g) ≡ (a && d && b && f && h)
-same_program a b p q r = cc
+same_program : (b : Bool) {c d e f g h : Bool} → c ≡ d → e ≡ f → g ≡ h → (c && b && e && g) ≡ (d && b && f && h)
+same_program b p q r = cc
 
 handler_is : (o : Option Body) → is_none (option_map body_of o) ≡ is_none o
 handler_is (Some b) = refl
 handler_is None = refl
 
-pub program_is : (p : Program) → is_program_of_part (program_of p) ≡ ((length p.semaphores.items == 0) && (p.events == 0) && (length p.buffers.items == 0) && (length p.blackboards.items == 0)
-    && is_none p.handler && is_block_of_part (block_of p.init.block.items) && list_all (λ q. is_procedure_of_part (procedure_of q)) p.procedures.items && list_all (λ q. is_process_of_part (process_of q)) p.processes.items)
+pub program_is : (p : Program) → is_program_of_part (program_of p) ≡ (is_none p.handler && is_block_of_part (block_of p.init.block.items) && list_all (λ q. is_procedure_of_part (procedure_of q)) p.procedures.items && list_all (λ q. is_process_of_part (process_of q)) p.processes.items)
 program_is p = same_program
-    ((length p.semaphores.items == 0) && (p.events == 0) && (length p.buffers.items == 0) && (length p.blackboards.items == 0))
     (is_block_of_part (block_of p.init.block.items))
     (handler_is p.handler)
     (list_all-map is_procedure_of_part procedure_of p.procedures.items)

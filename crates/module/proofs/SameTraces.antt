@@ -11,7 +11,7 @@ use Rattle.apex_meaning.specs.MachineControl.{MachineControl}
 use Rattle.apex_meaning.specs.Program.{Program, Process}
 use Rattle.apex_meaning.specs.Related.{Keeps}
 use Rattle.apex_meaning.specs.SourceControl.{SourceControl}
-use Rattle.apex_meaning.specs.TwoMeanings.{fresh_kernel, fresh_world, no_control_for, source_row, machine_row, fixed_of, source_member, source_members, machine_member, machine_members, source_trace, machine_trace}
+use Rattle.apex_meaning.specs.TwoMeanings.{fresh_kernel, fresh_world, no_control_for, source_row, machine_row, fixed_of, source_objects, source_member, source_members, machine_member, machine_members, source_trace, machine_trace}
 use Rattle.apex_meaning.specs.Windows.{Schedule}
 use Rattle.apex_meaning.proofs.Lifting.{trace_same}
 use Rattle.apex_meaning.proofs.Starts.{compiled_correctly}
@@ -34,7 +34,7 @@ Related p c m = Keeps (map reading (section_of p).code) p.procedures c m
 member_same : (fixed : Fixed) (p : Program) → IsCompiled p → SameMember (Related p) (source_member fixed p) (machine_member fixed (section_of p))
 member_same fixed p h = record {
   engine = compiled_correctly p h.fits h.coded.code;
-  world = subst (λ (rows : List ProcessStatus). SameWorld (Related p) (fresh_world (fresh_kernel fixed (map source_row p.processes)) p.initial) (fresh_world (fresh_kernel fixed rows) p.initial)) (rows_same (processes_place p) p.processes) (fresh_same (Related p) (fresh_kernel fixed (map source_row p.processes)) p.initial);
+  world = subst (λ (rows : List ProcessStatus). SameWorld (Related p) (fresh_world (fresh_kernel fixed (map source_row p.processes) (source_objects p)) p.initial) (fresh_world (fresh_kernel fixed rows (source_objects p)) p.initial)) (rows_same (processes_place p) p.processes) (fresh_same (Related p) (fresh_kernel fixed (map source_row p.processes) (source_objects p)) p.initial);
 }
 
 -- the programs of the partitions that have one

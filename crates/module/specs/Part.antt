@@ -35,11 +35,11 @@ is_table_of_part t = (length t.channels == 0) && list_all is_row_of_part t.parti
 abbrev pub is_image_of_part : Image → Bool
 is_image_of_part image = length image.channels == 0
 
--- ---- programs: without objects and a handler
+-- ---- programs: without a handler
 
--- the services on the partition, on processes and on time, and the application message
+-- the services on the partition, on processes, on time and on objects, and the application message
 abbrev pub is_built_service : Service → Bool
-is_built_service s = nat_le (number_of s) 20 || (number_of s == 54)
+is_built_service s = nat_le (number_of s) 42 || (number_of s == 54)
 
 -- all statements, with no other call of a service in them
 abbrev mutual
@@ -62,8 +62,7 @@ is_process_of_part p = is_block_of_part p.body.block
 
 abbrev pub is_program_of_part : Program → Bool
 is_program_of_part p =
-    (length p.semaphores == 0) && (p.events == 0) && (length p.buffers == 0) && (length p.blackboards == 0) && is_none p.handler
-    && is_block_of_part p.init.block && list_all is_procedure_of_part p.procedures && list_all is_process_of_part p.processes
+    is_none p.handler && is_block_of_part p.init.block && list_all is_procedure_of_part p.procedures && list_all is_process_of_part p.processes
 
 abbrev pub is_port : written.Kind → Bool
 is_port written.Port = true

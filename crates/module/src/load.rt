@@ -1,25 +1,26 @@
 //! From an image to its partitions, ready to start.
 
 ghost use Rattle.std.specs.Prelude.{◌≡◌, ◌≤◌, length, map, IfOk};
-ghost use Rattle.apex_meaning.specs.TwoMeanings.{fixed_of, machine_member, machine_members, machine_module};
+ghost use Rattle.apex_meaning.specs.TwoMeanings.{fixed_of, machine_member, machine_members, machine_module, section_objects};
 ghost use Rattle.image.specs.Items.{items_of, partition_of, section_of};
 ghost use Rattle.image.specs.Views.{image_of};
 ghost use Rattle.partition.specs.View.{fixed_of as view};
 ghost use Rattle.partition_base.specs.contracts.machine.MachineExecutor.TheImpl.{ghosts as machine};
 ghost use Rattle.partition.specs.Members.{member_of};
 ghost use Rattle.partition_base.specs.Machines.{laid_of, layout_of};
-ghost use Rattle.module.specs.Loading.{AreFittingItems, IsFittingItem, fresh_item};
+ghost use Rattle.module.specs.Loading.{AreFewObjects, AreFittingItems, IsFittingItem, fresh_item};
 ghost use Rattle.module.specs.Members.{members_of, AreFitting};
 ghost use Rattle.module.specs.Views.{module_of};
 ghost use Rattle.window_table.specs.Schedules.{schedule_of};
 
 use crate::member::Module;
-use apex_types::PartitionId;
+use apex_types::{PartitionId, Section};
 use image::{Image, PartitionItem};
 use partition::{Fixed, Kernel, Partition};
 use partition_base::{Machine, memory_plan};
 use regions::Memory;
 use std::alloc::{AllocError, Global};
+use sync_objects_base::Objects;
 use window_table::{PartitionRow, Schedule};
 
 impl Module<Machine> {
@@ -90,6 +91,20 @@ fn fixed(
     })
 }
 
+/// The objects that a section declares, none of them created.
+fn load_objects(alloc: Global, section: &Section) -> Result<Objects, AllocError>
+    requires { AreFewObjects section.now }
+    ensures { IfOk result (λ objects. objects ≡ section_objects (section_of section.now)) }
+{
+    Objects::new(
+        alloc,
+        &section.semaphores,
+        section.events,
+        &section.buffers,
+        &section.blackboards,
+    )
+}
+
 /// A partition, idle; its memory is to be the one that its section asks for.
 fn load_partition(
     alloc: Global,
@@ -102,6 +117,7 @@ fn load_partition(
 {
     let section = &item.section;
     let executor = Machine::new(alloc, section)?;
-    let kernel = Kernel::new(alloc, fixed, &section.processes)?;
+    let objects = load_objects(alloc, section)?;
+    let kernel = Kernel::new(alloc, fixed, &section.processes, objects)?;
     Ok(Partition::new(kernel, executor))
 }

@@ -82,17 +82,13 @@ fn is_port(kind: &DeclarationKind) -> bool
     matches!(kind, DeclarationKind::Port)
 }
 
-/// Whether a program is of the part: without objects and a handler, and with no service but those
-/// that are built.
+/// Whether a program is of the part: without a handler, and with no service but those that are
+/// built.
 #[tactic(auto, using(crate::proofs::Parts::program_is))]
 pub fn is_program_of_part(program: &Program) -> bool
     ensures { result ≡ is_program_of_part (program_of program.now) }
 {
-    program.semaphores.is_empty()
-        && program.events == 0
-        && program.buffers.is_empty()
-        && program.blackboards.is_empty()
-        && program.handler.is_none()
+    program.handler.is_none()
         && is_block_of_part(&program.init.block)
         && are_procedures_of_part(&program.procedures)
         && are_processes_of_part(&program.processes)
@@ -151,11 +147,11 @@ fn is_stmt_of_part(stmt: &Stmt) -> bool
     }
 }
 
-/// Whether a service is built: those on the partition, on processes and on time, and
+/// Whether a service is built: those on the partition, on processes, on time and on objects, and
 /// REPORT_APPLICATION_MESSAGE.
 fn is_built_service(service: Service) -> bool
     ensures { result ≡ is_built_service service }
 {
     let number = service.number();
-    number <= 20 || number == 54
+    number <= 42 || number == 54
 }

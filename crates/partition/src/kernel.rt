@@ -18,6 +18,7 @@ use apex_types::{
 use process_table_base::{Points, ProcessTable};
 use std::alloc::{AllocError, Global};
 use std::marker::Model;
+use sync_objects_base::Objects;
 
 /// The state of a partition that is no control and no data. A contract sees it as the kernel of the
 /// definitions.
@@ -27,6 +28,7 @@ pub struct Kernel {
     pub(crate) mode: Mode,
     pub(crate) condition: StartCondition,
     pub(crate) processes: ProcessTable,
+    pub(crate) objects: Objects,
 }
 
 impl Model for Kernel {
@@ -40,17 +42,24 @@ impl Model for Kernel {
 }
 
 impl Kernel {
-    /// A partition in idle mode with nothing created, of these processes. An error is one of memory.
-    pub fn new(alloc: Global, fixed: Fixed, processes: &[ProcessRow]) -> Result<Kernel, AllocError>
+    /// A partition in idle mode with nothing created, of these processes and objects. An error is one
+    /// of memory.
+    pub fn new(
+        alloc: Global,
+        fixed: Fixed,
+        processes: &[ProcessRow],
+        objects: Objects,
+    ) -> Result<Kernel, AllocError>
         requires few { length processes.now ≤ MOST_PROCESSES }
         requires short { AreShort processes.now }
-        ensures { IfOk result (λ kernel. kernel ≡ fresh_kernel (fixed_of fixed) (map machine_row processes.now)) }
+        ensures { IfOk result (λ kernel. kernel ≡ fresh_kernel (fixed_of fixed) (map machine_row processes.now) objects) }
     {
         Ok(Kernel {
             processes: ProcessTable::new(alloc, processes)?,
             fixed,
             mode: Mode::Idle,
             condition: StartCondition::NormalStart,
+            objects,
         })
     }
 

@@ -34,6 +34,7 @@ impl Kernel {
         self.mode = mode;
         self.condition = condition;
         self.processes.clear(mode);
+        self.objects.clear();
     }
 
     /// This one becomes dormant.

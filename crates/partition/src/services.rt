@@ -15,6 +15,13 @@ use process_table::{
     suspend_self, timed_wait, unlock_preemption,
 };
 use processor::Outcome;
+use sync_objects::{
+    clear_blackboard, create_blackboard, create_buffer, create_event, create_semaphore,
+    display_blackboard, get_blackboard_id, get_blackboard_status, get_buffer_id, get_buffer_status,
+    get_event_id, get_event_status, get_semaphore_id, get_semaphore_status, read_blackboard,
+    receive_buffer, reset_event, send_buffer, set_event, signal_semaphore, wait_event,
+    wait_semaphore,
+};
 
 impl Kernel {
     /// REPORT_APPLICATION_MESSAGE (ARINC 653 Part 1, health monitoring): the first words of those
@@ -49,9 +56,9 @@ impl Kernel {
     )
         requires past { at.origin.0 ≤ at.now.0 }
         requires now { at.now.0 ≤ 2 ^ 40 }
-        requires room { HasRoom 34 out.old }
+        requires room { HasRoom 94 out.old }
         ensures step { IsMade (meaning.treats_asked at self.old runner (asks_of outcome) words.items) self.new out.old out.new }
-        ensures grows { Grows 34 out.old out.new }
+        ensures grows { Grows 94 out.old out.new }
     {
         match outcome {
             Outcome::Busy | Outcome::Local => {}
@@ -61,14 +68,13 @@ impl Kernel {
         }
     }
 
-    /// Serves a call; `words` are those that it hands in. A service that is not served leaves its
-    /// caller without an answer.
+    /// Serves a call; `words` are those that it hands in.
     fn serve(&mut self, at: At, caller: Runner, call: Call, words: Words, out: &mut Out)
         requires past { at.origin.0 ≤ at.now.0 }
         requires now { at.now.0 ≤ 2 ^ 40 }
-        requires room { HasRoom 34 out.old }
+        requires room { HasRoom 94 out.old }
         ensures step { IsMade (meaning.serves at self.old caller call words.items) self.new out.old out.new }
-        ensures grows { Grows 34 out.old out.new }
+        ensures grows { Grows 94 out.old out.new }
     {
         match call {
             Call::GetPartitionStatus => self.get_partition_status(caller, out),
@@ -77,17 +83,17 @@ impl Kernel {
             Call::ReportApplicationMessage { array, length } => {
                 self.report(caller, array, length, words, out)
             }
-            other => self.serve_processes(at, caller, other, out),
+            other => self.serve_processes(at, caller, other, words, out),
         }
     }
 
-    /// Serves a call on processes or on time.
-    fn serve_processes(&mut self, at: At, caller: Runner, call: Call, out: &mut Out)
+    /// Serves a call on processes or on time, and those on objects.
+    fn serve_processes(&mut self, at: At, caller: Runner, call: Call, words: Words, out: &mut Out)
         requires past { at.origin.0 ≤ at.now.0 }
         requires now { at.now.0 ≤ 2 ^ 40 }
-        requires room { HasRoom 34 out.old }
-        ensures step { IsMade (meaning.serves_processes at self.old caller call) self.new out.old out.new }
-        ensures grows { Grows 34 out.old out.new }
+        requires room { HasRoom 94 out.old }
+        ensures step { IsMade (meaning.serves_processes at self.old caller call words.items) self.new out.old out.new }
+        ensures grows { Grows 94 out.old out.new }
     {
         let mode = self.mode;
         let table = &mut self.processes;
@@ -118,6 +124,83 @@ impl Kernel {
             Call::PeriodicWait => periodic_wait(table, caller, out),
             Call::GetTime => get_time(table, at, caller, out),
             Call::Replenish { budget } => replenish(table, mode, at, caller, budget, out),
+            other => self.serve_objects(at, caller, other, words, out),
+        }
+    }
+
+    /// Serves a call on semaphores, events, buffers or blackboards. A service that is not served leaves
+    /// its caller without an answer.
+    fn serve_objects(&mut self, at: At, caller: Runner, call: Call, words: Words, out: &mut Out)
+        requires now { at.now.0 ≤ 2 ^ 40 }
+        requires room { HasRoom 94 out.old }
+        ensures step { IsMade (meaning.serves_objects at self.old caller call words.items) self.new out.old out.new }
+        ensures grows { Grows 94 out.old out.new }
+    {
+        let mode = self.mode;
+        let table = &mut self.processes;
+        let objects = &mut self.objects;
+        match call {
+            Call::CreateBuffer { name } => create_buffer(table, objects, mode, caller, name, out),
+            Call::SendBuffer {
+                buffer,
+                array,
+                length,
+                timeout,
+            } => send_buffer(
+                table, objects, at, caller, buffer, array, length, timeout, &words, out,
+            ),
+            Call::ReceiveBuffer {
+                buffer,
+                array,
+                timeout,
+            } => receive_buffer(table, objects, at, caller, buffer, array, timeout, out),
+            Call::GetBufferId { name } => get_buffer_id(table, objects, caller, name, out),
+            Call::GetBufferStatus { buffer } => {
+                get_buffer_status(table, objects, caller, buffer, out)
+            }
+            Call::CreateBlackboard { name } => {
+                create_blackboard(table, objects, mode, caller, name, out)
+            }
+            Call::DisplayBlackboard {
+                blackboard,
+                array,
+                length,
+            } => display_blackboard(
+                table, objects, caller, blackboard, array, length, &words, out,
+            ),
+            Call::ReadBlackboard {
+                blackboard,
+                array,
+                timeout,
+            } => read_blackboard(table, objects, at, caller, blackboard, array, timeout, out),
+            Call::ClearBlackboard { blackboard } => {
+                clear_blackboard(table, objects, caller, blackboard, out)
+            }
+            Call::GetBlackboardId { name } => get_blackboard_id(table, objects, caller, name, out),
+            Call::GetBlackboardStatus { blackboard } => {
+                get_blackboard_status(table, objects, caller, blackboard, out)
+            }
+            Call::CreateSemaphore { name } => {
+                create_semaphore(table, objects, mode, caller, name, out)
+            }
+            Call::WaitSemaphore { semaphore, timeout } => {
+                wait_semaphore(table, objects, at, caller, semaphore, timeout, out)
+            }
+            Call::SignalSemaphore { semaphore } => {
+                signal_semaphore(table, objects, caller, semaphore, out)
+            }
+            Call::GetSemaphoreId { name } => get_semaphore_id(table, objects, caller, name, out),
+            Call::GetSemaphoreStatus { semaphore } => {
+                get_semaphore_status(table, objects, caller, semaphore, out)
+            }
+            Call::CreateEvent { name } => create_event(table, objects, mode, caller, name, out),
+            Call::SetEvent { event } => set_event(table, objects, caller, event, out),
+            Call::ResetEvent { event } => reset_event(table, objects, caller, event, out),
+            Call::WaitEvent { event, timeout } => {
+                wait_event(table, objects, at, caller, event, timeout, out)
+            }
+            Call::GetEventId { name } => get_event_id(table, objects, caller, name, out),
+            Call::GetEventStatus { event } => get_event_status(table, objects, caller, event, out),
             _ => {}
         }
     }

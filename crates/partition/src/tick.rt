@@ -104,7 +104,7 @@ impl<E: Executor> Partition<E> {
         requires now { at.now.0 ≤ 2 ^ 40 }
         requires fits { E.laid mem.old ≡ E.layout self.old.executor }
         requires idle { IsEmpty self.old.out }
-        requires room { length events.old.items + 34 ≤ 256 }
+        requires room { length events.old.items + 94 ≤ 256 }
         ensures fits { E.laid mem.new ≡ E.layout self.new.executor }
         ensures idle { IsEmpty self.new.out }
         ensures moved { let x = member_of E.Executor self.old mem.old in IsMoved (meaning.spends x.engine at runner x.world) x (member_of E.Executor self.new mem.new) events.old.items events.new.items }

@@ -2,7 +2,6 @@
 //! the processes hold, and puts out its lines and what it asks for.
 #![tactic(auto)]
 
-mod duration;
 mod lock;
 mod processes;
 mod suspension;

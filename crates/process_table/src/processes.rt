@@ -8,9 +8,8 @@ ghost use Rattle.apex_meaning.specs.Durations.{amount};
 ghost use Rattle.apex_meaning.specs.ProcessServices as meaning;
 ghost use Rattle.apex_meaning.specs.Step.{IsMade, IsTold};
 
-use crate::duration::is_delay;
 use apex_types::{Mode, Out, Priority, ProcessStatus, ReturnCode, Runner, Service, Ticks};
-use process_table_base::{Points, ProcessTable, is_dormant, is_same};
+use process_table_base::{Points, ProcessTable, is_delay, is_dormant, is_same};
 
 /// The number of a deadline's tick, -1 for none.
 fn word_of_deadline(deadline: Option<Ticks>) -> i64

@@ -7,22 +7,8 @@ ghost use Rattle.apex_meaning.specs.Processes.{is_periodic};
 ghost use Rattle.apex_meaning.specs.ProcessServices as meaning;
 ghost use Rattle.apex_meaning.specs.Step.{IsMade};
 
-use crate::duration::is_duration;
-use apex_types::{At, Due, Lock, Out, ProcessStatus, ReturnCode, Runner, Service, Ticks, Wait};
-use process_table_base::{ProcessTable, is_dormant, is_same};
-
-/// The due time of one that waits at most so long.
-fn time_out(at: At, limit: i64) -> Option<Due>
-    requires now { at.now.0 ≤ 2 ^ 40 }
-    requires limit { is_duration limit ≡ true }
-    ensures { result ≡ meaning.time_out at limit }
-{
-    if limit < 0 {
-        None
-    } else {
-        Some(Due::TimeOut(Ticks(at.now.0 + limit as u64)))
-    }
-}
+use apex_types::{At, Lock, Out, ProcessStatus, ReturnCode, Runner, Service, Wait};
+use process_table_base::{ProcessTable, is_dormant, is_duration, is_same, time_out};
 
 /// Whether there is a record, and it is of a periodic process.
 fn is_periodic(row: &Option<ProcessStatus>) -> bool

@@ -7,10 +7,9 @@ ghost use Rattle.apex_meaning.specs.Durations.{is_delay, is_duration};
 ghost use Rattle.apex_meaning.specs.TimeServices as meaning;
 ghost use Rattle.process_table_base.specs.Bounds.{IsAtMost, IsBounded};
 
-use crate::duration::{is_delay, is_duration};
 use crate::lock::may_not_lock;
 use apex_types::{At, Due, Mode, Out, ProcessStatus, ReturnCode, Runner, Service, Ticks, Wait};
-use process_table_base::ProcessTable;
+use process_table_base::{ProcessTable, is_delay, is_duration};
 
 /// GET_TIME (ARINC 653 Part 1, time management): the current tick.
 pub fn get_time(table: &ProcessTable, at: At, caller: Runner, out: &mut Out)

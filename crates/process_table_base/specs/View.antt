@@ -7,7 +7,7 @@ use Rattle.process_table_base.specs.Bounds.{AreAllBounded}
 use Rattle.process_table_base.specs.declared.table.ProcessTable.TheInside.{Inside}
 
 abbrev pub processes_of : Inside → Processes
-processes_of t = record { rows = t.rows.items; ready = t.ready.items; running = t.running; lock = t.lock }
+processes_of t = record { rows = t.rows.items; ready = t.ready.items; running = t.running; lock = t.lock; queues = t.queues; handed = t.handed.items }
 
 -- INIT, the handler and no more processes than a partition may have, each of these ready at most once;
 -- no record has ticks too great for a sum

@@ -44,6 +44,33 @@ fn answer_of(code: ReturnCode, outputs: &[i64]) -> Words
     words
 }
 
+/// The outputs of a service that has nothing to answer.
+pub(crate) fn zeros(service: Service) -> &'static [i64]
+    ensures zeros { result.now ≡ step.zeros service }
+    ensures few { length result.now ≤ 6 }
+{
+    match service.shape().outputs {
+        0 => &[],
+        1 => &[0],
+        2 => &[0, 0],
+        3 => &[0, 0, 0],
+        4 => &[0, 0, 0, 0],
+        5 => &[0, 0, 0, 0, 0],
+        _ => &[0, 0, 0, 0, 0, 0],
+    }
+}
+
+/// The outputs of the service in which a process waits, in vain.
+fn zeros_of_wait(wait: Wait) -> &'static [i64]
+    ensures zeros { result.now ≡ meaning.zeros_of_wait wait }
+    ensures few { length result.now ≤ 6 }
+{
+    match wait {
+        Wait::Service(service) | Wait::Object { service, .. } => zeros(service),
+        Wait::Nothing | Wait::NormalStart(_) | Wait::FirstRelease => &[],
+    }
+}
+
 /// The line of one that begins to wait; there is none where it waited before.
 fn tell_waiting(row: &ProcessStatus, out: &mut Out)
     requires { HasRoom 1 out.old }
@@ -152,20 +179,47 @@ impl ProcessTable {
         runner: Runner,
         row: &ProcessStatus,
         code: ReturnCode,
+        outputs: &[i64],
         wait: Wait,
         out: &mut Out,
     )
-        requires { HasRoom 1 out.old }
-        ensures step { IsTold (meaning.answers_wait self.now runner row.now code wait) out.old out.new }
+        requires outputs { length outputs.now ≤ 6 }
+        requires room { HasRoom 1 out.old }
+        ensures step { IsTold (meaning.answers_wait self.now runner row.now code outputs.now wait) out.old out.new }
         ensures grows { Grows 1 out.old out.new }
     {
         match wait {
-            Wait::Service(service) => answer(runner, row.who, service, code, &[], out),
-            _ => {}
+            Wait::Service(service) | Wait::Object { service, .. } => {
+                answer(runner, row.who, service, code, outputs, out)
+            }
+            Wait::Nothing | Wait::NormalStart(_) | Wait::FirstRelease => {}
         }
     }
 
-    /// The service in which a process waits answers, if it waits in one; then it is ready.
+    /// The service in which a process waits answers with these outputs, if it waits in one; then it is
+    /// ready.
+    pub(crate) fn release_with(
+        &mut self,
+        runner: Runner,
+        row: ProcessStatus,
+        code: ReturnCode,
+        outputs: &[i64],
+        out: &mut Out,
+    )
+        requires runner { place_of runner < MOST_RUNNERS }
+        requires bounded { IsBounded row }
+        requires outputs { length outputs.now ≤ 6 }
+        requires room { HasRoom 2 out.old }
+        ensures step { IsMade (meaning.released_with self.old runner row code outputs.now) self.new out.old out.new }
+        ensures grows { Grows 2 out.old out.new }
+    {
+        self.answer_wait(runner, &row, code, outputs, row.wait, out);
+        self.leave_queues(runner);
+        self.wake(runner, row, out);
+    }
+
+    /// The service in which a process waits answers with outputs of 0, if it waits in one; then it is
+    /// ready.
     pub fn release(&mut self, runner: Runner, row: ProcessStatus, code: ReturnCode, out: &mut Out)
         requires runner { place_of runner < MOST_RUNNERS }
         requires bounded { IsBounded row }
@@ -173,8 +227,7 @@ impl ProcessTable {
         ensures step { IsMade (meaning.released self.old runner row code) self.new out.old out.new }
         ensures grows { Grows 2 out.old out.new }
     {
-        self.answer_wait(runner, &row, code, row.wait, out);
-        self.wake(runner, row, out);
+        self.release_with(runner, row, code, zeros_of_wait(row.wait), out);
     }
 
     /// A service of a process ends with a code and its outputs.

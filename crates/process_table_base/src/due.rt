@@ -13,7 +13,7 @@ use crate::start::released_at;
 use crate::table::ProcessTable;
 use apex_types::{
     Action, At, Due, ErrorKind, EventKind, MOST_RUNNERS, Mode, Out, PartitionAction, ProcessIndex,
-    ProcessStatus, Response, ReturnCode, Runner, Ticks, Wait, Words,
+    ProcessStatus, Response, ReturnCode, Runner, Service, Ticks, Wait, Words,
 };
 
 /// What the treatment of processes comes to beside its lines: how many more errors may wait for the
@@ -39,13 +39,7 @@ impl ProcessTable {
                 self.release(runner, released_at(tick, row), ReturnCode::NoError, out);
             }
             Due::Delay(_) => self.release(runner, row, ReturnCode::NoError, out),
-            Due::TimeOut(_) => {
-                let resumed = ProcessStatus {
-                    suspended: false,
-                    ..row
-                };
-                self.release(runner, resumed, ReturnCode::TimedOut, out);
-            }
+            Due::TimeOut(_) => self.release(runner, timed_out(row), ReturnCode::TimedOut, out),
         }
     }
 
@@ -167,6 +161,21 @@ impl ProcessTable {
             place += 1;
         }
         Treated { free, clears: None }
+    }
+}
+
+/// One that suspended itself is suspended no longer at its time-out; any other stays suspended.
+fn timed_out(row: ProcessStatus) -> ProcessStatus
+    requires { IsBounded row }
+    ensures row { result ≡ meaning.timed_out row row.wait }
+    ensures bounded { IsBounded result }
+{
+    match row.wait {
+        Wait::Service(Service::SuspendSelf) => ProcessStatus {
+            suspended: false,
+            ..row
+        },
+        _ => row,
     }
 }
 

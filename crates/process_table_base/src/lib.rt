@@ -5,14 +5,18 @@
 mod change;
 mod choice;
 mod due;
+mod duration;
 mod find;
 mod order;
 mod serve;
 mod start;
 mod table;
+mod waiting;
 
 pub use change::answer;
 pub use due::{Treated, mode_of_action};
+pub use duration::{is_delay, is_duration, time_out};
 pub use find::is_dormant;
 pub use start::Points;
 pub use table::{ProcessTable, is_same};
+pub use waiting::{copied, fill};

@@ -7,26 +7,29 @@ ghost use Rattle.apex_meaning.specs.PartitionServices.{cleared_processes, forgot
 ghost use Rattle.apex_meaning.specs.Partition.{first_ready};
 ghost use Rattle.apex_meaning.specs.Processes as meaning;
 ghost use Rattle.apex_meaning.specs.ProcessServices.{level_of};
-ghost use Rattle.apex_meaning.specs.TwoMeanings.{fresh_row, fresh_processes, init_row, handler_row, machine_row, ticks};
+ghost use Rattle.apex_meaning.specs.TwoMeanings.{fresh_row, fresh_processes, init_row, handler_row, machine_row, no_message, ticks};
 ghost use Rattle.process_table_base.specs.Bounds.{IsBounded, AreShort};
 
 use crate::order::{self, Order};
 use apex_types::{
     Lock, MOST_PROCESSES, MOST_RUNNERS, Mode, Priority, ProcessRow, ProcessState, ProcessStatus,
-    Runner, Subject, Ticks, Wait,
+    Runner, Subject, Ticks, WAITING_LISTS, Wait, Words,
 };
+use links::Links;
 use std::alloc::{AllocError, Global};
 use std::marker::Model;
 
 /// The processes of a partition: the records of INIT, of the error handler and of each process; those
-/// that are ready; the one that runs; and the preemption lock. A contract sees it as the processes of
-/// the definitions.
+/// that are ready; the one that runs; the preemption lock; and those that wait for objects and ports,
+/// with what they hand in. A contract sees it as the processes of the definitions.
 #[derive(Drop)]
 pub struct ProcessTable {
     rows: Vec<ProcessStatus>,
     ready: Order,
     running: Option<Runner>,
     lock: Lock,
+    pub(crate) queues: Links,
+    pub(crate) handed: Vec<Words>,
 }
 
 impl Model for ProcessTable {
@@ -91,8 +94,19 @@ fn fresh_rows(alloc: Global, processes: &[ProcessRow]) -> Result<Vec<ProcessStat
     Ok(rows)
 }
 
+/// No process has handed in a message.
+fn no_messages(alloc: Global, processes: &[ProcessRow]) -> Result<Vec<Words>, AllocError>
+    ensures { IfOk result (λ handed. handed.items ≡ map no_message (map machine_row processes.now)) }
+{
+    let mut handed = Vec::with_capacity(alloc, processes.len())?;
+    for _ in processes {
+        handed.push(Words::new())?;
+    }
+    Ok(handed)
+}
+
 impl ProcessTable {
-    /// No process is created, and none runs. An error is one of memory.
+    /// No process is created, and none runs or waits. An error is one of memory.
     #[tactic(auto, using(crate::proofs::Bounds::bounds))]
     pub fn new(alloc: Global, processes: &[ProcessRow]) -> Result<ProcessTable, AllocError>
         requires few { length processes.now ≤ MOST_PROCESSES }
@@ -104,6 +118,8 @@ impl ProcessTable {
             ready: Order::new(),
             running: None,
             lock: Lock::Free,
+            queues: Links::new(alloc, WAITING_LISTS)?,
+            handed: no_messages(alloc, processes)?,
         })
     }
 
@@ -162,8 +178,8 @@ impl ProcessTable {
         self.lock = lock;
     }
 
-    /// No process is created, and no one runs or holds the lock. Unless the mode is idle, INIT is
-    /// ready.
+    /// No process is created, and no one runs, waits or holds the lock. Unless the mode is idle, INIT
+    /// is ready.
     #[tactic(auto, using(crate::proofs::Bounds::bounds))]
     pub fn clear(&mut self, mode: Mode)
         ensures { self.new ≡ cleared_processes mode self.old }
@@ -172,6 +188,7 @@ impl ProcessTable {
         self.ready.clear();
         self.running = None;
         self.lock = Lock::Free;
+        self.queues.clear();
     }
 
     /// The first of those that are ready.
@@ -219,6 +236,17 @@ impl ProcessTable {
     {
         self.put_unready(runner, row);
         self.lock = without_holder(runner, self.lock);
+        self.leave_queues(runner);
+    }
+
+    /// This one waits in no list.
+    #[tactic(auto, using(crate::proofs::Bounds::bounds))]
+    pub(crate) fn leave_queues(&mut self, runner: Runner)
+        ensures { self.new ≡ meaning.no_longer_waits self.old runner }
+    {
+        if let Runner::Process(process) = runner {
+            self.queues.remove(process);
+        }
     }
 }
 

@@ -1,0 +1,6 @@
+use Rattle.std.proofs.Common.{◌≡◌, map, take}
+use Rattle.apex_meaning.specs.TwoMeanings.{machine_row, no_message}
+use Rattle.process_table_base.proofs.table.no_messages.Given as goal
+
+abbrev pub invariant-loop : goal.invariant-loop
+invariant-loop l = l.handed.items ≡ map no_message (map machine_row (take l.index l.processes))

@@ -1,0 +1,37 @@
+//! The times that programs give.
+
+ghost use Rattle.std.specs.Prelude.{◌≡◌, ◌≤◌, ◌^◌, true};
+ghost use Rattle.apex_meaning.specs.Durations as meaning;
+ghost use Rattle.apex_meaning.specs.ProcessServices as services;
+
+use apex_types::{At, Due, Ticks};
+
+/// The greatest finite time of a service, in ticks: 2^40.
+const MOST_TICKS: i64 = 1_099_511_627_776;
+
+/// Whether a word is a delay: 0 to 2^40 ticks.
+pub fn is_delay(ticks: i64) -> bool
+    ensures { result ≡ meaning.is_delay ticks }
+{
+    0 <= ticks && ticks <= MOST_TICKS
+}
+
+/// Whether a word is a time-out or a budget: a delay, or -1 for no limit.
+pub fn is_duration(ticks: i64) -> bool
+    ensures { result ≡ meaning.is_duration ticks }
+{
+    ticks == -1 || is_delay(ticks)
+}
+
+/// The due time of one that waits at most so long.
+pub fn time_out(at: At, limit: i64) -> Option<Due>
+    requires now { at.now.0 ≤ 2 ^ 40 }
+    requires limit { meaning.is_duration limit ≡ true }
+    ensures { result ≡ services.time_out at limit }
+{
+    if limit < 0 {
+        None
+    } else {
+        Some(Due::TimeOut(Ticks(at.now.0 + limit as u64)))
+    }
+}

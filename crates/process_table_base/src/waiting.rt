@@ -1,0 +1,242 @@
+//! Those that wait for an object or a port, and how they are released.
+
+ghost use Rattle.std.specs.Prelude.{◌≡◌, ◌<◌, ◌≤◌, ◌+◌, ◌*◌, ◌^◌, ◌++◌, length, true, IfSome, slice_set};
+ghost use Rattle.apex_types.specs.Room.{HasRoom, Grows};
+ghost use Rattle.apex_types.specs.Runners.{place_of};
+ghost use Rattle.apex_meaning.specs.Durations.{is_duration};
+ghost use Rattle.apex_meaning.specs.Processes as processes;
+ghost use Rattle.apex_meaning.specs.Step.{IsMade};
+ghost use Rattle.apex_meaning.specs.Waiting as meaning;
+ghost use Rattle.process_table_base.specs.Bounds.{IsBounded};
+
+use crate::change::zeros;
+use crate::duration::time_out;
+use crate::table::ProcessTable;
+use apex_types::{
+    Action, ArrayPlace, At, Entry, ListId, MOST_PROCESSES, MOST_RUNNERS, Out, ProcessIndex,
+    ProcessStatus, ReturnCode, Runner, Wait, Waiting, Words,
+};
+
+/// The same message once more.
+pub fn copied(message: &Words) -> Words
+    ensures { result ≡ message.now }
+{
+    let mut copy = Words::new();
+    copy.try_extend_from_slice(message.as_slice()).unwrap();
+    copy
+}
+
+/// Puts a message in the place of a process, where there is one.
+fn put_message(handed: &mut Vec<Words>, process: ProcessIndex, message: Words)
+    ensures { handed.new.items ≡ slice_set handed.old.items process.0 message }
+{
+    if let Some(place) = handed.get_mut(usize::from(process.0)) {
+        *place = message;
+    }
+}
+
+/// The words go into an array, if there is one.
+pub fn fill(array: Option<ArrayPlace>, message: &Words, out: &mut Out)
+    requires { HasRoom 1 out.old }
+    ensures lines { out.new.lines.items ≡ out.old.lines.items }
+    ensures actions { out.new.actions.items ≡ out.old.actions.items ++ meaning.writes array message.now }
+    ensures grows { Grows 1 out.old out.new }
+{
+    if let Some(array) = array {
+        out.actions.push(Action::Write(array.base, copied(message)));
+    }
+}
+
+/// The array of one that waits to receive.
+fn array_of_wait(wait: Wait) -> Option<ArrayPlace>
+    ensures { result ≡ meaning.array_of_wait wait }
+{
+    match wait {
+        Wait::Object { array, .. } => array,
+        _ => None,
+    }
+}
+
+impl ProcessTable {
+    /// The process of an entry of a list, with its record.
+    fn numbered(&self, process: ProcessIndex) -> Option<(Runner, ProcessStatus)>
+        ensures found { result ≡ processes.numbered process (processes.row_of self.now (Runner.Process process)) }
+        ensures within { IfSome result (λ found. place_of found.0 < MOST_RUNNERS) }
+        ensures bounded { IfSome result (λ found. IsBounded found.1) }
+    {
+        let runner = Runner::Process(process);
+        match self.row(runner) {
+            Some(row) => Some((runner, row)),
+            None => None,
+        }
+    }
+
+    /// The first who waits in a list, with its record.
+    pub fn first_waiting(&self, list: ListId) -> Option<(Runner, ProcessStatus)>
+        ensures found { result ≡ meaning.first_waiting self.now list.0 }
+        ensures within { IfSome result (λ found. place_of found.0 < MOST_RUNNERS) }
+        ensures bounded { IfSome result (λ found. IsBounded found.1) }
+    {
+        match self.queues.first(list) {
+            Some(entry) => self.numbered(entry.process),
+            None => None,
+        }
+    }
+
+    /// How many wait in a list.
+    pub fn waiting_count(&self, list: ListId) -> u8
+        ensures { result ≡ meaning.waiting_count self.now list.0 }
+    {
+        self.queues.count(list)
+    }
+
+    /// The message of the call in which a process waits.
+    pub fn handed_by(&self, runner: Runner) -> Words
+        ensures { result ≡ meaning.handed_by self.now runner }
+    {
+        match runner {
+            Runner::Process(process) => self.message_at(process),
+            _ => Words::new(),
+        }
+    }
+
+    fn message_at(&self, process: ProcessIndex) -> Words
+        ensures { result ≡ meaning.handed_by self.now (Runner.Process process) }
+    {
+        match self.handed.get(usize::from(process.0)) {
+            Some(message) => copied(message),
+            None => Words::new(),
+        }
+    }
+
+    /// A process enters the list of its object, with the message that its call hands in.
+    fn enter(&mut self, runner: Runner, waiting: Waiting, message: Words, row: &ProcessStatus)
+        requires { place_of runner < MOST_RUNNERS }
+        ensures { self.new ≡ meaning.enters self.old runner waiting message row.now }
+    {
+        if let Runner::Process(process) = runner {
+            let entry = Entry {
+                process,
+                priority: row.current_priority,
+            };
+            self.queues.join(waiting.list, waiting.discipline, entry);
+            put_message(&mut self.handed, process, message);
+        }
+    }
+
+    /// Without time its service is not available; one that may not wait has an invalid mode; else the
+    /// caller waits, at most so long.
+    pub fn block(
+        &mut self,
+        at: At,
+        caller: Runner,
+        limit: i64,
+        waiting: Waiting,
+        message: Words,
+        out: &mut Out,
+    )
+        requires now { at.now.0 ≤ 2 ^ 40 }
+        requires limit { is_duration limit ≡ true }
+        requires room { HasRoom 1 out.old }
+        ensures step { IsMade (meaning.blocks at self.old caller limit waiting message) self.new out.old out.new }
+        ensures grows { Grows 1 out.old out.new }
+    {
+        let service = waiting.service;
+        if limit == 0 {
+            return self.refuse(caller, service, ReturnCode::NotAvailable, zeros(service), out);
+        }
+        if self.is_busy(caller) {
+            return self.refuse(caller, service, ReturnCode::InvalidMode, zeros(service), out);
+        }
+        if let Some(row) = self.row(caller) {
+            self.enter(caller, waiting, message, &row);
+            let reason = Wait::Object {
+                service,
+                array: waiting.array,
+            };
+            self.wait(caller, row, reason, time_out(at, limit), out);
+        }
+    }
+
+    /// Releases one that is found.
+    fn release_found(&mut self, process: ProcessIndex, out: &mut Out)
+        requires { HasRoom 2 out.old }
+        ensures step { IsMade (meaning.releases_found self.old (processes.numbered process (processes.row_of self.old (Runner.Process process)))) self.new out.old out.new }
+        ensures grows { Grows 2 out.old out.new }
+    {
+        if let Some((runner, row)) = self.numbered(process) {
+            self.release(runner, row, ReturnCode::NoError, out);
+        }
+    }
+
+    /// Releases each of these in turn.
+    fn release_each(&mut self, entries: &[Entry], out: &mut Out)
+        requires few { length entries.now ≤ MOST_PROCESSES }
+        requires room { HasRoom (2 * length entries.now) out.old }
+        ensures step { IsMade (meaning.releases_all entries.now self.old) self.new out.old out.new }
+        ensures grows { Grows (2 * length entries.now) out.old out.new }
+    {
+        if let Some((entry, rest)) = entries.split_first() {
+            self.release_found(entry.process, out);
+            self.release_each(rest, out);
+        }
+    }
+
+    /// Releases all who wait in a list, in its order.
+    pub fn release_all(&mut self, list: ListId, out: &mut Out)
+        requires { HasRoom 62 out.old }
+        ensures step { IsMade (meaning.releases_all (meaning.waiting self.old list.0) self.old) self.new out.old out.new }
+        ensures grows { Grows 62 out.old out.new }
+    {
+        let entries = self.queues.entries(list);
+        self.release_each(entries.as_slice(), out);
+    }
+
+    /// A receiver takes a message: the words go into its array, its call answers how many they are, and
+    /// it is ready.
+    pub fn give(&mut self, runner: Runner, row: ProcessStatus, message: &Words, out: &mut Out)
+        requires runner { place_of runner < MOST_RUNNERS }
+        requires bounded { IsBounded row }
+        requires room { HasRoom 3 out.old }
+        ensures step { IsMade (meaning.gives self.old runner row message.now) self.new out.old out.new }
+        ensures grows { Grows 3 out.old out.new }
+    {
+        fill(array_of_wait(row.wait), message, out);
+        let length = message.len() as i64;
+        self.release_with(runner, row, ReturnCode::NoError, &[length], out);
+    }
+
+    /// Gives a message to one that is found.
+    fn give_found(&mut self, process: ProcessIndex, message: &Words, out: &mut Out)
+        requires { HasRoom 3 out.old }
+        ensures step { IsMade (meaning.gives_found self.old (processes.numbered process (processes.row_of self.old (Runner.Process process))) message.now) self.new out.old out.new }
+        ensures grows { Grows 3 out.old out.new }
+    {
+        if let Some((runner, row)) = self.numbered(process) {
+            self.give(runner, row, message, out);
+        }
+    }
+
+    /// Gives a message to each of these in turn.
+    fn give_each(&mut self, entries: &[Entry], message: &Words, out: &mut Out)
+        requires few { length entries.now ≤ MOST_PROCESSES }
+        requires room { HasRoom (3 * length entries.now) out.old }
+        ensures step { IsMade (meaning.gives_all entries.now message.now self.old) self.new out.old out.new }
+        ensures grows { Grows (3 * length entries.now) out.old out.new }
+    {
+        if let Some((entry, rest)) = entries.split_first() {
+            self.give_found(entry.process, message, out);
+            self.give_each(rest, message, out);
+        }
+    }
+
+    /// Gives a message to all who wait in a list, in its order.
+    pub fn give_all(&mut self, list: ListId, message: &Words, out: &mut Out)
+        requires { HasRoom 93 out.old }
+        ensures step { IsMade (meaning.gives_all (meaning.waiting self.old list.0) message.now self.old) self.new out.old out.new }
+        ensures grows { Grows 93 out.old out.new }
+    {
+        let entries = self.queues.entries(list);
+        self.give_each(entries.as_slice(), message, out);
+    }
+}
