@@ -5,7 +5,7 @@ ghost use Rattle.apex_types.specs.Room.{HasRoom, Grows};
 ghost use Rattle.apex_types.specs.declared.identity.TheConstants.{MOST_OBJECTS};
 ghost use Rattle.apex_meaning.specs.BlackboardServices as meaning;
 ghost use Rattle.apex_meaning.specs.Durations as durations;
-ghost use Rattle.apex_meaning.specs.Step.{IsMade, IsTold, after};
+ghost use Rattle.apex_meaning.specs.Step.{IsMade, after};
 ghost use Rattle.apex_meaning.specs.Sharing.{answers};
 ghost use Rattle.sync_objects_base.specs.Status.{blackboard_at};
 ghost use Rattle.sync_objects.specs.Both.{both, number_of_occupied};
@@ -58,7 +58,7 @@ pub fn get_blackboard_id(
     out: &mut Out,
 )
     requires { HasRoom 1 out.old }
-    ensures step { IsTold (meaning.get_blackboard_id (both table.now objects.now) caller name) out.old out.new }
+    ensures step { IsMade (meaning.get_blackboard_id (both table.now objects.now) caller name) (both table.now objects.now) out.old out.new }
     ensures grows { Grows 1 out.old out.new }
 {
     let service = Service::GetBlackboardId;
@@ -228,7 +228,7 @@ pub fn get_blackboard_status(
     out: &mut Out,
 )
     requires { HasRoom 1 out.old }
-    ensures step { IsTold (meaning.get_blackboard_status (both table.now objects.now) caller id) out.old out.new }
+    ensures step { IsMade (meaning.get_blackboard_status (both table.now objects.now) caller id) (both table.now objects.now) out.old out.new }
     ensures grows { Grows 1 out.old out.new }
 {
     let service = Service::GetBlackboardStatus;

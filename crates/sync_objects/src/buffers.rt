@@ -5,7 +5,7 @@ ghost use Rattle.apex_types.specs.Room.{HasRoom, Grows};
 ghost use Rattle.apex_types.specs.declared.identity.TheConstants.{MOST_OBJECTS};
 ghost use Rattle.apex_meaning.specs.BufferServices as meaning;
 ghost use Rattle.apex_meaning.specs.Durations as durations;
-ghost use Rattle.apex_meaning.specs.Step.{IsMade, IsTold};
+ghost use Rattle.apex_meaning.specs.Step.{IsMade};
 ghost use Rattle.apex_meaning.specs.Waiting.{first_waiting};
 ghost use Rattle.sync_objects_base.specs.Status.{buffer_at, buffer_status};
 ghost use Rattle.sync_objects.specs.Both.{both, delivers};
@@ -58,7 +58,7 @@ pub fn get_buffer_id(
     out: &mut Out,
 )
     requires { HasRoom 1 out.old }
-    ensures step { IsTold (meaning.get_buffer_id (both table.now objects.now) caller name) out.old out.new }
+    ensures step { IsMade (meaning.get_buffer_id (both table.now objects.now) caller name) (both table.now objects.now) out.old out.new }
     ensures grows { Grows 1 out.old out.new }
 {
     let service = Service::GetBufferId;
@@ -264,7 +264,7 @@ pub fn get_buffer_status(
     out: &mut Out,
 )
     requires { HasRoom 1 out.old }
-    ensures step { IsTold (meaning.get_buffer_status (both table.now objects.now) caller id) out.old out.new }
+    ensures step { IsMade (meaning.get_buffer_status (both table.now objects.now) caller id) (both table.now objects.now) out.old out.new }
     ensures grows { Grows 1 out.old out.new }
 {
     let service = Service::GetBufferStatus;
