@@ -1,5 +1,5 @@
 -- What RECEIVE_BUFFER does with the messages of a buffer.
-use Rattle.std.proofs.Common.{◌≡◌, ℕ, zero, suc, ℤ, pos, List, [], ◌∷◌, length, drop, None, refl, ap, rules}
+use Rattle.std.proofs.Common.{◌≡◌, ℕ, zero, suc, ℤ, pos, List, [], ◌∷◌, length, drop, None, refl, ap, sym, rules}
 use Rattle.std.specs.Prelude.{Option, Some, slice_get, slice_set}
 use Rattle.arrayvec.specs.ArrayVec.{ArrayVec}
 use Rattle.apex_types.specs.declared.codes.ReturnCode.TheVariants as code
@@ -12,9 +12,9 @@ use Rattle.apex_meaning.specs.BufferServices.{receives, receiver, admits, list, 
 use Rattle.apex_meaning.specs.Objects.{Objects, Buffer, put_buffer}
 use Rattle.apex_meaning.specs.Processes.{Processes, released}
 use Rattle.apex_meaning.specs.Sharing.{Sharing, of_processes, answers, becomes}
-use Rattle.apex_meaning.specs.Step.{Step, after, message}
+use Rattle.apex_meaning.specs.Step.{after, message}
 use Rattle.apex_meaning.specs.Waiting.{blocks, fills, first_waiting, handed_by}
-use Rattle.sync_objects.specs.Both.{both}
+use Rattle.sync_objects.specs.Both.{both, delivers}
 
 -- there is none
 pub receives-none : (at : At) (b : Sharing) (p : Runner) (array : ArrayPlace) (limit : ℤ) (place : ℕ) (x : Buffer) (ms : List (ArrayVec ℤ)) → slice_get ms 0 ≡ None → receives at b p array limit place x ms ≡ of_processes b (blocks at b.processes p limit (receiver place x array) (message []))
@@ -37,4 +37,11 @@ pub admits-put : (s : Processes) (o : Objects) (place : ℕ) (x : Buffer) (first
 admits-put s o place x None = ap (λ bs. becomes (both s o) (record o { buffers = bs })) (set_twice o.buffers place x x)
 admits-put s o place x (Some f) = ap (λ bs. let t = becomes (both s o) (record o { buffers = bs }) in after t (of_processes t.part (released s f.0 f.1 code.NoError))) (set_twice o.buffers place x (with_message x (handed_by s f.0)))
 
-pub ruleset receiving = (receives-none, receives-some, admits-put)
+-- the message is taken first
+pub receives-taken : (at : At) (s : Processes) (o : Objects) (p : Runner) (array : ArrayPlace) (limit : ℤ) (place : ℕ) (x : Buffer) (m : ArrayVec ℤ) (ms : List (ArrayVec ℤ)) → slice_get ms 0 ≡ Some m → receives at (both s o) p array limit place x ms ≡ delivers (both s (put_buffer o place (record x { messages = drop 1 ms }))) p array place (record x { messages = drop 1 ms }) m
+receives-taken at s o p array limit place x m ms e =
+    let y : Buffer = record x { messages = drop 1 ms } in
+    rw (receives-some at (both s o) p array limit place x m ms e)
+    (ap (λ rest. after (answers (both s o) p service.ReceiveBuffer code.NoError (pos (length m.items) ∷ [])) (after (fills (both s o) (Some array) m) rest)) (sym (admits-put s o place y (first_waiting s (list place)))))
+
+pub ruleset receiving = (receives-none, receives-taken)

@@ -1,9 +1,13 @@
 //! The services on blackboards.
 
-ghost use Rattle.std.specs.Prelude.{◌≡◌, ◌<◌, ◌≤◌, ◌+◌, ◌^◌, length, pos};
+ghost use Rattle.std.specs.Prelude.{◌≡◌, ◌<◌, ◌≤◌, ◌+◌, ◌^◌, [], length, pos, true};
 ghost use Rattle.apex_types.specs.Room.{HasRoom, Grows};
+ghost use Rattle.apex_types.specs.declared.identity.TheConstants.{MOST_OBJECTS};
 ghost use Rattle.apex_meaning.specs.BlackboardServices as meaning;
-ghost use Rattle.apex_meaning.specs.Step.{IsMade, IsTold};
+ghost use Rattle.apex_meaning.specs.Durations as durations;
+ghost use Rattle.apex_meaning.specs.Step.{IsMade, after};
+ghost use Rattle.apex_meaning.specs.Sharing.{answers};
+ghost use Rattle.sync_objects_base.specs.Status.{blackboard_at};
 ghost use Rattle.sync_objects.specs.Both.{both, number_of_occupied};
 
 use crate::messages::{first_words, is_large_enough, is_length};
@@ -54,7 +58,7 @@ pub fn get_blackboard_id(
     out: &mut Out,
 )
     requires { HasRoom 1 out.old }
-    ensures step { IsTold (meaning.get_blackboard_id (both table.now objects.now) caller name) out.old out.new }
+    ensures step { IsMade (meaning.get_blackboard_id (both table.now objects.now) caller name) (both table.now objects.now) out.old out.new }
     ensures grows { Grows 1 out.old out.new }
 {
     let service = Service::GetBlackboardId;
@@ -64,6 +68,27 @@ pub fn get_blackboard_id(
         }
         _ => table.refuse(caller, service, ReturnCode::InvalidConfig, &[0], out),
     }
+}
+
+/// The caller goes on; a blackboard displays a message, and all who wait take it in the order in which
+/// they came.
+fn display(
+    table: &mut ProcessTable,
+    objects: &mut Objects,
+    caller: Runner,
+    message: Words,
+    place: u8,
+    out: &mut Out,
+)
+    requires place { place < MOST_OBJECTS }
+    requires room { HasRoom 94 out.old }
+    ensures step { let b = both table.old objects.old in IsMade (after (answers b caller Service.DisplayBlackboard ReturnCode.NoError []) (meaning.displays b message place (blackboard_at objects.old place))) (both table.new objects.new) out.old out.new }
+    ensures grows { Grows 94 out.old out.new }
+{
+    let service = Service::DisplayBlackboard;
+    table.answer(caller, service, ReturnCode::NoError, &[], out);
+    table.give_all(list_of(ObjectKind::Blackboard, place), &message, out);
+    objects.show(place, Some(message));
 }
 
 /// DISPLAY_BLACKBOARD (ARINC 653 Part 1, intrapartition communication): a blackboard displays the first
@@ -77,12 +102,12 @@ pub fn display_blackboard(
     id: i64,
     array: ArrayPlace,
     length: i64,
-    words: Words,
+    words: &Words,
     out: &mut Out,
 )
-    requires { HasRoom 63 out.old }
-    ensures step { IsMade (meaning.display_blackboard (both table.old objects.old) caller id array length words.items) (both table.new objects.new) out.old out.new }
-    ensures grows { Grows 63 out.old out.new }
+    requires { HasRoom 94 out.old }
+    ensures step { IsMade (meaning.display_blackboard (both table.old objects.old) caller id array length words.now.items) (both table.new objects.new) out.old out.new }
+    ensures grows { Grows 94 out.old out.new }
 {
     let service = Service::DisplayBlackboard;
     let Some((place, blackboard)) = objects.blackboard(id) else {
@@ -92,9 +117,7 @@ pub fn display_blackboard(
         return table.refuse(caller, service, ReturnCode::InvalidParam, &[], out);
     }
     let message = first_words(length, words);
-    table.answer(caller, service, ReturnCode::NoError, &[], out);
-    table.give_all(list_of(ObjectKind::Blackboard, place), &message, out);
-    objects.show(place, Some(message));
+    display(table, objects, caller, message, place, out);
 }
 
 /// CLEAR_BLACKBOARD (ARINC 653 Part 1, intrapartition communication): a blackboard displays nothing.
@@ -118,6 +141,40 @@ pub fn clear_blackboard(
         }
         _ => table.refuse(caller, service, ReturnCode::InvalidParam, &[], out),
     }
+}
+
+/// The message that a blackboard displays goes into an array. While it displays none the caller waits.
+fn read(
+    table: &mut ProcessTable,
+    objects: &Objects,
+    at: At,
+    caller: Runner,
+    array: ArrayPlace,
+    limit: i64,
+    place: u8,
+    out: &mut Out,
+)
+    requires now { at.now.0 ≤ 2 ^ 40 }
+    requires limit { durations.is_duration limit ≡ true }
+    requires place { place < MOST_OBJECTS }
+    requires room { HasRoom 2 out.old }
+    ensures step { IsMade (meaning.reads at (both table.old objects.now) caller array limit place (blackboard_at objects.now place).shown) (both table.new objects.now) out.old out.new }
+    ensures grows { Grows 2 out.old out.new }
+{
+    let service = Service::ReadBlackboard;
+    if let Some(message) = objects.shown(place) {
+        let count = message.len() as i64;
+        table.answer(caller, service, ReturnCode::NoError, &[count], out);
+        out.actions.push(Action::Write(array.base, message));
+        return;
+    }
+    let waiting = Waiting {
+        service,
+        list: list_of(ObjectKind::Blackboard, place),
+        discipline: Discipline::Fifo,
+        array: Some(array),
+    };
+    table.block(at, caller, limit, waiting, Words::new(), out);
 }
 
 /// READ_BLACKBOARD (ARINC 653 Part 1, intrapartition communication): the message that a blackboard
@@ -145,23 +202,11 @@ pub fn read_blackboard(
     let Some((place, blackboard)) = objects.blackboard(id) else {
         return table.refuse(caller, service, ReturnCode::InvalidParam, &[0], out);
     };
-    let good = is_large_enough(blackboard.row.words, array) && is_duration(limit);
-    if !blackboard.created || !good {
+    let large = is_large_enough(blackboard.row.words, array);
+    if !blackboard.created || !large || !is_duration(limit) {
         return table.refuse(caller, service, ReturnCode::InvalidParam, &[0], out);
     }
-    if let Some(message) = objects.shown(place) {
-        let count = message.len() as i64;
-        table.answer(caller, service, ReturnCode::NoError, &[count], out);
-        out.actions.push(Action::Write(array.base, message));
-        return;
-    }
-    let waiting = Waiting {
-        service,
-        list: list_of(ObjectKind::Blackboard, place),
-        discipline: Discipline::Fifo,
-        array: Some(array),
-    };
-    table.block(at, caller, limit, waiting, Words::new(), out);
+    read(table, objects, at, caller, array, limit, place, out);
 }
 
 /// 0 for empty, 1 for occupied.
@@ -183,7 +228,7 @@ pub fn get_blackboard_status(
     out: &mut Out,
 )
     requires { HasRoom 1 out.old }
-    ensures step { IsTold (meaning.get_blackboard_status (both table.now objects.now) caller id) out.old out.new }
+    ensures step { IsMade (meaning.get_blackboard_status (both table.now objects.now) caller id) (both table.now objects.now) out.old out.new }
     ensures grows { Grows 1 out.old out.new }
 {
     let service = Service::GetBlackboardStatus;

@@ -5,18 +5,19 @@ ghost use Rattle.apex_types.specs.Room.{HasRoom, Grows};
 ghost use Rattle.apex_types.specs.declared.identity.TheConstants.{MOST_OBJECTS};
 ghost use Rattle.apex_meaning.specs.BufferServices as meaning;
 ghost use Rattle.apex_meaning.specs.Durations as durations;
-ghost use Rattle.apex_meaning.specs.Step.{IsMade, IsTold};
+ghost use Rattle.apex_meaning.specs.Step.{IsMade};
 ghost use Rattle.apex_meaning.specs.Waiting.{first_waiting};
-ghost use Rattle.sync_objects_base.specs.Status.{buffer_at};
-ghost use Rattle.sync_objects.specs.Both.{both};
+ghost use Rattle.sync_objects_base.specs.Status.{buffer_at, buffer_status};
+ghost use Rattle.sync_objects.specs.Both.{both, delivers};
 
 use crate::messages::{first_words, is_large_enough, is_length};
 use crate::waiting::list_of;
 use apex_types::{
-    Action, ArrayPlace, At, Mode, ObjectKind, Out, ReturnCode, Runner, Service, Waiting, Words,
+    Action, ArrayPlace, At, Discipline, Mode, ObjectKind, Out, ReturnCode, Runner, Service,
+    Waiting, Words,
 };
 use process_table_base::{ProcessTable, is_duration};
-use sync_objects_base::Objects;
+use sync_objects_base::{BufferStatus, Objects};
 
 /// CREATE_BUFFER (ARINC 653 Part 1, intrapartition communication): the buffer of that number exists,
 /// and its output is its number; it is empty. INVALID_MODE: in normal mode; INVALID_CONFIG: no such
@@ -57,7 +58,7 @@ pub fn get_buffer_id(
     out: &mut Out,
 )
     requires { HasRoom 1 out.old }
-    ensures step { IsTold (meaning.get_buffer_id (both table.now objects.now) caller name) out.old out.new }
+    ensures step { IsMade (meaning.get_buffer_id (both table.now objects.now) caller name) (both table.now objects.now) out.old out.new }
     ensures grows { Grows 1 out.old out.new }
 {
     let service = Service::GetBufferId;
@@ -66,6 +67,45 @@ pub fn get_buffer_id(
             table.answer(caller, service, ReturnCode::NoError, &[name], out)
         }
         _ => table.refuse(caller, service, ReturnCode::InvalidConfig, &[0], out),
+    }
+}
+
+/// A message goes to the first receiver that waits, else behind the others of a buffer. While it is
+/// full the caller waits.
+fn send(
+    table: &mut ProcessTable,
+    objects: &mut Objects,
+    at: At,
+    caller: Runner,
+    limit: i64,
+    message: Words,
+    place: u8,
+    buffer: BufferStatus,
+    out: &mut Out,
+)
+    requires now { at.now.0 ≤ 2 ^ 40 }
+    requires limit { durations.is_duration limit ≡ true }
+    requires place { place < MOST_OBJECTS }
+    requires status { buffer ≡ buffer_status (buffer_at objects.old place) }
+    requires room { HasRoom 4 out.old }
+    ensures step { IsMade (meaning.sends at (both table.old objects.old) caller limit message place (buffer_at objects.old place)) (both table.new objects.new) out.old out.new }
+    ensures grows { Grows 4 out.old out.new }
+{
+    let service = Service::SendBuffer;
+    let list = list_of(ObjectKind::Buffer, place);
+    if buffer.messages >= buffer.row.depth {
+        let waiting = Waiting {
+            service,
+            list,
+            discipline: buffer.row.discipline,
+            array: None,
+        };
+        return table.block(at, caller, limit, waiting, message, out);
+    }
+    table.answer(caller, service, ReturnCode::NoError, &[], out);
+    match table.first_waiting(list) {
+        Some((receiver, row)) => table.give(receiver, row, &message, out),
+        None => objects.push_message(place, message),
     }
 }
 
@@ -84,39 +124,28 @@ pub fn send_buffer(
     array: ArrayPlace,
     length: i64,
     limit: i64,
-    words: Words,
+    words: &Words,
     out: &mut Out,
 )
     requires now { at.now.0 ≤ 2 ^ 40 }
-    requires room { HasRoom 3 out.old }
-    ensures step { IsMade (meaning.send_buffer at (both table.old objects.old) caller id array length limit words.items) (both table.new objects.new) out.old out.new }
-    ensures grows { Grows 3 out.old out.new }
+    requires room { HasRoom 4 out.old }
+    ensures step { IsMade (meaning.send_buffer at (both table.old objects.old) caller id array length limit words.now.items) (both table.new objects.new) out.old out.new }
+    ensures grows { Grows 4 out.old out.new }
 {
     let service = Service::SendBuffer;
     let Some((place, buffer)) = objects.buffer(id) else {
         return table.refuse(caller, service, ReturnCode::InvalidParam, &[], out);
     };
-    let good = is_length(buffer.row.words, array, length) && is_duration(limit);
-    if !buffer.created || !good {
+    if !buffer.created || !is_length(buffer.row.words, array, length) {
+        return table.refuse(caller, service, ReturnCode::InvalidParam, &[], out);
+    }
+    if !is_duration(limit) {
         return table.refuse(caller, service, ReturnCode::InvalidParam, &[], out);
     }
     let message = first_words(length, words);
-    let list = list_of(ObjectKind::Buffer, place);
-    if buffer.messages >= buffer.row.depth {
-        let discipline = buffer.row.discipline;
-        let waiting = Waiting {
-            service,
-            list,
-            discipline,
-            array: None,
-        };
-        return table.block(at, caller, limit, waiting, message, out);
-    }
-    table.answer(caller, service, ReturnCode::NoError, &[], out);
-    match table.first_waiting(list) {
-        Some((receiver, row)) => table.give(receiver, row, &message, out),
-        None => objects.push_message(place, message),
-    }
+    send(
+        table, objects, at, caller, limit, message, place, buffer, out,
+    );
 }
 
 /// The message of the first sender that waits comes behind the others, and the sender is released.
@@ -133,35 +162,60 @@ fn admit(table: &mut ProcessTable, objects: &mut Objects, place: u8, out: &mut O
     }
 }
 
-/// The first message of a buffer goes into an array, and the first sender that waits goes on. While
-/// there is no message the caller waits.
+/// A message goes into an array, and the first sender that waits goes on.
+fn deliver(
+    table: &mut ProcessTable,
+    objects: &mut Objects,
+    caller: Runner,
+    array: ArrayPlace,
+    place: u8,
+    message: Words,
+    out: &mut Out,
+)
+    requires place { place < MOST_OBJECTS }
+    requires free { let x = buffer_at objects.old place in length x.messages < x.row.depth }
+    requires room { HasRoom 4 out.old }
+    ensures step { IsMade (delivers (both table.old objects.old) caller array place (buffer_at objects.old place) message) (both table.new objects.new) out.old out.new }
+    ensures grows { Grows 4 out.old out.new }
+{
+    let service = Service::ReceiveBuffer;
+    let count = message.len() as i64;
+    table.answer(caller, service, ReturnCode::NoError, &[count], out);
+    out.actions.push(Action::Write(array.base, message));
+    admit(table, objects, place, out);
+}
+
+/// The first message of a buffer goes into an array. While there is none the caller waits.
 #[tactic(auto, using(crate::proofs::Receiving::receiving))]
 fn receive(
     table: &mut ProcessTable,
     objects: &mut Objects,
     at: At,
     caller: Runner,
-    waiting: Waiting,
     array: ArrayPlace,
     limit: i64,
     place: u8,
+    discipline: Discipline,
     out: &mut Out,
 )
     requires now { at.now.0 ≤ 2 ^ 40 }
     requires limit { durations.is_duration limit ≡ true }
     requires place { place < MOST_OBJECTS }
-    requires waiting { waiting ≡ meaning.receiver place (buffer_at objects.old place) array }
+    requires discipline { discipline ≡ (buffer_at objects.old place).row.discipline }
     requires room { HasRoom 4 out.old }
     ensures step { let x = buffer_at objects.old place in IsMade (meaning.receives at (both table.old objects.old) caller array limit place x x.messages) (both table.new objects.new) out.old out.new }
     ensures grows { Grows 4 out.old out.new }
 {
-    let Some(message) = objects.pop_message(place) else {
-        return table.block(at, caller, limit, waiting, Words::new(), out);
+    if let Some(message) = objects.pop_message(place) {
+        return deliver(table, objects, caller, array, place, message, out);
+    }
+    let waiting = Waiting {
+        service: Service::ReceiveBuffer,
+        list: list_of(ObjectKind::Buffer, place),
+        discipline,
+        array: Some(array),
     };
-    let count = message.len() as i64;
-    table.answer(caller, waiting.service, ReturnCode::NoError, &[count], out);
-    out.actions.push(Action::Write(array.base, message));
-    admit(table, objects, place, out);
+    table.block(at, caller, limit, waiting, Words::new(), out);
 }
 
 /// RECEIVE_BUFFER (ARINC 653 Part 1, intrapartition communication): the first message of a buffer goes
@@ -189,17 +243,14 @@ pub fn receive_buffer(
     let Some((place, buffer)) = objects.buffer(id) else {
         return table.refuse(caller, service, ReturnCode::InvalidParam, &[0], out);
     };
-    let good = is_large_enough(buffer.row.words, array) && is_duration(limit);
-    if !buffer.created || !good {
+    let large = is_large_enough(buffer.row.words, array);
+    if !buffer.created || !large || !is_duration(limit) {
         return table.refuse(caller, service, ReturnCode::InvalidParam, &[0], out);
     }
-    let waiting = Waiting {
-        service,
-        list: list_of(ObjectKind::Buffer, place),
-        discipline: buffer.row.discipline,
-        array: Some(array),
-    };
-    receive(table, objects, at, caller, waiting, array, limit, place, out);
+    let discipline = buffer.row.discipline;
+    receive(
+        table, objects, at, caller, array, limit, place, discipline, out,
+    );
 }
 
 /// GET_BUFFER_STATUS (ARINC 653 Part 1, intrapartition communication): how many messages a buffer
@@ -213,7 +264,7 @@ pub fn get_buffer_status(
     out: &mut Out,
 )
     requires { HasRoom 1 out.old }
-    ensures step { IsTold (meaning.get_buffer_status (both table.now objects.now) caller id) out.old out.new }
+    ensures step { IsMade (meaning.get_buffer_status (both table.now objects.now) caller id) (both table.now objects.now) out.old out.new }
     ensures grows { Grows 1 out.old out.new }
 {
     let service = Service::GetBufferStatus;
@@ -226,6 +277,12 @@ pub fn get_buffer_status(
             let outputs = [messages, depth, words, i64::from(waiting)];
             table.answer(caller, service, ReturnCode::NoError, &outputs, out)
         }
-        _ => table.refuse(caller, service, ReturnCode::InvalidParam, &[0, 0, 0, 0], out),
+        _ => table.refuse(
+            caller,
+            service,
+            ReturnCode::InvalidParam,
+            &[0, 0, 0, 0],
+            out,
+        ),
     }
 }

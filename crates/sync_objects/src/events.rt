@@ -3,7 +3,7 @@
 ghost use Rattle.std.specs.Prelude.{◌≡◌, ◌<◌, ◌≤◌, ◌+◌, ◌^◌, length, pos};
 ghost use Rattle.apex_types.specs.Room.{HasRoom, Grows};
 ghost use Rattle.apex_meaning.specs.EventServices as meaning;
-ghost use Rattle.apex_meaning.specs.Step.{IsMade, IsTold};
+ghost use Rattle.apex_meaning.specs.Step.{IsMade};
 ghost use Rattle.sync_objects.specs.Both.{both};
 
 use crate::waiting::list_of;
@@ -52,7 +52,7 @@ pub fn get_event_id(
     out: &mut Out,
 )
     requires { HasRoom 1 out.old }
-    ensures step { IsTold (meaning.get_event_id (both table.now objects.now) caller name) out.old out.new }
+    ensures step { IsMade (meaning.get_event_id (both table.now objects.now) caller name) (both table.now objects.now) out.old out.new }
     ensures grows { Grows 1 out.old out.new }
 {
     let service = Service::GetEventId;
@@ -165,7 +165,7 @@ pub fn get_event_status(
     out: &mut Out,
 )
     requires { HasRoom 1 out.old }
-    ensures step { IsTold (meaning.get_event_status (both table.now objects.now) caller id) out.old out.new }
+    ensures step { IsMade (meaning.get_event_status (both table.now objects.now) caller id) (both table.now objects.now) out.old out.new }
     ensures grows { Grows 1 out.old out.new }
 {
     let service = Service::GetEventStatus;

@@ -1,4 +1,4 @@
-use Rattle.std.proofs.Common.{◌≡◌, ◌≤◌, ◌++◌, length, map, replicate, take, drop}
+use Rattle.std.proofs.Common.{◌≡◌, ◌≤◌, ◌++◌, length, map, take, drop}
 use Rattle.apex_meaning.specs.Objects.{cleared_buffer}
 use Rattle.sync_objects_base.proofs.objects.clear_buffers.Given as goal
 

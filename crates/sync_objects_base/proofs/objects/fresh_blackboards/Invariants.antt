@@ -1,4 +1,4 @@
-use Rattle.std.proofs.Common.{◌≡◌, ◌≤◌, ◌++◌, length, map, replicate, take, drop}
+use Rattle.std.proofs.Common.{◌≡◌, map, take}
 use Rattle.apex_meaning.specs.Objects.{fresh_blackboard}
 use Rattle.sync_objects_base.proofs.objects.fresh_blackboards.Given as goal
 

@@ -1,4 +1,4 @@
-use Rattle.std.proofs.Common.{◌≡◌, ◌≤◌, ◌++◌, length, map, replicate, take, drop}
+use Rattle.std.proofs.Common.{◌≡◌, replicate}
 use Rattle.apex_meaning.specs.Objects.{fresh_event}
 use Rattle.sync_objects_base.proofs.objects.fresh_events.Given as goal
 
