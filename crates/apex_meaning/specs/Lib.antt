@@ -22,6 +22,7 @@ pub mod SemaphoreServices
 pub mod EventServices
 pub mod BufferServices
 pub mod BlackboardServices
+pub mod ObjectServices
 pub mod TimeServices
 pub mod HealthServices
 pub mod Partition

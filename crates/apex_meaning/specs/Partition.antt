@@ -26,14 +26,11 @@ use Rattle.apex_types.specs.declared.service.Call.TheVariants as call
 use Rattle.apex_meaning.specs.Due.{Treated, due}
 use Rattle.apex_meaning.specs.Engine.{Engine, Ticked, Asks, Nothing, Calls, Faults, Ends}
 use Rattle.apex_meaning.specs.HealthServices.{action_of, faults, report}
-use Rattle.apex_meaning.specs.BlackboardServices.{create_blackboard, display_blackboard, read_blackboard, clear_blackboard, get_blackboard_id, get_blackboard_status}
-use Rattle.apex_meaning.specs.BufferServices.{create_buffer, send_buffer, receive_buffer, get_buffer_id, get_buffer_status}
-use Rattle.apex_meaning.specs.EventServices.{create_event, set_event, reset_event, wait_event, get_event_id, get_event_status}
 use Rattle.apex_meaning.specs.Kernel.{Kernel, of_processes, of_sharing, sharing}
+use Rattle.apex_meaning.specs.ObjectServices.{serves_sharing}
 use Rattle.apex_meaning.specs.PartitionServices.{clears, ends_body, get_partition_status, next_release_of, set_partition_mode}
 use Rattle.apex_meaning.specs.Processes.{Processes, row_of, put_row, is_same}
 use Rattle.apex_meaning.specs.ProcessServices.{get_process_id, get_process_status, create_process, set_priority, suspend_self, suspend, resume, stop, start, delayed_start, lock_preemption, unlock_preemption, get_my_id, number_of, is_ready_state}
-use Rattle.apex_meaning.specs.SemaphoreServices.{create_semaphore, wait_semaphore, signal_semaphore, get_semaphore_id, get_semaphore_status}
 use Rattle.apex_meaning.specs.ServiceTable.{array_of}
 use Rattle.apex_meaning.specs.Step.{Step, nothing, after}
 use Rattle.apex_meaning.specs.TimeServices.{get_time, timed_wait, periodic_wait, replenish}
@@ -125,32 +122,8 @@ abbrev pub given : Asks → List ℤ → List ℤ
 given (Calls c) words = handed (array_of c) words
 given _ words = []
 
--- the services on semaphores, events, buffers and blackboards; one that the kernel does not serve leaves
--- its caller without an answer
 abbrev pub serves_objects : At → Kernel → Runner → Call → List ℤ → Step Kernel
-serves_objects at k p (call.CreateBuffer name) words = of_sharing k (create_buffer k.mode (sharing k) p name)
-serves_objects at k p (call.SendBuffer id array length limit) words = of_sharing k (send_buffer at (sharing k) p id array length limit words)
-serves_objects at k p (call.ReceiveBuffer id array limit) words = of_sharing k (receive_buffer at (sharing k) p id array limit)
-serves_objects at k p (call.GetBufferId name) words = of_sharing k (get_buffer_id (sharing k) p name)
-serves_objects at k p (call.GetBufferStatus id) words = of_sharing k (get_buffer_status (sharing k) p id)
-serves_objects at k p (call.CreateBlackboard name) words = of_sharing k (create_blackboard k.mode (sharing k) p name)
-serves_objects at k p (call.DisplayBlackboard id array length) words = of_sharing k (display_blackboard (sharing k) p id array length words)
-serves_objects at k p (call.ReadBlackboard id array limit) words = of_sharing k (read_blackboard at (sharing k) p id array limit)
-serves_objects at k p (call.ClearBlackboard id) words = of_sharing k (clear_blackboard (sharing k) p id)
-serves_objects at k p (call.GetBlackboardId name) words = of_sharing k (get_blackboard_id (sharing k) p name)
-serves_objects at k p (call.GetBlackboardStatus id) words = of_sharing k (get_blackboard_status (sharing k) p id)
-serves_objects at k p (call.CreateSemaphore name) words = of_sharing k (create_semaphore k.mode (sharing k) p name)
-serves_objects at k p (call.WaitSemaphore id limit) words = of_sharing k (wait_semaphore at (sharing k) p id limit)
-serves_objects at k p (call.SignalSemaphore id) words = of_sharing k (signal_semaphore (sharing k) p id)
-serves_objects at k p (call.GetSemaphoreId name) words = of_sharing k (get_semaphore_id (sharing k) p name)
-serves_objects at k p (call.GetSemaphoreStatus id) words = of_sharing k (get_semaphore_status (sharing k) p id)
-serves_objects at k p (call.CreateEvent name) words = of_sharing k (create_event k.mode (sharing k) p name)
-serves_objects at k p (call.SetEvent id) words = of_sharing k (set_event (sharing k) p id)
-serves_objects at k p (call.ResetEvent id) words = of_sharing k (reset_event (sharing k) p id)
-serves_objects at k p (call.WaitEvent id limit) words = of_sharing k (wait_event at (sharing k) p id limit)
-serves_objects at k p (call.GetEventId name) words = of_sharing k (get_event_id (sharing k) p name)
-serves_objects at k p (call.GetEventStatus id) words = of_sharing k (get_event_status (sharing k) p id)
-serves_objects at k p _ words = nothing k
+serves_objects at k p c words = of_sharing k (serves_sharing k.mode at (sharing k) p c words)
 
 -- the services on processes and on time, then those on objects
 abbrev pub serves_processes : At → Kernel → Runner → Call → List ℤ → Step Kernel
