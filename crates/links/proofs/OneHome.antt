@@ -264,7 +264,6 @@ pops k e lists homes h is =
     let alone = without-one e.process.0 k lists (λ j ne. omega (arith, h e.process.0 j, once-elsewhere (slice_index_or homes e.process.0 None) k j one ne)) in
     sym (rw first.rest at alone)
 
-pub pops-seen : (k : ℕ) (e : Entry) (lists seen : List (List Entry)) (homes : List (Option ListId)) → lists ≡ seen → IsHomed lists homes → slice_get (list_at seen k) 0 ≡ Some e → without_in_all e.process.0 seen ≡ put_list seen k (drop 1 (list_at seen k))
+pub pops-seen : (k : ℕ) (e : Entry) (lists seen : List (List Entry)) (homes : List (Option ListId)) → lists ≡ seen → IsHomed lists homes → slice_get (list_at lists k) 0 ≡ Some e → without_in_all e.process.0 seen ≡ put_list seen k (drop 1 (list_at seen k))
 pops-seen k e lists seen homes same h is =
-    let found : slice_get (list_at lists k) 0 ≡ Some e = subst (λ (ls : List (List Entry)). slice_get (list_at ls k) 0 ≡ Some e) (sym same) is in
-    subst (λ (ls : List (List Entry)). without_in_all e.process.0 ls ≡ put_list ls k (drop 1 (list_at ls k))) same (pops k e lists homes h found)
+    subst (λ (ls : List (List Entry)). without_in_all e.process.0 ls ≡ put_list ls k (drop 1 (list_at ls k))) same (pops k e lists homes h is)

@@ -122,8 +122,7 @@ impl Links {
         ensures below { IfSome result (λ entry. entry.process.0 < MOST_PROCESSES) }
         ensures lists { self.new ≡ put_list self.old list.0 (drop 1 (list_at self.old list.0)) }
     {
-        let first = self.first(list)?;
-        let _ = &self.lists;
+        let first = lists::front_at(&self.lists, list)?;
         self.remove(first.process);
         Some(first)
     }
