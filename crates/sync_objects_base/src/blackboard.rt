@@ -63,6 +63,7 @@ impl Blackboard {
         self.shown = None;
     }
 
+    /// It is created.
     pub(crate) fn create(&mut self)
         ensures { self.new ≡ record self.old { created = true } }
     {
@@ -86,6 +87,7 @@ impl Blackboard {
         }
     }
 
+    /// How it stands.
     pub(crate) fn status(&self) -> BlackboardStatus
         ensures { result ≡ blackboard_status self.now }
     {

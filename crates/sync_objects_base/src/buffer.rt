@@ -59,6 +59,7 @@ impl Buffer {
         self.messages.clear();
     }
 
+    /// It is created.
     pub(crate) fn create(&mut self)
         ensures { self.new ≡ record self.old { created = true } }
     {
@@ -83,6 +84,7 @@ impl Buffer {
         self.messages.pop_front()
     }
 
+    /// How it stands.
     pub(crate) fn status(&self) -> BufferStatus
         ensures status { result ≡ buffer_status self.now }
         ensures within { result.messages ≤ result.row.depth }

@@ -42,6 +42,7 @@ impl Event {
         self.created
     }
 
+    /// Whether it is up; while it is down, processes wait for it.
     pub fn is_up(self) -> bool
         ensures { result ≡ self.up }
     {

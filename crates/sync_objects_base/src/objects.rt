@@ -187,6 +187,7 @@ impl Objects {
         Some((place as u8, self.buffers[place].status()))
     }
 
+    /// A buffer is created.
     pub fn create_buffer(&mut self, place: u8)
         ensures { self.new ≡ meaning.put_buffer self.old place (record (buffer_at self.old place) { created = true }) }
     {
@@ -227,6 +228,7 @@ impl Objects {
         Some((place as u8, self.blackboards[place].status()))
     }
 
+    /// A blackboard is created.
     pub fn create_blackboard(&mut self, place: u8)
         ensures { self.new ≡ meaning.put_blackboard self.old place (record (blackboard_at self.old place) { created = true }) }
     {

@@ -45,6 +45,7 @@ impl Semaphore {
         self.created
     }
 
+    /// How often it can be taken before one waits.
     pub fn value(self) -> u32
         ensures { result ≡ self.value }
     {
