@@ -1,5 +1,5 @@
 -- The services on blackboards, a row each.
-use Rattle.std.specs.Prelude.{ℕ, ℤ, pos, Bool, true, false, not, List, [], ◌∷◌, length, Option, Some, None}
+use Rattle.std.specs.Prelude.{ℕ, ℤ, pos, Bool, true, not, List, [], ◌∷◌, length, Option, Some, None}
 use Rattle.arrayvec.specs.ArrayVec.{ArrayVec}
 use Rattle.apex_types.specs.declared.codes.Discipline.TheVariants as discipline
 use Rattle.apex_types.specs.declared.codes.Mode.{Mode}

@@ -1,5 +1,5 @@
 -- The times that programs give, in ticks.
-use Rattle.std.specs.Prelude.{ℕ, zero, suc, ◌^◌, ℤ, pos, negsuc, Bool, true, false, nat_le}
+use Rattle.std.specs.Prelude.{ℕ, zero, ◌^◌, ℤ, pos, negsuc, Bool, true, false, nat_le}
 
 -- a delay is 0 to 2^40 ticks
 abbrev pub is_delay : ℤ → Bool

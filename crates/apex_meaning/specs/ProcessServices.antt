@@ -6,7 +6,6 @@ use Rattle.apex_types.specs.declared.codes.ProcessState.TheVariants.{Dormant, Re
 use Rattle.apex_types.specs.declared.codes.ReturnCode.TheVariants as code
 use Rattle.apex_types.specs.declared.identity.At.{At}
 use Rattle.apex_types.specs.declared.identity.Priority.{Priority}
-use Rattle.apex_types.specs.declared.identity.ProcessIndex.{ProcessIndex}
 use Rattle.apex_types.specs.declared.identity.Runner.{Runner}
 use Rattle.apex_types.specs.declared.identity.Runner.TheVariants as runner
 use Rattle.apex_types.specs.declared.identity.Ticks.{Ticks}
@@ -19,7 +18,7 @@ use Rattle.apex_types.specs.declared.process.Wait.{Wait}
 use Rattle.apex_types.specs.declared.process.Wait.TheVariants as wait
 use Rattle.apex_types.specs.declared.service.Service.{Service}
 use Rattle.apex_types.specs.declared.service.Service.TheVariants as service
-use Rattle.apex_meaning.specs.Durations.{is_delay, is_duration, is_without_limit, amount}
+use Rattle.apex_meaning.specs.Durations.{is_delay, is_duration, amount}
 use Rattle.apex_meaning.specs.Operators.{is_zero}
 use Rattle.apex_meaning.specs.Processes.{Processes, row_of, put_row, put_ready, wakes, waits, rests, answers, refuses, released, process_at, has, on, is_created, is_dormant, is_held, is_periodic, is_same, is_suspended, is_unknown, is_no_other, is_busy, is_normal}
 use Rattle.apex_meaning.specs.Starts.{starts, ticks}

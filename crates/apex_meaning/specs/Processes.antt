@@ -4,7 +4,7 @@
 -- equals the one that is ready longest. INIT and the error handler are in no list: their records say
 -- whether they are ready. Those that wait for an object or a port stand in its list, in the order in
 -- which they are released.
-use Rattle.std.specs.Prelude.{ℕ, zero, suc, ℤ, pos, negsuc, ◌==◌, ◌||◌, Bool, true, false, not, is_some, nat_lt, List, [], ◌∷◌, Option, Some, None, if◌then◌else◌, slice_get, slice_set, filter}
+use Rattle.std.specs.Prelude.{ℕ, zero, suc, ℤ, pos, negsuc, ◌==◌, ◌||◌, Bool, true, false, not, is_some, List, [], ◌∷◌, Option, Some, None, if◌then◌else◌, slice_get, slice_set}
 use Rattle.arrayvec.specs.ArrayVec.{ArrayVec}
 use Rattle.apex_types.specs.Runners.{place_of}
 use Rattle.apex_types.specs.declared.codes.Mode.{Mode}

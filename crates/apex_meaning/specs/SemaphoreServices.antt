@@ -1,5 +1,5 @@
 -- The services on semaphores, a row each.
-use Rattle.std.specs.Prelude.{ℕ, ◌+◌, ◌-◌, ℤ, pos, Bool, true, false, not, nat_lt, nat_le, List, [], ◌∷◌, Option, Some, None, if◌then◌else◌}
+use Rattle.std.specs.Prelude.{ℕ, ◌+◌, ◌-◌, ℤ, pos, Bool, true, not, nat_lt, nat_le, List, [], ◌∷◌, Option, Some, None, if◌then◌else◌}
 use Rattle.apex_types.specs.declared.codes.Mode.{Mode}
 use Rattle.apex_types.specs.declared.codes.ReturnCode.TheVariants as code
 use Rattle.apex_types.specs.declared.denotation.ObjectKind.TheVariants as kind

@@ -11,7 +11,6 @@ use Rattle.apex_types.specs.declared.event.Subject.{Subject}
 use Rattle.apex_types.specs.declared.event.Subject.TheVariants.{Init, Handler, Process}
 use Rattle.apex_types.specs.declared.identity.Priority.{Priority}
 use Rattle.apex_types.specs.declared.identity.Runner.{Runner}
-use Rattle.apex_types.specs.declared.identity.Ticks.{Ticks}
 use Rattle.apex_types.specs.declared.process.Lock.TheVariants as lock
 use Rattle.apex_types.specs.declared.process.ProcessStatus.{ProcessStatus}
 use Rattle.apex_types.specs.declared.process.Wait.TheVariants as wait

@@ -1,5 +1,5 @@
 -- How a process comes to wait at an object or a port, and how it is released: the same for all of them.
-use Rattle.std.specs.Prelude.{ℕ, ◌*◌, ◌+◌, ◌-◌, ℤ, pos, List, [], ◌∷◌, length, Option, Some, None, slice_index_or, slice_set}
+use Rattle.std.specs.Prelude.{ℕ, ◌*◌, ◌+◌, ℤ, pos, List, [], ◌∷◌, length, Option, Some, None, slice_index_or, slice_set}
 use Rattle.arrayvec.specs.ArrayVec.{ArrayVec}
 use Rattle.apex_types.specs.declared.codes.ReturnCode.TheVariants as code
 use Rattle.apex_types.specs.declared.denotation.ObjectKind.{ObjectKind}

@@ -15,6 +15,7 @@ use Rattle.apex_meaning.specs.Partition.{Member}
 use Rattle.apex_meaning.specs.SourceControl.{or_init}
 use Rattle.apex_meaning.specs.Windows.{Schedule}
 use Rattle.apex_meaning.specs.ImageLimits.{AreObjects, EachBeside, IsRoutine, IsBody, IsHandler, IsDuration, IsProcess, IsSection, IsItem}
+use Rattle.apex_meaning.specs.ImageSpelling.{objects_in}
 use Rattle.apex_meaning.specs.MachineControl.{MachineControl}
 use Rattle.apex_meaning.specs.TwoMeanings.{ticks, body_of_row, init_row, handler_row, machine_row, no_control_for, section_engine, fresh_kernel, fixed_of, machine_member, machine_members, section_objects}
 use Rattle.image.specs.declared.value.Image.{Image}

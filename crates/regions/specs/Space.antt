@@ -1,5 +1,5 @@
 -- The memory of one partition: its data, and the stacks of those that run in it.
-use Rattle.std.specs.Prelude.{ℕ, ℤ, pos, Bool, true, false, List, [], Option, Result, Ok, Err, length, map, get_or, nat_lt, replicate, slice_get, slice_set, if◌then◌else◌}
+use Rattle.std.specs.Prelude.{ℕ, ℤ, pos, Bool, true, false, List, [], Option, Result, Ok, Err, length, map, get_or, nat_lt, replicate, slice_get, slice_set}
 use Rattle.apex_types.specs.declared.codes.ErrorKind.{ErrorKind}
 use Rattle.apex_types.specs.declared.codes.ErrorKind.TheVariants.{MemoryViolation}
 use Rattle.regions.specs.declared.region.Region.{Region}

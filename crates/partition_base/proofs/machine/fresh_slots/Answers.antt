@@ -1,4 +1,4 @@
-use Rattle.std.proofs.Common.{◌≡◌, ◌+◌, ◌++◌, ◌∷◌, [], rules}
+use Rattle.std.proofs.Common.{◌≡◌, ◌++◌, ◌∷◌, [], rules}
 use Rattle.partition_base.proofs.Places.{one_more_slot}
 use Rattle.partition_base.proofs.machine.fresh_slots.Goals as goal
 

@@ -1,6 +1,6 @@
-use Rattle.std.proofs.Common.{◌≡◌, [], length, get_or, ap, sym, ◌∙◌, rules}
+use Rattle.std.proofs.Common.{◌≡◌, [], length, get_or, sym, ◌∙◌, rules}
 use Rattle.std.proofs.lemmas.List.{length-replicate}
-use Rattle.regions.specs.Space.{Space, seen, stacks_of}
+use Rattle.regions.specs.Space.{seen, stacks_of}
 use Rattle.partition_base.proofs.Places.{same_lengths, length_there, views}
 use Rattle.partition_base.proofs.slot.begin_at.Goals as goal
 

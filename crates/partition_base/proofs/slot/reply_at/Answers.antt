@@ -1,4 +1,4 @@
-use Rattle.std.proofs.Common.{◌≡◌, ◌<◌, [], length, get_or, slice_set, ap, sym, ◌∙◌, rules}
+use Rattle.std.proofs.Common.{◌≡◌, ◌<◌, length, slice_set, ap, sym, ◌∙◌, rules}
 use Rattle.std.specs.Prelude.{slice_get, Some}
 use Rattle.apex_meaning.specs.MachineControl.{machine_engine}
 use Rattle.apex_meaning.specs.Partition.{control_at, replied}

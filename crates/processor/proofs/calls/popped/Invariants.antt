@@ -1,4 +1,4 @@
-use Rattle.std.proofs.Common.{◌≡◌, ◌-◌, ◌≤◌, ◌+◌, [], length}
+use Rattle.std.proofs.Common.{◌≡◌, ◌-◌, ◌≤◌, [], length}
 use Rattle.apex_meaning.specs.MachineControl.{popped}
 use Rattle.processor.proofs.calls.popped.Given as goal
 

@@ -1,4 +1,4 @@
-use Rattle.std.proofs.Common.{◌≡◌, map, ap}
+use Rattle.std.proofs.Common.{map}
 use Rattle.std.proofs.lemmas.List.{length-map}
 use Rattle.apex_meaning.specs.TableRules.{partition_row}
 use Rattle.window_table.specs.Views.{table_text, partition_text, partition_view}

@@ -1,4 +1,4 @@
-use Rattle.std.proofs.Common.{◌≡◌, ◌∷◌, length, map, ap, sym, ◌∙◌, rules}
+use Rattle.std.proofs.Common.{◌≡◌, ◌∷◌, length, map, ap, sym, ◌∙◌}
 use Rattle.apex_meaning.specs.SourceControl.{or_init}
 use Rattle.apex_meaning.specs.TwoMeanings.{body_of_row}
 use Rattle.partition_base.specs.Sections.{runners_of}

@@ -1,4 +1,4 @@
-use Rattle.std.proofs.Common.{◌∷◌, length, ap, ◌∙◌}
+use Rattle.std.proofs.Common.{◌∷◌, ap, ◌∙◌}
 use Rattle.partition_base.specs.Machines.{laid_of}
 use Rattle.partition_base.specs.Slots.{stack_lengths}
 use Rattle.partition_base.proofs.Places.{length_put}

@@ -1,4 +1,4 @@
-use Rattle.std.proofs.Common.{rules, ◌≤◌, length, length-set}
+use Rattle.std.proofs.Common.{rules}
 use Rattle.process_table_base.proofs.Bounds.{started_bounded, started_length}
 use Rattle.process_table_base.proofs.table.ProcessTable.clear.Goals as goal
 

@@ -1,6 +1,4 @@
-use Rattle.std.proofs.Common.{rules, ◌≡◌, ◌≤◌, length, subst, sym}
-use Rattle.apex_types.specs.declared.identity.TheConstants.{MOST_PROCESSES, MOST_RUNNERS}
-use Rattle.process_table_base.specs.Bounds.{AreAllBounded}
+use Rattle.std.proofs.Common.{rules}
 use Rattle.process_table_base.proofs.Bounds.{fresh_bounded, fresh_few}
 use Rattle.process_table_base.proofs.table.ProcessTable.new.Goals as goal
 
