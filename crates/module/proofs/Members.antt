@@ -3,7 +3,6 @@ use Rattle.std.proofs.Common.{◌≡◌, ◌≢◌, ◌≤◌, ◌<◌, ℕ, zer
 use Rattle.std.specs.Prelude.{slice_get, slice_set}
 use Rattle.std.proofs.lemmas.List.{length-map, length-set, map-append, map-set}
 use Rattle.std.proofs.lemmas.Option.{none-some, same_Some}
-use Rattle.apex_meaning.specs.Partition.{Member}
 use Rattle.partition.specs.Members.{member_of}
 use Rattle.partition.specs.declared.partition.Partition.{Partition}
 use Rattle.partition_base.specs.declared.executor.Executor.{Ghosts}

@@ -1,5 +1,5 @@
 -- The part, of lists as the code holds them.
-use Rattle.std.proofs.Common.{◌≡◌, ◌∙◌, ℕ, Bool, map, List, [], ◌∷◌, Option, Some, None, refl, sym, ap, arith}
+use Rattle.std.proofs.Common.{◌≡◌, ◌∙◌, ℕ, Bool, map, List, [], ◌∷◌, Option, Some, None, refl, sym, ap}
 use Rattle.std.specs.Prelude.{Vec, ◌&&◌, ◌||◌, ◌==◌, length, is_none}
 use Rattle.std.specs.declared.alloc.Global.{Global}
 use Rattle.std.specs.List.{list_all, list_any}

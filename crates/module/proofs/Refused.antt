@@ -7,7 +7,6 @@ use Rattle.std.proofs.lemmas.Option.{none-some, same_Some}
 use Rattle.apex_meaning.specs.GrammarWords.{words_of}
 use Rattle.apex_meaning.specs.Image.{Partition, Table}
 use Rattle.apex_meaning.proofs.ReadPrograms.{written_once}
-use Rattle.apex_meaning.specs.Program.{Program}
 use Rattle.pal_base.specs.ProgramView.{program_of}
 use Rattle.pal_base.specs.declared.fault.PalFault.{PalFault}
 use Rattle.pal_base.specs.declared.fault.Refusal.{Refusal}

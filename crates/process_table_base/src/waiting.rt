@@ -143,10 +143,22 @@ impl ProcessTable {
     {
         let service = waiting.service;
         if limit == 0 {
-            return self.refuse(caller, service, ReturnCode::NotAvailable, zeros(service), out);
+            return self.refuse(
+                caller,
+                service,
+                ReturnCode::NotAvailable,
+                zeros(service),
+                out,
+            );
         }
         if self.is_busy(caller) {
-            return self.refuse(caller, service, ReturnCode::InvalidMode, zeros(service), out);
+            return self.refuse(
+                caller,
+                service,
+                ReturnCode::InvalidMode,
+                zeros(service),
+                out,
+            );
         }
         if let Some(row) = self.row(caller) {
             self.enter(caller, waiting, message, &row);

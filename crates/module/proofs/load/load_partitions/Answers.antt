@@ -1,4 +1,4 @@
-use Rattle.std.proofs.Common.{rules, ◌≡◌, ◌+◌, ◌++◌, ◌∷◌, [], drop, take, map, ap, subst, sym, ◌∙◌, arith, List}
+use Rattle.std.proofs.Common.{rules, ◌≡◌, ◌+◌, ◌++◌, ◌∷◌, [], drop, take, map, ap, subst, sym, ◌∙◌, arith}
 use Rattle.std.specs.Prelude.{Some}
 use Rattle.std.proofs.lemmas.List.{drop_more, take_more, map-append}
 use Rattle.std.proofs.lemmas.Option.{slice_get-get_or}
@@ -7,7 +7,6 @@ use Rattle.image.specs.Items.{item_of, items_of, partition_of, section_of}
 use Rattle.image.specs.declared.item.PartitionItem.{PartitionItem}
 use Rattle.partition.specs.Members.{member_of}
 use Rattle.partition_base.specs.contracts.machine.MachineExecutor.TheImpl.{ghosts as machine}
-use Rattle.regions.specs.Space.{Space}
 use Rattle.window_table.specs.Schedules.{schedule_of}
 use Rattle.module.specs.Loading.{fresh_item}
 use Rattle.module.specs.Members.{members_of, AreFitting}

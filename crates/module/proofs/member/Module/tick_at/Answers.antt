@@ -1,4 +1,4 @@
-use Rattle.std.proofs.Common.{◌≡◌, ◌≤◌, ◌<◌, length, Option, Some, None, slice_get, slice_set, ap, sym, ◌∙◌, arith, rules}
+use Rattle.std.proofs.Common.{◌≡◌, ◌≤◌, length, Option, Some, None, slice_get, slice_set, ap, sym, ◌∙◌, rules}
 use Rattle.std.proofs.lemmas.Option.{slice_get-get_or}
 use Rattle.apex_meaning.specs.Partition.{Member}
 use Rattle.apex_meaning.specs.Module.{ticks_member}
