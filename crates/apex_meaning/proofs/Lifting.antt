@@ -1,5 +1,6 @@
 -- Engines that cannot be told apart give equal traces. Nothing here looks into a service.
-use Rattle.std.proofs.Common.{◌≡◌, ℕ, zero, suc, ℤ, List, [], ◌∷◌, ◌++◌, Option, Some, None, map, refl, sym, ap, subst, ◌∙◌}
+use Rattle.std.proofs.Common.{◌≡◌, ℕ, zero, suc, ◌+◌, ℤ, Bool, true, false, if◌then◌else◌, List, [], ◌∷◌, ◌++◌, length, Option, Some, None, map, refl, sym, ap, subst, ◌∙◌}
+use Rattle.arrayvec.specs.ArrayVec.{ArrayVec}
 use Rattle.std.specs.Prelude.{slice_get, slice_set}
 use Rattle.std.specs.List.{flat_map}
 use Rattle.apex_types.specs.Runners.{place_of}
@@ -7,17 +8,27 @@ use Rattle.apex_types.specs.declared.event.Event.{Event}
 use Rattle.apex_types.specs.declared.codes.Mode.TheVariants as mode
 use Rattle.apex_types.specs.declared.codes.StartCondition.{StartCondition}
 use Rattle.apex_types.specs.declared.codes.StartCondition.TheVariants as condition
+use Rattle.apex_types.specs.declared.device.DeviceInput.{DeviceInput}
+use Rattle.apex_types.specs.declared.device.DeviceInput.TheVariants as input
+use Rattle.apex_types.specs.declared.device.DeviceLine.{DeviceLine}
 use Rattle.apex_types.specs.declared.identity.At.{At}
+use Rattle.apex_types.specs.declared.identity.PartitionId.{PartitionId}
+use Rattle.apex_types.specs.declared.identity.PortId.{PortId}
+use Rattle.apex_types.specs.declared.row.ChannelEnd.{ChannelEnd}
+use Rattle.apex_types.specs.declared.row.ChannelEnd.TheVariants as ends
+use Rattle.apex_meaning.specs.Arrival as arrival
+use Rattle.apex_meaning.specs.Image.{Channel, at_number}
+use Rattle.apex_meaning.specs.Ports.{Port, port_at}
 use Rattle.apex_types.specs.declared.identity.Runner.{Runner}
 use Rattle.apex_types.specs.declared.process.Action.{Action}
 use Rattle.apex_types.specs.declared.process.Action.TheVariants as action
 use Rattle.apex_meaning.specs.Engine.{Engine, Ticked, Asks, Simulates}
-use Rattle.apex_meaning.specs.Kernel.{Kernel, of_processes}
+use Rattle.apex_meaning.specs.Kernel.{Kernel, of_processes, of_ports, of_ports_alone, with_ports}
 use Rattle.apex_meaning.specs.PartitionServices.{clears}
-use Rattle.apex_meaning.specs.Partition.{World, Member, Moved, control_at, replied, no_control, written, act, act_all, moved, followed_by, ticked, chooses, spends, spends_chosen, spending_phase, given, treats_asked, treats_due, due_phase, choice_phase, prepares, tick, cold_start}
+use Rattle.apex_meaning.specs.Partition.{World, Member, Moved, control_at, replied, no_control, written, act, act_all, moved, followed_by, ticked, chooses, spends, spends_chosen, spending_phase, given, treats_asked, treats_due, due_phase, choice_phase, prepares, tick, cold_start, advances, arrives, leaves, leaving, admits, goes_out, place_of_port, messages_to_move}
 use Rattle.apex_meaning.specs.Step.{Step}
-use Rattle.apex_meaning.specs.Windows.{Schedule, owner}
-use Rattle.apex_meaning.specs.Module.{Advanced, first_tick, next_tick, start_lines, starts, ticks_member, ticks_owner, module_tick, trace_from, trace}
+use Rattle.apex_meaning.specs.Windows.{owner, ended}
+use Rattle.apex_meaning.specs.Module.{Plan, Advanced, still, then_goes, steps, steps_member, of_member, ports_of, ports_from, delivers, delivers_all, goes_by, inputs, inputs_all, of_tick, channel_from, moves_found, moves_message, moves_messages, moves_so_many, moves_port, moves_ports, moves_ended, first_tick, next_tick, start_lines, starts, ticks_owner, exchanges, module_tick, trace_from, trace}
 use Rattle.apex_meaning.specs.Lifting.{SameControl, SameControls, SameWorld, SameMoved, SameMember, SameMembers, SameAdvanced}
 
 abbrev world : {C : Type 0} → Kernel → List (Option C) → List ℤ → List ℤ → World C
@@ -161,43 +172,185 @@ module _ {I C D : Type 0} (R : I → C → D → Type 0) where
   starts_same (i ∷ is) [] ys h = absurd h
   starts_same (i ∷ is) (x ∷ xs) [] h = absurd h
 
-  -- a tick of one behind the first one
-  behind_first : {E : Type 0} (at : At) (p : ℕ) (x : Member E) (xs : List (Member E)) (o : Option (Member E)) → ticks_member at (x ∷ xs) (suc p) o ≡ record { members = x ∷ (ticks_member at xs p o).members; lines = (ticks_member at xs p o).lines }
-  behind_first at p x xs None = refl
-  behind_first at p x xs (Some y) = refl
+  -- steps of one partition that cannot be told apart
+  abbrev SameSteps : (Member C → Moved C) → (Member D → Moved D) → Type 0
+  SameSteps f g = (i : I) (x : Member C) (y : Member D) → SameMember (R i) x y → SameMoved (R i) (f x) (g y)
 
-  member_same : (at : At) (is : List I) (xs : List (Member C)) (ys : List (Member D)) (p : ℕ) → SameMembers R is xs ys → SameAdvanced R is (ticks_member at xs p (slice_get xs p)) (ticks_member at ys p (slice_get ys p))
-  member_same at [] [] [] p h = record { members = tt; lines = refl }
-  member_same at (i ∷ is) (x ∷ xs) (y ∷ ys) zero h =
-      let one = tick_same (R i) x.engine y.engine h.0.engine at x.world y.world h.0.world in
+  -- a step of one behind the first one
+  behind_first : {E : Type 0} (f : Member E → Moved E) (p : ℕ) (x : Member E) (xs : List (Member E)) (o : Option (Member E)) → steps_member f (x ∷ xs) (suc p) o ≡ record { members = x ∷ (steps_member f xs p o).members; lines = (steps_member f xs p o).lines }
+  behind_first f p x xs None = refl
+  behind_first f p x xs (Some y) = refl
+
+  member_same : (f : Member C → Moved C) (g : Member D → Moved D) → SameSteps f g → (is : List I) (xs : List (Member C)) (ys : List (Member D)) (p : ℕ) → SameMembers R is xs ys → SameAdvanced R is (steps_member f xs p (slice_get xs p)) (steps_member g ys p (slice_get ys p))
+  member_same f g same [] [] [] p h = record { members = tt; lines = refl }
+  member_same f g same (i ∷ is) (x ∷ xs) (y ∷ ys) zero h =
+      let one = same i x y h.0 in
       record { members = (record { engine = h.0.engine; world = one.world }, h.1); lines = one.lines }
-  member_same at (i ∷ is) (x ∷ xs) (y ∷ ys) (suc p) h =
-      let rest = member_same at is xs ys p h.1 in
-      let step : SameAdvanced R (i ∷ is) (record { members = x ∷ (ticks_member at xs p (slice_get xs p)).members; lines = (ticks_member at xs p (slice_get xs p)).lines }) (record { members = y ∷ (ticks_member at ys p (slice_get ys p)).members; lines = (ticks_member at ys p (slice_get ys p)).lines }) =
+  member_same f g same (i ∷ is) (x ∷ xs) (y ∷ ys) (suc p) h =
+      let rest = member_same f g same is xs ys p h.1 in
+      let step : SameAdvanced R (i ∷ is) (record { members = x ∷ (steps_member f xs p (slice_get xs p)).members; lines = (steps_member f xs p (slice_get xs p)).lines }) (record { members = y ∷ (steps_member g ys p (slice_get ys p)).members; lines = (steps_member g ys p (slice_get ys p)).lines }) =
       record { members = (h.0, rest.members); lines = rest.lines } in
-      subst (λ (a : Advanced C). SameAdvanced R (i ∷ is) a (ticks_member at (y ∷ ys) (suc p) (slice_get ys p))) (sym (behind_first at p x xs (slice_get xs p)))
-      (subst (λ (b : Advanced D). SameAdvanced R (i ∷ is) (record { members = x ∷ (ticks_member at xs p (slice_get xs p)).members; lines = (ticks_member at xs p (slice_get xs p)).lines }) b) (sym (behind_first at p y ys (slice_get ys p))) step)
-  member_same at [] [] (y ∷ ys) p h = absurd h
-  member_same at [] (x ∷ xs) ys p h = absurd h
-  member_same at (i ∷ is) [] ys p h = absurd h
-  member_same at (i ∷ is) (x ∷ xs) [] p h = absurd h
+      subst (λ (a : Advanced C). SameAdvanced R (i ∷ is) a (steps_member g (y ∷ ys) (suc p) (slice_get ys p))) (sym (behind_first f p x xs (slice_get xs p)))
+      (subst (λ (b : Advanced D). SameAdvanced R (i ∷ is) (record { members = x ∷ (steps_member f xs p (slice_get xs p)).members; lines = (steps_member f xs p (slice_get xs p)).lines }) b) (sym (behind_first g p y ys (slice_get ys p))) step)
+  member_same f g same [] [] (y ∷ ys) p h = absurd h
+  member_same f g same [] (x ∷ xs) ys p h = absurd h
+  member_same f g same (i ∷ is) [] ys p h = absurd h
+  member_same f g same (i ∷ is) (x ∷ xs) [] p h = absurd h
 
-  owner_same : (at : At) (is : List I) (xs : List (Member C)) (ys : List (Member D)) (o : Option ℕ) → SameMembers R is xs ys → SameAdvanced R is (ticks_owner at xs o) (ticks_owner at ys o)
-  owner_same at is xs ys None h = record { members = h; lines = refl }
-  owner_same at is xs ys (Some zero) h = record { members = h; lines = refl }
-  owner_same at is xs ys (Some (suc p)) h = member_same at is xs ys p h
+  steps_same : (f : Member C → Moved C) (g : Member D → Moved D) → SameSteps f g → (is : List I) (xs : List (Member C)) (ys : List (Member D)) (p : ℕ) → SameMembers R is xs ys → SameAdvanced R is (steps f xs p) (steps g ys p)
+  steps_same f g same is xs ys zero h = record { members = h; lines = refl }
+  steps_same f g same is xs ys (suc p) h = member_same f g same is xs ys p h
 
-  from_same : (schedule : Schedule) (n : ℕ) (at : At) (is : List I) (xs : List (Member C)) (ys : List (Member D)) → SameMembers R is xs ys → trace_from schedule n at xs ≡ trace_from schedule n at ys
-  from_same schedule zero at is xs ys h = refl
-  from_same schedule (suc n) at is xs ys h =
-      let one = owner_same at is xs ys (owner schedule at) h in
-      ap (λ (es : List Event). es ++ trace_from schedule n (next_tick at) (module_tick schedule at xs).members) one.lines
-      ∙ ap (λ (es : List Event). (module_tick schedule at ys).lines ++ es) (from_same schedule n (next_tick at) is _ _ one.members)
+  still_same : (is : List I) (xs : List (Member C)) (ys : List (Member D)) → SameMembers R is xs ys → SameAdvanced R is (still xs) (still ys)
+  still_same is xs ys h = record { members = h; lines = refl }
+
+  then_same : (is : List I) (a : Advanced C) (b : Advanced D) (p : List (Member C) → Advanced C) (q : List (Member D) → Advanced D)
+      → SameAdvanced R is a b
+      → ((xs : List (Member C)) (ys : List (Member D)) → SameMembers R is xs ys → SameAdvanced R is (p xs) (q ys))
+      → SameAdvanced R is (then_goes a p) (then_goes b q)
+  then_same is a b p q h rest =
+      let more = rest a.members b.members h.members in
+      record { members = more.members; lines = ap (λ (es : List Event). es ++ (p a.members).lines) h.lines ∙ ap (λ (es : List Event). b.lines ++ es) more.lines }
+
+  -- ---- the steps of one partition
+
+  advances_same : (at : At) → SameSteps (advances at) (advances at)
+  advances_same at i x y h = tick_same (R i) x.engine y.engine h.engine at x.world y.world h.world
+
+  arrives_same : (at : At) (port : PortId) (m : ArrayVec ℤ) → SameSteps (arrives at port m) (arrives at port m)
+  arrives_same at port m i x y h =
+      shared (R i) (λ v w. SameMoved (R i) (arrives at port m (record { engine = x.engine; world = v })) (arrives at port m (record { engine = y.engine; world = w }))) x.world y.world
+      (λ k f g ws n c. same_step (R i) x.engine y.engine h.engine at (of_ports k (arrival.arrives at (with_ports k) (place_of_port port) m)) k f g ws n c) h.world
+
+  leaves_same : (at : At) (port : PortId) → SameSteps (leaves at port) (leaves at port)
+  leaves_same at port i x y h =
+      shared (R i) (λ v w. SameMoved (R i) (leaves at port (record { engine = x.engine; world = v })) (leaves at port (record { engine = y.engine; world = w }))) x.world y.world
+      (λ k f g ws n c. same_step (R i) x.engine y.engine h.engine at (of_ports_alone k (arrival.leaves k.ports (place_of_port port))) k f g ws n c) h.world
+
+  admits_same : (at : At) (port : PortId) → SameSteps (admits at port) (admits at port)
+  admits_same at port i x y h =
+      shared (R i) (λ v w. SameMoved (R i) (admits at port (record { engine = x.engine; world = v })) (admits at port (record { engine = y.engine; world = w }))) x.world y.world
+      (λ k f g ws n c. same_step (R i) x.engine y.engine h.engine at (of_ports k (arrival.admits (with_ports k) (place_of_port port))) k f g ws n c) h.world
+
+  goes_out_same : (at : At) (channel : List ℕ) (m : ArrayVec ℤ) → SameSteps (goes_out at channel m) (goes_out at channel m)
+  goes_out_same at channel m i x y h =
+      shared (R i) (λ v w. SameMoved (R i) (goes_out at channel m (record { engine = x.engine; world = v })) (goes_out at channel m (record { engine = y.engine; world = w }))) x.world y.world
+      (λ k f g ws n c. record { world = same_world (R i) k f g ws n c; lines = refl }) h.world
+
+  -- ---- what is seen of a partition
+
+  sees_same : {B : Type 0} (none : B) (p : Member C → B) (q : Member D → B)
+      → ((i : I) (x : Member C) (y : Member D) → SameMember (R i) x y → p x ≡ q y)
+      → (is : List I) (xs : List (Member C)) (ys : List (Member D)) (place : ℕ) → SameMembers R is xs ys
+      → of_member none p (slice_get xs place) ≡ of_member none q (slice_get ys place)
+  sees_same none p q same [] [] [] place h = refl
+  sees_same none p q same (i ∷ is) (x ∷ xs) (y ∷ ys) zero h = same i x y h.0
+  sees_same none p q same (i ∷ is) (x ∷ xs) (y ∷ ys) (suc place) h = sees_same none p q same is xs ys place h.1
+  sees_same none p q same [] [] (y ∷ ys) place h = absurd h
+  sees_same none p q same [] (x ∷ xs) ys place h = absurd h
+  sees_same none p q same (i ∷ is) [] ys place h = absurd h
+  sees_same none p q same (i ∷ is) (x ∷ xs) [] place h = absurd h
+
+  number_same : {B : Type 0} (none : B) (p : Member C → B) (q : Member D → B)
+      → ((i : I) (x : Member C) (y : Member D) → SameMember (R i) x y → p x ≡ q y)
+      → (is : List I) (xs : List (Member C)) (ys : List (Member D)) (n : ℕ) → SameMembers R is xs ys
+      → of_member none p (at_number xs n) ≡ of_member none q (at_number ys n)
+  number_same none p q same is xs ys zero h = refl
+  number_same none p q same is xs ys (suc n) h = sees_same none p q same is xs ys n h
+
+  leaving_same : (port : PortId) (i : I) (x : Member C) (y : Member D) → SameMember (R i) x y → leaving port x ≡ leaving port y
+  leaving_same port i x y h = ap (λ (k : Kernel). arrival.first_message (port_at k.ports (place_of_port port))) h.world.kernel
+
+  ports_same : (i : I) (x : Member C) (y : Member D) → SameMember (R i) x y → ports_of x ≡ ports_of y
+  ports_same i x y h = ap (λ (k : Kernel). k.ports.ports) h.world.kernel
+
+  -- ---- messages
+
+  delivers_same : (at : At) (c : Channel) (m : ArrayVec ℤ) (source e : ChannelEnd) (is : List I) (xs : List (Member C)) (ys : List (Member D)) → SameMembers R is xs ys → SameAdvanced R is (delivers at c m source e xs) (delivers at c m source e ys)
+  delivers_same at c m (ends.Port p other) (ends.Port q port) is xs ys h = steps_same _ _ (arrives_same at port m) is xs ys q.0 h
+  delivers_same at c m ends.Device (ends.Port q port) is xs ys h = steps_same _ _ (arrives_same at port m) is xs ys q.0 h
+  delivers_same at c m (ends.Port p port) ends.Device is xs ys h = steps_same _ _ (goes_out_same at c.name m) is xs ys p.0 h
+  delivers_same at c m ends.Device ends.Device is xs ys h = still_same is xs ys h
+
+  delivers_all_same : (at : At) (c : Channel) (m : ArrayVec ℤ) (es : List ChannelEnd) (is : List I) (xs : List (Member C)) (ys : List (Member D)) → SameMembers R is xs ys → SameAdvanced R is (delivers_all at c m es xs) (delivers_all at c m es ys)
+  delivers_all_same at c m [] is xs ys h = still_same is xs ys h
+  delivers_all_same at c m (e ∷ es) is xs ys h = then_same is _ _ (delivers_all at c m es) (delivers_all at c m es) (delivers_same at c m c.source e is xs ys h) (delivers_all_same at c m es is)
+
+  goes_by_same : (at : At) (m : ArrayVec ℤ) (c : Option Channel) (is : List I) (xs : List (Member C)) (ys : List (Member D)) → SameMembers R is xs ys → SameAdvanced R is (goes_by at m c xs) (goes_by at m c ys)
+  goes_by_same at m None is xs ys h = still_same is xs ys h
+  goes_by_same at m (Some c) is xs ys h = delivers_all_same at c m c.destinations is xs ys h
+
+  inputs_same : (channels : List Channel) (at : At) (n : DeviceInput) (is : List I) (xs : List (Member C)) (ys : List (Member D)) → SameMembers R is xs ys → SameAdvanced R is (inputs channels at n xs) (inputs channels at n ys)
+  inputs_same channels at (input.Message channel m) is xs ys h = goes_by_same at m (slice_get channels channel.0) is xs ys h
+  inputs_same channels at input.ModuleFault is xs ys h = still_same is xs ys h
+  inputs_same channels at (input.PartitionFault p) is xs ys h = still_same is xs ys h
+
+  inputs_all_same : (channels : List Channel) (at : At) (ls : List DeviceLine) (is : List I) (xs : List (Member C)) (ys : List (Member D)) → SameMembers R is xs ys → SameAdvanced R is (inputs_all channels at ls xs) (inputs_all channels at ls ys)
+  inputs_all_same channels at [] is xs ys h = still_same is xs ys h
+  inputs_all_same channels at (l ∷ ls) is xs ys h = then_same is _ _ (inputs_all channels at ls) (inputs_all channels at ls) (inputs_same channels at l.input is xs ys h) (inputs_all_same channels at ls is)
+
+  -- ---- moves
+
+  module _ (channels : List Channel) (at : At) (p : PartitionId) where
+    found_both : (port : PortId) (m : Option (ArrayVec ℤ)) (is : List I) (xs : List (Member C)) (ys : List (Member D)) → SameMembers R is xs ys → SameAdvanced R is (moves_found channels at p port xs m) (moves_found channels at p port ys m)
+    found_both port None is xs ys h = still_same is xs ys h
+    found_both port (Some m) is xs ys h = then_same is _ _ (goes_by at m (channel_from channels p port)) (goes_by at m (channel_from channels p port)) (steps_same _ _ (leaves_same at port) is xs ys p.0 h) (goes_by_same at m (channel_from channels p port) is)
+
+    found_same : (port : PortId) (m n : Option (ArrayVec ℤ)) → m ≡ n → (is : List I) (xs : List (Member C)) (ys : List (Member D)) → SameMembers R is xs ys → SameAdvanced R is (moves_found channels at p port xs m) (moves_found channels at p port ys n)
+    found_same port m n same is xs ys h =
+        subst (λ (o : Option (ArrayVec ℤ)). SameAdvanced R is (moves_found channels at p port xs m) (moves_found channels at p port ys o)) same (found_both port m is xs ys h)
+
+    message_same : (port : PortId) (is : List I) (xs : List (Member C)) (ys : List (Member D)) → SameMembers R is xs ys → SameAdvanced R is (moves_message channels at p port xs) (moves_message channels at p port ys)
+    message_same port is xs ys h = found_same port _ _ (number_same None (leaving port) (leaving port) (leaving_same port) is xs ys p.0 h) is xs ys h
+
+    messages_same : (n : ℕ) (port : PortId) (is : List I) (xs : List (Member C)) (ys : List (Member D)) → SameMembers R is xs ys → SameAdvanced R is (moves_messages n channels at p port xs) (moves_messages n channels at p port ys)
+    messages_same zero port is xs ys h = still_same is xs ys h
+    messages_same (suc n) port is xs ys h = then_same is _ _ (moves_messages n channels at p port) (moves_messages n channels at p port) (message_same port is xs ys h) (messages_same n port is)
+
+    port_both : (port : PortId) (n : Option ℕ) (is : List I) (xs : List (Member C)) (ys : List (Member D)) → SameMembers R is xs ys → SameAdvanced R is (moves_so_many channels at p port xs n) (moves_so_many channels at p port ys n)
+    port_both port None is xs ys h = still_same is xs ys h
+    port_both port (Some n) is xs ys h = then_same is _ _ (λ ms. steps (admits at port) ms p.0) (λ ms. steps (admits at port) ms p.0) (messages_same n port is xs ys h) (λ vs ws k. steps_same _ _ (admits_same at port) is vs ws p.0 k)
+
+    port_same : (port : PortId) (is : List I) (xs : List (Member C)) (ys : List (Member D)) → SameMembers R is xs ys → SameAdvanced R is (moves_port channels at p port xs) (moves_port channels at p port ys)
+    port_same port is xs ys h =
+        subst (λ (o : List Port). SameAdvanced R is (moves_port channels at p port xs) (moves_so_many channels at p port ys (messages_to_move (at_number o port.0)))) (number_same [] ports_of ports_of ports_same is xs ys p.0 h)
+        (port_both port (messages_to_move (at_number (ports_from xs p.0) port.0)) is xs ys h)
+
+    ports_all_same : (n number : ℕ) (is : List I) (xs : List (Member C)) (ys : List (Member D)) → SameMembers R is xs ys → SameAdvanced R is (moves_ports n number channels at p xs) (moves_ports n number channels at p ys)
+    ports_all_same zero number is xs ys h = still_same is xs ys h
+    ports_all_same (suc n) number is xs ys h = then_same is _ _ (moves_ports n (number + 1) channels at p) (moves_ports n (number + 1) channels at p) (port_same (record { 0 = number }) is xs ys h) (ports_all_same n (number + 1) is)
+
+  ended_same : (channels : List Channel) (at : At) (o : Option ℕ) (is : List I) (xs : List (Member C)) (ys : List (Member D)) → SameMembers R is xs ys → SameAdvanced R is (moves_ended channels at xs o) (moves_ended channels at ys o)
+  ended_same channels at None is xs ys h = still_same is xs ys h
+  ended_same channels at (Some p) is xs ys h =
+      subst (λ (o : List Port). SameAdvanced R is (moves_ended channels at xs (Some p)) (moves_ports (length o) 1 channels at (record { 0 = p }) ys)) (number_same [] ports_of ports_of ports_same is xs ys p h)
+      (ports_all_same channels at (record { 0 = p }) (length (ports_from xs p)) 1 is xs ys h)
+
+  -- ---- ticks
+
+  owner_same : (at : At) (o : Option ℕ) (is : List I) (xs : List (Member C)) (ys : List (Member D)) → SameMembers R is xs ys → SameAdvanced R is (ticks_owner at xs o) (ticks_owner at ys o)
+  owner_same at None is xs ys h = still_same is xs ys h
+  owner_same at (Some p) is xs ys h = steps_same _ _ (advances_same at) is xs ys p h
+
+  tick_of_module_same : (plan : Plan) (at : At) (devices : List DeviceLine) (is : List I) (xs : List (Member C)) (ys : List (Member D)) → SameMembers R is xs ys → SameAdvanced R is (module_tick plan at devices xs) (module_tick plan at devices ys)
+  tick_of_module_same plan at devices is xs ys h =
+      then_same is (exchanges plan at devices xs) (exchanges plan at devices ys) (λ ms. ticks_owner at ms (owner plan.schedule at)) (λ ms. ticks_owner at ms (owner plan.schedule at))
+      (then_same is _ _ (λ ms. moves_ended plan.channels at ms (ended plan.schedule at)) (λ ms. moves_ended plan.channels at ms (ended plan.schedule at))
+        (inputs_all_same plan.channels at (of_tick at.now.0 devices) is xs ys h)
+        (ended_same plan.channels at (ended plan.schedule at) is))
+      (owner_same at (owner plan.schedule at) is)
+
+  from_same : (plan : Plan) (devices : List DeviceLine) (n : ℕ) (at : At) (is : List I) (xs : List (Member C)) (ys : List (Member D)) → SameMembers R is xs ys → trace_from plan devices n at xs ≡ trace_from plan devices n at ys
+  from_same plan devices zero at is xs ys h = refl
+  from_same plan devices (suc n) at is xs ys h =
+      let one = tick_of_module_same plan at devices is xs ys h in
+      ap (λ (es : List Event). es ++ trace_from plan devices n (next_tick at) (module_tick plan at devices xs).members) one.lines
+      ∙ ap (λ (es : List Event). (module_tick plan at devices ys).lines ++ es) (from_same plan devices n (next_tick at) is _ _ one.members)
 
   -- modules on engines that cannot be told apart have the same trace
-  pub trace_same : (schedule : Schedule) (n : ℕ) (is : List I) (xs : List (Member C)) (ys : List (Member D)) → SameMembers R is xs ys → trace (record { schedule = schedule; members = xs }) n ≡ trace (record { schedule = schedule; members = ys }) n
-  trace_same schedule zero is xs ys h = refl
-  trace_same schedule (suc n) is xs ys h =
+  pub trace_same : (plan : Plan) (devices : List DeviceLine) (n : ℕ) (is : List I) (xs : List (Member C)) (ys : List (Member D)) → SameMembers R is xs ys → trace (record { plan = plan; members = xs }) devices n ≡ trace (record { plan = plan; members = ys }) devices n
+  trace_same plan devices zero is xs ys h = refl
+  trace_same plan devices (suc n) is xs ys h =
       let s = starts_same is xs ys h in
-      ap (λ (es : List Event). es ++ trace_from schedule (suc n) first_tick (starts xs).members) s.lines
-      ∙ ap (λ (es : List Event). (starts ys).lines ++ es) (from_same schedule (suc n) first_tick is _ _ s.members)
+      ap (λ (es : List Event). es ++ trace_from plan devices (suc n) first_tick (starts xs).members) s.lines
+      ∙ ap (λ (es : List Event). (starts ys).lines ++ es) (from_same plan devices (suc n) first_tick is _ _ s.members)

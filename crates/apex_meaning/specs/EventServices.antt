@@ -9,7 +9,7 @@ use Rattle.apex_types.specs.declared.identity.Runner.{Runner}
 use Rattle.apex_types.specs.declared.process.Waiting.{Waiting}
 use Rattle.apex_types.specs.declared.service.Service.TheVariants as service
 use Rattle.apex_meaning.specs.Durations.{is_duration}
-use Rattle.apex_meaning.specs.Objects.{Event, event, put_event}
+use Rattle.apex_meaning.specs.Objects.{Objects, Event, event, put_event}
 use Rattle.apex_meaning.specs.Sharing.{Sharing, of_processes, becomes, answers, refuses, has, on, create, get_id, get_status}
 use Rattle.apex_meaning.specs.Step.{Step, after, message, row}
 use Rattle.apex_meaning.specs.Waiting.{list_of, waiting, waiting_count, releases_all, blocks}
@@ -23,39 +23,39 @@ list place = list_of kind.Event place
 
 -- ---- CREATE_EVENT and GET_EVENT_ID
 
-abbrev pub creates : Sharing → ℕ → Event → Step Sharing
-creates b place x = becomes b (put_event b.objects place (record x { created = true }))
+abbrev pub creates : Sharing Objects → ℕ → Event → Step (Sharing Objects)
+creates b place x = becomes b (put_event b.shared place (record x { created = true }))
 
-abbrev pub create_event : Mode → Sharing → Runner → ℤ → Step Sharing
-create_event m b p name = create m b p service.CreateEvent name (event b.objects name) is_created (creates b)
+abbrev pub create_event : Mode → Sharing Objects → Runner → ℤ → Step (Sharing Objects)
+create_event m b p name = create m b p service.CreateEvent name (event b.shared name) is_created (creates b)
 
-abbrev pub get_event_id : Sharing → Runner → ℤ → Step Sharing
-get_event_id b p name = get_id b p service.GetEventId name (event b.objects name) is_created
+abbrev pub get_event_id : Sharing Objects → Runner → ℤ → Step (Sharing Objects)
+get_event_id b p name = get_id b p service.GetEventId name (event b.shared name) is_created
 
 -- ---- SET_EVENT and RESET_EVENT
 
-abbrev pub sets : Sharing → Bool → ℕ → Event → Step Sharing
-sets b up place x = becomes b (put_event b.objects place (record x { up = up }))
+abbrev pub sets : Sharing Objects → Bool → ℕ → Event → Step (Sharing Objects)
+sets b up place x = becomes b (put_event b.shared place (record x { up = up }))
 
 -- it is up, and all who wait are released in the order in which they came
-abbrev pub raises : Sharing → ℕ → Event → Step Sharing
+abbrev pub raises : Sharing Objects → ℕ → Event → Step (Sharing Objects)
 raises b place x =
     let s = sets b true place x in
     after s (of_processes s.part (releases_all (waiting b.processes (list place)) b.processes))
 
-abbrev pub set_event : Sharing → Runner → ℤ → Step Sharing
+abbrev pub set_event : Sharing Objects → Runner → ℤ → Step (Sharing Objects)
 set_event b p id =
     row (refuses b p service.SetEvent)
-    ((not (has (event b.objects id) is_created), code.InvalidParam)
+    ((not (has (event b.shared id) is_created), code.InvalidParam)
     ∷ [])
-    (after (answers b p service.SetEvent code.NoError []) (on (event b.objects id) b (raises b)))
+    (after (answers b p service.SetEvent code.NoError []) (on (event b.shared id) b (raises b)))
 
-abbrev pub reset_event : Sharing → Runner → ℤ → Step Sharing
+abbrev pub reset_event : Sharing Objects → Runner → ℤ → Step (Sharing Objects)
 reset_event b p id =
     row (refuses b p service.ResetEvent)
-    ((not (has (event b.objects id) is_created), code.InvalidParam)
+    ((not (has (event b.shared id) is_created), code.InvalidParam)
     ∷ [])
-    (after (answers b p service.ResetEvent code.NoError []) (on (event b.objects id) b (sets b false)))
+    (after (answers b p service.ResetEvent code.NoError []) (on (event b.shared id) b (sets b false)))
 
 -- ---- WAIT_EVENT
 
@@ -63,19 +63,19 @@ abbrev pub waiting_for : ℕ → Waiting
 waiting_for place = record { service = service.WaitEvent; list = record { 0 = list place }; discipline = discipline.Fifo; array = None }
 
 -- while it is down the caller waits
-abbrev pub awaits : At → Sharing → Runner → ℤ → ℕ → Event → Step Sharing
+abbrev pub awaits : At → Sharing Objects → Runner → ℤ → ℕ → Event → Step (Sharing Objects)
 awaits at b p limit place x =
     if x.up
     then answers b p service.WaitEvent code.NoError []
     else of_processes b (blocks at b.processes p limit (waiting_for place) (message []))
 
-abbrev pub wait_event : At → Sharing → Runner → ℤ → ℤ → Step Sharing
+abbrev pub wait_event : At → Sharing Objects → Runner → ℤ → ℤ → Step (Sharing Objects)
 wait_event at b p id limit =
     row (refuses b p service.WaitEvent)
-    ((not (has (event b.objects id) is_created), code.InvalidParam)
+    ((not (has (event b.shared id) is_created), code.InvalidParam)
     ∷ (not (is_duration limit), code.InvalidParam)
     ∷ [])
-    (on (event b.objects id) b (awaits at b p limit))
+    (on (event b.shared id) b (awaits at b p limit))
 
 -- ---- GET_EVENT_STATUS
 
@@ -84,8 +84,8 @@ number_of_state false = 0
 number_of_state true = 1
 
 -- down or up, and how many wait
-abbrev pub status : Sharing → ℕ → Event → List ℤ
+abbrev pub status : Sharing Objects → ℕ → Event → List ℤ
 status b place x = pos (number_of_state x.up) ∷ pos (waiting_count b.processes (list place)) ∷ []
 
-abbrev pub get_event_status : Sharing → Runner → ℤ → Step Sharing
-get_event_status b p id = get_status b p service.GetEventStatus (event b.objects id) is_created (status b)
+abbrev pub get_event_status : Sharing Objects → Runner → ℤ → Step (Sharing Objects)
+get_event_status b p id = get_status b p service.GetEventStatus (event b.shared id) is_created (status b)

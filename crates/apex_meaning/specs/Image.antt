@@ -1,5 +1,5 @@
 -- The values that an image spells.
-use Rattle.std.specs.Prelude.{ℕ, ℤ, List, Option}
+use Rattle.std.specs.Prelude.{ℕ, zero, suc, ℤ, List, Option, None, slice_get}
 use Rattle.apex_types.specs.declared.codes.ModuleAction.{ModuleAction}
 use Rattle.apex_types.specs.declared.row.HealthTable.{HealthTable}
 use Rattle.apex_types.specs.declared.row.PortRow.{PortRow}
@@ -55,3 +55,8 @@ pub record Image : Type 0 where
   pub fault : ModuleAction
   pub items : List Item
   pub channels : List Channel
+
+-- the one with a number: partitions, and the ports of each, are numbered from 1
+abbrev pub at_number : {A : Type 0} → List A → ℕ → Option A
+at_number xs zero = None
+at_number xs (suc place) = slice_get xs place

@@ -4,6 +4,7 @@ use Rattle.apex_types.specs.declared.codes.Mode.{Mode}
 use Rattle.apex_types.specs.declared.codes.StartCondition.{StartCondition}
 use Rattle.apex_types.specs.declared.row.HealthTable.{HealthTable}
 use Rattle.apex_meaning.specs.Objects.{Objects}
+use Rattle.apex_meaning.specs.Ports.{Ports}
 use Rattle.apex_meaning.specs.Processes.{Processes}
 use Rattle.apex_meaning.specs.Sharing.{Sharing}
 use Rattle.apex_meaning.specs.Step.{Step, lifted}
@@ -18,9 +19,6 @@ pub record Fixed : Type 0 where
   pub duration : ℕ
   pub schedule : Schedule
   pub health : HealthTable
-
--- the ports of the partition; there are none yet
-pub record Ports : Type 0 where
 
 -- the error handler and the errors that wait for it; there are none yet
 pub record Errors : Type 0 where
@@ -42,12 +40,30 @@ abbrev pub of_processes : Kernel → Step Processes → Step Kernel
 of_processes k s = lifted (with_processes k) s
 
 -- the processes and the objects
-abbrev pub sharing : Kernel → Sharing
-sharing k = record { processes = k.processes; objects = k.objects }
+abbrev pub with_objects : Kernel → Sharing Objects
+with_objects k = record { processes = k.processes; shared = k.objects }
 
-abbrev pub with_sharing : Kernel → Sharing → Kernel
-with_sharing k b = record k { processes = b.processes; objects = b.objects }
+abbrev pub put_objects : Kernel → Sharing Objects → Kernel
+put_objects k b = record k { processes = b.processes; objects = b.shared }
 
 -- a step of the processes and the objects is one of the partition
-abbrev pub of_sharing : Kernel → Step Sharing → Step Kernel
-of_sharing k s = lifted (with_sharing k) s
+abbrev pub of_objects : Kernel → Step (Sharing Objects) → Step Kernel
+of_objects k s = lifted (put_objects k) s
+
+-- the processes and the ports
+abbrev pub with_ports : Kernel → Sharing Ports
+with_ports k = record { processes = k.processes; shared = k.ports }
+
+abbrev pub put_ports : Kernel → Sharing Ports → Kernel
+put_ports k b = record k { processes = b.processes; ports = b.shared }
+
+-- a step of the processes and the ports is one of the partition
+abbrev pub of_ports : Kernel → Step (Sharing Ports) → Step Kernel
+of_ports k s = lifted (put_ports k) s
+
+abbrev pub put_only_ports : Kernel → Ports → Kernel
+put_only_ports k o = record k { ports = o }
+
+-- a step of the ports alone is one of the partition
+abbrev pub of_ports_alone : Kernel → Step Ports → Step Kernel
+of_ports_alone k s = lifted (put_only_ports k) s

@@ -13,6 +13,7 @@ pub mod Durations
 pub mod Starts
 pub mod Due
 pub mod Objects
+pub mod Ports
 pub mod Sharing
 pub mod Kernel
 pub mod PartitionServices
@@ -23,6 +24,8 @@ pub mod EventServices
 pub mod BufferServices
 pub mod BlackboardServices
 pub mod ObjectServices
+pub mod PortServices
+pub mod Arrival
 pub mod TimeServices
 pub mod HealthServices
 pub mod Partition
@@ -34,6 +37,7 @@ pub mod Constructs
 pub mod Cost
 pub mod SourceControl
 pub mod Module
+pub mod DeviceText
 pub mod TwoMeanings
 pub mod Ready
 pub mod ImageSpelling

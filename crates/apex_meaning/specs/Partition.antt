@@ -1,5 +1,6 @@
 -- One tick of a partition: what is due, the choice of who runs, and the tick that this one spends.
-use Rattle.std.specs.Prelude.{ℕ, min, ℤ, pos, negsuc, Bool, true, false, List, [], ◌∷◌, ◌++◌, length, take, drop, Option, Some, None, slice_get, slice_set, map, if◌then◌else◌}
+use Rattle.std.specs.Prelude.{ℕ, ◌-◌, min, ℤ, pos, negsuc, Bool, true, false, List, [], ◌∷◌, ◌++◌, length, take, drop, Option, Some, None, slice_get, slice_set, map, if◌then◌else◌}
+use Rattle.arrayvec.specs.ArrayVec.{ArrayVec}
 use Rattle.apex_types.specs.Runners.{place_of}
 use Rattle.apex_types.specs.declared.codes.ErrorKind.TheVariants.{DeadlineMissed}
 use Rattle.apex_types.specs.declared.codes.Mode.{Mode}
@@ -11,6 +12,7 @@ use Rattle.apex_types.specs.declared.event.Event.{Event}
 use Rattle.apex_types.specs.declared.event.EventKind.{EventKind}
 use Rattle.apex_types.specs.declared.event.EventKind.TheVariants as event
 use Rattle.apex_types.specs.declared.identity.At.{At}
+use Rattle.apex_types.specs.declared.identity.PortId.{PortId}
 use Rattle.apex_types.specs.declared.identity.Runner.{Runner}
 use Rattle.apex_types.specs.declared.identity.Runner.TheVariants as runner
 use Rattle.apex_types.specs.declared.process.Action.{Action}
@@ -25,8 +27,11 @@ use Rattle.apex_types.specs.declared.service.Call.TheVariants as call
 use Rattle.apex_meaning.specs.Due.{Treated, due}
 use Rattle.apex_meaning.specs.Engine.{Engine, Ticked, Asks, Nothing, Calls, Faults, Ends}
 use Rattle.apex_meaning.specs.HealthServices.{action_of, faults, report}
-use Rattle.apex_meaning.specs.Kernel.{Kernel, of_processes, of_sharing, sharing}
-use Rattle.apex_meaning.specs.ObjectServices.{serves_sharing}
+use Rattle.apex_meaning.specs.Kernel.{Kernel, of_processes, of_objects, of_ports, of_ports_alone, with_objects, with_ports}
+use Rattle.apex_meaning.specs.ObjectServices as objects
+use Rattle.apex_meaning.specs.Arrival as arrival
+use Rattle.apex_meaning.specs.Ports.{Port, port_at, is_source}
+use Rattle.apex_meaning.specs.PortServices as ports
 use Rattle.apex_meaning.specs.PartitionServices.{clears, ends_body, get_partition_status, next_release_of, set_partition_mode}
 use Rattle.apex_meaning.specs.Processes.{Processes, row_of, put_row, is_same}
 use Rattle.apex_meaning.specs.ProcessServices.{get_process_id, get_process_status, create_process, set_priority, suspend_self, suspend, resume, stop, start, delayed_start, lock_preemption, unlock_preemption, get_my_id, number_of, is_ready_state}
@@ -121,10 +126,16 @@ abbrev pub given : Asks → List ℤ → List ℤ
 given (Calls c) words = handed (array_of c) words
 given _ words = []
 
-abbrev pub serves_objects : At → Kernel → Runner → Call → List ℤ → Step Kernel
-serves_objects at k p c words = of_sharing k (serves_sharing k.mode at (sharing k) p c words)
+abbrev pub serves_ports : At → Kernel → Runner → Call → List ℤ → Step Kernel
+serves_ports at k p c words = of_ports k (ports.serves_ports k.mode at (with_ports k) p c words)
 
--- the services on processes and on time, then those on objects
+abbrev pub serves_objects : At → Kernel → Runner → Call → List ℤ → Step Kernel
+serves_objects at k p c words = of_objects k (objects.serves_objects k.mode at (with_objects k) p c words)
+
+abbrev pub serves_shared : At → Kernel → Runner → Call → List ℤ → Step Kernel
+serves_shared at k p c words = if ports.is_on_ports c then serves_ports at k p c words else serves_objects at k p c words
+
+-- the services on processes and on time, then those on objects and on ports
 abbrev pub serves_processes : At → Kernel → Runner → Call → List ℤ → Step Kernel
 serves_processes at k p (call.GetProcessId name) words = of_processes k (get_process_id k.processes p name)
 serves_processes at k p (call.GetProcessStatus id) words = of_processes k (get_process_status k.processes p id)
@@ -143,7 +154,7 @@ serves_processes at k p (call.TimedWait delay) words = of_processes k (timed_wai
 serves_processes at k p call.PeriodicWait words = of_processes k (periodic_wait k.processes p)
 serves_processes at k p call.GetTime words = of_processes k (get_time at k.processes p)
 serves_processes at k p (call.Replenish budget) words = of_processes k (replenish k.mode at k.processes p budget)
-serves_processes at k p c words = serves_objects at k p c words
+serves_processes at k p c words = serves_shared at k p c words
 
 abbrev pub serves : At → Kernel → Runner → Call → List ℤ → Step Kernel
 serves at k p call.GetPartitionStatus words = get_partition_status k p
@@ -276,8 +287,34 @@ cold_start at c x = moved at x.engine (clears x.world.kernel mode.ColdStart c) x
 abbrev pub advances : {C : Type 0} → At → Member C → Moved C
 advances at x = tick x.engine at x.world
 
-abbrev pub ticked_member : {C : Type 0} → At → Member C → Member C
-ticked_member at x = with_world x (advances at x).world
 
-abbrev pub tick_lines : {C : Type 0} → At → Member C → List Event
-tick_lines at x = (advances at x).lines
+-- ---- messages of a partition
+
+-- ports are numbered from 1
+abbrev pub place_of_port : PortId → ℕ
+place_of_port port = port.0 - 1
+
+-- a message arrives at a port
+abbrev pub arrives : {C : Type 0} → At → PortId → ArrayVec ℤ → Member C → Moved C
+arrives at port m x = moved at x.engine (of_ports x.world.kernel (arrival.arrives at (with_ports x.world.kernel) (place_of_port port) m)) x.world
+
+-- the first message of a port leaves it
+abbrev pub leaves : {C : Type 0} → At → PortId → Member C → Moved C
+leaves at port x = moved at x.engine (of_ports_alone x.world.kernel (arrival.leaves x.world.kernel.ports (place_of_port port))) x.world
+
+-- the message that leaves it
+abbrev pub leaving : {C : Type 0} → PortId → Member C → Option (ArrayVec ℤ)
+leaving port x = arrival.first_message (port_at x.world.kernel.ports (place_of_port port))
+
+-- how many messages a source port holds; another port has none to move
+abbrev pub messages_to_move : Option Port → Option ℕ
+messages_to_move None = None
+messages_to_move (Some x) = if is_source x then Some (length x.messages) else None
+
+-- the senders that wait at a port enter it while there is room
+abbrev pub admits : {C : Type 0} → At → PortId → Member C → Moved C
+admits at port x = moved at x.engine (of_ports x.world.kernel (arrival.admits (with_ports x.world.kernel) (place_of_port port))) x.world
+
+-- a message of the partition leaves the module by a channel
+abbrev pub goes_out : {C : Type 0} → At → List ℕ → ArrayVec ℤ → Member C → Moved C
+goes_out at channel m x = record { world = x.world; lines = line x.world.kernel.fixed.name at (event.Out channel m) ∷ [] }

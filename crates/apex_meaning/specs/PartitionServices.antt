@@ -20,6 +20,7 @@ use Rattle.apex_types.specs.declared.process.Wait.TheVariants as wait
 use Rattle.apex_types.specs.declared.service.Service.TheVariants as service
 use Rattle.apex_meaning.specs.Kernel.{Kernel, of_processes}
 use Rattle.apex_meaning.specs.Objects.{cleared_objects}
+use Rattle.apex_meaning.specs.Ports.{cleared_ports}
 use Rattle.apex_meaning.specs.Queues.{emptied}
 use Rattle.apex_meaning.specs.Processes.{Processes, row_of, rests, answers, refuses, is_normal}
 use Rattle.apex_meaning.specs.ProcessServices.{level_of}
@@ -51,7 +52,7 @@ abbrev pub cleared_processes : Mode → Processes → Processes
 cleared_processes m s = record { rows = started_rows m (map forgotten s.rows); ready = []; running = None; lock = lock.Free; queues = emptied s.queues; handed = s.handed }
 
 abbrev pub cleared : Kernel → Mode → StartCondition → Kernel
-cleared k m c = record k { mode = m; condition = c; processes = cleared_processes m k.processes; objects = cleared_objects k.objects }
+cleared k m c = record k { mode = m; condition = c; processes = cleared_processes m k.processes; objects = cleared_objects k.objects; ports = cleared_ports k.ports }
 
 abbrev pub clear_actions : Mode → List Action
 clear_actions mode.Idle = action.StopAll ∷ []
@@ -62,7 +63,7 @@ abbrev pub clear_lines : Mode → List EventKind
 clear_lines mode.Idle = event.Mode mode.Idle ∷ []
 clear_lines m = event.Mode m ∷ event.State Init Ready ∷ []
 
--- All processes and objects go. A cold start restores the initial data. Unless the partition is idle,
+-- All processes and objects go, and the ports are empty and no longer created. A cold start restores the initial data. Unless the partition is idle,
 -- INIT starts.
 abbrev pub clears : Kernel → Mode → StartCondition → Step Kernel
 clears k m c = record { part = cleared k m c; lines = clear_lines m; actions = clear_actions m }

@@ -6,6 +6,7 @@ use Rattle.apex_types.specs.declared.identity.TheConstants.{WAITING_LISTS}
 use Rattle.apex_types.specs.declared.codes.Mode.TheVariants as mode
 use Rattle.apex_types.specs.declared.codes.ProcessState.TheVariants.{Dormant}
 use Rattle.apex_types.specs.declared.codes.StartCondition.TheVariants as condition
+use Rattle.apex_types.specs.declared.device.DeviceLine.{DeviceLine}
 use Rattle.apex_types.specs.declared.event.Event.{Event}
 use Rattle.apex_types.specs.declared.event.Subject.{Subject}
 use Rattle.apex_types.specs.declared.event.Subject.TheVariants.{Init, Handler, Process}
@@ -15,6 +16,7 @@ use Rattle.apex_types.specs.declared.process.Lock.TheVariants as lock
 use Rattle.apex_types.specs.declared.process.ProcessStatus.{ProcessStatus}
 use Rattle.apex_types.specs.declared.process.Wait.TheVariants as wait
 use Rattle.apex_types.specs.declared.row.BodyRow.{BodyRow}
+use Rattle.apex_types.specs.declared.row.PortRow.{PortRow}
 use Rattle.apex_types.specs.declared.row.ProcessRow.{ProcessRow}
 use Rattle.apex_meaning.specs.Engine.{Engine}
 use Rattle.apex_meaning.specs.Image.{Partition, Table, Item, Section, Image}
@@ -24,6 +26,7 @@ use Rattle.apex_meaning.specs.MachineControl.{MachineControl, machine_engine}
 use Rattle.apex_meaning.specs.Module.{Module, trace}
 use Rattle.apex_meaning.specs.Objects.{Objects, fresh_objects}
 use Rattle.apex_meaning.specs.Partition.{World, Member}
+use Rattle.apex_meaning.specs.Ports.{Ports, fresh_ports}
 use Rattle.apex_meaning.specs.Processes.{Processes}
 use Rattle.apex_meaning.specs.Program as program
 pub use Rattle.apex_meaning.specs.Starts.{ticks}
@@ -67,9 +70,9 @@ fresh_processes rows = record { rows = init_row ∷ handler_row ∷ rows; ready 
 abbrev pub fixed_of : Schedule → ℕ → Partition → Fixed
 fixed_of schedule number p = record { name = p.name; number = number; period = p.period; duration = p.duration; schedule = schedule_of_partition number schedule; health = p.health }
 
--- a partition in idle mode with nothing created, of these processes and objects
-abbrev pub fresh_kernel : Fixed → List ProcessStatus → Objects → Kernel
-fresh_kernel fixed rows objects = record { fixed = fixed; mode = mode.Idle; condition = condition.NormalStart; processes = fresh_processes rows; objects = objects; ports = record {}; errors = record {} }
+-- a partition in idle mode with nothing created, of these processes, objects and ports
+abbrev pub fresh_kernel : Fixed → List ProcessStatus → Objects → Ports → Kernel
+fresh_kernel fixed rows objects ports = record { fixed = fixed; mode = mode.Idle; condition = condition.NormalStart; processes = fresh_processes rows; objects = objects; ports = ports; errors = record {} }
 
 abbrev pub no_control_for : {C : Type 0} → ProcessStatus → Option C
 no_control_for r = None
@@ -85,22 +88,22 @@ source_row p = fresh_row (Process p.name) (record { 0 = p.priority }) p.period p
 abbrev pub source_objects : program.Program → Objects
 source_objects s = fresh_objects s.semaphores s.events s.buffers s.blackboards
 
-abbrev pub source_member : Fixed → program.Program → Member SourceControl
-source_member fixed source = record { engine = source_engine source; world = fresh_world (fresh_kernel fixed (map source_row source.processes) (source_objects source)) source.initial }
+abbrev pub source_member : Fixed → List PortRow → program.Program → Member SourceControl
+source_member fixed ports source = record { engine = source_engine source; world = fresh_world (fresh_kernel fixed (map source_row source.processes) (source_objects source) (fresh_ports ports)) source.initial }
 
 -- each partition with its source, in order, with their numbers
 abbrev pub source_members : Schedule → ℕ → List Partition → List program.Program → List (Member SourceControl)
 source_members schedule number [] sources = []
 source_members schedule number (p ∷ ps) [] = []
-source_members schedule number (p ∷ ps) (s ∷ ss) = source_member (fixed_of schedule number p) s ∷ source_members schedule (number + 1) ps ss
+source_members schedule number (p ∷ ps) (s ∷ ss) = source_member (fixed_of schedule number p) p.ports s ∷ source_members schedule (number + 1) ps ss
 
 -- what a table and the programs of its partitions mean
 abbrev pub source_module : Table → List program.Program → Module SourceControl
-source_module t sources = record { schedule = t.schedule; members = source_members t.schedule 1 t.partitions sources }
+source_module t sources = record { plan = record { schedule = t.schedule; channels = t.channels }; members = source_members t.schedule 1 t.partitions sources }
 
--- the source meaning: the trace of n ticks
-abbrev pub source_trace : Table → List program.Program → ℕ → List Event
-source_trace t sources n = trace (source_module t sources) n
+-- the source meaning: the trace of n ticks with these lines of the devices
+abbrev pub source_trace : Table → List program.Program → List DeviceLine → ℕ → List Event
+source_trace t sources devices n = trace (source_module t sources) devices n
 
 -- ---- the meaning of an image
 
@@ -120,17 +123,17 @@ section_engine s = machine_engine (map reading s.code) s.routines (machine_body 
 abbrev pub section_objects : Section → Objects
 section_objects s = fresh_objects s.semaphores s.events s.buffers s.blackboards
 
-abbrev pub machine_member : Fixed → Section → Member MachineControl
-machine_member fixed s = record { engine = section_engine s; world = fresh_world (fresh_kernel fixed (map machine_row s.processes) (section_objects s)) s.initial }
+abbrev pub machine_member : Fixed → List PortRow → Section → Member MachineControl
+machine_member fixed ports s = record { engine = section_engine s; world = fresh_world (fresh_kernel fixed (map machine_row s.processes) (section_objects s) (fresh_ports ports)) s.initial }
 
 -- each partition in order, with their numbers
 abbrev pub machine_members : Schedule → ℕ → List Item → List (Member MachineControl)
 machine_members schedule number [] = []
-machine_members schedule number (i ∷ is) = machine_member (fixed_of schedule number i.partition) i.section ∷ machine_members schedule (number + 1) is
+machine_members schedule number (i ∷ is) = machine_member (fixed_of schedule number i.partition) i.partition.ports i.section ∷ machine_members schedule (number + 1) is
 
 abbrev pub machine_module : Image → Module MachineControl
-machine_module i = record { schedule = i.schedule; members = machine_members i.schedule 1 i.items }
+machine_module i = record { plan = record { schedule = i.schedule; channels = i.channels }; members = machine_members i.schedule 1 i.items }
 
--- the machine meaning: the trace of n ticks
-abbrev pub machine_trace : Image → ℕ → List Event
-machine_trace i n = trace (machine_module i) n
+-- the machine meaning: the trace of n ticks with these lines of the devices
+abbrev pub machine_trace : Image → List DeviceLine → ℕ → List Event
+machine_trace i devices n = trace (machine_module i) devices n

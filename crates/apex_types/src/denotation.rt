@@ -14,7 +14,7 @@ pub enum ObjectKind {
 }
 
 /// What a name of a program stands for.
-#[derive(Clone, Copy, Debug, PartialEq, Eq)]
+#[derive(Clone, Copy)]
 pub enum Denotation {
     /// A variable, a parameter or a local.
     Scalar(Place),

@@ -23,7 +23,7 @@ pub enum Subject {
 }
 
 /// What happened.
-#[derive(PartialEq, Eq, Debug, Drop)]
+#[derive(Drop)]
 pub enum EventKind {
     /// A process changed its state.
     State(Subject, ProcessState),
@@ -46,7 +46,7 @@ pub enum EventKind {
 }
 
 /// One line of a trace: its tick, its partition (none for the module itself), and what happened.
-#[derive(PartialEq, Eq, Debug, Drop)]
+#[derive(Drop)]
 pub struct Event {
     pub tick: Ticks,
     pub partition: Option<Name>,

@@ -21,6 +21,10 @@ pub struct PartitionId(pub u8);
 #[derive(Clone, Copy, Debug, PartialEq, Eq)]
 pub struct PortId(pub u8);
 
+/// A channel by its place in the module table, from 0.
+#[derive(Clone, Copy, Debug, PartialEq, Eq)]
+pub struct ChannelIndex(pub u8);
+
 /// The most processes of a partition, beside INIT and the error handler.
 pub const MOST_PROCESSES: u8 = 31;
 

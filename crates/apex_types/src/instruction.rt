@@ -45,7 +45,7 @@ pub enum UnaryOperator {
 }
 
 /// One instruction. `x` fields are unsigned 32-bit, `v` fields signed 64-bit, as in its bytes.
-#[derive(Clone, Copy, Debug, PartialEq, Eq)]
+#[derive(Clone, Copy)]
 pub enum Instr {
     /// PUSH v
     Push(i64),

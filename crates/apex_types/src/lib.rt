@@ -7,6 +7,7 @@ pub mod call;
 pub mod codes;
 pub mod cost;
 pub mod denotation;
+pub mod device;
 pub mod event;
 pub mod identity;
 pub mod instruction;
@@ -31,10 +32,11 @@ pub use cost::{
     SCALAR_COST, SERVICE_COST, UNARY_COST, UNKNOWN_COST,
 };
 pub use denotation::{Denotation, ObjectKind};
+pub use device::{DeviceFault, DeviceInput, DeviceLine};
 pub use event::{Event, EventKind, Events, Subject, Words};
 pub use identity::{
-    At, ListId, MOST_OBJECTS, MOST_PROCESSES, MOST_RUNNERS, PartitionId, PortId, Priority,
-    ProcessIndex, Runner, Ticks, WAITING_LISTS,
+    At, ChannelIndex, ListId, MOST_OBJECTS, MOST_PROCESSES, MOST_RUNNERS, PartitionId, PortId,
+    Priority, ProcessIndex, Runner, Ticks, WAITING_LISTS,
 };
 pub use instruction::{BinaryOperator, Instr, UnaryOperator};
 pub use name::Name;

@@ -6,7 +6,7 @@ use crate::identity::{ListId, Priority, ProcessIndex, Runner, Ticks};
 use crate::service::{ArrayPlace, Service};
 
 /// What a waiting process waits for.
-#[derive(Clone, Copy, Debug, PartialEq, Eq)]
+#[derive(Clone, Copy)]
 pub enum Wait {
     /// It does not wait; if it is in the state WAITING, it is suspended.
     Nothing,
@@ -47,7 +47,7 @@ pub enum Due {
 }
 
 /// The kernel's record of INIT, of the error handler or of a process.
-#[derive(Clone, Copy, Debug, PartialEq, Eq)]
+#[derive(Clone, Copy)]
 pub struct ProcessStatus {
     pub who: Subject,
     pub base_priority: Priority,
@@ -84,7 +84,7 @@ pub enum Lock {
 
 /// What a step of the kernel asks of the processor, of the partition's data and of its error
 /// queue.
-#[derive(Debug, Default, PartialEq, Eq, Drop)]
+#[derive(Default, Drop)]
 pub enum Action {
     /// The process begins its body afresh.
     Begin(Runner),

@@ -165,7 +165,7 @@ pub struct ArrayPlace {
 
 /// A service call with its arguments, as words of the calling process: names and identifiers
 /// are numbers, a time is a count of ticks or -1.
-#[derive(Clone, Copy, Debug, PartialEq, Eq)]
+#[derive(Clone, Copy)]
 pub enum Call {
     GetPartitionStatus,
     SetPartitionMode {

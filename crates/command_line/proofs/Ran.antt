@@ -8,7 +8,7 @@ use Rattle.apex_meaning.specs.ImageReading.{Fault}
 use Rattle.apex_meaning.specs.TwoMeanings.{source_trace, machine_trace}
 use Rattle.module.specs.Promises.{Means, Runs}
 use Rattle.module.specs.declared.fault.RunFault.{RunFault}
-use Rattle.module.specs.declared.fault.RunFault.TheVariants.{Ticks, NotYet, Memory, Write}
+use Rattle.module.specs.declared.fault.RunFault.TheVariants.{Ticks, Device, NotYet, Memory, Write}
 use Rattle.std.specs.Prelude.{IsErr, IsErrAnd, IfErr}
 use Rattle.apex_meaning.specs.ImageReading.{image_at}
 use Rattle.command_line.specs.Contents.{Contents, Holds}
@@ -22,10 +22,10 @@ use Rattle.command_line.specs.declared.refusal.Refusal.TheVariants as refusal
 -- ---- what is kept by a flush
 
 pub kept_run : (read : Result Image Fault) (devices : List ℕ) (n : ℕ) (old mid new : Option (List ℕ)) → Runs read devices n old mid (Ok tt) → Keeps mid new → Runs read devices n old new (Ok tt)
-kept_run read devices n old mid new (image, r, out) kept = (image, r, Appends-kept old mid new (text_of (machine_trace image n)) out kept)
+kept_run read devices n old mid new (image, lines, r, out) kept = (image, lines, r, Appends-kept old mid new (text_of (machine_trace image lines n)) out kept)
 
 pub kept_first : (table : List ℕ) (sources : List (List ℕ)) (devices : List ℕ) (n : ℕ) (old mid new : Option (List ℕ)) → Means table sources devices n old mid (Ok tt) → Keeps mid new → Means table sources devices n old new (Ok tt)
-kept_first table sources devices n old mid new (t, programs, r, out) kept = (t, programs, r, Appends-kept old mid new (text_of (source_trace t programs n)) out kept)
+kept_first table sources devices n old mid new (t, programs, lines, r, out) kept = (t, programs, lines, r, Appends-kept old mid new (text_of (source_trace t programs lines n)) out kept)
 
 -- ---- the number of a word, and what 64 bits hold of it
 
@@ -36,9 +36,10 @@ many_same : (n v : ℕ) → n ≡ min v (2 ^ 64 - 1) → 2 ^ 40 < n → 2 ^ 40 <
 many_same n v is many = omega (arith, is, many)
 
 pub runs_by : (read : Result Image Fault) (devices : List ℕ) (n v : ℕ) (old new : Option (List ℕ)) (answer : Result (Unit {0}) RunFault) → n ≡ min v (2 ^ 64 - 1) → Runs read devices n old new answer → Runs read devices v old new answer
-runs_by read devices n v old new (Ok x) is h = subst (λ k. Runs read devices k old new (Ok x)) (few_same n v is h.1.few) h
-runs_by read devices n v old new (Err Write) is h = subst (λ k. Runs read devices k old new (Err Write)) (few_same n v is h.1.few) h
+runs_by read devices n v old new (Ok x) is h = subst (λ k. Runs read devices k old new (Ok x)) (few_same n v is h.2.few) h
+runs_by read devices n v old new (Err Write) is h = subst (λ k. Runs read devices k old new (Err Write)) (few_same n v is h.2.few) h
 runs_by read devices n v old new (Err Ticks) is h = (many_same n v is h.0, h.1)
+runs_by read devices n v old new (Err (Device f)) is h = (subst (λ k. k ≤ 2 ^ 40) (few_same n v is h.0) h.0, h.1, h.2)
 runs_by read devices n v old new (Err NotYet) is h = (subst (λ k. k ≤ 2 ^ 40) (few_same n v is h.0) h.0, h.1, h.2)
 runs_by read devices n v old new (Err Memory) is h = h
 

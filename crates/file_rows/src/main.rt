@@ -1,12 +1,15 @@
-//! The rows that stand as files: tables and sources with their verdicts, modules with their traces,
-//! and images with theirs, as they follow from the rules or as an independent program has computed
-//! them. Checks, builds and runs them, tells each row that differs, and how many are as expected.
+//! The rows that stand as files: tables and sources with their verdicts, modules with their traces
+//! or the refusals of their runs, and images with theirs, as they follow from the rules or as an
+//! independent program has computed them. Checks, builds and runs them, tells each row that differs,
+//! and how many are as expected.
 //!
 //! The file `rows` lists them, one a line: `check FOLDER SOURCE..` for the verdict on a table and
-//! its sources, `run FOLDER TICKS SOURCE..` for the trace of their image, `image FOLDER TICKS` for
-//! the trace of an image that no source makes. In the folder lie the table and the sources, or the
-//! image, and what is expected: `answer` or `trace`. Beside such an image the file `cases` tells what
-//! each of its partitions shows.
+//! its sources, `run FOLDER TICKS SOURCE..` for the trace of their image, `refused FOLDER TICKS
+//! SOURCE..` for a run of it that is refused, `image FOLDER TICKS` for the trace of an image that no
+//! source makes, and `refused FOLDER TICKS` for a run of such an image that is refused. In the folder
+//! lie the table and the sources, or the image, the device text `devices` if it is not empty, and
+//! what is expected: `answer` or `trace`. Beside an image with a trace the file `cases` tells what each
+//! of its partitions shows.
 #![tactic(auto)]
 
 mod answer;

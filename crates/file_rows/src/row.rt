@@ -5,7 +5,8 @@ use std::alloc::{AllocError, AllocGlobal, Global};
 use std::rt::Files;
 use std::{fs, io};
 
-/// A table and its sources, or an image, which lie in a folder, and what is asked of them.
+/// A table and its sources, or an image, which lie in a folder, maybe with a device text, and what is
+/// asked of them.
 #[derive(Drop)]
 pub struct Row<'a> {
     pub folder: &'a str,
@@ -22,6 +23,8 @@ enum Asked<'a> {
     Trace(&'a str),
     /// The trace of so many ticks of the image that lies there.
     TraceOfImage(&'a str),
+    /// The refusal of a run of so many ticks.
+    Refusal(&'a str),
 }
 
 impl<'a> Row<'a> {
@@ -41,6 +44,10 @@ impl<'a> Row<'a> {
                 Some(ticks) => Asked::TraceOfImage(ticks),
                 None => return Ok(None),
             },
+            "refused" => match words.next() {
+                Some(ticks) => Asked::Refusal(ticks),
+                None => return Ok(None),
+            },
             _ => return Ok(None),
         };
         let sources = words.collect(alloc)?;
@@ -56,6 +63,7 @@ impl<'a> Row<'a> {
             Asked::Verdict => self.has_verdict(rt),
             Asked::Trace(ticks) => Ok(self.build(rt)?.is_done() && self.has_trace(rt, ticks)?),
             Asked::TraceOfImage(ticks) => self.has_trace(rt, ticks),
+            Asked::Refusal(ticks) => self.has_refusal(rt, ticks),
         }
     }
 
@@ -80,9 +88,31 @@ impl<'a> Row<'a> {
     /// Whether the trace of so many ticks of the image is the expected one.
     fn has_trace<R: Files + AllocGlobal>(&self, rt: &R, ticks: &str) -> io::Result<bool> {
         let expected = self.read(rt, "trace")?;
+        Ok(self.run(rt, ticks)?.is_done_with(expected.as_slice()))
+    }
+
+    /// Whether a run of so many ticks is refused as expected: of the image that is built of the
+    /// sources, or, where there is none, of the image that lies there.
+    fn has_refusal<R: Files + AllocGlobal>(&self, rt: &R, ticks: &str) -> io::Result<bool> {
+        let expected = self.read(rt, "answer")?;
+        let is_there = self.sources.is_empty() || self.build(rt)?.is_done();
+        Ok(is_there && self.run(rt, ticks)?.is_refused_with(expected.as_slice()))
+    }
+
+    fn run<R: Files + AllocGlobal>(&self, rt: &R, ticks: &str) -> Result<Answer, AllocError> {
         let image = self.path(rt.alloc(), "image")?;
-        let ran = Answer::to(rt, &["mb", "run", image.as_str(), "devices", ticks]);
-        Ok(ran.is_done_with(expected.as_slice()))
+        let devices = self.devices(rt)?;
+        let words = ["mb", "run", image.as_str(), devices.as_str(), ticks];
+        Ok(Answer::to(rt, &words))
+    }
+
+    /// The path of the device text: that of the row, or else the empty one beside the list.
+    fn devices<R: Files + AllocGlobal>(&self, rt: &R) -> Result<String, AllocError> {
+        if self.read(rt, "devices").is_ok() {
+            self.path(rt.alloc(), "devices")
+        } else {
+            String::from_str(rt.alloc(), "devices")
+        }
     }
 
     fn build<R: Files + AllocGlobal>(&self, rt: &R) -> Result<Answer, AllocError> {

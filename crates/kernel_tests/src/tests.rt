@@ -1,3 +1,4 @@
+mod dues;
 mod memory;
 mod schedules;
 mod scripts;

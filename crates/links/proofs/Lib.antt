@@ -1,1 +1,2 @@
+pub mod DueOrder
 pub mod OneHome

@@ -1,2 +1,4 @@
+pub mod DueOrder
+pub mod DueView
 pub mod OneHome
 pub mod View

@@ -1,10 +1,15 @@
-//! The waiting lists of a partition: a process stands in one of them at most.
+//! The waiting lists of a partition: a process stands in one of them at most. And the list of those
+//! for whom something is due.
 #![tactic(auto)]
 
+mod due_list;
+mod dues;
 mod entries;
 mod homes;
 mod links;
 mod lists;
 
+pub use due_list::DueList;
+pub use dues::DueEntry;
 pub use entries::Entries;
 pub use links::Links;

@@ -118,7 +118,7 @@ programs_of _ _ = None
 
 -- the text of the trace of so many ticks of the sources, where all are accepted
 abbrev pub text_of_sources : Table → List (List ℕ) → ℕ → Option (List ℕ)
-text_of_sources t sources n = option_map (λ programs. text_of (source_trace t programs n)) (programs_of t.partitions sources)
+text_of_sources t sources n = option_map (λ programs. text_of (source_trace t programs [] n)) (programs_of t.partitions sources)
 
 -- the same from the text of the table
 abbrev pub verdict_of_table : List ℕ → Option (Result Table Refusal)
@@ -158,7 +158,7 @@ image_of t programs = record { schedule = t.schedule; fault = t.fault; items = i
 
 -- the text of the trace of so many ticks of that image
 abbrev pub text_of_built : Table → List (List ℕ) → ℕ → Option (List ℕ)
-text_of_built t sources n = option_map (λ programs. text_of (machine_trace (image_of t programs) n)) (programs_of t.partitions sources)
+text_of_built t sources n = option_map (λ programs. text_of (machine_trace (image_of t programs) [] n)) (programs_of t.partitions sources)
 
 -- its bytes
 abbrev pub image_of_sources : Table → List (List ℕ) → Option (List ℕ)
@@ -166,7 +166,7 @@ image_of_sources t sources = option_map (λ programs. spelling (image_of t progr
 
 -- the text of the trace of so many ticks of an image, where its bytes are one
 abbrev pub text_of_read : Result Image Fault → ℕ → Option (List ℕ)
-text_of_read (Ok image) n = Some (text_of (machine_trace image n))
+text_of_read (Ok image) n = Some (text_of (machine_trace image [] n))
 text_of_read (Err fault) n = None
 
 abbrev pub text_of_image : List ℕ → ℕ → Option (List ℕ)
@@ -216,7 +216,7 @@ first_error (e ∷ es) = or_else (error_of e.tick.0 e.kind) (first_error es)
 
 -- the first error of some code within 40 ticks
 abbrev pub error_of_code : List RoutineRow → List (List ℕ) → Option (ℕ × ErrorKind)
-error_of_code routines code = first_error (machine_trace (code_image routines code) 40)
+error_of_code routines code = first_error (machine_trace (code_image routines code) [] 40)
 
 -- ---- images, byte by byte: of the smallest source, of a process that reports, and of one that calls
 -- itself too deep

@@ -1,14 +1,15 @@
 -- From accepted sources to the text of their trace.
-use Rattle.std.proofs.Common.{◌≡◌, ◌≢◌, ℕ, List, [], ◌∷◌, length, map, Option, Result, Ok, Err, IfOk, inl, inr, refl, sym, ap, subst, ◌∙◌}
-use Rattle.std.specs.Prelude.{true, ◌==◌}
-use Rattle.std.specs.List.{list_all, All}
+use Rattle.std.proofs.Common.{◌≡◌, ℕ, List, [], ◌∷◌, map, Option, Result, Ok, Err, IfOk, refl, sym, ap, subst, ◌∙◌}
+use Rattle.std.specs.List.{All}
 use Rattle.std.specs.Io.KnownBytes.{Appends}
-use Rattle.std.proofs.lemmas.Bool.{and_parts, false≢true}
 use Rattle.std.proofs.lemmas.List.Elements.{All-nil, All-cons}
 use Rattle.apex_types.specs.Line.{text_of}
 use Rattle.apex_types.specs.Sink.{TakesBeginning}
 use Rattle.apex_meaning.specs.CompiledCode.{section_of}
-use Rattle.apex_meaning.specs.Image.{Partition, Table, Item, Image}
+use Rattle.apex_types.specs.declared.device.DeviceFault.{DeviceFault}
+use Rattle.apex_types.specs.declared.device.DeviceLine.{DeviceLine}
+use Rattle.apex_meaning.specs.DeviceText.{verdict, verdict_for}
+use Rattle.apex_meaning.specs.Image.{Partition, Channel, Table, Item, Image}
 use Rattle.apex_meaning.specs.ImageLimits.{IsSection}
 use Rattle.apex_meaning.specs.ImageReading.{Fault, image_at}
 use Rattle.apex_meaning.specs.Program.{Program}
@@ -19,20 +20,15 @@ use Rattle.apex_meaning.proofs.WellFormedSection.{accepted_section}
 use Rattle.module.specs.Accepted.{IsAccepted, AreAccepted, IsJudged, IsTable}
 use Rattle.module.specs.Built.{built_item, built_items, built_image, IsCoded, AreCoded, BecomesLawful, IsBuiltFrom}
 use Rattle.module.specs.Building.{IsImageOf}
-use Rattle.module.specs.Part.{is_image_of_part, is_row_of_part, is_table_of_part}
-use Rattle.module.specs.Promises.{IsRun, IsOutside, Runs, IsAcceptedRun, Means, ran}
+use Rattle.module.specs.Promises.{IsRun, IsOutside, IsDeviceRefusal, Runs, IsAcceptedRun, IsDeviceRefused, HasFault, Means, ran}
 use Rattle.module.specs.declared.fault.RunFault.{RunFault}
-use Rattle.module.specs.declared.fault.RunFault.TheVariants.{Ticks, NotYet, Memory, Write}
+use Rattle.module.specs.declared.fault.RunFault.TheVariants.{Ticks, Device, NotYet, Memory, Write}
 use Rattle.module.proofs.Built.{are_compiled}
 use Rattle.module.proofs.SameTraces.{traces_same}
 
 -- what is built is a section that an image may have
 lawful_section : (row : Partition) (source : List ℕ) (p : Program) → IsAccepted row source p → IsCoded p → IsSection row.period (section_of p)
 lawful_section row source p a h = accepted_section row.ports row.period a.tree p a.judged h.size h.words
-
--- a table of the part becomes an image of the part
-image_of_part : (t : Table) (ps : List Program) → is_table_of_part t ≡ true → is_image_of_part (built_image t ps) ≡ true
-image_of_part t ps h = (and_parts (length t.channels == 0) (list_all is_row_of_part t.partitions) h).0
 
 -- a partition and its section, which an image may have
 abbrev IsLawfulItem : Item → Type 0
@@ -64,12 +60,12 @@ module_image table sources t bytes is_table h = record {
   programs = h.programs;
   accepted = record { rows = is_table; accepted = h.accepted };
   short = h.short;
-  table_of_part = h.table_of_part;
-  offered = h.offered;
+  part = h.part;
   image = built_image t h.programs;
   loaded = ap image_at h.spelled ∙ spelled_is_read (built_image t h.programs) (lawful_image t sources h.programs (judged_table table t is_table) h.accepted h.coded);
-  part = image_of_part t h.programs h.table_of_part;
-  meaning = λ n. sym (traces_same t h.programs n (are_compiled t.partitions sources h.programs h.accepted h.coded));
+  items = (items_lawful t.partitions sources h.programs h.accepted h.coded).0;
+  channels = refl;
+  meaning = λ lines n. sym (traces_same t h.programs lines n (are_compiled t.partitions sources h.programs h.accepted h.coded));
 }
 
 pub built_bytes : {A E : Type 0} (view : A → List ℕ) (table : List ℕ) (sources : List (List ℕ)) (t : Table) (answer : Result A E)
@@ -83,29 +79,60 @@ ok_image i = Ok i
 image_is : (i j : Image) → ok_image i ≡ ok_image j → i ≡ j
 image_is i j e = cc
 
--- the text of the image that was run is that of the sources
-same_text : (table : List ℕ) (sources : List (List ℕ)) (bytes devices : List ℕ) (n : ℕ) (image : Image) (h : IsImageOf table sources bytes) → IsRun (image_at bytes) devices n image
-    → text_of (machine_trace image n) ≡ text_of (source_trace h.rows h.programs n)
-same_text table sources bytes devices n image h r =
-    let same : image ≡ h.image = image_is image h.image (sym r.loaded ∙ h.loaded) in
-    ap (λ (i : Image). text_of (machine_trace i n)) same ∙ ap text_of (h.meaning n)
+-- the image that was run is the one that was built
+same_image : (table : List ℕ) (sources : List (List ℕ)) (bytes devices : List ℕ) (n : ℕ) (image : Image) (lines : List DeviceLine) (h : IsImageOf table sources bytes) → IsRun (image_at bytes) devices n image lines → image ≡ h.image
+same_image table sources bytes devices n image lines h r = image_is image h.image (sym r.loaded ∙ h.loaded)
 
-accepted_run : (table : List ℕ) (sources : List (List ℕ)) (bytes devices : List ℕ) (n : ℕ) (image : Image) (h : IsImageOf table sources bytes) → IsRun (image_at bytes) devices n image
-    → IsAcceptedRun table sources devices n h.rows h.programs
-accepted_run table sources bytes devices n image h r = record { accepted = h.accepted; alone = r.alone; few = r.few }
+-- its text is that of the sources
+same_text : (table : List ℕ) (sources : List (List ℕ)) (bytes devices : List ℕ) (n : ℕ) (image : Image) (lines : List DeviceLine) (h : IsImageOf table sources bytes) → IsRun (image_at bytes) devices n image lines
+    → text_of (machine_trace image lines n) ≡ text_of (source_trace h.rows h.programs lines n)
+same_text table sources bytes devices n image lines h r =
+    ap (λ (i : Image). text_of (machine_trace i lines n)) (same_image table sources bytes devices n image lines h r) ∙ ap text_of (h.meaning lines n)
+
+-- the verdict on a device text for the built image is the one for the table
+same_verdict : (table : List ℕ) (sources : List (List ℕ)) (bytes devices : List ℕ) (h : IsImageOf table sources bytes) → verdict_for h.image devices ≡ verdict h.rows.partitions h.rows.channels devices
+same_verdict table sources bytes devices h =
+    ap (λ (rows : List Partition). verdict rows h.image.channels devices) h.items ∙ ap (λ (cs : List Channel). verdict h.rows.partitions cs devices) h.channels
+
+accepted_run : (table : List ℕ) (sources : List (List ℕ)) (bytes devices : List ℕ) (n : ℕ) (image : Image) (lines : List DeviceLine) (h : IsImageOf table sources bytes) → IsRun (image_at bytes) devices n image lines
+    → IsAcceptedRun table sources devices n h.rows h.programs lines
+accepted_run table sources bytes devices n image lines h r = record {
+  accepted = h.accepted;
+  taken = record {
+    read = sym (ap (λ (i : Image). verdict_for i devices) (same_image table sources bytes devices n image lines h r) ∙ same_verdict table sources bytes devices h) ∙ r.taken.read;
+    faultless = r.taken.faultless;
+  };
+  few = r.few;
+}
 
 -- an image that is loaded is refused for its devices alone
-has_devices : (read : Result Image Fault) (image : Image) (devices : List ℕ) → read ≡ ok_image image → is_image_of_part image ≡ true → IsOutside read devices → devices ≢ []
-has_devices (Ok other) image devices e part (inl outside) = absurd (false≢true (sym outside ∙ ap is_image_of_part (image_is other image e) ∙ part))
-has_devices (Ok other) image devices e part (inr some) = some
-has_devices (Err fault) image devices e part h = absurd cc
+has_fault_in : (table : List ℕ) (sources : List (List ℕ)) (bytes devices : List ℕ) (h : IsImageOf table sources bytes) (read : Result Image Fault) → read ≡ ok_image h.image → IsOutside read devices → HasFault table sources devices
+has_fault_in table sources bytes devices h (Ok image) e (lines, reads, fault) = record {
+  rows = h.rows;
+  programs = h.programs;
+  lines = lines;
+  accepted = h.accepted;
+  read = sym (ap (λ (i : Image). verdict_for i devices) (image_is image h.image e) ∙ same_verdict table sources bytes devices h) ∙ reads;
+  fault = fault;
+}
+has_fault_in table sources bytes devices h (Err f) e r = absurd cc
+
+is_refused_in : (table : List ℕ) (sources : List (List ℕ)) (bytes devices : List ℕ) (h : IsImageOf table sources bytes) (f : DeviceFault) (read : Result Image Fault) → read ≡ ok_image h.image → IsDeviceRefusal read devices f → IsDeviceRefused table sources devices f
+is_refused_in table sources bytes devices h f (Ok image) e refused = record {
+  rows = h.rows;
+  programs = h.programs;
+  accepted = h.accepted;
+  refused = sym (ap (λ (i : Image). verdict_for i devices) (image_is image h.image e) ∙ same_verdict table sources bytes devices h) ∙ refused;
+}
+is_refused_in table sources bytes devices h f (Err g) e r = absurd r
 
 pub run_means : (table : List ℕ) (sources : List (List ℕ)) (bytes devices : List ℕ) (n : ℕ) (old new : Option (List ℕ)) (answer : Result (Unit {0}) RunFault)
     → IsImageOf table sources bytes → Runs (image_at bytes) devices n old new answer → Means table sources devices n old new (ran answer)
-run_means table sources bytes devices n old new (Ok x) h (image, r, out) =
-    (h.rows, h.programs, accepted_run table sources bytes devices n image h r, subst (Appends old new) (same_text table sources bytes devices n image h r) out)
-run_means table sources bytes devices n old new (Err Write) h (image, r, out) =
-    (h.rows, h.programs, accepted_run table sources bytes devices n image h r, subst (TakesBeginning old new) (same_text table sources bytes devices n image h r) out)
+run_means table sources bytes devices n old new (Ok x) h (image, lines, r, out) =
+    (h.rows, h.programs, lines, accepted_run table sources bytes devices n image lines h r, subst (Appends old new) (same_text table sources bytes devices n image lines h r) out)
+run_means table sources bytes devices n old new (Err Write) h (image, lines, r, out) =
+    (h.rows, h.programs, lines, accepted_run table sources bytes devices n image lines h r, subst (TakesBeginning old new) (same_text table sources bytes devices n image lines h r) out)
 run_means table sources bytes devices n old new (Err Ticks) h r = r
-run_means table sources bytes devices n old new (Err NotYet) h r = (r.0, has_devices (image_at bytes) h.image devices h.loaded h.part r.1, r.2)
+run_means table sources bytes devices n old new (Err (Device f)) h r = (r.0, is_refused_in table sources bytes devices h f (image_at bytes) h.loaded r.1, r.2)
+run_means table sources bytes devices n old new (Err NotYet) h r = (r.0, has_fault_in table sources bytes devices h (image_at bytes) h.loaded r.1, r.2)
 run_means table sources bytes devices n old new (Err Memory) h r = r

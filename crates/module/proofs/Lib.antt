@@ -1,9 +1,14 @@
 pub mod Built
+pub mod DeviceLines
+pub mod Devices
 pub mod Headline
 pub mod Lawful
 pub mod Members
+pub mod Moves
+pub mod Runs
 pub mod SameTraces
 pub mod Starting
 pub mod Texts
 pub mod Parts
 pub mod Refused
+pub mod Written

@@ -1,8 +1,11 @@
 -- Partitions with their parts of the memory, one after the other.
 use Rattle.std.proofs.Common.{◌≡◌, ◌≢◌, ◌≤◌, ◌<◌, ℕ, zero, suc, List, [], ◌∷◌, ◌++◌, length, Option, Some, None, map, refl, ap, sym, ◌∙◌, arith}
-use Rattle.std.specs.Prelude.{slice_get, slice_set}
+use Rattle.std.specs.Prelude.{slice_get, slice_set, option_map}
 use Rattle.std.proofs.lemmas.List.{length-map, length-set, map-append, map-set}
 use Rattle.std.proofs.lemmas.Option.{none-some, same_Some}
+use Rattle.apex_meaning.specs.Kernel.{Kernel}
+use Rattle.apex_meaning.specs.Module.{of_member, ports_of}
+use Rattle.apex_meaning.specs.Partition.{Member}
 use Rattle.partition.specs.Members.{member_of}
 use Rattle.partition.specs.declared.partition.Partition.{Partition}
 use Rattle.partition_base.specs.declared.executor.Executor.{Ghosts}
@@ -17,6 +20,17 @@ get_other (a ∷ xs) (suc n) zero x h = refl
 get_other (a ∷ xs) (suc n) (suc q) x h = get_other xs n q x (λ e. h (ap suc e))
 
 pub ruleset others = (get_other, length-set)
+
+-- what is seen of a partition's ports is seen of its kernel
+pub ports_seen : {C : Type 0} (o : Option (Member C)) (k : Kernel) → Some k ≡ option_map (λ (x : Member C). x.world.kernel) o → of_member [] ports_of o ≡ k.ports.ports
+ports_seen None k e = absurd (none-some k (sym e))
+ports_seen (Some x) k e = ap (λ (k : Kernel). k.ports.ports) (sym (same_Some k x.world.kernel e))
+
+pub none_seen : {C : Type 0} (o : Option (Member C)) → None ≡ option_map (λ (x : Member C). x.world.kernel) o → of_member [] ports_of o ≡ []
+none_seen None e = refl
+none_seen (Some x) e = absurd (none-some x.world.kernel e)
+
+pub ruleset seen = (ports_seen, none_seen)
 
 module _ {E X : Type 0} (g : Ghosts E X) where
   pub same_length : (ps : List (Partition E X)) (ss : List X) → AreFitting g ps ss → length ps ≡ length ss
@@ -66,6 +80,15 @@ module _ {E X : Type 0} (g : Ghosts E X) where
   no_member (q ∷ ps) [] n h = refl
   no_member (q ∷ ps) (t ∷ ss) zero h = absurd (omega (arith, h))
   no_member (q ∷ ps) (t ∷ ss) (suc n) h = no_member ps ss n (omega (arith, h))
+
+  kernel_at : (ps : List (Partition E X)) (ss : List X) (n : ℕ) → length ps ≡ length ss → option_map (λ (x : Member g.Control). x.world.kernel) (slice_get (members_of g ps ss) n) ≡ option_map (λ (p : Partition E X). p.kernel) (slice_get ps n)
+  kernel_at [] ss n h = refl
+  kernel_at (q ∷ ps) [] n h = absurd (omega (arith, h))
+  kernel_at (q ∷ ps) (t ∷ ss) zero h = refl
+  kernel_at (q ∷ ps) (t ∷ ss) (suc n) h = kernel_at ps ss n (omega (arith, h))
+
+  pub kernel_there : (ps : List (Partition E X)) (ss : List X) (n : ℕ) (p : Partition E X) → AreFitting g ps ss → slice_get ps n ≡ Some p → Some p.kernel ≡ option_map (λ (x : Member g.Control). x.world.kernel) (slice_get (members_of g ps ss) n)
+  kernel_there ps ss n p fit e = sym (kernel_at ps ss n (same_length ps ss fit) ∙ ap (λ (o : Option (Partition E X)). option_map (λ (p : Partition E X). p.kernel) o) e)
 
   behind_all : (ps : List (Partition E X)) (ss : List X) (p : Partition E X) (s : X) → length ps ≡ length ss → members_of g (ps ++ p ∷ []) (ss ++ s ∷ []) ≡ members_of g ps ss ++ member_of g p s ∷ []
   behind_all [] [] p s h = refl

@@ -2,7 +2,7 @@
 use Rattle.std.proofs.Common.{◌≡◌, inl, inr, ℕ, zero, suc, ◌+◌, Bool, true, false, List, [], ◌∷◌, ◌++◌, length, map, drop, Some, None, Result, Ok, Err, IfOk, IfErr, refl, sym, ap, subst, ◌∙◌, arith, append-nil}
 use Rattle.std.specs.Prelude.{IsErr, IsErrAnd, ◌&&◌, not, slice_get}
 use Rattle.std.specs.List.{list_all, list_any}
-use Rattle.std.proofs.lemmas.Bool.{and_parts}
+use Rattle.std.proofs.lemmas.List.Folds.{list_all-map}
 use Rattle.std.proofs.lemmas.Option.{none-some, same_Some}
 use Rattle.apex_meaning.specs.GrammarWords.{words_of}
 use Rattle.apex_meaning.specs.Image.{Partition, Table}
@@ -15,9 +15,9 @@ use Rattle.module.specs.Accepted.{IsAccepted, AreAccepted, IsTable}
 use Rattle.apex_meaning.specs.ImageSpelling.{spelling}
 use Rattle.module.specs.Built.{built_image, AreCoded, IsBuiltFrom}
 use Rattle.module.proofs.Built.{none_too_long}
-use Rattle.module.specs.Part.{is_program_of_part, is_table_of_part, declares_port}
-use Rattle.module.specs.Building.{IsNotAccepted, IsFirstRefused, IsOffered, AreOffered, IsRefusedWith, IsRefusal, IsTableRefusal, IsSourceRefusal, AreSourceRefusals, IsLengthRefusal, IsPartRefusal, is_too_long, first_too_long, unless_memory, refusal_of}
-use Rattle.module.specs.Sources.{programs_of, IsSource, AreSources, is_source_of_part, is_module_of_part}
+use Rattle.module.specs.Part.{is_program_of_part, is_table_of_part, is_module_of_part}
+use Rattle.module.specs.Building.{IsNotAccepted, IsFirstRefused, IsRefusedWith, IsRefusal, IsTableRefusal, IsSourceRefusal, AreSourceRefusals, IsLengthRefusal, IsPartRefusal, is_too_long, first_too_long, unless_memory, refusal_of}
+use Rattle.module.specs.Sources.{programs_of, IsSource, AreSources, are_of_part}
 use Rattle.std.proofs.lemmas.List.{append_assoc, length-map}
 use Rattle.image.specs.Items.{partition_of}
 use Rattle.window_table.specs.declared.table.PartitionRow.{PartitionRow}
@@ -147,61 +147,24 @@ all_short other rows texts seen given e f a none =
     none_too_long (map partition_of rows) (programs_of given) count
     (subst (λ (rs : List PartitionRow). first_too_long (map partition_of rs) (programs_of given) ≡ None) e (subst (λ (ss : List AcceptedSource). first_too_long (map partition_of other) (programs_of ss) ≡ None) f none))
 
--- a source of the part is offered
-one_offered : (row : Partition) (source : List ℕ) (a : AcceptedSource) → IsSource row source a → is_source_of_part a ≡ true → IsOffered source (program_of a.program)
-one_offered row source a h part =
-    let own = and_parts (not a.declares_port) (is_program_of_part (program_of a.program)) part in
-    record {
-      ports = λ tree written. ap declares_port (written_once (words_of source) tree h.tree written.1 h.written.1) ∙ sym h.port ∙ is_not a.declares_port own.0;
-      part = own.1;
-    }
-  where
-    is_not : (b : Bool) → not b ≡ true → b ≡ false
-    is_not true h = sym h
-    is_not false h = refl
-
-are_offered : (rows : List Partition) (sources : List (List ℕ)) (given : List AcceptedSource) → AreSources rows sources given → list_all is_source_of_part given ≡ true → AreOffered sources (programs_of given)
-are_offered [] [] [] h part = tt
-are_offered [] [] (a ∷ given) h part = absurd h
-are_offered [] (s ∷ sources) given h part = absurd h
-are_offered (r ∷ rows) [] given h part = absurd h
-are_offered (r ∷ rows) (s ∷ sources) [] h part = absurd h
-are_offered (r ∷ rows) (s ∷ sources) (a ∷ given) h part =
-    let own = and_parts (is_source_of_part a) (list_all is_source_of_part given) part in
-    (one_offered r s a h.0 own.0, are_offered rows sources given h.1 own.1)
+-- the programs of sources of the part
+parts_same : (t : Table) (given : List AcceptedSource) → are_of_part t given ≡ is_module_of_part t (programs_of given)
+parts_same t given = ap (λ b. is_table_of_part t && b) (sym (list_all-map is_program_of_part (λ (a : AcceptedSource). program_of a.program) given))
 
 -- the bytes of accepted sources of the part that are compiled
 pub built_from : {A E : Type 0} (view : A → List ℕ) (t : Table) (sources : List (List ℕ)) (given : List AcceptedSource) (answer : Result A E)
-    → AreSources t.partitions sources given → list_any is_too_long (programs_of given) ≡ false → IfOk answer (λ b. is_module_of_part t given ≡ true)
+    → AreSources t.partitions sources given → list_any is_too_long (programs_of given) ≡ false → IfOk answer (λ b. are_of_part t given ≡ true)
     → IfOk answer (λ b. view b ≡ spelling (built_image t (programs_of given))) → IfOk answer (λ b. AreCoded (programs_of given)) → IfOk answer (λ b. IsBuiltFrom t sources (view b))
 built_from view t sources given (Ok b) a short part spelled coded =
-    let own = and_parts (is_table_of_part t) (list_all is_source_of_part given) part in
     record {
       programs = programs_of given;
       accepted = are_accepted t.partitions sources given a;
       short = short;
-      table_of_part = own.0;
-      offered = are_offered t.partitions sources given a own.1;
+      part = sym (parts_same t given) ∙ part;
       coded = coded;
       spelled = spelled;
     }
 built_from view t sources given (Err e) a short part spelled coded = tt
-
--- ---- what is accepted and outside the part
-
--- sources of which one is not of the part
-one_outside : (rows : List Partition) (sources : List (List ℕ)) (given : List AcceptedSource) → AreSources rows sources given → list_all is_source_of_part given ≡ false → AreOffered sources (programs_of given) → ⊥
-one_outside [] [] [] h e offered = absurd cc
-one_outside [] [] (a ∷ given) h e offered = absurd h
-one_outside [] (s ∷ sources) given h e offered = absurd h
-one_outside (r ∷ rows) [] given h e offered = absurd h
-one_outside (r ∷ rows) (s ∷ sources) [] h e offered = absurd h
-one_outside (r ∷ rows) (s ∷ sources) (a ∷ given) h e offered =
-    let port : a.declares_port ≡ false = h.0.port ∙ offered.0.ports h.0.tree h.0.written in
-    one_outside rows sources given h.1 (rest_is a.declares_port (is_program_of_part (program_of a.program)) (list_all is_source_of_part given) port offered.0.part e) offered.1
-  where
-    rest_is : (a b c : Bool) → a ≡ false → b ≡ true → ((not a && b) && c) ≡ false → c ≡ false
-    rest_is a b c h k e = cc
 
 -- ---- with an accepted table
 
@@ -214,7 +177,7 @@ length_refused t sources given a fault.NotYet h = absurd h
 length_refused t sources given a fault.Memory h = absurd h
 
 pub part_refused : (t : Table) (sources : List (List ℕ)) (given : List AcceptedSource) → AreSources t.partitions sources given → list_any is_too_long (programs_of given) ≡ false
-    → (f : BuildFault) → IsPartRefusal (is_module_of_part t given) f → IsRefusedWith t sources f
+    → (f : BuildFault) → IsPartRefusal (are_of_part t given) f → IsRefusedWith t sources f
 part_refused t sources given a short (fault.Table f) h = absurd h
 part_refused t sources given a short fault.Sources h = absurd h
 part_refused t sources given a short (fault.Pal name f) h = absurd h
@@ -223,11 +186,8 @@ part_refused t sources given a short fault.NotYet h = record {
   programs = programs_of given;
   accepted = are_accepted t.partitions sources given a;
   short = short;
-  outside = λ part offered. one_outside t.partitions sources given a (second (is_table_of_part t) (list_all is_source_of_part given) h part) offered;
+  outside = sym (parts_same t given) ∙ h;
 }
-  where
-    second : (a b : Bool) → (a && b) ≡ false → a ≡ true → b ≡ false
-    second a b e f = cc
 part_refused t sources given a short fault.Memory h = tt
 
 pub source_refused : (t : Table) (sources : List (List ℕ)) → length sources ≡ length t.partitions → (f : BuildFault) → AreSourceRefusals t.partitions sources f → IsRefusedWith t sources f

@@ -1,6 +1,9 @@
 -- The trace of a built image is the trace of its sources.
 use Rattle.std.proofs.Common.{◌≡◌, ℕ, ◌+◌, ℤ, List, [], ◌∷◌, map, refl, ap, subst}
+use Rattle.apex_types.specs.declared.device.DeviceLine.{DeviceLine}
 use Rattle.apex_types.specs.declared.process.ProcessStatus.{ProcessStatus}
+use Rattle.apex_types.specs.declared.row.PortRow.{PortRow}
+use Rattle.apex_meaning.specs.Ports.{fresh_ports}
 use Rattle.apex_meaning.specs.CompiledCode.{section_of, process_rows, processes_place}
 use Rattle.apex_meaning.specs.Cost.{size_of_process}
 use Rattle.apex_meaning.specs.Image.{Partition, Table}
@@ -31,11 +34,13 @@ fresh_same R k initial = record { kernel = refl; controls = no_controls R k.proc
 abbrev Related : Program → SourceControl → MachineControl → Type 0
 Related p c m = Keeps (map reading (section_of p).code) p.procedures c m
 
-member_same : (fixed : Fixed) (p : Program) → IsCompiled p → SameMember (Related p) (source_member fixed p) (machine_member fixed (section_of p))
-member_same fixed p h = record {
-  engine = compiled_correctly p h.fits h.coded.code;
-  world = subst (λ (rows : List ProcessStatus). SameWorld (Related p) (fresh_world (fresh_kernel fixed (map source_row p.processes) (source_objects p)) p.initial) (fresh_world (fresh_kernel fixed rows (source_objects p)) p.initial)) (rows_same (processes_place p) p.processes) (fresh_same (Related p) (fresh_kernel fixed (map source_row p.processes) (source_objects p)) p.initial);
-}
+member_same : (fixed : Fixed) (ports : List PortRow) (p : Program) → IsCompiled p → SameMember (Related p) (source_member fixed ports p) (machine_member fixed ports (section_of p))
+member_same fixed ports p h =
+    let kernel = λ (rows : List ProcessStatus). fresh_kernel fixed rows (source_objects p) (fresh_ports ports) in
+    record {
+      engine = compiled_correctly p h.fits h.coded.code;
+      world = subst (λ (rows : List ProcessStatus). SameWorld (Related p) (fresh_world (kernel (map source_row p.processes)) p.initial) (fresh_world (kernel rows) p.initial)) (rows_same (processes_place p) p.processes) (fresh_same (Related p) (kernel (map source_row p.processes)) p.initial);
+    }
 
 -- the programs of the partitions that have one
 abbrev paired : List Partition → List Program → List Program
@@ -46,7 +51,7 @@ paired (row ∷ rows) (p ∷ ps) = p ∷ paired rows ps
 members_same : (schedule : Schedule) (number : ℕ) (rows : List Partition) (ps : List Program) → AreCompiled ps → SameMembers Related (paired rows ps) (source_members schedule number rows ps) (machine_members schedule number (built_items rows ps))
 members_same schedule number [] ps h = tt
 members_same schedule number (row ∷ rows) [] h = tt
-members_same schedule number (row ∷ rows) (p ∷ ps) h = (member_same (fixed_of schedule number row) p h.0, members_same schedule (number + 1) rows ps h.1)
+members_same schedule number (row ∷ rows) (p ∷ ps) h = (member_same (fixed_of schedule number row) row.ports p h.0, members_same schedule (number + 1) rows ps h.1)
 
-pub traces_same : (t : Table) (programs : List Program) (n : ℕ) → AreCompiled programs → source_trace t programs n ≡ machine_trace (built_image t programs) n
-traces_same t programs n h = trace_same Related t.schedule n (paired t.partitions programs) (source_members t.schedule 1 t.partitions programs) (machine_members t.schedule 1 (built_items t.partitions programs)) (members_same t.schedule 1 t.partitions programs h)
+pub traces_same : (t : Table) (programs : List Program) (lines : List DeviceLine) (n : ℕ) → AreCompiled programs → source_trace t programs lines n ≡ machine_trace (built_image t programs) lines n
+traces_same t programs lines n h = trace_same Related (record { schedule = t.schedule; channels = t.channels }) lines n (paired t.partitions programs) (source_members t.schedule 1 t.partitions programs) (machine_members t.schedule 1 (built_items t.partitions programs)) (members_same t.schedule 1 t.partitions programs h)

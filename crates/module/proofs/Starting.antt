@@ -4,13 +4,18 @@ use Rattle.std.specs.Prelude.{slice_get}
 use Rattle.std.specs.List.{flat_map}
 use Rattle.apex_types.specs.declared.event.Event.{Event}
 use Rattle.apex_types.specs.Line.{text_of}
-use Rattle.apex_meaning.specs.Module.{started_member, start_lines}
-use Rattle.apex_meaning.specs.Partition.{Member}
+use Rattle.apex_types.specs.declared.codes.StartCondition.TheVariants as condition
+use Rattle.apex_meaning.specs.Module.{Advanced, steps_member, first_tick, started_member, start_lines}
+use Rattle.apex_meaning.specs.Partition.{Member, cold_start}
 use Rattle.module.proofs.Texts.{text_append}
-use Rattle.module.specs.Members.{starts_member, members_of, AreFitting}
+use Rattle.module.specs.Members.{members_of, AreFitting}
 use Rattle.module.proofs.Members.{members_count}
 use Rattle.partition.specs.declared.partition.Partition.{Partition}
 use Rattle.partition_base.specs.declared.executor.Executor.{Ghosts}
+
+-- the first start of a partition
+abbrev pub starts_member : {C : Type 0} → List (Member C) → ℕ → Option (Member C) → Advanced C
+starts_member members place o = steps_member (cold_start first_tick condition.NormalStart) members place o
 
 -- so many have started, and the rest not
 abbrev pub started_to : {C : Type 0} → ℕ → List (Member C) → List (Member C)

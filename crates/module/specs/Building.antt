@@ -1,7 +1,9 @@
 -- What building promises, and the parts of it.
-use Rattle.std.specs.Prelude.{◌≡◌, ◌≢◌, ◌⊎◌, ℕ, Bool, true, false, nat_lt, List, [], ◌∷◌, length, if◌then◌else◌, Option, Some, None, Ok, Err}
+use Rattle.std.specs.Prelude.{◌≡◌, ◌≢◌, ◌⊎◌, ℕ, Bool, true, false, nat_lt, List, [], ◌∷◌, length, map, if◌then◌else◌, Option, Some, None, Ok, Err}
 use Rattle.std.specs.List.{list_any}
+use Rattle.apex_types.specs.declared.device.DeviceLine.{DeviceLine}
 use Rattle.apex_meaning.specs.Cost.{size_of}
+use Rattle.apex_meaning.specs.DeviceText.{row_of_item}
 use Rattle.apex_meaning.specs.Image.{Partition, Table, Image}
 use Rattle.apex_meaning.specs.ImageReading.{image_at}
 use Rattle.apex_meaning.specs.Program.{Program}
@@ -16,7 +18,7 @@ use Rattle.pal_base.specs.declared.fault.Refusal.TheVariants as refusal
 use Rattle.window_table.specs.Answers.{AnswersText}
 use Rattle.window_table.specs.declared.fault.TableFault.TheVariants as table_fault
 use Rattle.module.specs.Accepted.{IsAccepted, AreAccepted, IsTable, IsModule}
-use Rattle.module.specs.Part.{is_image_of_part, is_table_of_part, is_program_of_part, declares_port}
+use Rattle.module.specs.Part.{is_module_of_part}
 use Rattle.module.specs.declared.fault.BuildFault.{BuildFault}
 use Rattle.module.specs.declared.fault.BuildFault.TheVariants as fault
 
@@ -46,29 +48,20 @@ abbrev pub first_too_long : List Partition → List Program → Option (List ℕ
 first_too_long (row ∷ rows) (p ∷ ps) = if is_too_long p then Some row.name else first_too_long rows ps
 first_too_long _ _ = None
 
--- A source that declares no port, as a program of the part.
-pub record IsOffered (source : List ℕ) (p : Program) : Type 0 where
-  pub ports : (tree : written.Program) → IsProgramOf source tree → declares_port tree ≡ false
-  pub part : is_program_of_part p ≡ true
-
-abbrev pub AreOffered : List (List ℕ) → List Program → Type 0
-AreOffered [] [] = Unit {0}
-AreOffered (source ∷ sources) (p ∷ ps) = IsOffered source p × AreOffered sources ps
-AreOffered _ _ = ⊥
-
--- The bytes are an image's, which for every number of ticks means what the table and sources mean: these
--- are accepted, no program is too long, and they are of the part that is built.
+-- The bytes are an image's, which for all lines of the devices and every number of ticks means what the
+-- table and sources mean, and has the partitions and channels of the table: these are accepted, no program
+-- is too long, and they are of the part that is built.
 pub record IsImageOf (table : List ℕ) (sources : List (List ℕ)) (bytes : List ℕ) : Type 0 where
   pub rows : Table
   pub programs : List Program
   pub accepted : IsModule table sources rows programs
   pub short : list_any is_too_long programs ≡ false
-  pub table_of_part : is_table_of_part rows ≡ true
-  pub offered : AreOffered sources programs
+  pub part : is_module_of_part rows programs ≡ true
   pub image : Image
   pub loaded : image_at bytes ≡ Ok image
-  pub part : is_image_of_part image ≡ true
-  pub meaning : (n : ℕ) → machine_trace image n ≡ source_trace rows programs n
+  pub items : map row_of_item image.items ≡ rows.partitions
+  pub channels : image.channels ≡ rows.channels
+  pub meaning : (lines : List DeviceLine) (n : ℕ) → machine_trace image lines n ≡ source_trace rows programs lines n
 
 -- With this table the sources are accepted, and the first program that is too long is that of the
 -- partition of this name.
@@ -82,7 +75,7 @@ pub record IsOutside (t : Table) (sources : List (List ℕ)) : Type 0 where
   pub programs : List Program
   pub accepted : AreAccepted t.partitions sources programs
   pub short : list_any is_too_long programs ≡ false
-  pub outside : is_table_of_part t ≡ true → AreOffered sources programs → ⊥
+  pub outside : is_module_of_part t programs ≡ false
 
 -- ---- refusals of a module
 

@@ -11,8 +11,8 @@ use Rattle.apex_meaning.specs.ImageLimits.{IsLawful}
 use Rattle.apex_meaning.specs.ImageSpelling.{spelling}
 use Rattle.apex_meaning.specs.Instructions.{reading}
 use Rattle.module.specs.Accepted.{AreAccepted}
-use Rattle.module.specs.Building.{AreOffered, is_too_long}
-use Rattle.module.specs.Part.{is_table_of_part}
+use Rattle.module.specs.Building.{is_too_long}
+use Rattle.module.specs.Part.{is_module_of_part}
 
 -- a partition with what its program is compiled to
 abbrev pub built_item : Partition → Program → Item
@@ -56,7 +56,6 @@ pub record IsBuiltFrom (t : Table) (sources : List (List ℕ)) (bytes : List ℕ
   pub programs : List Program
   pub accepted : AreAccepted t.partitions sources programs
   pub short : list_any is_too_long programs ≡ false
-  pub table_of_part : is_table_of_part t ≡ true
-  pub offered : AreOffered sources programs
+  pub part : is_module_of_part t programs ≡ true
   pub coded : AreCoded programs
   pub spelled : bytes ≡ spelling (built_image t programs)

@@ -7,4 +7,5 @@ pub mod Loading
 pub mod Members
 pub mod Promises
 pub mod Views
+pub mod Written
 pub mod Part

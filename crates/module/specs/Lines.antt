@@ -1,6 +1,7 @@
 -- What is shown of each fault of building and running.
 use Rattle.std.specs.Prelude.{ℕ, List, ◌++◌, codes}
 use Rattle.std.specs.Fmt.{decimal}
+use Rattle.module_base.specs.Refusals.{fault_number}
 use Rattle.pal_base.specs.Numbers.{refusal_number}
 use Rattle.pal_base.specs.declared.fault.Refusal.{Refusal}
 use Rattle.pal_base.specs.declared.fault.Refusal.TheVariants as source
@@ -29,6 +30,7 @@ build_line build.Memory = codes "memory"
 
 abbrev pub run_line : RunFault → List ℕ
 run_line run.Ticks = codes "ticks"
+run_line (run.Device fault) = codes "device " ++ decimal (fault_number fault)
 run_line run.NotYet = codes "not yet"
 run_line run.Memory = codes "memory"
 run_line run.Write = codes "write"

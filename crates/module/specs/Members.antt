@@ -1,7 +1,6 @@
 -- The partitions of a running module with their memory as the definitions see them, over any
--- executor; and the start of one among them.
-use Rattle.std.specs.Prelude.{◌≡◌, ℕ, List, [], ◌∷◌, map, Option, Some, None, slice_set}
-use Rattle.apex_meaning.specs.Module.{Advanced, still, started_member, start_lines}
+-- executor.
+use Rattle.std.specs.Prelude.{◌≡◌, ℕ, List, [], ◌∷◌, map}
 use Rattle.apex_meaning.specs.Partition.{Member}
 use Rattle.partition.specs.Members.{member_of}
 use Rattle.partition.specs.declared.partition.Partition.{Partition}
@@ -20,8 +19,3 @@ layout_in g p = g.layout p.executor
 -- there are as many parts as partitions, and each has the layout of its partition's executor
 abbrev pub AreFitting : {E X : Type 0} → (g : Ghosts E X) → List (Partition E X) → List X → Type 0
 AreFitting g ps memory = map g.laid memory ≡ map (layout_in g) ps
-
--- the start of one partition, the others stay as they are
-abbrev pub starts_member : {C : Type 0} → List (Member C) → ℕ → Option (Member C) → Advanced C
-starts_member members place None = still members
-starts_member members place (Some x) = record { members = slice_set members place (started_member x); lines = start_lines x }

@@ -1,17 +1,16 @@
 -- The part of the module table and of Pal that is built so far.
-use Rattle.std.specs.Prelude.{Bool, true, false, ◌&&◌, ◌||◌, ◌==◌, nat_le, is_none, length}
-use Rattle.std.specs.List.{list_all, list_any}
+use Rattle.std.specs.Prelude.{List, Bool, true, false, ◌&&◌, nat_le, is_none}
+use Rattle.std.specs.List.{list_all}
 use Rattle.apex_types.specs.declared.codes.PartitionAction.{PartitionAction}
 use Rattle.apex_types.specs.declared.codes.PartitionAction.TheVariants as action
 use Rattle.apex_types.specs.declared.row.HealthTable.{HealthTable}
 use Rattle.apex_types.specs.declared.service.Service.{Service}
-use Rattle.apex_meaning.specs.Image.{Partition, Table, Image}
+use Rattle.apex_meaning.specs.Image.{Partition, Table}
 use Rattle.apex_meaning.specs.ServiceTable.{number_of}
-use Rattle.apex_meaning.specs.Syntax as written
 use Rattle.apex_meaning.specs.Program.{Stmt, If, IfElse, While, CallService, Block, NoStmt, MoreStmts, Procedure, Process, Program}
 
--- ---- the table: no port and no channel, and every error of a partition ignored; what is done on
--- ---- a fault of the module is not judged
+-- ---- the table: every error of a partition is ignored; what is done on a fault of the module is not
+-- ---- judged
 
 abbrev pub is_ignored : PartitionAction → Bool
 is_ignored action.Ignore = true
@@ -25,21 +24,16 @@ ignores_all h =
     && is_ignored h.stack_overflow && is_ignored h.memory_violation && is_ignored h.hardware_fault
 
 abbrev pub is_row_of_part : Partition → Bool
-is_row_of_part row = (length row.ports == 0) && ignores_all row.health
+is_row_of_part row = ignores_all row.health
 
 abbrev pub is_table_of_part : Table → Bool
-is_table_of_part t = (length t.channels == 0) && list_all is_row_of_part t.partitions
-
--- ---- images: what is run so far has no channel
-
-abbrev pub is_image_of_part : Image → Bool
-is_image_of_part image = length image.channels == 0
+is_table_of_part t = list_all is_row_of_part t.partitions
 
 -- ---- programs: without a handler
 
--- the services on the partition, on processes, on time and on objects, and the application message
+-- all but those on the error handler and its errors
 abbrev pub is_built_service : Service → Bool
-is_built_service s = nat_le (number_of s) 42 || (number_of s == 54)
+is_built_service s = nat_le (number_of s) 54
 
 -- all statements, with no other call of a service in them
 abbrev mutual
@@ -64,9 +58,7 @@ abbrev pub is_program_of_part : Program → Bool
 is_program_of_part p =
     is_none p.handler && is_block_of_part p.init.block && list_all is_procedure_of_part p.procedures && list_all is_process_of_part p.processes
 
-abbrev pub is_port : written.Kind → Bool
-is_port written.Port = true
-is_port _ = false
+-- ---- a module
 
-abbrev pub declares_port : written.Program → Bool
-declares_port tree = list_any (λ (d : written.Declaration). is_port d.kind) tree.declarations
+abbrev pub is_module_of_part : Table → List Program → Bool
+is_module_of_part t programs = is_table_of_part t && list_all is_program_of_part programs

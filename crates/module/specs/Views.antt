@@ -1,10 +1,21 @@
 -- A running module as the definitions see it, over any executor.
+use Rattle.std.specs.Prelude.{List}
 use Rattle.apex_meaning.specs.Module as meaning
+use Rattle.apex_meaning.specs.Partition.{Member}
+use Rattle.image.specs.Items.{channels_of}
 use Rattle.partition_base.specs.declared.executor.Executor.{Ghosts}
 use Rattle.regions.specs.Space.{Space}
 use Rattle.window_table.specs.Schedules.{schedule_of}
 use Rattle.module.specs.Members.{members_of}
+use Rattle.module.specs.declared.member.Plan.{Plan}
+use Rattle.module.specs.declared.member.Members.{Members}
 use Rattle.module.specs.declared.member.Module.{Module}
 
+abbrev pub plan_of : Plan → meaning.Plan
+plan_of p = record { schedule = schedule_of p.schedule; channels = channels_of p.channels.items }
+
+abbrev pub members_in : {E : Type 0} → (g : Ghosts E Space) → Members E g → List (Member g.Control)
+members_in g m = members_of g m.partitions.items m.memory
+
 abbrev pub module_of : {E : Type 0} → (g : Ghosts E Space) → Module E g → meaning.Module g.Control
-module_of g m = record { schedule = schedule_of m.schedule; members = members_of g m.partitions.items m.memory }
+module_of g m = record { plan = plan_of m.plan; members = members_in g m.members }

@@ -8,7 +8,7 @@ ghost use Rattle.module.specs.Building.{IsNotAccepted, IsSourceRefusal, AreSourc
 ghost use Rattle.module.specs.Sources.{IsSource, AreSources, programs_of, is_source_of_part};
 
 use crate::fault::BuildFault;
-use crate::part::{declares_port, is_program_of_part};
+use crate::part::is_program_of_part;
 use apex_types::Name;
 use compiler::{MOST_INSTRUCTIONS, size_of_program};
 use pal::{Checked, check};
@@ -23,8 +23,6 @@ use window_table::PartitionRow;
 pub struct AcceptedSource {
     /// Its program with the names resolved.
     pub program: Program,
-    /// Whether it declares a port.
-    pub declares_port: bool,
 }
 
 /// The sources of these partitions, in their order, if each is accepted; else the refusal of the
@@ -63,12 +61,8 @@ fn judge(alloc: Global, row: &PartitionRow, source: &[u8]) -> Result<AcceptedSou
     ensures refused { IfErr result (λ fault. IsNotAccepted (partition_of row.now) source.now fault.refusal) }
 {
     let written = parse(alloc, source)?;
-    let declares_port = declares_port(&written);
     let Checked { program } = check(alloc, written, row)?;
-    Ok(AcceptedSource {
-        program,
-        declares_port,
-    })
+    Ok(AcceptedSource { program })
 }
 
 /// The refusal of the source of the partition of that name.
@@ -126,5 +120,5 @@ pub fn are_of_part(sources: &[AcceptedSource]) -> bool
 fn is_of_part(source: &AcceptedSource) -> bool
     ensures { result ≡ is_source_of_part source.now }
 {
-    !source.declares_port && is_program_of_part(&source.program)
+    is_program_of_part(&source.program)
 }

@@ -1,16 +1,14 @@
-//! The first start of the partitions, and a tick of the module.
+//! A tick of the module.
 
-ghost use Rattle.std.specs.Prelude.{◌≡◌, ◌≢◌, ◌≤◌, ◌+◌, ◌^◌, ℕ, Some, [], length, slice_get, option_map};
+ghost use Rattle.std.specs.Prelude.{◌≡◌, ◌≤◌, ◌<◌, ◌-◌, ◌^◌, [], option_map, OnOk};
 ghost use Rattle.apex_meaning.specs.Module as meaning;
-ghost use Rattle.apex_meaning.specs.Partition.{ticked_member, tick_lines};
-ghost use Rattle.apex_meaning.specs.Windows.{owner};
-ghost use Rattle.module.specs.Members.{starts_member, members_of};
-ghost use Rattle.partition.specs.Members.{member_of};
-ghost use Rattle.window_table.specs.Schedules.{schedule_of};
+ghost use Rattle.module.specs.Views.{members_in, plan_of};
+ghost use Rattle.module.specs.Written.{IsWritten};
+ghost use Rattle.image.specs.Items.{channels_of};
 
-use crate::member::Module;
-use apex_types::{At, Events, PartitionId, StartCondition, Ticks};
-use partition::Partition;
+use crate::member::{Members, Plan};
+use crate::step::Step;
+use apex_types::{At, DeviceLine, Events, PartitionId, Sink, SinkFault, Ticks};
 use partition_base::Executor;
 use regions::PartitionMem;
 
@@ -20,99 +18,68 @@ pub const FIRST_TICK: At = At {
     origin: Ticks(0),
 };
 
-/// The first start of a partition, on its part of the memory.
-fn start_member<E: Executor>(partition: &mut Partition<E>, mem: &mut E::Mem, events: &mut Events)
-    requires fits { E.laid mem.old ≡ E.layout partition.old.executor }
-    requires empty { events.old.items ≡ [] }
-    ensures fits { E.laid mem.new ≡ E.layout partition.new.executor }
-    ensures member { member_of E.Executor partition.new mem.new ≡ meaning.started_member (member_of E.Executor partition.old mem.old) }
-    ensures lines { events.new.items ≡ meaning.start_lines (member_of E.Executor partition.old mem.old) }
-{
-    partition.clear(mem, FIRST_TICK, StartCondition::NormalStart, events);
-}
-
-/// One tick of a partition, on its part of the memory.
-fn tick_member<E: Executor>(
-    partition: &mut Partition<E>,
-    mem: &mut E::Mem,
-    at: At,
-    events: &mut Events,
-)
-    requires fits { E.laid mem.old ≡ E.layout partition.old.executor }
-    requires past { at.origin.0 ≤ at.now.0 }
-    requires now { at.now.0 ≤ 2 ^ 40 }
-    requires empty { events.old.items ≡ [] }
-    ensures fits { E.laid mem.new ≡ E.layout partition.new.executor }
-    ensures member { member_of E.Executor partition.new mem.new ≡ ticked_member at (member_of E.Executor partition.old mem.old) }
-    ensures lines { events.new.items ≡ tick_lines at (member_of E.Executor partition.old mem.old) }
-{
-    partition.tick(mem, at, events);
-}
-
-impl<E: Executor<Mem = PartitionMem>> Module<E> {
-    /// The first start of the partition at a place among them. It is lent its own part of the
-    /// memory, and no other partition's memory changes.
-    #[tactic(auto, using(crate::proofs::Members::others))]
-    pub fn start_at(&mut self, place: usize, events: &mut Events)
-        requires { events.old.items ≡ [] }
-        ensures schedule { schedule_of self.new.schedule ≡ schedule_of self.old.schedule }
-        ensures members { members_of E.Executor self.new.partitions.items self.new.memory ≡ (starts_member (members_of E.Executor self.old.partitions.items self.old.memory) place (slice_get (members_of E.Executor self.old.partitions.items self.old.memory) place)).members }
-        ensures lines { events.new.items ≡ (starts_member (members_of E.Executor self.old.partitions.items self.old.memory) place (slice_get (members_of E.Executor self.old.partitions.items self.old.memory) place)).lines }
-        ensures others { (q : ℕ) → q ≢ place → slice_get self.new.memory q ≡ slice_get self.old.memory q }
-        ensures count { length self.new.partitions.items ≡ length self.old.partitions.items }
-    {
-        if place < self.partitions.len() {
-            let mem = self.memory.lend(place);
-            start_member(&mut self.partitions[place], mem, events);
-        }
-    }
-
-    /// A tick of the partition at a place among them. It is lent its own part of the memory, and
-    /// no other partition's memory changes.
-    #[tactic(auto, using(crate::proofs::Members::others))]
-    fn tick_at(&mut self, place: usize, at: At, events: &mut Events)
+impl<E: Executor<Mem = PartitionMem>> Members<E> {
+    /// A tick of the partition whose window it is, if there is one.
+    fn tick_owner<S: Sink>(
+        &mut self,
+        at: At,
+        owner: Option<PartitionId>,
+        events: &mut Events,
+        sink: &mut S,
+    ) -> Result<(), SinkFault>
         requires past { at.origin.0 ≤ at.now.0 }
         requires now { at.now.0 ≤ 2 ^ 40 }
         requires empty { events.old.items ≡ [] }
-        ensures schedule { schedule_of self.new.schedule ≡ schedule_of self.old.schedule }
-        ensures members { members_of E.Executor self.new.partitions.items self.new.memory ≡ (meaning.ticks_member at (members_of E.Executor self.old.partitions.items self.old.memory) place (slice_get (members_of E.Executor self.old.partitions.items self.old.memory) place)).members }
-        ensures lines { events.new.items ≡ (meaning.ticks_member at (members_of E.Executor self.old.partitions.items self.old.memory) place (slice_get (members_of E.Executor self.old.partitions.items self.old.memory) place)).lines }
-        ensures others { (q : ℕ) → q ≢ place → slice_get self.new.memory q ≡ slice_get self.old.memory q }
+        requires failures { S.failures sink.old < 2 ^ 64 - 1 }
+        ensures empty { OnOk result (events.new.items ≡ []) }
+        ensures written { IsWritten (meaning.ticks_owner at (members_in E.Executor self.old) (option_map (λ p. p.0) owner)) (members_in E.Executor self.new) (S.taken sink.old) (S.taken sink.new) (S.failures sink.old) (S.failures sink.new) result }
     {
-        if place < self.partitions.len() {
-            let mem = self.memory.lend(place);
-            tick_member(&mut self.partitions[place], mem, at, events);
+        if let Some(partition) = owner {
+            self.write_step(partition, at, &Step::Tick, events, sink)?;
         }
+        Ok(())
     }
 
-    /// A tick of the partition of a number, if there is one.
-    fn tick_owner(&mut self, owner: Option<PartitionId>, at: At, events: &mut Events)
+    /// What the devices do in a tick, in the lines of this tick, and then what moves.
+    fn exchange<S: Sink>(
+        &mut self,
+        plan: &Plan,
+        at: At,
+        lines: &[DeviceLine],
+        events: &mut Events,
+        sink: &mut S,
+    ) -> Result<(), SinkFault>
         requires past { at.origin.0 ≤ at.now.0 }
         requires now { at.now.0 ≤ 2 ^ 40 }
         requires empty { events.old.items ≡ [] }
-        ensures schedule { schedule_of self.new.schedule ≡ schedule_of self.old.schedule }
-        ensures members { members_of E.Executor self.new.partitions.items self.new.memory ≡ (meaning.ticks_owner at (members_of E.Executor self.old.partitions.items self.old.memory) (option_map (λ p. p.0) owner)).members }
-        ensures lines { events.new.items ≡ (meaning.ticks_owner at (members_of E.Executor self.old.partitions.items self.old.memory) (option_map (λ p. p.0) owner)).lines }
-        ensures others { (q : ℕ) → option_map (λ p. p.0) owner ≢ Some (q + 1) → slice_get self.new.memory q ≡ slice_get self.old.memory q }
+        requires failures { S.failures sink.old < 2 ^ 64 - 1 }
+        requires lines { meaning.of_tick at.now.0 lines.now ≡ lines.now }
+        ensures empty { OnOk result (events.new.items ≡ []) }
+        ensures written { IsWritten (meaning.exchanges (plan_of plan.now) at lines.now (members_in E.Executor self.old)) (members_in E.Executor self.new) (S.taken sink.old) (S.taken sink.new) (S.failures sink.old) (S.failures sink.new) result }
     {
-        match owner {
-            Some(PartitionId(0)) | None => {}
-            Some(PartitionId(number)) => self.tick_at(usize::from(number - 1), at, events),
-        }
+        let channels = plan.channels.as_slice();
+        self.input_all(channels, at, lines, events, sink)?;
+        self.move_ended(channels, at, plan.schedule.ended(at), events, sink)
     }
 
-    /// One tick: that of the window's partition, if there is one. No other partition's memory
-    /// changes.
-    pub fn tick(&mut self, at: At, events: &mut Events)
+    /// A tick of the module with the devices' lines of this tick.
+    pub fn tick<S: Sink>(
+        &mut self,
+        plan: &Plan,
+        at: At,
+        lines: &[DeviceLine],
+        events: &mut Events,
+        sink: &mut S,
+    ) -> Result<(), SinkFault>
         requires past { at.origin.0 ≤ at.now.0 }
         requires now { at.now.0 ≤ 2 ^ 40 }
         requires empty { events.old.items ≡ [] }
-        ensures schedule { schedule_of self.new.schedule ≡ schedule_of self.old.schedule }
-        ensures members { members_of E.Executor self.new.partitions.items self.new.memory ≡ (meaning.module_tick (schedule_of self.old.schedule) at (members_of E.Executor self.old.partitions.items self.old.memory)).members }
-        ensures lines { events.new.items ≡ (meaning.module_tick (schedule_of self.old.schedule) at (members_of E.Executor self.old.partitions.items self.old.memory)).lines }
-        ensures others { (q : ℕ) → owner (schedule_of self.old.schedule) at ≢ Some (q + 1) → slice_get self.new.memory q ≡ slice_get self.old.memory q }
+        requires failures { S.failures sink.old < 2 ^ 64 - 1 }
+        requires lines { meaning.of_tick at.now.0 lines.now ≡ lines.now }
+        ensures empty { OnOk result (events.new.items ≡ []) }
+        ensures written { IsWritten (meaning.module_tick (plan_of plan.now) at lines.now (members_in E.Executor self.old)) (members_in E.Executor self.new) (S.taken sink.old) (S.taken sink.new) (S.failures sink.old) (S.failures sink.new) result }
     {
-        let owner = self.schedule.owner(at);
-        self.tick_owner(owner, at, events);
+        self.exchange(plan, at, lines, events, sink)?;
+        self.tick_owner(at, plan.schedule.owner(at), events, sink)
     }
 }

@@ -11,7 +11,7 @@ ghost use Rattle.window_table.specs.Views.{table_of};
 ghost use Rattle.module.specs.Accepted.{IsJudged, IsTable};
 ghost use Rattle.module.specs.Building.{IsImageOf, IsRefusal, IsRefusedWith, IsTableRefusal, IsPartRefusal, is_too_long};
 ghost use Rattle.module.specs.Built.{BecomesLawful, IsBuiltFrom, IsCoded, AreCoded, built_image, built_item, built_items};
-ghost use Rattle.module.specs.Sources.{programs_of, is_module_of_part};
+ghost use Rattle.module.specs.Sources.{programs_of, are_of_part};
 
 use crate::accepting::{AcceptedSource, accept_sources, are_of_part, judge_lengths};
 use crate::fault::BuildFault;
@@ -79,8 +79,8 @@ fn build_accepted(
     requires short { list_any is_too_long (programs_of sources.now) ≡ false }
     ensures spelled { IfOk result (λ bytes. bytes.items ≡ spelling (built_image (table_of table) (programs_of sources.now))) }
     ensures coded { IfOk result (λ bytes. AreCoded (programs_of sources.now)) }
-    ensures offered { IfOk result (λ bytes. is_module_of_part (table_of table) sources.now ≡ true) }
-    ensures refused { IfErr result (λ fault. IsPartRefusal (is_module_of_part (table_of table) sources.now) fault) }
+    ensures offered { IfOk result (λ bytes. are_of_part (table_of table) sources.now ≡ true) }
+    ensures refused { IfErr result (λ fault. IsPartRefusal (are_of_part (table_of table) sources.now) fault) }
 {
     if !is_table_of_part(&table) || !are_of_part(sources) {
         return Err(BuildFault::NotYet);

@@ -6,7 +6,8 @@ ghost use Rattle.module.specs.declared.fault.BuildAndRunFault.TheVariants as bot
 ghost use Rattle.module.specs.declared.fault.RunFault.TheVariants as run;
 ghost use Rattle.module.specs.Lines.{build_line, line_of_both, run_line};
 
-use apex_types::Name;
+use apex_types::{DeviceFault, Name};
+use module_base::fault_number;
 use pal_base::fault::{PalFault, Refusal};
 use std::alloc::{AllocError, AllocFailed};
 use std::error::Error;
@@ -66,7 +67,9 @@ impl Error for BuildFault {}
 pub enum RunFault {
     /// More than 2^40 ticks are wanted.
     Ticks,
-    /// The image or the device text is refused, or is outside the part that is run so far.
+    /// The device text is refused for the image.
+    Device(DeviceFault),
+    /// The image is refused, or the device text has a fault, which is not served so far.
     NotYet,
     Memory,
     /// The sink failed. What it took is a beginning of the trace's text.
@@ -79,6 +82,7 @@ impl fmt::Display for RunFault {
     fn fmt<W: fmt::Write>(&self, f: &mut fmt::Formatter<W>) -> fmt::Result {
         match self {
             RunFault::Ticks => write!(f, "ticks"),
+            RunFault::Device(fault) => write!(f, "device {}", fault_number(*fault)),
             RunFault::NotYet => write!(f, "not yet"),
             RunFault::Memory => write!(f, "memory"),
             RunFault::Write => write!(f, "write"),

@@ -4,11 +4,14 @@
 mod accepting;
 mod advance;
 mod building;
+mod exchange;
 mod fault;
 mod load;
 mod member;
 mod part;
 mod running;
+mod step;
+mod ticks;
 
 pub use building::build;
 pub use fault::{BuildAndRunFault, BuildFault, RunFault};

@@ -13,11 +13,12 @@ ghost use Rattle.module.specs.Members.{members_of, AreFitting};
 ghost use Rattle.module.specs.Views.{module_of};
 ghost use Rattle.window_table.specs.Schedules.{schedule_of};
 
-use crate::member::Module;
+use crate::member::{Members, Module, Plan};
 use apex_types::{PartitionId, Section};
 use image::{Image, PartitionItem};
 use partition::{Fixed, Kernel, Partition};
 use partition_base::{Machine, memory_plan};
+use ports::Ports;
 use regions::Memory;
 use std::alloc::{AllocError, Global};
 use sync_objects_base::Objects;
@@ -26,16 +27,19 @@ use window_table::{PartitionRow, Schedule};
 impl Module<Machine> {
     /// The partitions of an image, idle, with nothing created. An error is one of memory.
     #[tactic(auto, using(crate::proofs::Lawful::fitting_items))]
-    pub fn load(alloc: Global, image: &Image) -> Result<Module<Machine>, AllocError>
-        ensures { IfOk result (λ loaded. module_of machine loaded ≡ machine_module (image_of image.now)) }
+    pub fn load(alloc: Global, image: Image) -> Result<Module<Machine>, AllocError>
+        ensures { IfOk result (λ loaded. module_of machine loaded ≡ machine_module (image_of image)) }
     {
-        let schedule = image.schedule.try_clone(alloc)?;
-        let partitions = load_partitions(alloc, &schedule, image.partitions.as_slice())?;
-        let memory = load_memory(alloc, image.partitions.as_slice())?;
+        let items = image.partitions.as_slice();
+        let partitions = load_partitions(alloc, &image.schedule, items)?;
+        let memory = load_memory(alloc, items)?;
+        let plan = Plan {
+            schedule: image.schedule,
+            channels: image.channels,
+        };
         Ok(Module {
-            schedule,
-            partitions,
-            memory,
+            plan,
+            members: Members { partitions, memory },
         })
     }
 }
@@ -112,12 +116,13 @@ fn load_partition(
     item: &PartitionItem,
 ) -> Result<Partition<Machine>, AllocError>
     requires { IsFittingItem item.now }
-    ensures member { IfOk result (λ partition. member_of machine partition (fresh_item item.now) ≡ machine_member (view fixed) (section_of item.now.section)) }
+    ensures member { IfOk result (λ partition. member_of machine partition (fresh_item item.now) ≡ machine_member (view fixed) item.now.row.ports.items (section_of item.now.section)) }
     ensures fits { IfOk result (λ partition. laid_of (fresh_item item.now) ≡ layout_of partition.executor) }
 {
     let section = &item.section;
     let executor = Machine::new(alloc, section)?;
     let objects = load_objects(alloc, section)?;
-    let kernel = Kernel::new(alloc, fixed, &section.processes, objects)?;
+    let ports = Ports::new(alloc, &item.row.ports)?;
+    let kernel = Kernel::new(alloc, fixed, &section.processes, objects, ports)?;
     Ok(Partition::new(kernel, executor))
 }

@@ -5,14 +5,27 @@ ghost use Rattle.module.specs.Members.{AreFitting};
 use partition::Partition;
 use partition_base::Executor;
 use regions::{Memory, PartitionMem};
-use window_table::Schedule;
+use window_table::{ChannelRow, Schedule};
 
-/// The partitions of an image in their order, the memory of all of them, and the major frame with
-/// its windows. Each partition is lent its own part of the memory.
+/// What no tick of the module changes: the major frame with its windows, and the channels.
 #[derive(Drop)]
-pub struct Module<E: Executor<Mem = PartitionMem>> {
+pub struct Plan {
     pub schedule: Schedule,
+    pub channels: Vec<ChannelRow>,
+}
+
+/// The partitions of an image in their order, and the memory of all of them. Each partition is lent
+/// its own part of the memory.
+#[derive(Drop)]
+pub struct Members<E: Executor<Mem = PartitionMem>> {
     pub partitions: Vec<Partition<E>>,
     pub memory: Memory,
     ghost fit: { AreFitting E.Executor partitions.items memory },
+}
+
+/// A module that runs.
+#[derive(Drop)]
+pub struct Module<E: Executor<Mem = PartitionMem>> {
+    pub plan: Plan,
+    pub members: Members<E>,
 }

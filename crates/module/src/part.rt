@@ -1,17 +1,13 @@
 //! The part of Pal and of the module table that is built so far.
 
-ghost use Rattle.std.specs.Prelude.{◌≡◌, []};
-ghost use Rattle.std.specs.List.{list_all, list_any};
-ghost use Rattle.image.specs.Views.{image_of};
+ghost use Rattle.std.specs.Prelude.{◌≡◌};
+ghost use Rattle.std.specs.List.{list_all};
 ghost use Rattle.pal_base.specs.ProgramView.{stmt_of, block_of, procedure_of, process_of, program_of};
-ghost use Rattle.pal_base.specs.View as written;
 ghost use Rattle.window_table.specs.Views.{partition_view, table_of};
-ghost use Rattle.module.specs.Part.{ignores_all, is_image_of_part, is_row_of_part, is_table_of_part, is_built_service, is_stmt_of_part, is_block_of_part, is_procedure_of_part, is_process_of_part, is_program_of_part, is_ignored, is_port, declares_port};
+ghost use Rattle.module.specs.Part.{ignores_all, is_row_of_part, is_table_of_part, is_built_service, is_stmt_of_part, is_block_of_part, is_procedure_of_part, is_process_of_part, is_program_of_part, is_ignored};
 
 use apex_types::{HealthTable, PartitionAction, Service};
-use image::Image;
 use pal_base::program::{Procedure, Process, Program, Stmt};
-use pal_base::syntax::{self, Declaration, DeclarationKind};
 use window_table::{ModuleTable, PartitionRow};
 
 fn is_ignored(action: PartitionAction) -> bool
@@ -35,51 +31,21 @@ fn ignores_all(health: &HealthTable) -> bool
 fn is_row_of_part(row: &PartitionRow) -> bool
     ensures { result ≡ is_row_of_part (partition_view row.now) }
 {
-    row.ports.is_empty() && ignores_all(&row.health)
+    ignores_all(&row.health)
 }
 
-/// Whether a table is of the part: no port and no channel, and every error of a partition ignored.
+/// Whether a table is of the part: every error of a partition is ignored.
 #[tactic(auto, using(crate::proofs::Parts::table_is))]
 pub fn is_table_of_part(table: &ModuleTable) -> bool
     ensures { result ≡ is_table_of_part (table_of table.now) }
 {
-    table.channels.is_empty() && are_rows_of_part(&table.partitions)
-}
-
-/// Whether an image is of the part that is run: it has no channel.
-#[tactic(auto, using(crate::proofs::Parts::channels_are))]
-pub fn is_image_of_part(image: &Image) -> bool
-    ensures { result ≡ is_image_of_part (image_of image.now) }
-{
-    image.channels.is_empty()
+    are_rows_of_part(&table.partitions)
 }
 
 fn are_rows_of_part(rows: &[PartitionRow]) -> bool
     ensures { result ≡ list_all (λ row. is_row_of_part (partition_view row)) rows.now }
 {
     rows.iter().all(|row| is_row_of_part(row))
-}
-
-/// Whether a port is declared.
-#[tactic(auto, using(crate::proofs::Parts::ports_are))]
-pub fn declares_port(program: &syntax::Program) -> bool
-    ensures { result ≡ declares_port (written.program_of program.now) }
-{
-    has_port(&program.declarations)
-}
-
-fn has_port(declarations: &[Declaration]) -> bool
-    ensures { result ≡ list_any (λ declaration. is_port (written.declared_of [] declaration.kind)) declarations.now }
-{
-    declarations
-        .iter()
-        .any(|declaration| is_port(&declaration.kind))
-}
-
-fn is_port(kind: &DeclarationKind) -> bool
-    ensures { result ≡ is_port (written.declared_of [] kind.now) }
-{
-    matches!(kind, DeclarationKind::Port)
 }
 
 /// Whether a program is of the part: without a handler, and with no service but those that are
@@ -147,11 +113,9 @@ fn is_stmt_of_part(stmt: &Stmt) -> bool
     }
 }
 
-/// Whether a service is built: those on the partition, on processes, on time and on objects, and
-/// REPORT_APPLICATION_MESSAGE.
+/// Whether a service is built: all but those on the error handler and its errors.
 fn is_built_service(service: Service) -> bool
     ensures { result ≡ is_built_service service }
 {
-    let number = service.number();
-    number <= 42 || number == 54
+    service.number() <= 54
 }

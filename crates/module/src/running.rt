@@ -1,35 +1,34 @@
 //! Running an image: its partitions in their windows, tick by tick, and the text of their trace.
 
-ghost use Rattle.std.specs.Prelude.{◌≡◌, ◌≤◌, ◌<◌, ◌+◌, ◌-◌, ◌^◌, [], true, Ok, map, IfOk, IfErr, OnOk, OnErr, IsErrOf};
-ghost use Rattle.std.specs.Io.KnownBytes.{Appends};
-ghost use Rattle.apex_types.specs.Line.{text_of};
-ghost use Rattle.apex_types.specs.Sink.{TakesBeginning};
-ghost use Rattle.apex_meaning.specs.Module as meaning;
+ghost use Rattle.std.specs.Prelude.{◌≡◌, ◌≤◌, ◌<◌, ◌+◌, ◌-◌, ◌^◌, Ok, map, IfOk, IfErr, OnOk, IsErrOf};
+ghost use Rattle.apex_meaning.specs.DeviceText.{verdict_for, has_fault, is_fault};
 ghost use Rattle.apex_meaning.specs.ImageReading.{image_at};
+ghost use Rattle.apex_meaning.specs.TwoMeanings.{machine_trace};
 ghost use Rattle.image.specs.Views.{image_of};
-ghost use Rattle.window_table.specs.Schedules.{schedule_of};
-ghost use Rattle.module.specs.Part.{is_image_of_part};
-ghost use Rattle.module.specs.Promises.{IsRefused, Means, Runs};
-ghost use Rattle.module.specs.Members.{members_of};
-ghost use Rattle.module.specs.Views.{module_of};
+ghost use Rattle.module.specs.Promises.{AreRefused, AreTaken, IsRefused, Means, Runs, RunsImage};
+ghost use Rattle.module.specs.Written.{AreFrom};
 
-use crate::advance::FIRST_TICK;
 use crate::building::build;
 use crate::fault::{BuildAndRunFault, RunFault};
 use crate::member::Module;
-use crate::part::is_image_of_part;
-use apex_types::{At, Events, Sink, SinkFault, Ticks, write_events};
+use crate::ticks::run_module;
+use apex_types::{DeviceInput, DeviceLine, Sink, SinkFault};
 use image::{Image, ImageFault, load_image};
-use partition_base::{Executor, Machine};
-use regions::PartitionMem;
+use module_base::{DeviceTextFault, read_devices};
 use std::alloc::Global;
 
 /// The most ticks of a run, 2^40.
 pub const MOST_TICKS: u64 = 1_099_511_627_776;
 
-/// Runs the image for so many ticks and writes the text of its trace into the sink. After
-/// [`RunFault::Write`] the sink has taken a beginning of that text; every other refusal comes
-/// before the first byte.
+/// Runs the image for so many ticks, with what the device text says, and writes the text of its trace
+/// into the sink. After [`RunFault::Write`] the sink has taken a beginning of that text; every other
+/// refusal comes before the first byte.
+///
+/// # Errors
+///
+/// In this order: more ticks than 2^40; an image that is refused; the lowest rule that the first wrong
+/// line of the device text breaks; a device text with a fault. Want of memory may come before a later
+/// one is reached.
 pub fn run<S: Sink>(
     alloc: Global,
     image: &[u8],
@@ -46,115 +45,85 @@ pub fn run<S: Sink>(
         return Err(RunFault::Ticks);
     }
     let image = load(alloc, image)?;
-    if !devices.is_empty() {
-        return Err(RunFault::NotYet);
-    }
-    let Ok(mut module) = Module::load(alloc, &image) else {
+    let lines = take_devices(alloc, &image, devices)?;
+    run_image(alloc, image, &lines, ticks, sink)
+}
+
+/// Runs an image with these lines of the devices.
+fn run_image<S: Sink>(
+    alloc: Global,
+    image: Image,
+    lines: &[DeviceLine],
+    ticks: u64,
+    sink: &mut S,
+) -> Result<(), RunFault>
+    requires ticks { ticks ≤ 2 ^ 40 }
+    requires order { AreFrom 0 lines.now }
+    requires failures { S.failures sink.old < 2 ^ 64 - 1 }
+    ensures trace { RunsImage (machine_trace (image_of image) lines.now ticks) (S.taken sink.old) (S.taken sink.new) result }
+    ensures ok { OnOk result (S.failures sink.new ≡ S.failures sink.old) }
+    ensures write { IsErrOf result RunFault.Write → S.failures sink.new ≡ S.failures sink.old + 1 }
+{
+    let Ok(mut module) = Module::load(alloc, image) else {
         return Err(RunFault::Memory);
     };
-    match run_module(&mut module, ticks, sink) {
+    match run_module(&mut module, lines, ticks, sink) {
         Ok(()) => Ok(()),
         Err(SinkFault) => Err(RunFault::Write),
     }
 }
 
-/// The image that the bytes are, if it is of the part that is run so far.
+/// The image that the bytes are.
 fn load(alloc: Global, bytes: &[u8]) -> Result<Image, RunFault>
     ensures read { IfOk result (λ image. image_at bytes.now ≡ Ok (image_of image)) }
-    ensures part { IfOk result (λ image. is_image_of_part (image_of image) ≡ true) }
     ensures refused { IfErr result (λ fault. IsRefused (image_at bytes.now) fault) }
 {
-    let image = match load_image(alloc, bytes) {
-        Ok(image) => image,
-        Err(ImageFault::Memory) => return Err(RunFault::Memory),
-        Err(_) => return Err(RunFault::NotYet),
-    };
-    if !is_image_of_part(&image) {
-        return Err(RunFault::NotYet);
+    match load_image(alloc, bytes) {
+        Ok(image) => Ok(image),
+        Err(ImageFault::Memory) => Err(RunFault::Memory),
+        Err(_) => Err(RunFault::NotYet),
     }
-    Ok(image)
 }
 
-/// The start of each partition, then so many ticks; without a tick nothing happens.
-fn run_module<E: Executor<Mem = PartitionMem>, S: Sink>(
-    running: &mut Module<E>,
-    ticks: u64,
-    sink: &mut S,
-) -> Result<(), SinkFault>
-    requires ticks { ticks ≤ 2 ^ 40 }
-    requires failures { S.failures sink.old < 2 ^ 64 - 1 }
-    ensures ok { OnOk result (Appends (S.taken sink.old) (S.taken sink.new) (text_of (meaning.trace (module_of E.Executor running.old) ticks))) }
-    ensures quiet { OnOk result (S.failures sink.new ≡ S.failures sink.old) }
-    ensures failed { OnErr result (S.failures sink.new ≡ S.failures sink.old + 1) }
-    ensures beginning { OnErr result (TakesBeginning (S.taken sink.old) (S.taken sink.new) (text_of (meaning.trace (module_of E.Executor running.old) ticks))) }
+/// The lines of a device text for an image, none of them of a fault.
+#[tactic(auto, using(crate::proofs::Devices::read_in_order))]
+fn take_devices(alloc: Global, image: &Image, text: &[u8]) -> Result<Vec<DeviceLine>, RunFault>
+    ensures taken { IfOk result (λ lines. AreTaken (verdict_for (image_of image.now) text.now) lines.items) }
+    ensures order { IfOk result (λ lines. AreFrom 0 lines.items) }
+    ensures refused { IfErr result (λ fault. AreRefused (verdict_for (image_of image.now) text.now) fault) }
 {
-    if ticks == 0 {
-        return Ok(());
+    match read_devices(alloc, image, text) {
+        Ok(lines) => {
+            if has_fault(&lines) {
+                Err(RunFault::NotYet)
+            } else {
+                Ok(lines)
+            }
+        }
+        Err(DeviceTextFault::Line(fault)) => Err(RunFault::Device(fault)),
+        Err(DeviceTextFault::Memory) => Err(RunFault::Memory),
     }
-    let mut events = Events::new();
-    start(running, &mut events, sink)?;
-    run_ticks(running, ticks, &mut events, sink)
 }
 
-/// The first start of each partition, in order.
-fn start<E: Executor<Mem = PartitionMem>, S: Sink>(
-    running: &mut Module<E>,
-    events: &mut Events,
-    sink: &mut S,
-) -> Result<(), SinkFault>
-    requires empty { events.old.items ≡ [] }
-    requires failures { S.failures sink.old < 2 ^ 64 - 1 }
-    ensures schedule { schedule_of running.new.schedule ≡ schedule_of running.old.schedule }
-    ensures members { OnOk result (members_of E.Executor running.new.partitions.items running.new.memory ≡ (meaning.starts (members_of E.Executor running.old.partitions.items running.old.memory)).members) }
-    ensures ok { OnOk result (Appends (S.taken sink.old) (S.taken sink.new) (text_of (meaning.starts (members_of E.Executor running.old.partitions.items running.old.memory)).lines)) }
-    ensures quiet { OnOk result (S.failures sink.new ≡ S.failures sink.old) }
-    ensures failed { OnErr result (S.failures sink.new ≡ S.failures sink.old + 1) }
-    ensures beginning { OnErr result (TakesBeginning (S.taken sink.old) (S.taken sink.new) (text_of (meaning.starts (members_of E.Executor running.old.partitions.items running.old.memory)).lines)) }
-    ensures empty { OnOk result (events.new.items ≡ []) }
+/// Whether a line is of a fault.
+fn has_fault(lines: &[DeviceLine]) -> bool
+    ensures { result ≡ has_fault lines.now }
 {
-    let mut place = 0;
-    while place < running.partitions.len() {
-        running.start_at(place, events);
-        write_events(events.as_slice(), sink)?;
-        events.clear();
-        place += 1;
-    }
-    Ok(())
+    lines.iter().any(|line| is_fault(line))
 }
 
-/// So many ticks from tick 0 on.
-fn run_ticks<E: Executor<Mem = PartitionMem>, S: Sink>(
-    running: &mut Module<E>,
-    ticks: u64,
-    events: &mut Events,
-    sink: &mut S,
-) -> Result<(), SinkFault>
-    requires ticks { ticks ≤ 2 ^ 40 }
-    requires empty { events.old.items ≡ [] }
-    requires failures { S.failures sink.old < 2 ^ 64 - 1 }
-    ensures ok { OnOk result (Appends (S.taken sink.old) (S.taken sink.new) (text_of (meaning.trace_from (schedule_of running.old.schedule) ticks meaning.first_tick (members_of E.Executor running.old.partitions.items running.old.memory)))) }
-    ensures quiet { OnOk result (S.failures sink.new ≡ S.failures sink.old) }
-    ensures failed { OnErr result (S.failures sink.new ≡ S.failures sink.old + 1) }
-    ensures beginning { OnErr result (TakesBeginning (S.taken sink.old) (S.taken sink.new) (text_of (meaning.trace_from (schedule_of running.old.schedule) ticks meaning.first_tick (members_of E.Executor running.old.partitions.items running.old.memory)))) }
+fn is_fault(line: &DeviceLine) -> bool
+    ensures { result ≡ is_fault line.now }
 {
-    let mut left = ticks;
-    let mut at = FIRST_TICK;
-    while left > 0 {
-        running.tick(at, events);
-        write_events(events.as_slice(), sink)?;
-        events.clear();
-        left -= 1;
-        at = At {
-            now: Ticks(at.now.0 + 1),
-            origin: at.origin,
-        };
+    match line.input {
+        DeviceInput::Message(..) => false,
+        DeviceInput::ModuleFault | DeviceInput::PartitionFault(_) => true,
     }
-    Ok(())
 }
 
-/// Builds a module table and its sources, and runs the image for so many ticks. What goes into the
-/// sink is the text of the trace that the sources mean, a beginning of it where the sink fails, and
-/// nothing where they are refused.
+/// Builds a module table and its sources, and runs the image for so many ticks with what the device
+/// text says. What goes into the sink is the text of the trace that the sources mean, a beginning of it
+/// where the sink fails, and nothing where they are refused.
 pub fn build_and_run<S: Sink>(
     alloc: Global,
     table: &[u8],

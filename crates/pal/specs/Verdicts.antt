@@ -1,11 +1,14 @@
 -- When an answer of the check is the verdict on the program.
-use Rattle.std.specs.Prelude.{◌≡◌, Result, Ok, Err}
+use Rattle.std.specs.Prelude.{◌≡◌, ℕ, List, not, if◌then◌else◌, Result, Ok, Err}
 use Rattle.apex_meaning.specs.Program as tree
-use Rattle.apex_meaning.specs.WellFormed.{Refused, ByName, ByKind, ByLimit, ByPeriod}
+use Rattle.apex_meaning.specs.Resolve.{Entry}
+use Rattle.apex_meaning.specs.Syntax as written
+use Rattle.apex_meaning.specs.WellFormed.{Refused, ByName, ByKind, ByLimit, ByPeriod, holds_of_bodies, kinds_hold_in_body, periods_hold}
 use Rattle.pal_base.specs.ProgramView.{program_of}
 use Rattle.pal_base.specs.declared.fault.PalFault.{PalFault}
 use Rattle.pal_base.specs.declared.fault.Refusal.{Refusal}
 use Rattle.pal_base.specs.declared.fault.Refusal.TheVariants as refusal
+use Rattle.pal.specs.Parts.{limits_hold_among, resolve_among}
 use Rattle.pal.specs.declared.verdict.Checked.{Checked}
 
 -- a refusal has the number of the verdict; want of memory says nothing of it
@@ -21,3 +24,11 @@ Refuses refusal.Memory verdict = Unit {0}
 abbrev pub Answers : Result Checked PalFault → Result tree.Program Refused → Type 0
 Answers (Ok checked) verdict = verdict ≡ Ok (program_of checked.program)
 Answers (Err fault) verdict = Refuses fault.refusal verdict
+
+-- the verdict on a program whose names hold, over the entries of its declared names
+abbrev pub verdict_among : List Entry → ℕ → written.Program → Result tree.Program Refused
+verdict_among declared period p =
+    if not (holds_of_bodies (kinds_hold_in_body declared) p) then Err ByKind
+    else if not (limits_hold_among declared p) then Err ByLimit
+    else if not (periods_hold period p) then Err ByPeriod
+    else Ok (resolve_among declared p)

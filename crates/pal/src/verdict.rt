@@ -3,7 +3,8 @@
 ghost use Rattle.std.specs.Prelude.{◌≡◌, is_ok, IfErr};
 ghost use Rattle.apex_meaning.specs.WellFormed as well_formed;
 ghost use Rattle.pal_base.specs.View.{program_of};
-ghost use Rattle.pal.specs.Verdicts.{Answers};
+ghost use Rattle.pal.specs.Tables.{entries_of};
+ghost use Rattle.pal.specs.Verdicts.{Answers, verdict_among};
 
 use crate::kinds::check_kinds;
 use crate::limits::check_limits;
@@ -12,6 +13,7 @@ use crate::meanings::declared_names;
 use crate::names::check_names;
 use crate::periods::check_periods;
 use crate::resolving::resolve;
+use crate::table::NameTable;
 use pal_base::fault::{PalFault, Refusal};
 use pal_base::program;
 use pal_base::syntax::Program;
@@ -40,13 +42,25 @@ fn judged(alloc: Global, program: &Program, row: &PartitionRow) -> Result<Checke
     let declared = declared_names(alloc, program, &row.ports)?;
     let names = check_names(alloc, &declared.table, program)?;
     refused_by(Refusal::Name, earliest(declared.fresh, names))?;
-    let kinds = check_kinds(alloc, &declared.table, program)?;
+    well_formed(alloc, &declared.table, program, row.period)
+}
+
+/// As [`check`], of a program whose names hold, over the table of its declared names.
+fn well_formed(
+    alloc: Global,
+    declared: &NameTable,
+    program: &Program,
+    period: u32,
+) -> Result<Checked, PalFault>
+    ensures { Answers result (verdict_among (entries_of declared.now) period (program_of program.now)) }
+{
+    let kinds = check_kinds(alloc, declared, program)?;
     refused_by(Refusal::Kind, kinds)?;
-    let limits = check_limits(alloc, &declared.table, program)?;
+    let limits = check_limits(alloc, declared, program)?;
     refused_by(Refusal::Limit, limits)?;
-    let periods = check_periods(&program.processes, row.period);
+    let periods = check_periods(&program.processes, period);
     refused_by(Refusal::Period, periods)?;
-    let program = resolve(alloc, &declared.table, program)?;
+    let program = resolve(alloc, declared, program)?;
     Ok(Checked { program })
 }
 

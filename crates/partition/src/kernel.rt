@@ -15,6 +15,7 @@ use crate::fixed::Fixed;
 use apex_types::{
     At, ErrorKind, MOST_PROCESSES, Mode, Name, Out, ProcessRow, Runner, StartCondition, Subject,
 };
+use ports::Ports;
 use process_table_base::{Points, ProcessTable};
 use std::alloc::{AllocError, Global};
 use std::marker::Model;
@@ -29,6 +30,7 @@ pub struct Kernel {
     pub(crate) condition: StartCondition,
     pub(crate) processes: ProcessTable,
     pub(crate) objects: Objects,
+    pub(crate) ports: Ports,
 }
 
 impl Model for Kernel {
@@ -42,17 +44,18 @@ impl Model for Kernel {
 }
 
 impl Kernel {
-    /// A partition in idle mode with nothing created, of these processes and objects. An error is one
-    /// of memory.
+    /// A partition in idle mode with nothing created, of these processes, objects and ports. An error
+    /// is one of memory.
     pub fn new(
         alloc: Global,
         fixed: Fixed,
         processes: &[ProcessRow],
         objects: Objects,
+        ports: Ports,
     ) -> Result<Kernel, AllocError>
         requires few { length processes.now ≤ MOST_PROCESSES }
         requires short { AreShort processes.now }
-        ensures { IfOk result (λ kernel. kernel ≡ fresh_kernel (fixed_of fixed) (map machine_row processes.now) objects) }
+        ensures { IfOk result (λ kernel. kernel ≡ fresh_kernel (fixed_of fixed) (map machine_row processes.now) objects ports) }
     {
         Ok(Kernel {
             processes: ProcessTable::new(alloc, processes)?,
@@ -60,6 +63,7 @@ impl Kernel {
             mode: Mode::Idle,
             condition: StartCondition::NormalStart,
             objects,
+            ports,
         })
     }
 

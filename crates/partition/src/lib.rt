@@ -5,8 +5,11 @@ mod acting;
 mod errors;
 mod fixed;
 mod kernel;
+mod messages;
 mod modes;
+mod object_services;
 mod partition;
+mod port_services;
 mod services;
 mod tick;
 

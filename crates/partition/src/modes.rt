@@ -14,7 +14,7 @@ use apex_types::{
 };
 
 impl Kernel {
-    /// All processes and objects go; a cold start restores the data; unless the mode is idle, INIT
+    /// All processes and objects go, and the ports are empty; a cold start restores the data; unless the mode is idle, INIT
     /// starts.
     pub(crate) fn clear(&mut self, mode: Mode, condition: StartCondition, out: &mut Out)
         requires { HasRoom 3 out.old }
@@ -35,6 +35,7 @@ impl Kernel {
         self.condition = condition;
         self.processes.clear(mode);
         self.objects.clear();
+        self.ports.clear();
     }
 
     /// This one becomes dormant.

@@ -3,29 +3,20 @@
 ghost use Rattle.std.specs.Prelude.{◌≡◌, ◌≤◌, ◌+◌, ◌^◌, length};
 ghost use Rattle.apex_types.specs.Room.{HasRoom, Grows};
 ghost use Rattle.apex_meaning.specs.HealthServices as health;
-ghost use Rattle.apex_meaning.specs.ObjectServices.{serves_sharing};
 ghost use Rattle.apex_meaning.specs.Partition as meaning;
 ghost use Rattle.apex_meaning.specs.Step.{IsMade, IsTold};
 ghost use Rattle.processor.specs.Views.{asks_of};
-ghost use Rattle.sync_objects.specs.Both.{both};
 
 use crate::kernel::Kernel;
+use crate::object_services::serve_objects;
+use crate::port_services::{is_on_ports, serve_ports};
 use apex_types::{ArrayPlace, At, Call, EventKind, Mode, Out, ReturnCode, Runner, Service, Words};
 use process_table::{
     create_process, delayed_start, get_my_id, get_process_id, get_process_status, get_time,
     lock_preemption, periodic_wait, replenish, resume, set_priority, start, stop, suspend,
     suspend_self, timed_wait, unlock_preemption,
 };
-use process_table_base::ProcessTable;
 use processor::Outcome;
-use sync_objects::{
-    clear_blackboard, create_blackboard, create_buffer, create_event, create_semaphore,
-    display_blackboard, get_blackboard_id, get_blackboard_status, get_buffer_id, get_buffer_status,
-    get_event_id, get_event_status, get_semaphore_id, get_semaphore_status, read_blackboard,
-    receive_buffer, reset_event, send_buffer, set_event, signal_semaphore, wait_event,
-    wait_semaphore,
-};
-use sync_objects_base::Objects;
 
 impl Kernel {
     /// REPORT_APPLICATION_MESSAGE (ARINC 653 Part 1, health monitoring): the first words of those
@@ -128,7 +119,21 @@ impl Kernel {
             Call::PeriodicWait => periodic_wait(table, caller, out),
             Call::GetTime => get_time(table, at, caller, out),
             Call::Replenish { budget } => replenish(table, mode, at, caller, budget, out),
-            other => self.serve_objects(at, caller, other, words, out),
+            other => self.serve_shared(at, caller, other, words, out),
+        }
+    }
+
+    /// Serves a call on objects or ports.
+    fn serve_shared(&mut self, at: At, caller: Runner, call: Call, words: Words, out: &mut Out)
+        requires now { at.now.0 ≤ 2 ^ 40 }
+        requires room { HasRoom 94 out.old }
+        ensures step { IsMade (meaning.serves_shared at self.old caller call words.items) self.new out.old out.new }
+        ensures grows { Grows 94 out.old out.new }
+    {
+        if is_on_ports(call) {
+            self.serve_ports(at, caller, call, words, out)
+        } else {
+            self.serve_objects(at, caller, call, words, out)
         }
     }
 
@@ -141,90 +146,19 @@ impl Kernel {
     {
         let mode = self.mode;
         let table = &mut self.processes;
-        serve_sharing(table, &mut self.objects, mode, at, caller, call, words, out);
+        serve_objects(table, &mut self.objects, mode, at, caller, call, words, out);
     }
-}
 
-/// Serves a call on semaphores, events, buffers or blackboards, in a mode. A service that is not served
-/// leaves its caller without an answer.
-fn serve_sharing(
-    table: &mut ProcessTable,
-    objects: &mut Objects,
-    mode: Mode,
-    at: At,
-    caller: Runner,
-    call: Call,
-    words: Words,
-    out: &mut Out,
-)
-    requires now { at.now.0 ≤ 2 ^ 40 }
-    requires room { HasRoom 94 out.old }
-    ensures step { IsMade (serves_sharing mode at (both table.old objects.old) caller call words.items) (both table.new objects.new) out.old out.new }
-    ensures grows { Grows 94 out.old out.new }
-{
-    match call {
-        Call::CreateBuffer { name } => create_buffer(table, objects, mode, caller, name, out),
-        Call::SendBuffer {
-            buffer,
-            array,
-            length,
-            timeout,
-        } => send_buffer(
-            table, objects, at, caller, buffer, array, length, timeout, &words, out,
-        ),
-        Call::ReceiveBuffer {
-            buffer,
-            array,
-            timeout,
-        } => receive_buffer(table, objects, at, caller, buffer, array, timeout, out),
-        Call::GetBufferId { name } => get_buffer_id(table, objects, caller, name, out),
-        Call::GetBufferStatus { buffer } => {
-            get_buffer_status(table, objects, caller, buffer, out)
-        }
-        Call::CreateBlackboard { name } => {
-            create_blackboard(table, objects, mode, caller, name, out)
-        }
-        Call::DisplayBlackboard {
-            blackboard,
-            array,
-            length,
-        } => display_blackboard(
-            table, objects, caller, blackboard, array, length, &words, out,
-        ),
-        Call::ReadBlackboard {
-            blackboard,
-            array,
-            timeout,
-        } => read_blackboard(table, objects, at, caller, blackboard, array, timeout, out),
-        Call::ClearBlackboard { blackboard } => {
-            clear_blackboard(table, objects, caller, blackboard, out)
-        }
-        Call::GetBlackboardId { name } => get_blackboard_id(table, objects, caller, name, out),
-        Call::GetBlackboardStatus { blackboard } => {
-            get_blackboard_status(table, objects, caller, blackboard, out)
-        }
-        Call::CreateSemaphore { name } => {
-            create_semaphore(table, objects, mode, caller, name, out)
-        }
-        Call::WaitSemaphore { semaphore, timeout } => {
-            wait_semaphore(table, objects, at, caller, semaphore, timeout, out)
-        }
-        Call::SignalSemaphore { semaphore } => {
-            signal_semaphore(table, objects, caller, semaphore, out)
-        }
-        Call::GetSemaphoreId { name } => get_semaphore_id(table, objects, caller, name, out),
-        Call::GetSemaphoreStatus { semaphore } => {
-            get_semaphore_status(table, objects, caller, semaphore, out)
-        }
-        Call::CreateEvent { name } => create_event(table, objects, mode, caller, name, out),
-        Call::SetEvent { event } => set_event(table, objects, caller, event, out),
-        Call::ResetEvent { event } => reset_event(table, objects, caller, event, out),
-        Call::WaitEvent { event, timeout } => {
-            wait_event(table, objects, at, caller, event, timeout, out)
-        }
-        Call::GetEventId { name } => get_event_id(table, objects, caller, name, out),
-        Call::GetEventStatus { event } => get_event_status(table, objects, caller, event, out),
-        _ => {}
+    /// Serves a call on ports.
+    fn serve_ports(&mut self, at: At, caller: Runner, call: Call, words: Words, out: &mut Out)
+        requires now { at.now.0 ≤ 2 ^ 40 }
+        requires room { HasRoom 94 out.old }
+        ensures step { IsMade (meaning.serves_ports at self.old caller call words.items) self.new out.old out.new }
+        ensures grows { Grows 94 out.old out.new }
+    {
+        let mode = self.mode;
+        let table = &mut self.processes;
+        serve_ports(table, &mut self.ports, mode, at, caller, call, words, out);
     }
 }
 

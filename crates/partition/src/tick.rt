@@ -30,7 +30,7 @@ impl<E: Executor> Partition<E> {
     }
 
     /// What a step asked for is done, and what happened is told.
-    fn finish(&mut self, mem: &mut E::Mem, name: Name, at: At, events: &mut Events)
+    pub(crate) fn finish(&mut self, mem: &mut E::Mem, name: Name, at: At, events: &mut Events)
         requires fits { E.laid mem.old ≡ E.layout self.old.executor }
         requires room { length events.old.items + length self.old.out.lines.items ≤ 256 }
         ensures fits { E.laid mem.new ≡ E.layout self.new.executor }

@@ -1,3 +1,4 @@
+pub mod Announced
 pub mod Bounds
 pub mod View
 pub mod Treating

@@ -139,10 +139,8 @@ impl ProcessTable {
         self.treat_deadline(at, free, action, process, out)
     }
 
-    /// Each process in number order: its due time if it is at most now, then its deadline if it is
-    /// at most now. `free` more errors may wait for the error handler, and `action` is the
-    /// partition's for a missed deadline: an action that leads to a Clear ends the treatment.
-    pub fn due(&mut self, at: At, free: u8, action: PartitionAction, out: &mut Out) -> Treated
+    /// Each process in number order, until one of them leads to a Clear.
+    fn treat_all(&mut self, at: At, free: u8, action: PartitionAction, out: &mut Out) -> Treated
         requires now { at.now.0 ≤ 2 ^ 40 }
         requires room { HasRoom 93 out.old }
         ensures treated { IsTreated (meaning.due at free action self.old) self.new out.old out.new result }
@@ -161,6 +159,23 @@ impl ProcessTable {
             place += 1;
         }
         Treated { free, clears: None }
+    }
+
+    /// Each process in number order: its due time if it is at most now, then its deadline if it is
+    /// at most now. `free` more errors may wait for the error handler, and `action` is the
+    /// partition's for a missed deadline: an action that leads to a Clear ends the treatment.
+    pub fn due(&mut self, at: At, free: u8, action: PartitionAction, out: &mut Out) -> Treated
+        requires now { at.now.0 ≤ 2 ^ 40 }
+        requires room { HasRoom 93 out.old }
+        ensures treated { IsTreated (meaning.due at free action self.old) self.new out.old out.new result }
+        ensures grows { Grows 93 out.old out.new }
+    {
+        if !self.may_be_due(at.now) {
+            return Treated { free, clears: None };
+        }
+        let treated = self.treat_all(at, free, action, out);
+        self.renew_dues(at.now);
+        treated
     }
 }
 
@@ -187,7 +202,7 @@ fn tick_of(due: Due) -> Ticks
     }
 }
 
-fn is_past(now: Ticks, tick: Option<Ticks>) -> bool
+pub(crate) fn is_past(now: Ticks, tick: Option<Ticks>) -> bool
     ensures { result ≡ meaning.is_past now.0 tick }
 {
     match tick {

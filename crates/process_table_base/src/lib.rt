@@ -2,11 +2,14 @@
 //! of one process that services are made of.
 #![tactic(auto)]
 
+mod announce;
 mod change;
 mod choice;
 mod due;
 mod duration;
 mod find;
+mod list;
+mod message;
 mod order;
 mod serve;
 mod start;
@@ -17,6 +20,8 @@ pub use change::answer;
 pub use due::{Treated, mode_of_action};
 pub use duration::{is_delay, is_duration, time_out};
 pub use find::is_dormant;
+pub use list::list_of;
+pub use message::{first_words, is_large_enough, is_length};
 pub use start::Points;
 pub use table::{ProcessTable, is_same};
 pub use waiting::{copied, fill};

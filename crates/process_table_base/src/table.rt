@@ -1,6 +1,6 @@
 //! The records of a partition's processes, and the few ways in which they change.
 
-ghost use Rattle.std.specs.Prelude.{◌≡◌, ◌<◌, ◌≤◌, [], ◌∷◌, length, map, slice_get, slice_set, IfOk, IfSome, None, option_map};
+ghost use Rattle.std.specs.Prelude.{◌≡◌, ◌<◌, ◌≤◌, [], ◌∷◌, length, map, slice_get, slice_set, IfOk, IfSome, None, option_map, false};
 ghost use Rattle.apex_types.specs.Runners.{place_of};
 ghost use Rattle.apex_types.specs.declared.process.Lock.TheVariants as free;
 ghost use Rattle.apex_meaning.specs.PartitionServices.{cleared_processes, forgotten, ready_init, started_rows};
@@ -8,20 +8,23 @@ ghost use Rattle.apex_meaning.specs.Partition.{first_ready};
 ghost use Rattle.apex_meaning.specs.Processes as meaning;
 ghost use Rattle.apex_meaning.specs.ProcessServices.{level_of};
 ghost use Rattle.apex_meaning.specs.TwoMeanings.{fresh_row, fresh_processes, init_row, handler_row, machine_row, no_message, ticks};
+ghost use Rattle.process_table_base.specs.Announced.{AreAnnounced, IsQuiet, next_of, record_of, renewed};
 ghost use Rattle.process_table_base.specs.Bounds.{IsBounded, AreShort};
 
+use crate::announce::{announce, next_of, next_tick, renew};
 use crate::order::{self, Order};
 use apex_types::{
-    Lock, MOST_PROCESSES, MOST_RUNNERS, Mode, Priority, ProcessRow, ProcessState, ProcessStatus,
-    Runner, Subject, Ticks, WAITING_LISTS, Wait, Words,
+    Lock, MOST_PROCESSES, MOST_RUNNERS, Mode, Priority, ProcessIndex, ProcessRow, ProcessState,
+    ProcessStatus, Runner, Subject, Ticks, WAITING_LISTS, Wait, Words,
 };
-use links::Links;
+use links::{DueList, Links};
 use std::alloc::{AllocError, Global};
 use std::marker::Model;
 
 /// The processes of a partition: the records of INIT, of the error handler and of each process; those
 /// that are ready; the one that runs; the preemption lock; and those that wait for objects and ports,
-/// with what they hand in. A contract sees it as the processes of the definitions.
+/// with what they hand in. It keeps a list of what is due. A contract sees it as the processes of the
+/// definitions.
 #[derive(Drop)]
 pub struct ProcessTable {
     rows: Vec<ProcessStatus>,
@@ -30,6 +33,7 @@ pub struct ProcessTable {
     lock: Lock,
     pub(crate) queues: Links,
     pub(crate) handed: Vec<Words>,
+    dues: DueList,
 }
 
 impl Model for ProcessTable {
@@ -120,6 +124,7 @@ impl ProcessTable {
             lock: Lock::Free,
             queues: Links::new(alloc, WAITING_LISTS)?,
             handed: no_messages(alloc, processes)?,
+            dues: DueList::new(),
         })
     }
 
@@ -189,6 +194,7 @@ impl ProcessTable {
         self.running = None;
         self.lock = Lock::Free;
         self.queues.clear();
+        self.dues = DueList::new();
     }
 
     /// The first of those that are ready.
@@ -206,7 +212,7 @@ impl ProcessTable {
         requires { IsBounded row }
         ensures { self.new ≡ meaning.put_row self.old runner row }
     {
-        put_at(&mut self.rows, runner, row);
+        put_at(&mut self.rows, &mut self.dues, runner, row);
     }
 
     #[tactic(auto, using(crate::proofs::Bounds::bounds))]
@@ -216,7 +222,7 @@ impl ProcessTable {
         ensures { self.new ≡ meaning.put_ready self.old runner row }
     {
         let priority = row.current_priority;
-        put_at(&mut self.rows, runner, row);
+        put_at(&mut self.rows, &mut self.dues, runner, row);
         order::enter_ready(&mut self.ready, runner, priority);
     }
 
@@ -225,7 +231,7 @@ impl ProcessTable {
         requires { IsBounded row }
         ensures { self.new ≡ meaning.put_unready self.old runner row }
     {
-        put_at(&mut self.rows, runner, row);
+        put_at(&mut self.rows, &mut self.dues, runner, row);
         order::leave_ready(&mut self.ready, runner);
         self.running = not_running(runner, self.running);
     }
@@ -237,6 +243,41 @@ impl ProcessTable {
         self.put_unready(runner, row);
         self.lock = without_holder(runner, self.lock);
         self.leave_queues(runner);
+    }
+
+    /// Whether something may be due by a tick. Nothing is, if the first of the list is later.
+    pub(crate) fn may_be_due(&self, now: Ticks) -> bool
+        ensures { result ≡ false → IsQuiet now.0 self.now.rows }
+    {
+        match self.dues.first() {
+            Some(entry) => entry.tick.0 <= now.0,
+            None => false,
+        }
+    }
+
+    /// The first of the list is announced anew by its record, if its tick is past. Answers whether it
+    /// was.
+    fn renew_first(&mut self, now: Ticks) -> bool
+        ensures { self.new ≡ self.old }
+    {
+        match self.dues.first() {
+            Some(entry) if entry.tick.0 <= now.0 => {
+                renew_process(&mut self.dues, entry.process, &self.rows);
+                true
+            }
+            _ => false,
+        }
+    }
+
+    /// Whoever stands in the list with a tick that is past is announced anew.
+    pub(crate) fn renew_dues(&mut self, now: Ticks)
+        ensures { self.new ≡ self.old }
+    {
+        for _ in 0..self.count() {
+            if !self.renew_first(now) {
+                return;
+            }
+        }
     }
 
     /// This one waits in no list.
@@ -289,6 +330,15 @@ fn record_at(rows: &[ProcessStatus], place: usize) -> Option<ProcessStatus>
     rows.get(place).copied()
 }
 
+/// A process stands in the list of what is due by its record alone.
+fn renew_process(dues: &mut DueList, process: ProcessIndex, rows: &[ProcessStatus])
+    requires { process.0 < MOST_PROCESSES }
+    ensures { dues.new ≡ renewed process (next_of (record_of rows.now process.0)) dues.old }
+{
+    let row = record_at(rows, Runner::Process(process).place());
+    renew(dues, process, next_of(row));
+}
+
 /// Nobody is created; unless the mode is idle, INIT is ready.
 fn restart_all(rows: &mut Vec<ProcessStatus>, mode: Mode)
     ensures { rows.new.items ≡ started_rows mode (map forgotten rows.old.items) }
@@ -299,11 +349,15 @@ fn restart_all(rows: &mut Vec<ProcessStatus>, mode: Mode)
     }
 }
 
-/// Puts a record in its place, where there is one.
-fn put_at(rows: &mut Vec<ProcessStatus>, runner: Runner, row: ProcessStatus)
-    ensures { rows.new.items ≡ slice_set rows.old.items (place_of runner) row }
+/// Puts a record in its place, where there is one, and announces what is due by it.
+fn put_at(rows: &mut Vec<ProcessStatus>, dues: &mut DueList, runner: Runner, row: ProcessStatus)
+    requires few { length rows.old.items ≤ MOST_RUNNERS }
+    requires announced { AreAnnounced rows.old.items dues.old }
+    ensures rows { rows.new.items ≡ slice_set rows.old.items (place_of runner) row }
+    ensures announced { AreAnnounced rows.new.items dues.new }
 {
     if let Some(place) = rows.get_mut(runner.place()) {
+        announce(dues, runner, next_tick(place), next_tick(&row));
         *place = row;
     }
 }

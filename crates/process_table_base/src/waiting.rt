@@ -16,6 +16,7 @@ use apex_types::{
     Action, ArrayPlace, At, Entry, ListId, MOST_PROCESSES, MOST_RUNNERS, Out, ProcessIndex,
     ProcessStatus, ReturnCode, Runner, Wait, Waiting, Words,
 };
+use links::Entries;
 
 /// The same message once more.
 pub fn copied(message: &Words) -> Words
@@ -59,7 +60,7 @@ fn array_of_wait(wait: Wait) -> Option<ArrayPlace>
 
 impl ProcessTable {
     /// The process of an entry of a list, with its record.
-    fn numbered(&self, process: ProcessIndex) -> Option<(Runner, ProcessStatus)>
+    pub fn numbered(&self, process: ProcessIndex) -> Option<(Runner, ProcessStatus)>
         ensures found { result ≡ processes.numbered process (processes.row_of self.now (Runner.Process process)) }
         ensures within { IfSome result (λ found. place_of found.0 < MOST_RUNNERS) }
         ensures bounded { IfSome result (λ found. IsBounded found.1) }
@@ -81,6 +82,13 @@ impl ProcessTable {
             Some(entry) => self.numbered(entry.process),
             None => None,
         }
+    }
+
+    /// Those who wait in a list, in its order.
+    pub fn waiting(&self, list: ListId) -> Entries
+        ensures { result.items ≡ meaning.waiting self.now list.0 }
+    {
+        self.queues.entries(list)
     }
 
     /// How many wait in a list.
@@ -200,7 +208,7 @@ impl ProcessTable {
         ensures step { IsMade (meaning.releases_all (meaning.waiting self.old list.0) self.old) self.new out.old out.new }
         ensures grows { Grows 62 out.old out.new }
     {
-        let entries = self.queues.entries(list);
+        let entries = self.waiting(list);
         self.release_each(entries.as_slice(), out);
     }
 
@@ -248,7 +256,7 @@ impl ProcessTable {
         ensures step { IsMade (meaning.gives_all (meaning.waiting self.old list.0) message.now self.old) self.new out.old out.new }
         ensures grows { Grows 93 out.old out.new }
     {
-        let entries = self.queues.entries(list);
+        let entries = self.waiting(list);
         self.give_each(entries.as_slice(), message, out);
     }
 }

@@ -3,7 +3,7 @@
 use apex_types::{Call, ErrorKind};
 
 /// What one tick of a process comes to.
-#[derive(Clone, Copy, Debug, PartialEq, Eq)]
+#[derive(Clone, Copy)]
 pub enum Outcome {
     /// The tick was only counted, or the process awaits an answer: nothing else changed.
     Busy,

@@ -1,4 +1,5 @@
 mod commands;
+mod device_lines;
 mod files;
 mod first_run;
 mod flushes;

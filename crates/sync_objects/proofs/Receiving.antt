@@ -14,15 +14,16 @@ use Rattle.apex_meaning.specs.Processes.{Processes, released}
 use Rattle.apex_meaning.specs.Sharing.{Sharing, of_processes, answers, becomes}
 use Rattle.apex_meaning.specs.Step.{after, message}
 use Rattle.apex_meaning.specs.Waiting.{blocks, fills, first_waiting, handed_by}
-use Rattle.sync_objects.specs.Both.{both, delivers}
+use Rattle.apex_meaning.specs.Sharing.{both}
+use Rattle.sync_objects.specs.Both.{delivers}
 
 -- there is none
-pub receives-none : (at : At) (b : Sharing) (p : Runner) (array : ArrayPlace) (limit : ℤ) (place : ℕ) (x : Buffer) (ms : List (ArrayVec ℤ)) → slice_get ms 0 ≡ None → receives at b p array limit place x ms ≡ of_processes b (blocks at b.processes p limit (receiver place x array) (message []))
+pub receives-none : (at : At) (b : Sharing Objects) (p : Runner) (array : ArrayPlace) (limit : ℤ) (place : ℕ) (x : Buffer) (ms : List (ArrayVec ℤ)) → slice_get ms 0 ≡ None → receives at b p array limit place x ms ≡ of_processes b (blocks at b.processes p limit (receiver place x array) (message []))
 receives-none at b p array limit place x [] e = refl
 receives-none at b p array limit place x (m ∷ ms) e = absurd (search rules)
 
 -- there is one
-pub receives-some : (at : At) (b : Sharing) (p : Runner) (array : ArrayPlace) (limit : ℤ) (place : ℕ) (x : Buffer) (m : ArrayVec ℤ) (ms : List (ArrayVec ℤ)) → slice_get ms 0 ≡ Some m → receives at b p array limit place x ms ≡ after (answers b p service.ReceiveBuffer code.NoError (pos (length m.items) ∷ [])) (after (fills b (Some array) m) (admits b place (record x { messages = drop 1 ms }) (first_waiting b.processes (list place))))
+pub receives-some : (at : At) (b : Sharing Objects) (p : Runner) (array : ArrayPlace) (limit : ℤ) (place : ℕ) (x : Buffer) (m : ArrayVec ℤ) (ms : List (ArrayVec ℤ)) → slice_get ms 0 ≡ Some m → receives at b p array limit place x ms ≡ after (answers b p service.ReceiveBuffer code.NoError (pos (length m.items) ∷ [])) (after (fills b (Some array) m) (admits b place (record x { messages = drop 1 ms }) (first_waiting b.processes (list place))))
 receives-some at b p array limit place x m [] e = absurd (search rules)
 receives-some at b p array limit place x m (n ∷ ms) e = search rules
 

@@ -1,4 +1,4 @@
--- The processes and the objects of a partition as what the services read and change.
+-- What the services on objects are made of.
 use Rattle.std.specs.Prelude.{ℕ, ℤ, pos, Bool, true, false, [], ◌∷◌, length, Some}
 use Rattle.arrayvec.specs.ArrayVec.{ArrayVec}
 use Rattle.apex_types.specs.declared.codes.ReturnCode.TheVariants as code
@@ -7,13 +7,9 @@ use Rattle.apex_types.specs.declared.service.ArrayPlace.{ArrayPlace}
 use Rattle.apex_types.specs.declared.service.Service.TheVariants as service
 use Rattle.apex_meaning.specs.BufferServices.{admits, list}
 use Rattle.apex_meaning.specs.Objects.{Objects, Buffer}
-use Rattle.apex_meaning.specs.Processes.{Processes}
 use Rattle.apex_meaning.specs.Sharing.{Sharing, answers}
 use Rattle.apex_meaning.specs.Step.{Step, after}
 use Rattle.apex_meaning.specs.Waiting.{fills, first_waiting}
-
-abbrev pub both : Processes → Objects → Sharing
-both processes objects = record { processes = processes; objects = objects }
 
 -- empty or occupied
 abbrev pub number_of_occupied : Bool → ℕ
@@ -21,7 +17,7 @@ number_of_occupied false = 0
 number_of_occupied true = 1
 
 -- a message that was taken out of a buffer goes into an array, and the first sender goes on
-abbrev pub delivers : Sharing → Runner → ArrayPlace → ℕ → Buffer → ArrayVec ℤ → Step Sharing
+abbrev pub delivers : Sharing Objects → Runner → ArrayPlace → ℕ → Buffer → ArrayVec ℤ → Step (Sharing Objects)
 delivers b p array place x m =
     after (answers b p service.ReceiveBuffer code.NoError (pos (length m.items) ∷ []))
     (after (fills b (Some array) m) (admits b place x (first_waiting b.processes (list place))))

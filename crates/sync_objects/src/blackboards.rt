@@ -8,15 +8,14 @@ ghost use Rattle.apex_meaning.specs.Durations as durations;
 ghost use Rattle.apex_meaning.specs.Step.{IsMade, after};
 ghost use Rattle.apex_meaning.specs.Sharing.{answers};
 ghost use Rattle.sync_objects_base.specs.Status.{blackboard_at};
-ghost use Rattle.sync_objects.specs.Both.{both, number_of_occupied};
+ghost use Rattle.apex_meaning.specs.Sharing.{both};
+ghost use Rattle.sync_objects.specs.Both.{number_of_occupied};
 
-use crate::messages::{first_words, is_large_enough, is_length};
-use crate::waiting::list_of;
 use apex_types::{
     Action, ArrayPlace, At, Discipline, Mode, ObjectKind, Out, ReturnCode, Runner, Service,
     Waiting, Words,
 };
-use process_table_base::{ProcessTable, is_duration};
+use process_table_base::{ProcessTable, first_words, is_duration, is_large_enough, is_length, list_of};
 use sync_objects_base::Objects;
 
 /// CREATE_BLACKBOARD (ARINC 653 Part 1, intrapartition communication): the blackboard of that number

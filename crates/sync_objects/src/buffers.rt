@@ -8,15 +8,14 @@ ghost use Rattle.apex_meaning.specs.Durations as durations;
 ghost use Rattle.apex_meaning.specs.Step.{IsMade};
 ghost use Rattle.apex_meaning.specs.Waiting.{first_waiting};
 ghost use Rattle.sync_objects_base.specs.Status.{buffer_at, buffer_status};
-ghost use Rattle.sync_objects.specs.Both.{both, delivers};
+ghost use Rattle.apex_meaning.specs.Sharing.{both};
+ghost use Rattle.sync_objects.specs.Both.{delivers};
 
-use crate::messages::{first_words, is_large_enough, is_length};
-use crate::waiting::list_of;
 use apex_types::{
     Action, ArrayPlace, At, Discipline, Mode, ObjectKind, Out, ReturnCode, Runner, Service,
     Waiting, Words,
 };
-use process_table_base::{ProcessTable, is_duration};
+use process_table_base::{ProcessTable, first_words, is_duration, is_large_enough, is_length, list_of};
 use sync_objects_base::{BufferStatus, Objects};
 
 /// CREATE_BUFFER (ARINC 653 Part 1, intrapartition communication): the buffer of that number exists,

@@ -5,9 +5,7 @@
 mod blackboards;
 mod buffers;
 mod events;
-mod messages;
 mod semaphores;
-mod waiting;
 
 pub use blackboards::{
     clear_blackboard, create_blackboard, display_blackboard, get_blackboard_id,

@@ -4,11 +4,10 @@ ghost use Rattle.std.specs.Prelude.{◌≡◌, ◌<◌, ◌≤◌, ◌+◌, ◌^
 ghost use Rattle.apex_types.specs.Room.{HasRoom, Grows};
 ghost use Rattle.apex_meaning.specs.SemaphoreServices as meaning;
 ghost use Rattle.apex_meaning.specs.Step.{IsMade};
-ghost use Rattle.sync_objects.specs.Both.{both};
+ghost use Rattle.apex_meaning.specs.Sharing.{both};
 
-use crate::waiting::list_of;
 use apex_types::{At, Mode, ObjectKind, Out, ReturnCode, Runner, Service, Waiting, Words};
-use process_table_base::{ProcessTable, is_duration};
+use process_table_base::{ProcessTable, is_duration, list_of};
 use sync_objects_base::Objects;
 
 /// CREATE_SEMAPHORE (ARINC 653 Part 1, intrapartition communication): the semaphore of that number

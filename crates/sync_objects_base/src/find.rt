@@ -6,7 +6,7 @@ ghost use Rattle.apex_meaning.specs.Objects.{numbered_in};
 
 /// The place of the object with a number, from 0, where there is such an object.
 #[tactic(auto, using(crate::proofs::Numbers::numbers))]
-pub(crate) fn place_of<T>(items: &[T], id: i64) -> Option<usize>
+pub fn place_of<T>(items: &[T], id: i64) -> Option<usize>
     ensures found { numbered_in items.now id ≡ placed_in items.now result }
     ensures within { IfSome result (λ place. place < length items.now) }
 {

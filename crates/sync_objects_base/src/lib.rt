@@ -12,5 +12,6 @@ mod semaphore;
 pub use blackboard::BlackboardStatus;
 pub use buffer::BufferStatus;
 pub use event::Event;
+pub use find::place_of;
 pub use objects::Objects;
 pub use semaphore::Semaphore;

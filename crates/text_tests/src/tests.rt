@@ -1,3 +1,4 @@
 mod costs;
+mod devices;
 mod grammar;
 mod images;

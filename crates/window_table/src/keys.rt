@@ -27,10 +27,10 @@ impl Part {
             Part::Table => is_table_key(key),
             Part::Partition => is_partition_key(key),
             Part::SamplingPort => is_port_key(key) || key == "refresh",
-            Part::QueuingPort => is_port_key(key) || key == "depth" || key == "discipline",
+            Part::QueuingPort => is_port_key(key) || matches!(key, "depth" | "discipline"),
             Part::Health => is_error_name(key),
             Part::Window => is_window_key(key),
-            Part::Channel => key == "name" || key == "source" || key == "destinations",
+            Part::Channel => matches!(key, "name" | "source" | "destinations"),
         }
     }
 }
@@ -38,35 +38,38 @@ impl Part {
 fn is_table_key(key: &str) -> bool
     ensures { result ≡ is_table_key key.now }
 {
-    key == "frame" || key == "fault" || key == "partition" || key == "window" || key == "channel"
+    matches!(key, "frame" | "fault" | "partition" | "window" | "channel")
 }
 
 fn is_partition_key(key: &str) -> bool
     ensures { result ≡ is_partition_key key.now }
 {
-    key == "name" || key == "period" || key == "duration" || key == "hm" || key == "port"
+    matches!(key, "name" | "period" | "duration" | "hm" | "port")
 }
 
 fn is_port_key(key: &str) -> bool
     ensures { result ≡ is_one_of (codes "name" ∷ codes "kind" ∷ codes "direction" ∷ codes "words" ∷ []) key.now }
 {
-    key == "name" || key == "kind" || key == "direction" || key == "words"
+    matches!(key, "name" | "kind" | "direction" | "words")
 }
 
 fn is_window_key(key: &str) -> bool
     ensures { result ≡ is_window_key key.now }
 {
-    key == "partition" || key == "offset" || key == "length" || key == "release"
+    matches!(key, "partition" | "offset" | "length" | "release")
 }
 
 fn is_error_name(key: &str) -> bool
     ensures { result ≡ is_error_name key.now }
 {
-    key == "DEADLINE_MISSED"
-        || key == "APPLICATION_ERROR"
-        || key == "NUMERIC_ERROR"
-        || key == "ILLEGAL_REQUEST"
-        || key == "STACK_OVERFLOW"
-        || key == "MEMORY_VIOLATION"
-        || key == "HARDWARE_FAULT"
+    matches!(
+        key,
+        "DEADLINE_MISSED"
+            | "APPLICATION_ERROR"
+            | "NUMERIC_ERROR"
+            | "ILLEGAL_REQUEST"
+            | "STACK_OVERFLOW"
+            | "MEMORY_VIOLATION"
+            | "HARDWARE_FAULT"
+    )
 }

@@ -10,12 +10,10 @@ use apex_types::{Discipline, ModuleAction, PartitionAction, PortDirection};
 pub fn direction(word: &str) -> Option<PortDirection>
     ensures { result ≡ direction_of word.now }
 {
-    if word == "SOURCE" {
-        Some(PortDirection::Source)
-    } else if word == "DESTINATION" {
-        Some(PortDirection::Destination)
-    } else {
-        None
+    match word {
+        "SOURCE" => Some(PortDirection::Source),
+        "DESTINATION" => Some(PortDirection::Destination),
+        _ => None,
     }
 }
 
@@ -24,12 +22,10 @@ pub fn direction(word: &str) -> Option<PortDirection>
 pub fn discipline(word: &str) -> Option<Discipline>
     ensures { result ≡ discipline_of word.now }
 {
-    if word == "FIFO" {
-        Some(Discipline::Fifo)
-    } else if word == "PRIORITY" {
-        Some(Discipline::Priority)
-    } else {
-        None
+    match word {
+        "FIFO" => Some(Discipline::Fifo),
+        "PRIORITY" => Some(Discipline::Priority),
+        _ => None,
     }
 }
 
@@ -38,14 +34,11 @@ pub fn discipline(word: &str) -> Option<Discipline>
 pub fn module_action(word: &str) -> Option<ModuleAction>
     ensures { result ≡ module_action_of word.now }
 {
-    if word == "IGNORE" {
-        Some(ModuleAction::Ignore)
-    } else if word == "SHUTDOWN" {
-        Some(ModuleAction::Shutdown)
-    } else if word == "RESET" {
-        Some(ModuleAction::Reset)
-    } else {
-        None
+    match word {
+        "IGNORE" => Some(ModuleAction::Ignore),
+        "SHUTDOWN" => Some(ModuleAction::Shutdown),
+        "RESET" => Some(ModuleAction::Reset),
+        _ => None,
     }
 }
 
@@ -54,15 +47,11 @@ pub fn module_action(word: &str) -> Option<ModuleAction>
 pub fn partition_action(word: &str) -> Option<PartitionAction>
     ensures { result ≡ partition_action_of word.now }
 {
-    if word == "IGNORE" {
-        Some(PartitionAction::Ignore)
-    } else if word == "IDLE" {
-        Some(PartitionAction::Idle)
-    } else if word == "WARM_START" {
-        Some(PartitionAction::WarmStart)
-    } else if word == "COLD_START" {
-        Some(PartitionAction::ColdStart)
-    } else {
-        None
+    match word {
+        "IGNORE" => Some(PartitionAction::Ignore),
+        "IDLE" => Some(PartitionAction::Idle),
+        "WARM_START" => Some(PartitionAction::WarmStart),
+        "COLD_START" => Some(PartitionAction::ColdStart),
+        _ => None,
     }
 }

@@ -8,6 +8,7 @@ use apex_types::{
     Priority, ProcessRow, StartCondition, Ticks, WriterSink, write_events,
 };
 use partition::{Fixed, Kernel, Partition};
+use ports::Ports;
 use processor::Outcome;
 use regions::{Memory, MemoryPlan, PartitionMem};
 use scripted::{Part, Scripted};
@@ -126,7 +127,8 @@ fn partition(alloc: Global) -> Result<Partition<Scripted>, Fail>
         health: HEALTH,
     };
     let objects = Objects::new(alloc, &[], 0, &[], &[])?;
-    let kernel = Kernel::new(alloc, fixed, &rows, objects)?;
+    let ports = Ports::new(alloc, &[])?;
+    let kernel = Kernel::new(alloc, fixed, &rows, objects, ports)?;
     Ok(Partition::new(kernel, scripted(alloc)?))
 }
 

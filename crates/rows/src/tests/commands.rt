@@ -3,7 +3,7 @@
 ghost use Rattle.std.specs.Prelude.{◌≡◌};
 
 use super::texts::TABLE;
-use apex_types::Name;
+use apex_types::{DeviceFault, Name};
 use command_line::{FileFault, Files, Refusal, Stream, command};
 use module::{BuildFault, RunFault};
 use pal_base::fault::{PalFault, Refusal as SourceRefusal};
@@ -249,6 +249,22 @@ fn lines_of_refusals(rt: HostRuntime) -> Result<(), Fail> {
         (Refusal::Build(BuildFault::NotYet), "mb: not yet"),
         (Refusal::Build(BuildFault::Memory), "mb: memory"),
         (Refusal::Run(RunFault::Ticks), "mb: ticks"),
+        (
+            Refusal::Run(RunFault::Device(DeviceFault::Form)),
+            "mb: device 1",
+        ),
+        (
+            Refusal::Run(RunFault::Device(DeviceFault::Order)),
+            "mb: device 2",
+        ),
+        (
+            Refusal::Run(RunFault::Device(DeviceFault::Name)),
+            "mb: device 3",
+        ),
+        (
+            Refusal::Run(RunFault::Device(DeviceFault::Size)),
+            "mb: device 4",
+        ),
         (Refusal::Run(RunFault::NotYet), "mb: not yet"),
         (Refusal::Run(RunFault::Memory), "mb: memory"),
         (Refusal::Run(RunFault::Write), "mb: write"),

@@ -51,8 +51,13 @@ fn code_that_is_longer_by_one(rt: HostRuntime) -> Result<(), Fail> {
     expect_refused(&rt, rt.alloc(), TABLE.as_bytes(), &sources, line)
 }
 
-/// Two partitions that have half of the frame each. The first has a port, so the table is outside
-/// the part that is built.
+/// The actions of a partition, with one that is not built yet.
+const IDLE_ON_NUMERIC_ERROR: &str = "\
+hm = { DEADLINE_MISSED = \"IGNORE\", APPLICATION_ERROR = \"IGNORE\", NUMERIC_ERROR = \"IDLE\", ILLEGAL_REQUEST = \"IGNORE\", STACK_OVERFLOW = \"IGNORE\", MEMORY_VIOLATION = \"IGNORE\", HARDWARE_FAULT = \"IGNORE\" }
+";
+
+/// Two partitions that have half of the frame each. The first has an action that is outside the part
+/// that is built.
 fn halves(alloc: Global) -> Result<String, AllocError> {
     format!(in alloc;
         "\
@@ -62,14 +67,7 @@ fault = \"IGNORE\"
 name = \"a\"
 period = 128
 duration = 64
-{HEALTH}
-[[partition.port]]
-name = \"q\"
-kind = \"QUEUING\"
-direction = \"DESTINATION\"
-words = 1
-depth = 4
-discipline = \"FIFO\"
+{IDLE_ON_NUMERIC_ERROR}
 [[partition]]
 name = \"b\"
 period = 128

@@ -1,4 +1,4 @@
-//! Images and device texts that are refused, and those outside the part that is run so far.
+//! Images and device texts that are refused, and texts with a fault, which is not served so far.
 
 use super::shelf::{NOT_YET, Shelf, expect_command};
 use super::sinks::narrow_sink;
@@ -49,8 +49,16 @@ fn an_image_with_one_byte_more(rt: HostRuntime) -> Result<(), Fail> {
     Ok(())
 }
 
-/// Device texts that are not empty.
-static DEVICES: [&str; 4] = ["3 FAULT\n", "3 FAULT a\n", "\n", "nothing"];
+/// Device texts for the smallest image, which has no channel, and what is answered.
+static DEVICES: [(&str, &str); 7] = [
+    ("\n", "mb: device 1\n"),
+    ("nothing", "mb: device 1\n"),
+    ("3 FAULT\n2 FAULT a\n", "mb: device 2\n"),
+    ("3 MSG c 1\n", "mb: device 3\n"),
+    ("3 FAULT b\n", "mb: device 3\n"),
+    ("3 FAULT\n", NOT_YET),
+    ("3 FAULT a\n", NOT_YET),
+];
 
 /// A shelf with the smallest image and that device text.
 fn shelf_with(alloc: Global, devices: &[u8]) -> Result<Shelf<'_>, AllocError> {
@@ -62,10 +70,10 @@ fn shelf_with(alloc: Global, devices: &[u8]) -> Result<Shelf<'_>, AllocError> {
 
 #[test]
 fn device_texts_with_a_line(rt: HostRuntime) -> Result<(), Fail> {
-    for devices in &DEVICES {
+    for (devices, line) in &DEVICES {
         let mut shelf = shelf_with(rt.alloc(), devices.as_bytes())?;
         let words = ["mb", "run", "image", "devices", "128"];
-        expect_command(&rt, rt.alloc(), &mut shelf, &words, (1, "", NOT_YET));
+        expect_command(&rt, rt.alloc(), &mut shelf, &words, (1, "", *line));
     }
     Ok(())
 }

@@ -2,7 +2,7 @@
 
 ghost use Rattle.std.specs.Prelude.{◌<◌};
 
-use super::shelf::{NOT_YET, expect_accepted, expect_refused};
+use super::shelf::expect_accepted;
 use super::texts::{HEALTH, SMALLEST};
 use std::alloc::{AllocError, Global};
 use std::test::Fail;
@@ -124,6 +124,5 @@ fn the_most_ports_and_channels(rt: HostRuntime) -> Result<(), Fail> {
     push_partitions(rt.alloc(), &mut table, true)?;
     push_channels(rt.alloc(), &mut table)?;
     let sources = [SMALLEST.as_bytes(); 16];
-    let table = table.as_str().as_bytes();
-    expect_refused(&rt, rt.alloc(), table, &sources, NOT_YET)
+    expect_accepted(&rt, rt.alloc(), table.as_str().as_bytes(), &sources)
 }

@@ -25,11 +25,21 @@ pub struct Shelf<'a> {
 impl<'a> Shelf<'a> {
     /// A shelf with a table and sources, an empty device text and no image.
     pub fn new(alloc: Global, table: &'a [u8], sources: &'a [&'a [u8]]) -> Self {
+        Shelf::with_devices(alloc, table, sources, &[])
+    }
+
+    /// The same with a device text.
+    pub fn with_devices(
+        alloc: Global,
+        table: &'a [u8],
+        sources: &'a [&'a [u8]],
+        devices: &'a [u8],
+    ) -> Self {
         Shelf {
             alloc,
             table,
             sources,
-            devices: &[],
+            devices,
             image: None,
         }
     }
@@ -136,9 +146,21 @@ pub fn expect_trace(
 ) -> Result<(), Fail> {
     let sources = bytes_of(alloc, sources)?;
     let mut shelf = Shelf::new(alloc, table.as_bytes(), sources.as_slice());
-    expect_built(rt, alloc, &mut shelf)?;
+    expect_run(rt, alloc, &mut shelf, ticks, (0, trace, ""))
+}
+
+/// Builds what lies on the shelf, runs the image for so many ticks with the device text there, and
+/// expects the status and the texts on the standard output and the standard error.
+pub fn expect_run(
+    rt: &impl Abort,
+    alloc: Global,
+    shelf: &mut Shelf<'_>,
+    ticks: &str,
+    wanted: (u8, &str, &str),
+) -> Result<(), Fail> {
+    expect_built(rt, alloc, shelf)?;
     let words = ["mb", "run", "image", "devices", ticks];
-    expect_command(rt, alloc, &mut shelf, &words, (0, trace, ""));
+    expect_command(rt, alloc, shelf, &words, wanted);
     Ok(())
 }
 

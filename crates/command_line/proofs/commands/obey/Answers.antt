@@ -76,7 +76,7 @@ returns-in_ok-run_stored-in_default-clause-done g c =
     let before = state (g.F.Files.contents c.args.files.now) (seen g.O.Write.contents c.args.out.now) in
     let after = state (g.F.Files.contents c.args.files.now) (seen g.O.Write.contents c.run_stored.new.out) in
     let order : order_of (subcommand_rows_of c.args.matches.now) ≡ First = elim c.in_default.branch [
-      | in_default-via-in-Some+in_default w ↦ other_is c.args.matches.now w.in_default.field-0.0.now (rows_of (found_of w.in_default.field-0.1.now)) (search rules) (search rules) (search rules) (search rules) (search rules)
-      | in_default-via-in_default w ↦ none_entered c.args.matches.now (search rules)
+      | in_default-via-in-Some+in_default w ↦ other_is c.args.matches.now w.in_default.field-0.0.now (rows_of (found_of w.in_default.field-0.1.now)) (search (rules, c.subcommand.ensures.name)) (search (rules, c.subcommand.ensures.rows)) (search rules) (search rules) (search rules)
+      | in_default-via-in_default w ↦ none_entered c.args.matches.now (search (rules, c.subcommand.ensures.name))
     ] in
     subst (λ o. IsDone o before after) (sym order) (refl, c.in_ok-run_stored-in_default.ensures.done)

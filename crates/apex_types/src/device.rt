@@ -1,0 +1,35 @@
+//! What the devices of a module do to it.
+
+use crate::event::Words;
+use crate::identity::{ChannelIndex, PartitionId, Ticks};
+
+/// What a device does to the module.
+#[derive(Debug, PartialEq, Eq, Drop)]
+pub enum DeviceInput {
+    /// A message comes by a channel whose source is the device.
+    Message(ChannelIndex, Words),
+    /// A fault of the module's hardware.
+    ModuleFault,
+    /// A fault of the hardware of one partition.
+    PartitionFault(PartitionId),
+}
+
+/// A line of a device text: what a device does, and in which tick.
+#[derive(Debug, PartialEq, Eq, Drop)]
+pub struct DeviceLine {
+    pub tick: Ticks,
+    pub input: DeviceInput,
+}
+
+/// Why a line of a device text is refused. Of several reasons the first one here counts.
+#[derive(Clone, Copy, Debug, PartialEq, Eq)]
+pub enum DeviceFault {
+    /// It has none of the forms of a line.
+    Form = 1,
+    /// Its tick is below that of the line before.
+    Order = 2,
+    /// Its channel or partition is unknown, or the source of its channel is no device.
+    Name = 3,
+    /// Its message has more words than its channel takes, or 65,536 lines stand before it.
+    Size = 4,
+}

@@ -1,0 +1,62 @@
+//! The list of those for whom something is due.
+
+ghost use Rattle.std.specs.Prelude.{◌≡◌, ◌<◌, [], slice_get, IfSome};
+ghost use Rattle.links.specs.DueOrder.{AreFrom, behind_earlier, due_at, without};
+
+use crate::dues::{self, DueEntry, Dues};
+use apex_types::{MOST_PROCESSES, ProcessIndex, Ticks};
+use std::marker::Model;
+
+/// The processes for whom something is due, each at most once, in the order of their ticks; equals
+/// stand in the order in which they came. A contract sees it as a list of entries.
+#[derive(Drop)]
+pub struct DueList {
+    dues: Dues,
+}
+
+impl Model for DueList {
+    ghost use Rattle.std.specs.Prelude.{List};
+    ghost use Rattle.links.specs.declared.dues.DueEntry.{DueEntry as Item};
+
+    ghost Value = { List Item };
+
+    ghost use Rattle.links.specs.DueView.{entries_of, IsSound};
+
+    ghost view = { entries_of };
+
+    ghost invariant = { IsSound };
+}
+
+impl DueList {
+    /// Nothing is due.
+    pub fn new() -> DueList
+        ensures { result ≡ [] }
+    {
+        DueList { dues: Dues::new() }
+    }
+
+    /// The one with the least tick.
+    pub fn first(&self) -> Option<DueEntry>
+        ensures value { result ≡ slice_get self.now 0 }
+        ensures least { IfSome result (λ entry. AreFrom entry.tick.0 self.now) }
+        ensures below { IfSome result (λ entry. entry.process.0 < MOST_PROCESSES) }
+    {
+        self.dues.first().copied()
+    }
+
+    /// Nothing is due for a process any longer.
+    pub fn remove(&mut self, process: ProcessIndex)
+        ensures { self.new ≡ without process.0 self.old }
+    {
+        dues::leave(&mut self.dues, process);
+    }
+
+    /// A process leaves its place, and goes behind all whose tick is not later.
+    pub fn insert_by_due(&mut self, process: ProcessIndex, tick: Ticks)
+        requires { process.0 < MOST_PROCESSES }
+        ensures { self.new ≡ behind_earlier (due_at process tick) (without process.0 self.old) }
+    {
+        self.remove(process);
+        dues::enter(&mut self.dues, DueEntry { process, tick });
+    }
+}

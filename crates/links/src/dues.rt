@@ -1,0 +1,55 @@
+//! Entries in the order of their ticks.
+
+ghost use Rattle.std.specs.Prelude.{◌≡◌, ℕ, ◌<◌, ◌≤◌, length};
+ghost use Rattle.links.specs.DueOrder.{behind_earlier, times_due, without};
+
+use apex_types::{MOST_PROCESSES, ProcessIndex, Ticks};
+use arrayvec::ArrayVec;
+
+/// A process, and the tick at which something is due for it.
+#[derive(Clone, Copy, Debug, PartialEq, Eq)]
+pub struct DueEntry {
+    pub process: ProcessIndex,
+    pub tick: Ticks,
+}
+
+impl Default for DueEntry {
+    fn default() -> DueEntry {
+        DueEntry {
+            process: ProcessIndex(0),
+            tick: Ticks(0),
+        }
+    }
+}
+
+/// Those for whom something is due, the earliest first.
+pub(crate) type Dues = ArrayVec<DueEntry, MOST_DUE>;
+
+/// The most for whom something is due at once.
+const MOST_DUE: usize = MOST_PROCESSES as usize;
+
+/// Takes a process out of the list.
+pub(crate) fn leave(dues: &mut Dues, process: ProcessIndex)
+    requires { (p : ℕ) → times_due p dues.old.items ≤ 1 }
+    ensures { dues.new.items ≡ without process.0 dues.old.items }
+{
+    let mut place = 0;
+    while place < dues.len() && dues[place].process.0 != process.0 {
+        place += 1;
+    }
+    if place < dues.len() {
+        dues.remove(place);
+    }
+}
+
+/// Puts an entry behind all whose tick is not later.
+pub(crate) fn enter(dues: &mut Dues, entry: DueEntry)
+    requires { length dues.old.items < MOST_PROCESSES }
+    ensures { dues.new.items ≡ behind_earlier entry dues.old.items }
+{
+    let mut place = 0;
+    while place < dues.len() && dues[place].tick.0 <= entry.tick.0 {
+        place += 1;
+    }
+    dues.insert(place, entry);
+}

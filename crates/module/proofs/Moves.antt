@@ -1,0 +1,78 @@
+-- A message leaves its port, and goes by its channel.
+use Rattle.std.proofs.Common.{◌≡◌, ℕ, zero, suc, ℤ, List, [], ◌∷◌, Option, Some, None, Result, refl, sym, ap, subst, ◌∙◌}
+use Rattle.std.proofs.lemmas.Option.{none-some, same_Some}
+use Rattle.std.specs.Prelude.{slice_get, slice_set}
+use Rattle.arrayvec.specs.ArrayVec.{ArrayVec}
+use Rattle.apex_types.specs.declared.identity.At.{At}
+use Rattle.apex_types.specs.declared.identity.PartitionId.{PartitionId}
+use Rattle.apex_types.specs.declared.identity.PortId.{PortId}
+use Rattle.apex_types.specs.declared.sink.SinkFault.{SinkFault}
+use Rattle.apex_meaning.specs.Arrival.{first_message, leaves_first, leaves_of}
+use Rattle.apex_meaning.specs.Image.{Channel, at_number}
+use Rattle.apex_meaning.specs.Kernel.{of_ports_alone}
+use Rattle.apex_meaning.specs.Module.{Advanced, still, steps, steps_member, of_member, goes_by, channel_from, moves_found}
+use Rattle.apex_meaning.specs.Partition.{Member, Moved, with_world, leaves, leaving, moved, place_of_port}
+use Rattle.apex_meaning.specs.Ports.{Port, Ports, port_at}
+use Rattle.apex_meaning.specs.Step.{Step, nothing}
+use Rattle.module.proofs.Written.{then_written, first_cut_off}
+use Rattle.module.specs.Written.{IsMade, IsCutOff, IsWritten}
+
+-- ---- nothing leaves a port without a message
+
+no_first : (o : Ports) (place : ℕ) (x : Port) (ms : List (ArrayVec ℤ)) → first_message (Some (record x { messages = ms })) ≡ None → leaves_first o place x ms ≡ nothing o
+no_first o place x [] h = refl
+no_first o place x (m ∷ rest) h = absurd (none-some m (sym h))
+
+none_leaves : (o : Ports) (place : ℕ) (p : Option Port) → first_message p ≡ None → leaves_of o place p ≡ nothing o
+none_leaves o place None h = refl
+none_leaves o place (Some x) h = no_first o place x x.messages h
+
+same_set : {A : Type 0} (xs : List A) (n : ℕ) (x : A) → slice_get xs n ≡ Some x → slice_set xs n x ≡ xs
+same_set [] zero x h = refl
+same_set [] (suc n) x h = refl
+same_set (y ∷ ys) zero x h = ap (λ z. z ∷ ys) (sym (same_Some y x h))
+same_set (y ∷ ys) (suc n) x h = ap (λ zs. y ∷ zs) (same_set ys n x h)
+
+module _ {C : Type 0} (at : At) (port : PortId) where
+  stays : (x : Member C) → leaving port x ≡ None → leaves at port x ≡ record { world = x.world; lines = [] }
+  stays x h = ap (λ (s : Step Ports). moved at x.engine (of_ports_alone x.world.kernel s) x.world) (none_leaves x.world.kernel.ports (place_of_port port) (port_at x.world.kernel.ports (place_of_port port)) h)
+
+  stay : (ms : List (Member C)) (place : ℕ) (o : Option (Member C)) → slice_get ms place ≡ o → of_member None (leaving port) o ≡ None → steps_member (leaves at port) ms place o ≡ still ms
+  stay ms place None e h = refl
+  stay ms place (Some x) e h =
+      ap (λ (m : Moved C). record { members = slice_set ms place (with_world x m.world); lines = m.lines }) (stays x h)
+      ∙ ap still (same_set ms place x e)
+
+  all_stay : (ms : List (Member C)) (n : ℕ) → of_member None (leaving port) (at_number ms n) ≡ None → steps (leaves at port) ms n ≡ still ms
+  all_stay ms zero h = refl
+  all_stay ms (suc place) h = stay ms place (slice_get ms place) refl h
+
+-- ---- a move
+
+module _ {C : Type 0} (channels : List Channel) (at : At) (p : PartitionId) (port : PortId) (ms : List (Member C)) where
+  split_at : (o : Option (ArrayVec ℤ)) → of_member None (leaving port) (at_number ms p.0) ≡ o → (old new : Option (List ℕ)) (before after : ℕ)
+      → IsCutOff (steps (leaves at port) ms p.0) old new before after → IsCutOff (moves_found channels at p port ms o) old new before after
+  split_at None e old new before after h = subst (λ (a : Advanced C). IsCutOff a old new before after) (all_stay at port ms p.0 e) h
+  split_at (Some m) e old new before after h = first_cut_off (goes_by at m (channel_from channels p port)) refl h
+
+  -- the sink fails where the message leaves
+  pub move_cut_off : {old new : Option (List ℕ)} {before after : ℕ} → IsCutOff (steps (leaves at port) ms p.0) old new before after
+      → IsCutOff (moves_found channels at p port ms (of_member None (leaving port) (at_number ms p.0))) old new before after
+  move_cut_off {old = old} {new = new} {before = before} {after = after} h = split_at (of_member None (leaving port) (at_number ms p.0)) refl old new before after h
+
+  -- no message is there
+  pub none_moved : {now : List (Member C)} {old new : Option (List ℕ)} {before after : ℕ} → None ≡ of_member None (leaving port) (at_number ms p.0) → IsMade (steps (leaves at port) ms p.0) now old new before after
+      → IsMade (moves_found channels at p port ms (of_member None (leaving port) (at_number ms p.0))) now old new before after
+  none_moved {now = now} {old = old} {new = new} {before = before} {after = after} e h =
+      subst (λ (o : Option (ArrayVec ℤ)). IsMade (moves_found channels at p port ms o) now old new before after) e
+      (subst (λ (a : Advanced C). IsMade a now old new before after) (all_stay at port ms p.0 (sym e)) h)
+
+  -- a message is there, and goes by its channel
+  pub one_moved : {X : Type 0} {now : List (Member C)} {old mid : Option (List ℕ)} {before between : ℕ} (m : ArrayVec ℤ) (channel : Option Channel) (new : Option (List ℕ)) (after : ℕ) (members : List (Member C)) (r : Result X SinkFault)
+      → Some m ≡ of_member None (leaving port) (at_number ms p.0) → channel ≡ channel_from channels p port
+      → IsMade (steps (leaves at port) ms p.0) now old mid before between → IsWritten (goes_by at m channel now) members mid new between after r
+      → IsWritten (moves_found channels at p port ms (of_member None (leaving port) (at_number ms p.0))) members old new before after r
+  one_moved {now = now} {old = old} {mid = mid} {before = before} {between = between} m channel new after members r e same h k =
+      subst (λ (o : Option (ArrayVec ℤ)). IsWritten (moves_found channels at p port ms o) members old new before after r) e
+      (then_written (goes_by at m (channel_from channels p port)) now new after members r refl h
+      (subst (λ (c : Option Channel). IsWritten (goes_by at m c now) members mid new between after r) same k))

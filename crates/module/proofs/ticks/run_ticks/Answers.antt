@@ -1,0 +1,61 @@
+use Rattle.std.proofs.Common.{◌≡◌, ◌+◌, ◌-◌, ℕ, suc, rules, refl, sym, ap, subst, ◌∙◌, arith}
+use Rattle.apex_types.specs.Line.{text_of}
+use Rattle.apex_types.proofs.Writing.{under_way_more, under_way_fails}
+use Rattle.apex_meaning.specs.Module.{of_tick, module_tick, trace_from, first_tick}
+use Rattle.module.specs.Views.{members_in, plan_of}
+use Rattle.module.specs.Written.{AreFrom}
+use Rattle.module.proofs.DeviceLines.{of_tick_again}
+use Rattle.module.proofs.Runs.{tick_text, traced_err}
+use Rattle.module.proofs.ticks.run_ticks.Goals as goal
+
+pub tick-requires-clause-lines : goal.tick-requires-clause-lines
+tick-requires-clause-lines g c =
+    let t = c.loop-left.at.now.0 in
+    let same = c.split_at.ensures.front ∙ c.count_of_tick.ensures.now in
+    ap (of_tick t) same ∙ of_tick_again t c.loop-left.lines.now ∙ sym same
+
+pub loop-left-preserved : goal.loop-left-preserved
+loop-left-preserved g c =
+    let i = c.loop-left.invariant in
+    let at = c.loop-left.at in
+    let left = c.loop-left.left in
+    let lines = c.loop-left.lines.now in
+    let now = c.split_at.result.0.now in
+    let plan = plan_of c.args.plan.now in
+    let ms = members_in g.E.Executor c.loop-left.members in
+    let same = c.split_at.ensures.front ∙ c.count_of_tick.ensures.now in
+    let one : left ≡ suc (left - 1) = omega arith in
+    let split = tick_text plan lines now c.split_at.result.1.now left (left - 1) at ms (members_in g.E.Executor c.tick.new.self) one
+    (ap (of_tick at.now.0) same ∙ of_tick_again at.now.0 lines)
+    (λ t h. ap (of_tick t) c.split_at.ensures.back ∙ c.count_of_tick.ensures.rest t h)
+    c.in_ok-tick.ensures.written.members in
+    let rest = rw split at i.under_way in
+    record {
+      empty = search rules;
+      order = subst (AreFrom (at.now.0 + 1)) (sym c.split_at.ensures.back) c.count_of_tick.ensures.later;
+      under_way = under_way_more _ _ _ _ (text_of (module_tick plan at now ms).lines) _ rest c.in_ok-tick.ensures.written.written;
+      quiet = c.in_ok-tick.ensures.written.quiet ∙ i.quiet;
+      limit = omega arith;
+      past = omega arith;
+    }
+
+pub returns-in_err-tick : goal.returns-in_err-tick
+returns-in_err-tick g c =
+    let i = c.loop-left.invariant in
+    let at = c.loop-left.at in
+    let left = c.loop-left.left in
+    let lines = c.loop-left.lines.now in
+    let now = c.split_at.result.0.now in
+    let plan = plan_of c.args.plan.now in
+    let ms = members_in g.E.Executor c.loop-left.members in
+    let same = c.split_at.ensures.front ∙ c.count_of_tick.ensures.now in
+    let one : left ≡ suc (left - 1) = omega arith in
+    let split = tick_text plan lines now c.split_at.result.1.now left (left - 1) at ms (module_tick plan at now ms).members one
+    (ap (of_tick at.now.0) same ∙ of_tick_again at.now.0 lines)
+    (λ t h. ap (of_tick t) c.split_at.ensures.back ∙ c.count_of_tick.ensures.rest t h)
+    refl in
+    let rest = rw split at i.under_way in
+    let cut = c.in_err-tick.ensures.written in
+    traced_err (trace_from plan c.args.devices.now c.args.ticks first_tick (members_in g.E.Executor c.args.members.now)) _ _ _ _ c.in_err-tick.field-0.0 _ (search rules)
+    (under_way_fails _ _ _ _ (text_of (module_tick plan at now ms).lines) _ rest cut.beginning)
+    (cut.failed ∙ ap (λ (n : ℕ). n + 1) i.quiet)

@@ -1,0 +1,56 @@
+-- What is written of a step of the module, and the steps of one partition that the code makes.
+use Rattle.std.specs.Prelude.{◌≡◌, ◌≤◌, ℕ, ◌+◌, ℤ, List, [], ◌∷◌, Option, None, Result, Ok, Err}
+use Rattle.std.specs.Io.KnownBytes.{Appends}
+use Rattle.arrayvec.specs.ArrayVec.{ArrayVec}
+use Rattle.apex_types.specs.Line.{text_of}
+use Rattle.apex_types.specs.Sink.{TakesBeginning}
+use Rattle.apex_types.specs.declared.codes.StartCondition.TheVariants as condition
+use Rattle.apex_types.specs.declared.device.DeviceLine.{DeviceLine}
+use Rattle.apex_types.specs.declared.event.Event.{Event}
+use Rattle.apex_types.specs.declared.identity.At.{At}
+use Rattle.apex_types.specs.declared.sink.SinkFault.{SinkFault}
+use Rattle.apex_meaning.specs.Module.{Advanced}
+use Rattle.apex_meaning.specs.Partition.{Member, Moved, cold_start, advances, arrives, leaves, leaving, admits, goes_out}
+use Rattle.module.specs.declared.step.Step.{Step}
+use Rattle.module.specs.declared.step.Step.TheVariants as step
+
+-- what a step does to its partition
+abbrev pub step_of : {C : Type 0} → At → Step → Member C → Moved C
+step_of at step.Start x = cold_start at condition.NormalStart x
+step_of at (step.Arrive port m) x = arrives at port m x
+step_of at (step.Leave port) x = leaves at port x
+step_of at (step.Admit port) x = admits at port x
+step_of at (step.GoOut channel m) x = goes_out at channel m x
+step_of at step.Tick x = advances at x
+
+-- the message that leaves the partition in a step
+abbrev pub leaving_in : {C : Type 0} → Step → Member C → Option (ArrayVec ℤ)
+leaving_in (step.Leave port) x = leaving port x
+leaving_in _ x = None
+
+-- Between two states of a sink a step of the module was made, and its lines were written.
+pub record IsMade {C : Type 0} (a : Advanced C) (now : List (Member C)) (old new : Option (List ℕ)) (before after : ℕ) : Type 0 where
+  pub members : now ≡ a.members
+  pub written : Appends old new (text_of a.lines)
+  pub quiet : after ≡ before
+
+-- Between two states of a sink it failed once, and took a beginning of a step's lines.
+pub record IsCutOff {C : Type 0} (a : Advanced C) (old new : Option (List ℕ)) (before after : ℕ) : Type 0 where
+  pub beginning : TakesBeginning old new (text_of a.lines)
+  pub failed : after ≡ before + 1
+
+-- a step of the module was made and its lines were written, unless the sink failed
+abbrev pub IsWritten : {C X : Type 0} → Advanced C → List (Member C) → Option (List ℕ) → Option (List ℕ) → ℕ → ℕ → Result X SinkFault → Type 0
+IsWritten a now old new before after (Ok x) = IsMade a now old new before after
+IsWritten a now old new before after (Err fault) = IsCutOff a old new before after
+
+-- Between two states of a sink the text of these events was written. Where the sink failed, a beginning
+-- of it was.
+abbrev pub IsTraced : {X : Type 0} → List Event → Option (List ℕ) → Option (List ℕ) → ℕ → ℕ → Result X SinkFault → Type 0
+IsTraced events old new before after (Ok x) = Appends old new (text_of events) × (after ≡ before)
+IsTraced events old new before after (Err fault) = TakesBeginning old new (text_of events) × (after ≡ before + 1)
+
+-- the ticks of these lines are in order, and none is below this one
+abbrev pub AreFrom : ℕ → List DeviceLine → Type 0
+AreFrom t [] = Unit {0}
+AreFrom t (l ∷ ls) = (t ≤ l.tick.0) × AreFrom l.tick.0 ls

@@ -1,0 +1,90 @@
+-- What the type of an image says of its numbers.
+use Rattle.std.proofs.Common.{◌≡◌, ℕ, zero, suc, ℤ, ◌-◌, ◌<◌, ◌≤◌, Bool, true, false, cond, List, [], ◌∷◌, ◌++◌, length, map, get_or, Option, Some, refl, sym, ap, ◌∙◌, arith}
+use Rattle.std.specs.Prelude.{slice_get, option_map, nat_le}
+use Rattle.std.proofs.lemmas.Bool.{lt-leb, leb-false}
+use Rattle.std.proofs.lemmas.List.{length-map}
+use Rattle.std.proofs.lemmas.Option.{slice_get_read, slice_get_past}
+use Rattle.arrayvec.specs.ArrayVec.{ArrayVec}
+use Rattle.apex_types.specs.declared.identity.PartitionId.{PartitionId}
+use Rattle.apex_types.specs.declared.identity.PortId.{PortId}
+use Rattle.apex_types.specs.declared.row.ChannelEnd.{ChannelEnd}
+use Rattle.apex_types.specs.declared.row.ChannelEnd.TheVariants.{Device, Port}
+use Rattle.apex_types.specs.declared.row.PortRow.{PortRow}
+use Rattle.apex_meaning.specs.DeviceText.{row_of_item, words_of_port, words_of_partition, words_of_end, words_of_ends}
+use Rattle.apex_meaning.specs.Image.{Partition, Item, at_number}
+use Rattle.apex_meaning.specs.ImageLimits.{EachBeside, IsPort, IsItem}
+use Rattle.apex_meaning.specs.Step.{message}
+use Rattle.image.specs.Items.{item_of, items_of, partition_of, channel_of}
+use Rattle.image.specs.declared.item.PartitionItem.{PartitionItem}
+use Rattle.image.specs.declared.value.Image.{Image}
+use Rattle.module_base.specs.Seen.{fitting}
+use Rattle.module_base.specs.declared.line.MessageWords.TheVariants as held
+use Rattle.module_base.specs.Views.{rows_in}
+
+pub few_channels : (image : Image) → length image.channels.items ≤ 64
+few_channels image = let same = length-map image.channels.items channel_of in let most = image.lawful.limits.channel_count.most in omega arith
+
+pub few_partitions : (image : Image) → length image.partitions.items ≤ 16
+few_partitions image = let same = length-map image.partitions.items item_of in let most = image.lawful.limits.item_count.most in omega arith
+
+pub from_one : {A : Type 0} (xs : List A) (n : ℕ) → 0 < n → at_number xs n ≡ slice_get xs (n - 1)
+from_one xs zero h = absurd (omega (arith, h))
+from_one xs (suc n) h = let e : suc n - 1 ≡ n = omega arith in rw e
+
+pub rows_get : (items : List PartitionItem) (n : ℕ) → slice_get (map row_of_item (items_of items)) n ≡ option_map (λ it. partition_of it.row) (slice_get items n)
+rows_get [] n = refl
+rows_get (it ∷ items) zero = refl
+rows_get (it ∷ items) (suc n) = rows_get items n
+
+pub words_at : (image : Image) (e : ChannelEnd) (p : PartitionId) (q : PortId) (items : List PartitionItem) (it : PartitionItem) (i : ℕ) → e ≡ Port p q → (p.0 ≡ 0 → ⊥) → i ≡ p.0 - 1 → items ≡ image.partitions.items → i < length items → it ≡ get_or items i it → words_of_end (rows_in image) e ≡ words_of_port (at_number it.row.ports.items q.0)
+words_at image e p q items it i is known place same within read =
+    let found : slice_get items i ≡ Some it = slice_get_read items (length items) i it refl within read in
+    ap (words_of_end (rows_in image)) is
+    ∙ ap (λ (o : Option Partition). words_of_partition o q.0) (from_one (rows_in image) p.0 (omega (arith, known))
+    ∙ ap (slice_get (rows_in image)) (sym place)
+    ∙ ap (λ (its : List PartitionItem). slice_get (map row_of_item (items_of its)) i) (sym same)
+    ∙ rows_get items i
+    ∙ ap (option_map (λ (x : PartitionItem). partition_of x.row)) found)
+
+pub words_past : (image : Image) (e : ChannelEnd) (p : PartitionId) (q : PortId) (items : List PartitionItem) (i : ℕ) → e ≡ Port p q → (p.0 ≡ 0 → ⊥) → i ≡ p.0 - 1 → items ≡ image.partitions.items → length items ≤ i → 0 ≡ words_of_end (rows_in image) e
+words_past image e p q items i is known place same past =
+    sym (ap (words_of_end (rows_in image)) is
+    ∙ ap (λ (o : Option Partition). words_of_partition o q.0) (from_one (rows_in image) p.0 (omega (arith, known))
+    ∙ ap (slice_get (rows_in image)) (sym place)
+    ∙ ap (λ (its : List PartitionItem). slice_get (map row_of_item (items_of its)) i) (sym same)
+    ∙ rows_get items i
+    ∙ ap (option_map (λ (x : PartitionItem). partition_of x.row)) (slice_get_past items i past)))
+
+-- no port takes more words than a message has
+
+words_of_each : (before ports : List PortRow) (n : ℕ) → EachBeside IsPort before ports → words_of_port (slice_get ports n) ≤ 16
+words_of_each before [] n h = omega arith
+words_of_each before (p ∷ ports) zero h = h.0.words.most
+words_of_each before (p ∷ ports) (suc n) h = words_of_each (before ++ p ∷ []) ports n h.1
+
+words_of_numbered : (ports : List PortRow) (n : ℕ) → EachBeside IsPort [] ports → words_of_port (at_number ports n) ≤ 16
+words_of_numbered ports zero h = omega arith
+words_of_numbered ports (suc n) h = words_of_each [] ports n h
+
+words_of_item : (frame : ℕ) (before items : List Item) (n port : ℕ) → EachBeside (IsItem frame) before items → words_of_partition (slice_get (map row_of_item items) n) port ≤ 16
+words_of_item frame before [] n port h = omega arith
+words_of_item frame before (it ∷ items) zero port h = words_of_numbered it.partition.ports port h.0.partition.ports
+words_of_item frame before (it ∷ items) (suc n) port h = words_of_item frame (before ++ it ∷ []) items n port h.1
+
+words_of_row : (image : Image) (n port : ℕ) → words_of_partition (at_number (rows_in image) n) port ≤ 16
+words_of_row image zero port = omega arith
+words_of_row image (suc n) port = words_of_item image.schedule.frame [] (items_of image.partitions.items) n port image.lawful.limits.items
+
+few_words : (image : Image) (ends : List ChannelEnd) → words_of_ends (rows_in image) ends ≤ 16
+few_words image [] = omega arith
+few_words image (Device ∷ ends) = omega arith
+few_words image (Port p q ∷ ends) = words_of_row image p.0 q.0
+
+cut : (b : Bool) (m : ArrayVec ℤ) → held.TooMany ≡ cond b (held.Few m) held.TooMany → b ≡ false
+cut true m e = cc
+cut false m e = refl
+
+-- more words than a message has are too many for each channel
+pub long_message : (image : Image) (ends : List ChannelEnd) (ws : List ℤ) → held.TooMany ≡ fitting ws → nat_le (length ws) (words_of_ends (rows_in image) ends) ≡ false
+long_message image ends ws e =
+    lt-leb (length ws) (words_of_ends (rows_in image) ends) (omega (arith, few_words image ends, leb-false (length ws) 16 (cut (nat_le (length ws) 16) (message ws) e)))

@@ -1,0 +1,74 @@
+-- Words that are read one by one, of which the first ones are kept.
+use Rattle.std.proofs.Common.{◌≡◌, ℕ, ℤ, ◌≤◌, ◌+◌, Bool, true, false, cond, List, [], ◌∷◌, ◌++◌, length, Option, Some, None, refl, sym, ap, ◌∙◌, arith, append_assoc, append-nil, length-append}
+use Rattle.std.proofs.lemmas.Bool.{lt-leb, le-leb}
+use Rattle.arrayvec.specs.ArrayVec.{ArrayVec}
+use Rattle.apex_meaning.specs.DeviceText.{piece, pieces_behind_marks, word, words, put_word}
+use Rattle.apex_meaning.specs.Step.{message}
+use Rattle.module_base.specs.Seen.{pieces_of, fitting}
+use Rattle.module_base.specs.declared.line.MessageWords.{MessageWords}
+use Rattle.module_base.specs.declared.line.MessageWords.TheVariants as held
+
+-- what all words come to, where these were read and kept, or too many were, and the rest is still to come
+abbrev pub read_on : List ℤ → Bool → Option (List ℤ) → Option MessageWords
+read_on kept is_long None = None
+read_on kept true (Some ws) = Some held.TooMany
+read_on kept false (Some ws) = Some (fitting (kept ++ ws))
+
+pub read_on_none : (kept : List ℤ) (is_long : Bool) → read_on kept is_long None ≡ None
+read_on_none kept is_long = refl
+
+pub read_on_kept : (kept : List ℤ) (is_long : Bool) (w : ℤ) (rest : Option (List ℤ)) → read_on kept is_long (put_word (Some w) rest) ≡ read_on (kept ++ w ∷ []) is_long rest
+read_on_kept kept is_long w None = refl
+read_on_kept kept true w (Some ws) = refl
+read_on_kept kept false w (Some ws) = ap (λ (xs : List ℤ). Some (fitting xs)) (sym (append_assoc kept (w ∷ []) ws))
+
+too_long : (b : Bool) (m : ArrayVec ℤ) → b ≡ false → cond b (held.Few m) held.TooMany ≡ held.TooMany
+too_long true m e = cc
+too_long false m e = refl
+
+pub read_on_long : (kept : List ℤ) (is_long : Bool) (w : ℤ) (rest : Option (List ℤ)) → length kept ≡ 16 → read_on kept is_long (put_word (Some w) rest) ≡ read_on kept true rest
+read_on_long kept is_long w None full = refl
+read_on_long kept true w (Some ws) full = refl
+read_on_long kept false w (Some ws) full =
+    ap (λ (m : MessageWords). Some m) (too_long _ (message (kept ++ w ∷ ws)) (lt-leb (length (kept ++ w ∷ ws)) 16 (omega (arith, full, length-append kept (w ∷ ws)))))
+
+-- the bytes that are still to come, with one more for a text that is there
+abbrev pub rest_length : Option (List ℕ) → ℕ
+rest_length None = 0
+rest_length (Some text) = length text + 1
+
+in_time : (b : Bool) (m : ArrayVec ℤ) → b ≡ true → cond b (held.Few m) held.TooMany ≡ held.Few m
+in_time true m e = refl
+in_time false m e = cc
+
+pub read_on_done : (kept : List ℤ) → length kept ≤ 16 → read_on kept false (Some []) ≡ Some (held.Few (message kept))
+read_on_done kept short =
+    rw (append-nil kept) (ap (λ (m : MessageWords). Some m) (in_time _ (message kept) (le-leb (length kept) 16 short)))
+
+-- the words from here are the next one and those behind it
+next_word : (text front : List ℕ) (more : Option (List ℕ)) (w : ℤ) → front ≡ piece 32 text → pieces_behind_marks 32 text ≡ pieces_of 32 more → Some w ≡ word front → words (pieces_of 32 (Some text)) ≡ put_word (Some w) (words (pieces_of 32 more))
+unfolding words
+next_word text front more w f b e =
+    ap (λ (p : List ℕ). put_word (word p) (words (pieces_behind_marks 32 text))) (sym f)
+    ∙ ap (λ (o : Option ℤ). put_word o (words (pieces_behind_marks 32 text))) (sym e)
+    ∙ ap (λ (ps : List (List ℕ)). put_word (Some w) (words ps)) b
+
+pub keeps_one : (kept new : List ℤ) (is_long : Bool) (rest : Option (List ℕ)) (text front : List ℕ) (more : Option (List ℕ)) (w : ℤ) → new ≡ kept ++ w ∷ [] → rest ≡ Some text → front ≡ piece 32 text → pieces_behind_marks 32 text ≡ pieces_of 32 more → Some w ≡ word front → read_on kept is_long (words (pieces_of 32 rest)) ≡ read_on new is_long (words (pieces_of 32 more))
+keeps_one kept new is_long rest text front more w n r f b e =
+    ap (λ (o : Option (List ℕ)). read_on kept is_long (words (pieces_of 32 o))) r
+    ∙ ap (read_on kept is_long) (next_word text front more w f b e)
+    ∙ read_on_kept kept is_long w (words (pieces_of 32 more))
+    ∙ ap (λ (ws : List ℤ). read_on ws is_long (words (pieces_of 32 more))) (sym n)
+
+pub drops_one : (kept : List ℤ) (is_long : Bool) (rest : Option (List ℕ)) (text front : List ℕ) (more : Option (List ℕ)) (w : ℤ) → length kept ≡ 16 → rest ≡ Some text → front ≡ piece 32 text → pieces_behind_marks 32 text ≡ pieces_of 32 more → Some w ≡ word front → read_on kept is_long (words (pieces_of 32 rest)) ≡ read_on kept true (words (pieces_of 32 more))
+drops_one kept is_long rest text front more w full r f b e =
+    ap (λ (o : Option (List ℕ)). read_on kept is_long (words (pieces_of 32 o))) r
+    ∙ ap (read_on kept is_long) (next_word text front more w f b e)
+    ∙ read_on_long kept is_long w (words (pieces_of 32 more)) full
+
+pub all_read : (kept : List ℤ) (is_long : Bool) (rest : Option (List ℕ)) → length kept ≤ 16 → is_long ≡ false → rest ≡ None → read_on kept is_long (words (pieces_of 32 rest)) ≡ Some (held.Few (message kept))
+unfolding words
+all_read kept is_long rest short fits none =
+    ap (λ (o : Option (List ℕ)). read_on kept is_long (words (pieces_of 32 o))) none
+    ∙ ap (λ (b : Bool). read_on kept b (Some [])) fits
+    ∙ read_on_done kept short

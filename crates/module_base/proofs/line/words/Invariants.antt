@@ -1,0 +1,14 @@
+use Rattle.std.proofs.Common.{◌≡◌, ◌≤◌, option_map, option_copied, length}
+use Rattle.apex_meaning.specs.DeviceText.{words, pieces}
+use Rattle.module_base.specs.Seen.{pieces_of, fitting}
+use Rattle.module_base.proofs.LineWords.{read_on, rest_length}
+use Rattle.module_base.proofs.line.words.Given as goal
+
+abbrev pub invariant-loop-rest : goal.invariant-loop-rest
+invariant-loop-rest l = record {
+  read : option_map fitting (words (pieces 32 l.fn.text)) ≡ read_on l.words.items l.is_long (words (pieces_of 32 (option_copied l.rest)));
+  short : length l.words.items ≤ 16;
+}
+
+abbrev pub decreases-loop-rest : goal.decreases-loop-rest
+decreases-loop-rest l = rest_length (option_copied l.rest)

@@ -1,0 +1,27 @@
+-- What the code holds of the lines of a device text.
+use Rattle.std.specs.Prelude.{ℕ, ℤ, List, [], length, nat_le, if◌then◌else◌, Option, Some, None}
+use Rattle.apex_meaning.specs.DeviceText as meant
+use Rattle.apex_meaning.specs.DeviceText.{pieces}
+use Rattle.apex_meaning.specs.Step.{message}
+use Rattle.module_base.specs.declared.line.MessageWords.{MessageWords}
+use Rattle.module_base.specs.declared.line.MessageWords.TheVariants as words
+use Rattle.module_base.specs.declared.line.Written.{Written}
+use Rattle.module_base.specs.declared.line.Written.TheVariants as written
+use Rattle.module_base.specs.declared.line.WrittenLine.{WrittenLine}
+
+-- the pieces of a text, none where there is no text
+abbrev pub pieces_of : ℕ → Option (List ℕ) → List (List ℕ)
+pieces_of mark None = []
+pieces_of mark (Some text) = pieces mark text
+
+-- the words, unless they are more than a message has
+abbrev pub fitting : List ℤ → MessageWords
+fitting ws = if nat_le (length ws) 16 then words.Few (message ws) else words.TooMany
+
+abbrev pub seen : meant.Written → Written
+seen (meant.Message channel ws) = written.Message channel (fitting ws)
+seen meant.ModuleFault = written.ModuleFault
+seen (meant.PartitionFault partition) = written.PartitionFault partition
+
+abbrev pub seen_line : meant.WrittenLine → WrittenLine
+seen_line l = record { tick = record { 0 = l.tick }; written = seen l.written }

@@ -1,0 +1,143 @@
+//! The messages that come to a partition and leave it.
+
+ghost use Rattle.std.specs.Prelude.{◌≡◌, ◌≤◌, ◌-◌, ◌+◌, ◌++◌, ◌^◌, [], length, option_map};
+ghost use Rattle.apex_types.specs.Room.{HasRoom, Grows};
+ghost use Rattle.apex_meaning.specs.Arrival as arrival;
+ghost use Rattle.apex_meaning.specs.Image.{at_number};
+ghost use Rattle.apex_meaning.specs.Kernel.{of_ports, of_ports_alone, with_ports};
+ghost use Rattle.apex_meaning.specs.Partition as meaning;
+ghost use Rattle.apex_meaning.specs.Ports.{port_at, is_source};
+ghost use Rattle.apex_meaning.specs.Step.{IsMade};
+ghost use Rattle.partition.specs.Members.{member_of, IsMoved};
+
+use crate::kernel::Kernel;
+use crate::partition::Partition;
+use apex_types::{At, Event, EventKind, Events, Name, Out, PortId, Words};
+use partition_base::Executor;
+use ports::{admit, arrive};
+
+/// The place of a port among its partition's ports.
+fn place_of(port: PortId) -> u8
+    ensures { result ≡ meaning.place_of_port port }
+{
+    port.0.saturating_sub(1)
+}
+
+impl Kernel {
+    /// A message arrives at a port.
+    fn arrive(&mut self, at: At, port: PortId, message: Words, out: &mut Out)
+        requires { HasRoom 4 out.old }
+        ensures step { IsMade (of_ports self.old (arrival.arrives at (with_ports self.old) (meaning.place_of_port port) message)) self.new out.old out.new }
+        ensures grows { Grows 4 out.old out.new }
+    {
+        let table = &mut self.processes;
+        arrive(table, &mut self.ports, at, place_of(port), message, out);
+    }
+
+    /// The first message of a port leaves it, if it holds one.
+    fn leave(&mut self, port: PortId, out: &mut Out) -> Option<Words>
+        requires { HasRoom 1 out.old }
+        ensures message { result ≡ arrival.first_message (port_at self.old.ports (meaning.place_of_port port)) }
+        ensures step { IsMade (of_ports_alone self.old (arrival.leaves self.old.ports (meaning.place_of_port port))) self.new out.old out.new }
+        ensures grows { Grows 1 out.old out.new }
+    {
+        self.ports.leave(place_of(port), out)
+    }
+
+    /// The senders that wait at a port enter it in their order, as long as there is room.
+    fn admit(&mut self, port: PortId, out: &mut Out)
+        requires { HasRoom 62 out.old }
+        ensures step { IsMade (of_ports self.old (arrival.admits (with_ports self.old) (meaning.place_of_port port))) self.new out.old out.new }
+        ensures grows { Grows 62 out.old out.new }
+    {
+        admit(&mut self.processes, &mut self.ports, place_of(port), out);
+    }
+
+    /// How many ports the partition has.
+    pub fn port_count(&self) -> u8
+        ensures { result ≡ length self.now.ports.ports }
+    {
+        self.ports.count()
+    }
+
+    /// How many messages a source port holds; none where there is no such source port.
+    pub fn messages_to_move(&self, port: PortId) -> Option<u8>
+        ensures { result ≡ meaning.messages_to_move (at_number self.now.ports.ports port.0) }
+    {
+        let place = port.0.checked_sub(1)?;
+        match self.ports.is_source(place) {
+            Some(true) => self.ports.message_count(place),
+            _ => None,
+        }
+    }
+}
+
+impl<E: Executor> Partition<E> {
+    /// A message arrives at a destination port (ARINC 653 Part 1, interpartition communication).
+    pub fn arrive(
+        &mut self,
+        mem: &mut E::Mem,
+        at: At,
+        port: PortId,
+        message: Words,
+        events: &mut Events,
+    )
+        requires fits { E.laid mem.old ≡ E.layout self.old.executor }
+        requires empty { events.old.items ≡ [] }
+        ensures fits { E.laid mem.new ≡ E.layout self.new.executor }
+        ensures moved { let x = member_of E.Executor self.old mem.old in IsMoved (meaning.arrives at port message x) x (member_of E.Executor self.new mem.new) events.old.items events.new.items }
+    {
+        let name = self.kernel.name();
+        self.out.clear();
+        self.kernel.arrive(at, port, message, &mut self.out);
+        self.finish(mem, name, at, events);
+    }
+
+    /// The first message of a source port leaves it, if it holds one (ARINC 653 Part 1, interpartition
+    /// communication).
+    pub fn leave(
+        &mut self,
+        mem: &mut E::Mem,
+        at: At,
+        port: PortId,
+        events: &mut Events,
+    ) -> Option<Words>
+        requires fits { E.laid mem.old ≡ E.layout self.old.executor }
+        requires empty { events.old.items ≡ [] }
+        ensures fits { E.laid mem.new ≡ E.layout self.new.executor }
+        ensures message { result ≡ meaning.leaving port (member_of E.Executor self.old mem.old) }
+        ensures moved { let x = member_of E.Executor self.old mem.old in IsMoved (meaning.leaves at port x) x (member_of E.Executor self.new mem.new) events.old.items events.new.items }
+    {
+        let name = self.kernel.name();
+        self.out.clear();
+        let message = self.kernel.leave(port, &mut self.out);
+        self.finish(mem, name, at, events);
+        message
+    }
+
+    /// The senders that wait at a source port enter it in their order, as long as there is room
+    /// (ARINC 653 Part 1, interpartition communication).
+    pub fn admit(&mut self, mem: &mut E::Mem, at: At, port: PortId, events: &mut Events)
+        requires fits { E.laid mem.old ≡ E.layout self.old.executor }
+        requires empty { events.old.items ≡ [] }
+        ensures fits { E.laid mem.new ≡ E.layout self.new.executor }
+        ensures moved { let x = member_of E.Executor self.old mem.old in IsMoved (meaning.admits at port x) x (member_of E.Executor self.new mem.new) events.old.items events.new.items }
+    {
+        let name = self.kernel.name();
+        self.out.clear();
+        self.kernel.admit(port, &mut self.out);
+        self.finish(mem, name, at, events);
+    }
+
+    /// A message of the partition leaves the module by a channel: its line.
+    pub fn go_out(&self, mem: &E::Mem, at: At, channel: Name, message: Words, events: &mut Events)
+        requires empty { events.old.items ≡ [] }
+        ensures moved { let x = member_of E.Executor self.now mem.now in IsMoved (meaning.goes_out at channel message x) x x events.old.items events.new.items }
+    {
+        events.push(Event {
+            tick: at.now,
+            partition: Some(self.kernel.name()),
+            kind: EventKind::Out(channel, message),
+        });
+    }
+}

@@ -1,0 +1,93 @@
+//! The dispatch of service calls on ports.
+
+ghost use Rattle.std.specs.Prelude.{◌≡◌, ◌≤◌, ◌+◌, ◌^◌, length};
+ghost use Rattle.apex_types.specs.Room.{HasRoom, Grows};
+ghost use Rattle.apex_meaning.specs.PortServices as meaning;
+ghost use Rattle.apex_meaning.specs.Sharing.{both};
+ghost use Rattle.apex_meaning.specs.Step.{IsMade};
+
+use apex_types::{At, Call, Mode, Out, Runner, Words};
+use ports::{
+    Ports, clear_queuing_port, create_queuing_port, create_sampling_port, get_queuing_port_id,
+    get_queuing_port_status, get_sampling_port_id, get_sampling_port_status,
+    read_sampling_message, receive_queuing_message, send_queuing_message, write_sampling_message,
+};
+use process_table_base::ProcessTable;
+
+/// Whether it is a call on ports.
+pub(crate) fn is_on_ports(call: Call) -> bool
+    ensures { result ≡ meaning.is_on_ports call }
+{
+    match call {
+        Call::CreateSamplingPort { .. }
+        | Call::WriteSamplingMessage { .. }
+        | Call::ReadSamplingMessage { .. }
+        | Call::GetSamplingPortId { .. }
+        | Call::GetSamplingPortStatus { .. }
+        | Call::CreateQueuingPort { .. }
+        | Call::SendQueuingMessage { .. }
+        | Call::ReceiveQueuingMessage { .. }
+        | Call::GetQueuingPortId { .. }
+        | Call::GetQueuingPortStatus { .. }
+        | Call::ClearQueuingPort { .. } => true,
+        _ => false,
+    }
+}
+
+/// Serves a call on ports, in a mode. A service that is not served leaves its caller without an
+/// answer.
+pub(crate) fn serve_ports(
+    table: &mut ProcessTable,
+    ports: &mut Ports,
+    mode: Mode,
+    at: At,
+    caller: Runner,
+    call: Call,
+    words: Words,
+    out: &mut Out,
+)
+    requires now { at.now.0 ≤ 2 ^ 40 }
+    requires room { HasRoom 94 out.old }
+    ensures step { IsMade (meaning.serves_ports mode at (both table.old ports.old) caller call words.items) (both table.new ports.new) out.old out.new }
+    ensures grows { Grows 94 out.old out.new }
+{
+    match call {
+        Call::CreateSamplingPort { name } => {
+            create_sampling_port(table, ports, mode, caller, name, out)
+        }
+        Call::WriteSamplingMessage {
+            port,
+            array,
+            length,
+        } => write_sampling_message(table, ports, caller, port, array, length, &words, out),
+        Call::ReadSamplingMessage { port, array } => {
+            read_sampling_message(table, ports, at, caller, port, array, out)
+        }
+        Call::GetSamplingPortId { name } => get_sampling_port_id(table, ports, caller, name, out),
+        Call::GetSamplingPortStatus { port } => {
+            get_sampling_port_status(table, ports, caller, port, out)
+        }
+        Call::CreateQueuingPort { name } => {
+            create_queuing_port(table, ports, mode, caller, name, out)
+        }
+        Call::SendQueuingMessage {
+            port,
+            array,
+            length,
+            timeout,
+        } => send_queuing_message(
+            table, ports, at, caller, port, array, length, timeout, &words, out,
+        ),
+        Call::ReceiveQueuingMessage {
+            port,
+            array,
+            timeout,
+        } => receive_queuing_message(table, ports, at, caller, port, array, timeout, out),
+        Call::GetQueuingPortId { name } => get_queuing_port_id(table, ports, caller, name, out),
+        Call::GetQueuingPortStatus { port } => {
+            get_queuing_port_status(table, ports, caller, port, out)
+        }
+        Call::ClearQueuingPort { port } => clear_queuing_port(table, ports, caller, port, out),
+        _ => {}
+    }
+}

@@ -1,0 +1,4 @@
+pub mod Bounds
+pub mod Delivering
+pub mod Status
+pub mod View

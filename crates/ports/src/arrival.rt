@@ -1,0 +1,164 @@
+//! The messages that arrive at ports, and the senders that wait for room.
+
+ghost use Rattle.std.specs.Prelude.{◌≡◌, ◌<◌, ◌≤◌, ◌*◌, length, true, None, Some};
+ghost use Rattle.apex_types.specs.Room.{HasRoom, Grows};
+ghost use Rattle.apex_types.specs.declared.identity.TheConstants.{MOST_OBJECTS, MOST_PROCESSES};
+ghost use Rattle.apex_meaning.specs.Arrival as meaning;
+ghost use Rattle.apex_meaning.specs.Ports.{is_sampling, port_at};
+ghost use Rattle.apex_meaning.specs.PortServices.{list};
+ghost use Rattle.apex_meaning.specs.Sharing.{both};
+ghost use Rattle.apex_meaning.specs.Step.{IsMade};
+ghost use Rattle.apex_meaning.specs.Waiting.{first_waiting};
+ghost use Rattle.ports.specs.Status.{placed_port, port_status};
+
+use crate::port::PortStatus;
+use crate::ports::Ports;
+use apex_types::{At, Entry, EventKind, ObjectKind, Out, ReturnCode, Words};
+use process_table_base::{ProcessTable, copied, list_of};
+
+/// A sampling port has the message, with its tick, in place of the one before.
+fn arrive_sampling(
+    table: &ProcessTable,
+    ports: &mut Ports,
+    at: At,
+    place: u8,
+    port: PortStatus,
+    message: Words,
+    out: &mut Out,
+)
+    requires status { port ≡ port_status (placed_port ports.old place) }
+    requires kind { is_sampling (placed_port ports.old place) ≡ true }
+    requires room { HasRoom 1 out.old }
+    ensures step { IsMade (meaning.arrives_sampling at (both table.now ports.old) place (placed_port ports.old place) message) (both table.now ports.new) out.old out.new }
+    ensures grows { Grows 1 out.old out.new }
+{
+    let line = EventKind::Arrive(port.row.name, copied(&message));
+    out.lines.push(line);
+    ports.put_arrived(place, message, at.now);
+}
+
+/// Where nobody waits the message goes behind the others, and where there is no room it is lost.
+fn store(
+    table: &ProcessTable,
+    ports: &mut Ports,
+    place: u8,
+    port: PortStatus,
+    message: Words,
+    out: &mut Out,
+)
+    requires status { port ≡ port_status (placed_port ports.old place) }
+    requires room { HasRoom 1 out.old }
+    ensures step { IsMade (meaning.arrives_queuing (both table.now ports.old) place (placed_port ports.old place) message None) (both table.now ports.new) out.old out.new }
+    ensures grows { Grows 1 out.old out.new }
+{
+    if !port.is_full() {
+        let line = EventKind::Arrive(port.row.name, copied(&message));
+        out.lines.push(line);
+        ports.push_message(place, message);
+    } else {
+        out.lines.push(EventKind::Lost(port.row.name, message));
+        ports.lose_message(place);
+    }
+}
+
+/// The first receiver that waits takes the message. Where nobody waits it goes behind the others, and
+/// where there is no room it is lost.
+fn arrive_queuing(
+    table: &mut ProcessTable,
+    ports: &mut Ports,
+    place: u8,
+    port: PortStatus,
+    message: Words,
+    out: &mut Out,
+)
+    requires place { place < MOST_OBJECTS }
+    requires status { port ≡ port_status (placed_port ports.old place) }
+    requires room { HasRoom 4 out.old }
+    ensures step { IsMade (meaning.arrives_queuing (both table.old ports.old) place (placed_port ports.old place) message (first_waiting table.old (list place))) (both table.new ports.new) out.old out.new }
+    ensures grows { Grows 4 out.old out.new }
+{
+    match table.first_waiting(list_of(ObjectKind::Port, place)) {
+        Some((receiver, row)) => {
+            let line = EventKind::Arrive(port.row.name, copied(&message));
+            out.lines.push(line);
+            table.give(receiver, row, &message, out);
+        }
+        None => store(table, ports, place, port, message, out),
+    }
+}
+
+/// A message arrives at the port at a place, created or not. A sampling port has it in place of the one
+/// before; of a queuing port the first receiver that waits takes it, else it goes behind the others,
+/// and where there is no room it is lost, which the port remembers. Where there is no port nothing
+/// happens.
+pub fn arrive(
+    table: &mut ProcessTable,
+    ports: &mut Ports,
+    at: At,
+    place: u8,
+    message: Words,
+    out: &mut Out,
+)
+    requires { HasRoom 4 out.old }
+    ensures step { IsMade (meaning.arrives at (both table.old ports.old) place message) (both table.new ports.new) out.old out.new }
+    ensures grows { Grows 4 out.old out.new }
+{
+    let Some(port) = ports.status(place) else {
+        return;
+    };
+    if port.is_sampling() {
+        arrive_sampling(table, ports, at, place, port, message, out);
+    } else {
+        arrive_queuing(table, ports, place, port, message, out);
+    }
+}
+
+/// The message of a sender comes behind the others if there is room, and the sender is released.
+fn admit_one(table: &mut ProcessTable, ports: &mut Ports, entry: Entry, place: u8, out: &mut Out)
+    requires { HasRoom 2 out.old }
+    ensures step { IsMade (meaning.enters_port (both table.old ports.old) place entry (port_at ports.old place)) (both table.new ports.new) out.old out.new }
+    ensures grows { Grows 2 out.old out.new }
+{
+    let Some(port) = ports.status(place) else {
+        return;
+    };
+    if port.is_full() {
+        return;
+    }
+    if let Some((sender, row)) = table.numbered(entry.process) {
+        ports.push_message(place, table.handed_by(sender));
+        table.release(sender, row, ReturnCode::NoError, out);
+    }
+}
+
+/// Each of these senders in turn.
+fn admit_each(
+    table: &mut ProcessTable,
+    ports: &mut Ports,
+    entries: &[Entry],
+    place: u8,
+    out: &mut Out,
+)
+    requires few { length entries.now ≤ MOST_PROCESSES }
+    requires room { HasRoom (2 * length entries.now) out.old }
+    ensures step { IsMade (meaning.all_enter entries.now place (both table.old ports.old)) (both table.new ports.new) out.old out.new }
+    ensures grows { Grows (2 * length entries.now) out.old out.new }
+{
+    if let Some((entry, rest)) = entries.split_first() {
+        admit_one(table, ports, *entry, place, out);
+        admit_each(table, ports, rest, place, out);
+    }
+}
+
+/// The senders that wait at the port at a place enter it in their order, as long as there is room.
+#[tactic(auto, using(crate::proofs::Entering::entering))]
+pub fn admit(table: &mut ProcessTable, ports: &mut Ports, place: u8, out: &mut Out)
+    requires { HasRoom 62 out.old }
+    ensures step { IsMade (meaning.admits (both table.old ports.old) place) (both table.new ports.new) out.old out.new }
+    ensures grows { Grows 62 out.old out.new }
+{
+    if place < ports.count() {
+        let entries = table.waiting(list_of(ObjectKind::Port, place));
+        admit_each(table, ports, entries.as_slice(), place, out);
+    }
+}

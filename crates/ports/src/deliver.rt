@@ -1,0 +1,29 @@
+//! How a message goes into the array of a caller.
+
+ghost use Rattle.std.specs.Prelude.{◌≡◌, ◌≤◌, length};
+ghost use Rattle.apex_types.specs.Room.{HasRoom, Grows};
+ghost use Rattle.apex_meaning.specs.Step.{IsTold};
+ghost use Rattle.ports.specs.Delivering.{delivers};
+
+use apex_types::{Action, ArrayPlace, Out, ReturnCode, Runner, Service, Words};
+use process_table_base::ProcessTable;
+
+/// The service ends with a code and its outputs, and the message goes into the caller's array.
+pub(crate) fn deliver(
+    table: &ProcessTable,
+    caller: Runner,
+    service: Service,
+    code: ReturnCode,
+    outputs: &[i64],
+    array: ArrayPlace,
+    message: Words,
+    out: &mut Out,
+)
+    requires outputs { length outputs.now ≤ 6 }
+    requires room { HasRoom 2 out.old }
+    ensures step { IsTold (delivers table.now caller service code outputs.now array message) out.old out.new }
+    ensures grows { Grows 2 out.old out.new }
+{
+    table.answer(caller, service, code, outputs, out);
+    out.actions.push(Action::Write(array.base, message));
+}

@@ -1,0 +1,315 @@
+//! The services on queuing ports.
+
+ghost use Rattle.std.specs.Prelude.{◌≡◌, ◌<◌, ◌≤◌, ◌^◌, length, true};
+ghost use Rattle.apex_types.specs.Room.{HasRoom, Grows};
+ghost use Rattle.apex_types.specs.declared.identity.TheConstants.{MOST_OBJECTS};
+ghost use Rattle.apex_meaning.specs.Durations as durations;
+ghost use Rattle.apex_meaning.specs.Ports.{discipline_of};
+ghost use Rattle.apex_meaning.specs.PortServices as meaning;
+ghost use Rattle.apex_meaning.specs.Sharing.{answers, both};
+ghost use Rattle.apex_meaning.specs.Step.{IsMade, IsTold};
+ghost use Rattle.ports.specs.Status.{placed_port, port_status};
+
+use crate::deliver::deliver;
+use crate::port::PortStatus;
+use crate::ports::Ports;
+use apex_types::{
+    ArrayPlace, At, Discipline, Mode, ObjectKind, Out, ReturnCode, Runner, Service, Waiting, Words,
+};
+use process_table_base::{
+    ProcessTable, first_words, is_duration, is_large_enough, is_length, list_of,
+};
+
+/// CREATE_QUEUING_PORT (ARINC 653 Part 1, interpartition communication): the queuing port of that
+/// number exists, and its output is its number. INVALID_MODE: in normal mode; INVALID_CONFIG: the
+/// partition has no such port in the module table, or it is a sampling port; NO_ACTION: it exists.
+pub fn create_queuing_port(
+    table: &ProcessTable,
+    ports: &mut Ports,
+    mode: Mode,
+    caller: Runner,
+    name: i64,
+    out: &mut Out,
+)
+    requires { HasRoom 1 out.old }
+    ensures step { IsMade (meaning.create_queuing_port mode (both table.now ports.old) caller name) (both table.now ports.new) out.old out.new }
+    ensures grows { Grows 1 out.old out.new }
+{
+    let service = Service::CreateQueuingPort;
+    if mode == Mode::Normal {
+        return table.refuse(caller, service, ReturnCode::InvalidMode, &[0], out);
+    }
+    let Some((place, port)) = ports.queuing(name) else {
+        return table.refuse(caller, service, ReturnCode::InvalidConfig, &[0], out);
+    };
+    if port.created {
+        return table.refuse(caller, service, ReturnCode::NoAction, &[0], out);
+    }
+    table.answer(caller, service, ReturnCode::NoError, &[name], out);
+    ports.create(place);
+}
+
+/// GET_QUEUING_PORT_ID (ARINC 653 Part 1, interpartition communication): the number of a queuing
+/// port, as its output. INVALID_CONFIG: no queuing port of this number was created.
+pub fn get_queuing_port_id(
+    table: &ProcessTable,
+    ports: &Ports,
+    caller: Runner,
+    name: i64,
+    out: &mut Out,
+)
+    requires { HasRoom 1 out.old }
+    ensures step { IsMade (meaning.get_queuing_port_id (both table.now ports.now) caller name) (both table.now ports.now) out.old out.new }
+    ensures grows { Grows 1 out.old out.new }
+{
+    let service = Service::GetQueuingPortId;
+    match ports.queuing(name) {
+        Some((_, port)) if port.created => {
+            table.answer(caller, service, ReturnCode::NoError, &[name], out)
+        }
+        _ => table.refuse(caller, service, ReturnCode::InvalidConfig, &[0], out),
+    }
+}
+
+/// A message goes behind the others of a port. While it is full the caller waits.
+fn send(
+    table: &mut ProcessTable,
+    ports: &mut Ports,
+    at: At,
+    caller: Runner,
+    limit: i64,
+    message: Words,
+    place: u8,
+    port: PortStatus,
+    out: &mut Out,
+)
+    requires now { at.now.0 ≤ 2 ^ 40 }
+    requires limit { durations.is_duration limit ≡ true }
+    requires place { place < MOST_OBJECTS }
+    requires status { port ≡ port_status (placed_port ports.old place) }
+    requires room { HasRoom 1 out.old }
+    ensures step { IsMade (meaning.sends at (both table.old ports.old) caller limit message place (placed_port ports.old place)) (both table.new ports.new) out.old out.new }
+    ensures grows { Grows 1 out.old out.new }
+{
+    let service = Service::SendQueuingMessage;
+    if port.is_full() {
+        let waiting = Waiting {
+            service,
+            list: list_of(ObjectKind::Port, place),
+            discipline: port.discipline(),
+            array: None,
+        };
+        return table.block(at, caller, limit, waiting, message, out);
+    }
+    table.answer(caller, service, ReturnCode::NoError, &[], out);
+    ports.push_message(place, message);
+}
+
+/// SEND_QUEUING_MESSAGE (ARINC 653 Part 1, interpartition communication): the first words of those
+/// that the call hands in go behind the other messages of the port, until the end of the partition's
+/// window moves them. While it is full the caller waits, at most so many ticks; -1 is without limit.
+/// INVALID_PARAM: no queuing port of this number was created, or a limit below -1 or above 2^40
+/// ticks; INVALID_MODE: it is a destination; INVALID_PARAM: a length below 1, above the port's or
+/// above the array's; NOT_AVAILABLE: it is full and the limit is 0; INVALID_MODE: the caller may not
+/// wait; TIMED_OUT: it waited for so long.
+pub fn send_queuing_message(
+    table: &mut ProcessTable,
+    ports: &mut Ports,
+    at: At,
+    caller: Runner,
+    id: i64,
+    array: ArrayPlace,
+    length: i64,
+    limit: i64,
+    words: &Words,
+    out: &mut Out,
+)
+    requires now { at.now.0 ≤ 2 ^ 40 }
+    requires room { HasRoom 1 out.old }
+    ensures step { IsMade (meaning.send_queuing_message at (both table.old ports.old) caller id array length limit words.now.items) (both table.new ports.new) out.old out.new }
+    ensures grows { Grows 1 out.old out.new }
+{
+    let service = Service::SendQueuingMessage;
+    let Some((place, port)) = ports.queuing(id) else {
+        return table.refuse(caller, service, ReturnCode::InvalidParam, &[], out);
+    };
+    if !port.created || !is_duration(limit) {
+        return table.refuse(caller, service, ReturnCode::InvalidParam, &[], out);
+    }
+    if !port.is_source() {
+        return table.refuse(caller, service, ReturnCode::InvalidMode, &[], out);
+    }
+    if !is_length(port.row.words, array, length) {
+        return table.refuse(caller, service, ReturnCode::InvalidParam, &[], out);
+    }
+    let message = first_words(length, words);
+    send(table, ports, at, caller, limit, message, place, port, out);
+}
+
+/// The code of a receive. The first after an overflow tells of it.
+fn code_of_receive(overflowed: bool) -> ReturnCode
+    ensures { result ≡ meaning.code_of_receive overflowed }
+{
+    match overflowed {
+        false => ReturnCode::NoError,
+        true => ReturnCode::InvalidConfig,
+    }
+}
+
+/// The first message of a port goes into an array. While there is none the caller waits.
+#[tactic(auto, using(crate::proofs::Receiving::receiving))]
+fn receive(
+    table: &mut ProcessTable,
+    ports: &mut Ports,
+    at: At,
+    caller: Runner,
+    array: ArrayPlace,
+    limit: i64,
+    place: u8,
+    discipline: Discipline,
+    out: &mut Out,
+)
+    requires now { at.now.0 ≤ 2 ^ 40 }
+    requires limit { durations.is_duration limit ≡ true }
+    requires place { place < MOST_OBJECTS }
+    requires discipline { discipline ≡ discipline_of (placed_port ports.old place).row.kind }
+    requires room { HasRoom 2 out.old }
+    ensures step { let x = placed_port ports.old place in IsMade (meaning.receives at (both table.old ports.old) caller array limit place x x.messages) (both table.new ports.new) out.old out.new }
+    ensures grows { Grows 2 out.old out.new }
+{
+    let service = Service::ReceiveQueuingMessage;
+    if let Some((message, overflowed)) = ports.receive_message(place) {
+        let code = code_of_receive(overflowed);
+        let count = message.len() as i64;
+        return deliver(table, caller, service, code, &[count], array, message, out);
+    }
+    let waiting = Waiting {
+        service,
+        list: list_of(ObjectKind::Port, place),
+        discipline,
+        array: Some(array),
+    };
+    table.block(at, caller, limit, waiting, Words::new(), out);
+}
+
+/// RECEIVE_QUEUING_MESSAGE (ARINC 653 Part 1, interpartition communication): the first message of the
+/// port goes into the array, and its words are counted. While there is none the caller waits, at most
+/// so many ticks; -1 is without limit. INVALID_PARAM: no queuing port of this number was created, or
+/// a limit below -1 or above 2^40 ticks; INVALID_MODE: it is a source; INVALID_PARAM: an array without
+/// room for its longest message; NOT_AVAILABLE: it is empty and the limit is 0; INVALID_MODE: the
+/// caller may not wait; TIMED_OUT: it waited for so long; INVALID_CONFIG, with the message: a message
+/// was lost since the last receive, because the port was full.
+pub fn receive_queuing_message(
+    table: &mut ProcessTable,
+    ports: &mut Ports,
+    at: At,
+    caller: Runner,
+    id: i64,
+    array: ArrayPlace,
+    limit: i64,
+    out: &mut Out,
+)
+    requires now { at.now.0 ≤ 2 ^ 40 }
+    requires room { HasRoom 2 out.old }
+    ensures step { IsMade (meaning.receive_queuing_message at (both table.old ports.old) caller id array limit) (both table.new ports.new) out.old out.new }
+    ensures grows { Grows 2 out.old out.new }
+{
+    let service = Service::ReceiveQueuingMessage;
+    let Some((place, port)) = ports.queuing(id) else {
+        return table.refuse(caller, service, ReturnCode::InvalidParam, &[0], out);
+    };
+    if !port.created || !is_duration(limit) {
+        return table.refuse(caller, service, ReturnCode::InvalidParam, &[0], out);
+    }
+    if port.is_source() {
+        return table.refuse(caller, service, ReturnCode::InvalidMode, &[0], out);
+    }
+    if !is_large_enough(port.row.words, array) {
+        return table.refuse(caller, service, ReturnCode::InvalidParam, &[0], out);
+    }
+    let discipline = port.discipline();
+    receive(
+        table, ports, at, caller, array, limit, place, discipline, out,
+    );
+}
+
+/// Tells how a port stands: its messages, its room for messages, the most words of one, the direction,
+/// and how many wait.
+fn tell_status(
+    table: &ProcessTable,
+    ports: &Ports,
+    caller: Runner,
+    place: u8,
+    port: PortStatus,
+    out: &mut Out,
+)
+    requires place { place < MOST_OBJECTS }
+    requires status { port ≡ port_status (placed_port ports.now place) }
+    requires room { HasRoom 1 out.old }
+    ensures step { let b = both table.now ports.now in IsTold (answers b caller Service.GetQueuingPortStatus ReturnCode.NoError (meaning.queuing_status b place (placed_port ports.now place))) out.old out.new }
+    ensures grows { Grows 1 out.old out.new }
+{
+    let waiting = table.waiting_count(list_of(ObjectKind::Port, place));
+    let outputs = [
+        i64::from(port.messages),
+        i64::from(port.depth()),
+        i64::from(port.row.words),
+        port.direction_number(),
+        i64::from(waiting),
+    ];
+    let service = Service::GetQueuingPortStatus;
+    table.answer(caller, service, ReturnCode::NoError, &outputs, out);
+}
+
+/// GET_QUEUING_PORT_STATUS (ARINC 653 Part 1, interpartition communication): how many messages the
+/// port holds, how many it has room for, the most words of one, its direction, and how many processes
+/// wait. INVALID_PARAM: no queuing port of this number was created.
+pub fn get_queuing_port_status(
+    table: &ProcessTable,
+    ports: &Ports,
+    caller: Runner,
+    id: i64,
+    out: &mut Out,
+)
+    requires { HasRoom 1 out.old }
+    ensures step { IsMade (meaning.get_queuing_port_status (both table.now ports.now) caller id) (both table.now ports.now) out.old out.new }
+    ensures grows { Grows 1 out.old out.new }
+{
+    let service = Service::GetQueuingPortStatus;
+    let zeros = [0, 0, 0, 0, 0];
+    let Some((place, port)) = ports.queuing(id) else {
+        return table.refuse(caller, service, ReturnCode::InvalidParam, &zeros, out);
+    };
+    if !port.created {
+        return table.refuse(caller, service, ReturnCode::InvalidParam, &zeros, out);
+    }
+    tell_status(table, ports, caller, place, port, out);
+}
+
+/// CLEAR_QUEUING_PORT (ARINC 653 Part 1, interpartition communication): the messages of the port are
+/// gone, and a lost message is forgotten; receivers go on waiting. INVALID_PARAM: no queuing port of
+/// this number was created; INVALID_MODE: it is a source.
+pub fn clear_queuing_port(
+    table: &ProcessTable,
+    ports: &mut Ports,
+    caller: Runner,
+    id: i64,
+    out: &mut Out,
+)
+    requires { HasRoom 1 out.old }
+    ensures step { IsMade (meaning.clear_queuing_port (both table.now ports.old) caller id) (both table.now ports.new) out.old out.new }
+    ensures grows { Grows 1 out.old out.new }
+{
+    let service = Service::ClearQueuingPort;
+    let Some((place, port)) = ports.queuing(id) else {
+        return table.refuse(caller, service, ReturnCode::InvalidParam, &[], out);
+    };
+    if !port.created {
+        return table.refuse(caller, service, ReturnCode::InvalidParam, &[], out);
+    }
+    if port.is_source() {
+        return table.refuse(caller, service, ReturnCode::InvalidMode, &[], out);
+    }
+    table.answer(caller, service, ReturnCode::NoError, &[], out);
+    ports.empty(place);
+}

@@ -1,0 +1,202 @@
+//! The services on sampling ports.
+
+ghost use Rattle.std.specs.Prelude.{◌≡◌, ◌≤◌, ◌^◌, length};
+ghost use Rattle.apex_types.specs.Room.{HasRoom, Grows};
+ghost use Rattle.apex_meaning.specs.PortServices as meaning;
+ghost use Rattle.apex_meaning.specs.Sharing.{both};
+ghost use Rattle.apex_meaning.specs.Step.{IsMade};
+ghost use Rattle.ports.specs.Status.{placed_port};
+
+use crate::deliver::deliver;
+use crate::port::validity_number;
+use crate::ports::Ports;
+use apex_types::{ArrayPlace, At, Mode, Out, ReturnCode, Runner, Service, Words};
+use process_table_base::{ProcessTable, first_words, is_large_enough, is_length};
+
+/// CREATE_SAMPLING_PORT (ARINC 653 Part 1, interpartition communication): the sampling port of that
+/// number exists, and its output is its number. INVALID_MODE: in normal mode; INVALID_CONFIG: the
+/// partition has no such port in the module table, or it is a queuing port; NO_ACTION: it exists.
+pub fn create_sampling_port(
+    table: &ProcessTable,
+    ports: &mut Ports,
+    mode: Mode,
+    caller: Runner,
+    name: i64,
+    out: &mut Out,
+)
+    requires { HasRoom 1 out.old }
+    ensures step { IsMade (meaning.create_sampling_port mode (both table.now ports.old) caller name) (both table.now ports.new) out.old out.new }
+    ensures grows { Grows 1 out.old out.new }
+{
+    let service = Service::CreateSamplingPort;
+    if mode == Mode::Normal {
+        return table.refuse(caller, service, ReturnCode::InvalidMode, &[0], out);
+    }
+    let Some((place, port)) = ports.sampling(name) else {
+        return table.refuse(caller, service, ReturnCode::InvalidConfig, &[0], out);
+    };
+    if port.created {
+        return table.refuse(caller, service, ReturnCode::NoAction, &[0], out);
+    }
+    table.answer(caller, service, ReturnCode::NoError, &[name], out);
+    ports.create(place);
+}
+
+/// GET_SAMPLING_PORT_ID (ARINC 653 Part 1, interpartition communication): the number of a sampling
+/// port, as its output. INVALID_CONFIG: no sampling port of this number was created.
+pub fn get_sampling_port_id(
+    table: &ProcessTable,
+    ports: &Ports,
+    caller: Runner,
+    name: i64,
+    out: &mut Out,
+)
+    requires { HasRoom 1 out.old }
+    ensures step { IsMade (meaning.get_sampling_port_id (both table.now ports.now) caller name) (both table.now ports.now) out.old out.new }
+    ensures grows { Grows 1 out.old out.new }
+{
+    let service = Service::GetSamplingPortId;
+    match ports.sampling(name) {
+        Some((_, port)) if port.created => {
+            table.answer(caller, service, ReturnCode::NoError, &[name], out)
+        }
+        _ => table.refuse(caller, service, ReturnCode::InvalidConfig, &[0], out),
+    }
+}
+
+/// WRITE_SAMPLING_MESSAGE (ARINC 653 Part 1, interpartition communication): the first words of those
+/// that the call hands in take the place of the port's message, until the end of the partition's
+/// window moves it. INVALID_PARAM: no sampling port of this number was created; INVALID_MODE: it is a
+/// destination; INVALID_PARAM: a length below 1, above the port's or above the array's.
+pub fn write_sampling_message(
+    table: &ProcessTable,
+    ports: &mut Ports,
+    caller: Runner,
+    id: i64,
+    array: ArrayPlace,
+    length: i64,
+    words: &Words,
+    out: &mut Out,
+)
+    requires { HasRoom 1 out.old }
+    ensures step { IsMade (meaning.write_sampling_message (both table.now ports.old) caller id array length words.now.items) (both table.now ports.new) out.old out.new }
+    ensures grows { Grows 1 out.old out.new }
+{
+    let service = Service::WriteSamplingMessage;
+    let Some((place, port)) = ports.sampling(id) else {
+        return table.refuse(caller, service, ReturnCode::InvalidParam, &[], out);
+    };
+    if !port.created {
+        return table.refuse(caller, service, ReturnCode::InvalidParam, &[], out);
+    }
+    if !port.is_source() {
+        return table.refuse(caller, service, ReturnCode::InvalidMode, &[], out);
+    }
+    if !is_length(port.row.words, array, length) {
+        return table.refuse(caller, service, ReturnCode::InvalidParam, &[], out);
+    }
+    table.answer(caller, service, ReturnCode::NoError, &[], out);
+    ports.put_sample(place, first_words(length, words));
+}
+
+/// The port's message goes into the array, and stays in the port. Where there is none nothing is done.
+#[tactic(auto, using(crate::proofs::Reading::reading))]
+fn read(
+    table: &ProcessTable,
+    ports: &mut Ports,
+    at: At,
+    caller: Runner,
+    array: ArrayPlace,
+    place: u8,
+    out: &mut Out,
+)
+    requires { HasRoom 2 out.old }
+    ensures step { let x = placed_port ports.old place in IsMade (meaning.reads_sample at (both table.now ports.old) caller array place x x.messages) (both table.now ports.new) out.old out.new }
+    ensures grows { Grows 2 out.old out.new }
+{
+    let service = Service::ReadSamplingMessage;
+    match ports.read_message(place, at) {
+        Some((message, valid)) => {
+            let outputs = [message.len() as i64, validity_number(valid)];
+            deliver(
+                table,
+                caller,
+                service,
+                ReturnCode::NoError,
+                &outputs,
+                array,
+                message,
+                out,
+            );
+        }
+        None => table.refuse(caller, service, ReturnCode::NoAction, &[0, 0], out),
+    }
+}
+
+/// READ_SAMPLING_MESSAGE (ARINC 653 Part 1, interpartition communication): the port's message goes
+/// into the array, and stays in the port; its outputs are its length, and whether it is valid, which
+/// it is as long as its arrival is no longer ago than the port's refresh period. INVALID_PARAM: no
+/// sampling port of this number was created; INVALID_MODE: it is a source; INVALID_PARAM: an array
+/// without room for its longest message; NO_ACTION: no message has arrived.
+pub fn read_sampling_message(
+    table: &ProcessTable,
+    ports: &mut Ports,
+    at: At,
+    caller: Runner,
+    id: i64,
+    array: ArrayPlace,
+    out: &mut Out,
+)
+    requires now { at.now.0 ≤ 2 ^ 40 }
+    requires room { HasRoom 2 out.old }
+    ensures step { IsMade (meaning.read_sampling_message at (both table.now ports.old) caller id array) (both table.now ports.new) out.old out.new }
+    ensures grows { Grows 2 out.old out.new }
+{
+    let service = Service::ReadSamplingMessage;
+    let Some((place, port)) = ports.sampling(id) else {
+        return table.refuse(caller, service, ReturnCode::InvalidParam, &[0, 0], out);
+    };
+    if !port.created {
+        return table.refuse(caller, service, ReturnCode::InvalidParam, &[0, 0], out);
+    }
+    if port.is_source() {
+        return table.refuse(caller, service, ReturnCode::InvalidMode, &[0, 0], out);
+    }
+    if !is_large_enough(port.row.words, array) {
+        return table.refuse(caller, service, ReturnCode::InvalidParam, &[0, 0], out);
+    }
+    read(table, ports, at, caller, array, place, out);
+}
+
+/// GET_SAMPLING_PORT_STATUS (ARINC 653 Part 1, interpartition communication): the most words of a
+/// message, the direction, the refresh period in ticks, and whether the last message read was valid.
+/// INVALID_PARAM: no sampling port of this number was created.
+pub fn get_sampling_port_status(
+    table: &ProcessTable,
+    ports: &Ports,
+    caller: Runner,
+    id: i64,
+    out: &mut Out,
+)
+    requires { HasRoom 1 out.old }
+    ensures step { IsMade (meaning.get_sampling_port_status (both table.now ports.now) caller id) (both table.now ports.now) out.old out.new }
+    ensures grows { Grows 1 out.old out.new }
+{
+    let service = Service::GetSamplingPortStatus;
+    match ports.sampling(id) {
+        Some((_, port)) if port.created => {
+            let words = i64::from(port.row.words);
+            let direction = port.direction_number();
+            let refresh = port.refresh() as i64;
+            let outputs = [words, direction, refresh, validity_number(port.valid)];
+            table.answer(caller, service, ReturnCode::NoError, &outputs, out)
+        }
+        _ => table.refuse(
+            caller,
+            service,
+            ReturnCode::InvalidParam,
+            &[0, 0, 0, 0],
+            out,
+        ),
+    }
+}

@@ -1,0 +1,34 @@
+//! The messages of services.
+
+ghost use Rattle.std.specs.Prelude.{◌≡◌, ◌≤ℤ◌, pos};
+ghost use Rattle.apex_meaning.specs.Sharing as meaning;
+ghost use Rattle.apex_meaning.specs.Step.{first_words, message};
+
+use crate::waiting::copied;
+use apex_types::{ArrayPlace, Words};
+
+/// Whether a message of an array has a good length: 1 word at least, no more than the object takes,
+/// and no more than the array has.
+pub fn is_length(words: u8, array: ArrayPlace, length: i64) -> bool
+    ensures { result ≡ meaning.is_length words array length }
+{
+    1 <= length && length <= i64::from(words) && length <= array.size
+}
+
+/// Whether an array has room for the longest message.
+pub fn is_large_enough(words: u8, array: ArrayPlace) -> bool
+    ensures { result ≡ meaning.is_large_enough words array }
+{
+    i64::from(words) <= array.size
+}
+
+/// The first words, as many as a good length says.
+#[tactic(auto, using(apex_meaning::proofs::Numbers::handed_words))]
+pub fn first_words(length: i64, words: &Words) -> Words
+    requires { pos 1 ≤ℤ length }
+    ensures { result ≡ message (first_words length words.now.items) }
+{
+    let mut message = copied(words);
+    message.truncate(length as usize);
+    message
+}
