@@ -336,8 +336,8 @@ module _ {I C D : Type 0} (R : I → C → D → Type 0) where
   tick_of_module_same plan at devices is xs ys h =
       then_same is (exchanges plan at devices xs) (exchanges plan at devices ys) (λ ms. ticks_owner at ms (owner plan.schedule at)) (λ ms. ticks_owner at ms (owner plan.schedule at))
       (then_same is _ _ (λ ms. moves_ended plan.channels at ms (ended plan.schedule at)) (λ ms. moves_ended plan.channels at ms (ended plan.schedule at))
-        (inputs_all_same plan.channels at (of_tick at.now.0 devices) is xs ys h)
-        (ended_same plan.channels at (ended plan.schedule at) is))
+      (inputs_all_same plan.channels at (of_tick at.now.0 devices) is xs ys h)
+      (ended_same plan.channels at (ended plan.schedule at) is))
       (owner_same at (owner plan.schedule at) is)
 
   from_same : (plan : Plan) (devices : List DeviceLine) (n : ℕ) (at : At) (is : List I) (xs : List (Member C)) (ys : List (Member D)) → SameMembers R is xs ys → trace_from plan devices n at xs ≡ trace_from plan devices n at ys

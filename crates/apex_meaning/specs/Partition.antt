@@ -287,7 +287,6 @@ cold_start at c x = moved at x.engine (clears x.world.kernel mode.ColdStart c) x
 abbrev pub advances : {C : Type 0} → At → Member C → Moved C
 advances at x = tick x.engine at x.world
 
-
 -- ---- messages of a partition
 
 -- ports are numbered from 1

@@ -9,8 +9,8 @@ ghost use Rattle.apex_meaning.specs.Step.{IsMade};
 use apex_types::{At, Call, Mode, Out, Runner, Words};
 use ports::{
     Ports, clear_queuing_port, create_queuing_port, create_sampling_port, get_queuing_port_id,
-    get_queuing_port_status, get_sampling_port_id, get_sampling_port_status,
-    read_sampling_message, receive_queuing_message, send_queuing_message, write_sampling_message,
+    get_queuing_port_status, get_sampling_port_id, get_sampling_port_status, read_sampling_message,
+    receive_queuing_message, send_queuing_message, write_sampling_message,
 };
 use process_table_base::ProcessTable;
 

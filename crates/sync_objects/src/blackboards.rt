@@ -15,7 +15,9 @@ use apex_types::{
     Action, ArrayPlace, At, Discipline, Mode, ObjectKind, Out, ReturnCode, Runner, Service,
     Waiting, Words,
 };
-use process_table_base::{ProcessTable, first_words, is_duration, is_large_enough, is_length, list_of};
+use process_table_base::{
+    ProcessTable, first_words, is_duration, is_large_enough, is_length, list_of,
+};
 use sync_objects_base::Objects;
 
 /// CREATE_BLACKBOARD (ARINC 653 Part 1, intrapartition communication): the blackboard of that number
