@@ -1,11 +1,13 @@
 -- Engines that cannot be told apart give equal traces. Nothing here looks into a service.
-use Rattle.std.proofs.Common.{◌≡◌, ℕ, zero, suc, ◌+◌, ℤ, Bool, true, false, if◌then◌else◌, List, [], ◌∷◌, ◌++◌, length, Option, Some, None, map, refl, sym, ap, subst, ◌∙◌}
+use Rattle.std.proofs.Common.{◌≡◌, ℕ, zero, suc, ◌+◌, ℤ, List, [], ◌∷◌, ◌++◌, length, Option, Some, None, map, refl, sym, ap, subst, ◌∙◌}
 use Rattle.arrayvec.specs.ArrayVec.{ArrayVec}
-use Rattle.std.specs.Prelude.{slice_get, slice_set}
+use Rattle.std.specs.Prelude.{slice_get, slice_set, option_map}
 use Rattle.std.specs.List.{flat_map}
 use Rattle.apex_types.specs.Runners.{place_of}
 use Rattle.apex_types.specs.declared.event.Event.{Event}
 use Rattle.apex_types.specs.declared.codes.Mode.TheVariants as mode
+use Rattle.apex_types.specs.declared.codes.ModuleAction.{ModuleAction}
+use Rattle.apex_types.specs.declared.codes.ModuleAction.TheVariants as reaction
 use Rattle.apex_types.specs.declared.codes.StartCondition.{StartCondition}
 use Rattle.apex_types.specs.declared.codes.StartCondition.TheVariants as condition
 use Rattle.apex_types.specs.declared.device.DeviceInput.{DeviceInput}
@@ -23,13 +25,14 @@ use Rattle.apex_types.specs.declared.identity.Runner.{Runner}
 use Rattle.apex_types.specs.declared.process.Action.{Action}
 use Rattle.apex_types.specs.declared.process.Action.TheVariants as action
 use Rattle.apex_meaning.specs.Engine.{Engine, Ticked, Asks, Simulates}
-use Rattle.apex_meaning.specs.Kernel.{Kernel, of_processes, of_ports, of_ports_alone, with_ports}
+use Rattle.apex_meaning.specs.Kernel.{Kernel, of_ports, of_ports_alone, with_ports}
+use Rattle.apex_meaning.specs.HealthServices.{breaks}
 use Rattle.apex_meaning.specs.PartitionServices.{clears}
-use Rattle.apex_meaning.specs.Partition.{World, Member, Moved, control_at, replied, no_control, written, act, act_all, moved, followed_by, ticked, chooses, spends, spends_chosen, spending_phase, given, treats_asked, treats_due, due_phase, choice_phase, prepares, tick, cold_start, advances, arrives, leaves, leaving, admits, goes_out, place_of_port, messages_to_move}
+use Rattle.apex_meaning.specs.Partition.{World, Member, Moved, control_at, replied, no_control, written, with_error, without_errors, act, act_all, moved, followed_by, ticked, chooses_with_handler, spends, spends_chosen, spending_phase, given, treats_asked, treats_due, due_phase, choice_phase, prepares, tick, cold_start, breaks_down, advances, arrives, leaves, leaving, admits, goes_out, place_of_port, messages_to_move}
 use Rattle.apex_meaning.specs.Step.{Step}
 use Rattle.apex_meaning.specs.Windows.{owner, ended}
-use Rattle.apex_meaning.specs.Module.{Plan, Advanced, still, then_goes, steps, steps_member, of_member, ports_of, ports_from, delivers, delivers_all, goes_by, inputs, inputs_all, of_tick, channel_from, moves_found, moves_message, moves_messages, moves_so_many, moves_port, moves_ports, moves_ended, first_tick, next_tick, start_lines, starts, ticks_owner, exchanges, module_tick, trace_from, trace}
-use Rattle.apex_meaning.specs.Lifting.{SameControl, SameControls, SameWorld, SameMoved, SameMember, SameMembers, SameAdvanced}
+use Rattle.apex_meaning.specs.Module.{Plan, Advanced, Course, goes_on, unless_down, then_runs, still, then_goes, steps, steps_member, of_member, ports_of, ports_from, delivers, delivers_all, goes_by, inputs, inputs_all, of_tick, channel_from, moves_found, moves_message, moves_messages, moves_so_many, moves_port, moves_ports, moves_ended, first_tick, next_tick, start_lines, starts_all, starts, tells_fault, as_origin, breaks_module, ticks_owner, moves_and_ticks, module_tick, trace_from, trace}
+use Rattle.apex_meaning.specs.Lifting.{SameControl, SameControls, SameWorld, SameMoved, SameMember, SameMembers, SameAdvanced, SameCourse}
 
 abbrev world : {C : Type 0} → Kernel → List (Option C) → List ℤ → List ℤ → World C
 world k controls words initial = record { kernel = k; controls = controls; words = words; initial = initial }
@@ -79,11 +82,11 @@ module _ {C D : Type 0} (R : C → D → Type 0) where
     same_act : (a : Action) (k : Kernel) (f : List (Option C)) (g : List (Option D)) (ws i : List ℤ) → SameControls R f g → SameWorld R (act c a (world k f ws i)) (act d a (world k g ws i))
     same_act (action.Begin p) k f g ws i h = same_world k _ _ ws i (same_set f g (place_of p) (Some (c.start p)) (Some (d.start p)) h (s.start p))
     same_act (action.Stop p) k f g ws i h = same_world k _ _ ws i (same_set f g (place_of p) None None h tt)
-    same_act action.StopAll k f g ws i h = same_world k _ _ ws i (same_none f g h)
+    same_act action.StopAll k f g ws i h = same_world (without_errors k) _ _ ws i (same_none f g h)
     same_act (action.Reply p answer) k f g ws i h = same_world k _ _ ws i (same_set f g (place_of p) (replied c (control_at f (place_of p)) answer.items) (replied d (control_at g (place_of p)) answer.items) h (same_replied (control_at f (place_of p)) (control_at g (place_of p)) answer.items (same_get f g (place_of p) h)))
     same_act action.Restore k f g ws i h = same_world k f g i i h
     same_act (action.Write place array) k f g ws i h = same_world k f g (written place array.items ws) i h
-    same_act (action.Queue error p words) k f g ws i h = same_world k f g ws i h
+    same_act (action.Queue error) k f g ws i h = same_world (with_error k error) f g ws i h
 
     same_act_all : (actions : List Action) (v : World C) (w : World D) → SameWorld R v w → SameWorld R (act_all c actions v) (act_all d actions w)
     same_act_all [] v w h = h
@@ -105,7 +108,7 @@ module _ {C D : Type 0} (R : C → D → Type 0) where
     same_due at k f g ws i h = same_step at (treats_due at k) k f g ws i h
 
     same_choice : (at : At) (k : Kernel) (f : List (Option C)) (g : List (Option D)) (ws i : List ℤ) → SameControls R f g → SameMoved R (choice_phase c at (world k f ws i)) (choice_phase d at (world k g ws i))
-    same_choice at k f g ws i h = same_step at (of_processes k (chooses k.mode k.processes)) k f g ws i h
+    same_choice at k f g ws i h = same_step at (chooses_with_handler k) k f g ws i h
 
     pub record SameTicked (a : Ticked (Option C)) (b : Ticked (Option D)) : Type 0 where
       pub control : SameControl R a.control b.control
@@ -158,19 +161,19 @@ module _ {I C D : Type 0} (R : I → C → D → Type 0) where
   started_same at c i x y h =
       shared (R i) (λ v w. SameMoved (R i) (moved at x.engine (clears v.kernel mode.ColdStart c) v) (moved at y.engine (clears w.kernel mode.ColdStart c) w)) x.world y.world (same_start (R i) x.engine y.engine h.engine at c) h.world
 
-  starts_same : (is : List I) (xs : List (Member C)) (ys : List (Member D)) → SameMembers R is xs ys → SameAdvanced R is (starts xs) (starts ys)
-  starts_same [] [] [] h = record { members = tt; lines = refl }
-  starts_same (i ∷ is) (x ∷ xs) (y ∷ ys) h =
-      let one = started_same first_tick condition.NormalStart i x y h.0 in
-      let rest = starts_same is xs ys h.1 in
+  starts_same : (at : At) (c : StartCondition) (is : List I) (xs : List (Member C)) (ys : List (Member D)) → SameMembers R is xs ys → SameAdvanced R is (starts_all at c xs) (starts_all at c ys)
+  starts_same at c [] [] [] h = record { members = tt; lines = refl }
+  starts_same at c (i ∷ is) (x ∷ xs) (y ∷ ys) h =
+      let one = started_same at c i x y h.0 in
+      let rest = starts_same at c is xs ys h.1 in
       record {
         members = (record { engine = h.0.engine; world = one.world }, rest.members);
-        lines = ap (λ (es : List Event). es ++ flat_map start_lines xs) one.lines ∙ ap (λ (es : List Event). start_lines y ++ es) rest.lines;
+        lines = ap (λ (es : List Event). es ++ flat_map (start_lines at c) xs) one.lines ∙ ap (λ (es : List Event). start_lines at c y ++ es) rest.lines;
       }
-  starts_same [] [] (y ∷ ys) h = absurd h
-  starts_same [] (x ∷ xs) ys h = absurd h
-  starts_same (i ∷ is) [] ys h = absurd h
-  starts_same (i ∷ is) (x ∷ xs) [] h = absurd h
+  starts_same at c [] [] (y ∷ ys) h = absurd h
+  starts_same at c [] (x ∷ xs) ys h = absurd h
+  starts_same at c (i ∷ is) [] ys h = absurd h
+  starts_same at c (i ∷ is) (x ∷ xs) [] h = absurd h
 
   -- steps of one partition that cannot be told apart
   abbrev SameSteps : (Member C → Moved C) → (Member D → Moved D) → Type 0
@@ -216,6 +219,11 @@ module _ {I C D : Type 0} (R : I → C → D → Type 0) where
 
   advances_same : (at : At) → SameSteps (advances at) (advances at)
   advances_same at i x y h = tick_same (R i) x.engine y.engine h.engine at x.world y.world h.world
+
+  breaks_same : (at : At) → SameSteps (breaks_down at) (breaks_down at)
+  breaks_same at i x y h =
+      shared (R i) (λ v w. SameMoved (R i) (breaks_down at (record { engine = x.engine; world = v })) (breaks_down at (record { engine = y.engine; world = w }))) x.world y.world
+      (λ k f g ws n c. same_step (R i) x.engine y.engine h.engine at (breaks k) k f g ws n c) h.world
 
   arrives_same : (at : At) (port : PortId) (m : ArrayVec ℤ) → SameSteps (arrives at port m) (arrives at port m)
   arrives_same at port m i x y h =
@@ -280,14 +288,46 @@ module _ {I C D : Type 0} (R : I → C → D → Type 0) where
   goes_by_same at m None is xs ys h = still_same is xs ys h
   goes_by_same at m (Some c) is xs ys h = delivers_all_same at c m c.destinations is xs ys h
 
-  inputs_same : (channels : List Channel) (at : At) (n : DeviceInput) (is : List I) (xs : List (Member C)) (ys : List (Member D)) → SameMembers R is xs ys → SameAdvanced R is (inputs channels at n xs) (inputs channels at n ys)
-  inputs_same channels at (input.Message channel m) is xs ys h = goes_by_same at m (slice_get channels channel.0) is xs ys h
-  inputs_same channels at input.ModuleFault is xs ys h = still_same is xs ys h
-  inputs_same channels at (input.PartitionFault p) is xs ys h = still_same is xs ys h
+  -- ---- steps that may start the module again, or shut it down
 
-  inputs_all_same : (channels : List Channel) (at : At) (ls : List DeviceLine) (is : List I) (xs : List (Member C)) (ys : List (Member D)) → SameMembers R is xs ys → SameAdvanced R is (inputs_all channels at ls xs) (inputs_all channels at ls ys)
-  inputs_all_same channels at [] is xs ys h = still_same is xs ys h
-  inputs_all_same channels at (l ∷ ls) is xs ys h = then_same is _ _ (inputs_all channels at ls) (inputs_all channels at ls) (inputs_same channels at l.input is xs ys h) (inputs_all_same channels at ls is)
+  goes_on_same : (at : At) (is : List I) (a : Advanced C) (b : Advanced D) → SameAdvanced R is a b → SameCourse R is (goes_on at a) (goes_on at b)
+  goes_on_same at is a b h = record { at = refl; members = h.members; lines = h.lines }
+
+  unless_down_same : (is : List I) (c : Course C) (d : Course D) (p : At → List (Member C) → Course C) (q : At → List (Member D) → Course D) (o : Option At)
+      → SameCourse R is c d
+      → ((at : At) (xs : List (Member C)) (ys : List (Member D)) → SameMembers R is xs ys → SameCourse R is (p at xs) (q at ys))
+      → SameCourse R is (unless_down c p o) (unless_down d q o)
+  unless_down_same is c d p q None h rest = h
+  unless_down_same is c d p q (Some at) h rest =
+      let more = rest at c.members d.members h.members in
+      record { at = more.at; members = more.members; lines = ap (λ (es : List Event). es ++ (p at c.members).lines) h.lines ∙ ap (λ (es : List Event). d.lines ++ es) more.lines }
+
+  then_runs_same : (is : List I) (c : Course C) (d : Course D) (p : At → List (Member C) → Course C) (q : At → List (Member D) → Course D)
+      → SameCourse R is c d
+      → ((at : At) (xs : List (Member C)) (ys : List (Member D)) → SameMembers R is xs ys → SameCourse R is (p at xs) (q at ys))
+      → SameCourse R is (then_runs c p) (then_runs d q)
+  then_runs_same is c d p q h rest =
+      subst (λ (o : Option At). SameCourse R is (then_runs c p) (unless_down d q o)) h.at (unless_down_same is c d p q c.at h rest)
+
+  tells_same : (at : At) (a : ModuleAction) (is : List I) (xs : List (Member C)) (ys : List (Member D)) → SameMembers R is xs ys → SameAdvanced R is (tells_fault at a xs) (tells_fault at a ys)
+  tells_same at a is xs ys h = record { members = h; lines = refl }
+
+  module_fault_same : (at : At) (a : ModuleAction) (is : List I) (xs : List (Member C)) (ys : List (Member D)) → SameMembers R is xs ys → SameCourse R is (breaks_module at a xs) (breaks_module at a ys)
+  module_fault_same at reaction.Ignore is xs ys h = goes_on_same at is _ _ (tells_same at reaction.Ignore is xs ys h)
+  module_fault_same at reaction.Shutdown is xs ys h = record { at = refl; members = h; lines = refl }
+  module_fault_same at reaction.Reset is xs ys h =
+      goes_on_same (as_origin at) is _ _ (then_same is _ _ (starts_all (as_origin at) condition.HmModuleRestart) (starts_all (as_origin at) condition.HmModuleRestart) (tells_same at reaction.Reset is xs ys h) (starts_same (as_origin at) condition.HmModuleRestart is))
+
+  -- ---- the devices
+
+  inputs_same : (plan : Plan) (at : At) (n : DeviceInput) (is : List I) (xs : List (Member C)) (ys : List (Member D)) → SameMembers R is xs ys → SameCourse R is (inputs plan at n xs) (inputs plan at n ys)
+  inputs_same plan at (input.Message channel m) is xs ys h = goes_on_same at is _ _ (goes_by_same at m (slice_get plan.channels channel.0) is xs ys h)
+  inputs_same plan at input.ModuleFault is xs ys h = module_fault_same at plan.fault is xs ys h
+  inputs_same plan at (input.PartitionFault p) is xs ys h = goes_on_same at is _ _ (steps_same _ _ (breaks_same at) is xs ys p.0 h)
+
+  inputs_all_same : (plan : Plan) (ls : List DeviceLine) (at : At) (is : List I) (xs : List (Member C)) (ys : List (Member D)) → SameMembers R is xs ys → SameCourse R is (inputs_all plan at ls xs) (inputs_all plan at ls ys)
+  inputs_all_same plan [] at is xs ys h = goes_on_same at is _ _ (still_same is xs ys h)
+  inputs_all_same plan (l ∷ ls) at is xs ys h = then_runs_same is _ _ (λ a ms. inputs_all plan a ls ms) (λ a ms. inputs_all plan a ls ms) (inputs_same plan at l.input is xs ys h) (λ a. inputs_all_same plan ls a is)
 
   -- ---- moves
 
@@ -332,25 +372,32 @@ module _ {I C D : Type 0} (R : I → C → D → Type 0) where
   owner_same at None is xs ys h = still_same is xs ys h
   owner_same at (Some p) is xs ys h = steps_same _ _ (advances_same at) is xs ys p h
 
-  tick_of_module_same : (plan : Plan) (at : At) (devices : List DeviceLine) (is : List I) (xs : List (Member C)) (ys : List (Member D)) → SameMembers R is xs ys → SameAdvanced R is (module_tick plan at devices xs) (module_tick plan at devices ys)
-  tick_of_module_same plan at devices is xs ys h =
-      then_same is (exchanges plan at devices xs) (exchanges plan at devices ys) (λ ms. ticks_owner at ms (owner plan.schedule at)) (λ ms. ticks_owner at ms (owner plan.schedule at))
-      (then_same is _ _ (λ ms. moves_ended plan.channels at ms (ended plan.schedule at)) (λ ms. moves_ended plan.channels at ms (ended plan.schedule at))
-      (inputs_all_same plan.channels at (of_tick at.now.0 devices) is xs ys h)
-      (ended_same plan.channels at (ended plan.schedule at) is))
-      (owner_same at (owner plan.schedule at) is)
+  moves_and_ticks_same : (plan : Plan) (is : List I) (at : At) (xs : List (Member C)) (ys : List (Member D)) → SameMembers R is xs ys → SameCourse R is (moves_and_ticks plan at xs) (moves_and_ticks plan at ys)
+  moves_and_ticks_same plan is at xs ys h =
+      goes_on_same at is _ _ (then_same is _ _ (λ ms. ticks_owner at ms (owner plan.schedule at)) (λ ms. ticks_owner at ms (owner plan.schedule at))
+      (ended_same plan.channels at (ended plan.schedule at) is xs ys h)
+      (owner_same at (owner plan.schedule at) is))
 
-  from_same : (plan : Plan) (devices : List DeviceLine) (n : ℕ) (at : At) (is : List I) (xs : List (Member C)) (ys : List (Member D)) → SameMembers R is xs ys → trace_from plan devices n at xs ≡ trace_from plan devices n at ys
+  tick_of_module_same : (plan : Plan) (at : At) (devices : List DeviceLine) (is : List I) (xs : List (Member C)) (ys : List (Member D)) → SameMembers R is xs ys → SameCourse R is (module_tick plan at devices xs) (module_tick plan at devices ys)
+  tick_of_module_same plan at devices is xs ys h =
+      then_runs_same is _ _ (moves_and_ticks plan) (moves_and_ticks plan) (inputs_all_same plan (of_tick at.now.0 devices) at is xs ys h) (moves_and_ticks_same plan is)
+
+  from_same : (plan : Plan) (devices : List DeviceLine) (n : ℕ) (at : Option At) (is : List I) (xs : List (Member C)) (ys : List (Member D)) → SameMembers R is xs ys → trace_from plan devices n at xs ≡ trace_from plan devices n at ys
   from_same plan devices zero at is xs ys h = refl
-  from_same plan devices (suc n) at is xs ys h =
+  from_same plan devices (suc n) None is xs ys h = refl
+  from_same plan devices (suc n) (Some at) is xs ys h =
       let one = tick_of_module_same plan at devices is xs ys h in
-      ap (λ (es : List Event). es ++ trace_from plan devices n (next_tick at) (module_tick plan at devices xs).members) one.lines
-      ∙ ap (λ (es : List Event). (module_tick plan at devices ys).lines ++ es) (from_same plan devices n (next_tick at) is _ _ one.members)
+      let left = module_tick plan at devices xs in
+      let right = module_tick plan at devices ys in
+      ap (λ (es : List Event). es ++ trace_from plan devices n (option_map next_tick left.at) left.members) one.lines
+      ∙ ap (λ (es : List Event). right.lines ++ es)
+      (from_same plan devices n (option_map next_tick left.at) is _ _ one.members
+      ∙ ap (λ (o : Option At). trace_from plan devices n (option_map next_tick o) right.members) one.at)
 
   -- modules on engines that cannot be told apart have the same trace
   pub trace_same : (plan : Plan) (devices : List DeviceLine) (n : ℕ) (is : List I) (xs : List (Member C)) (ys : List (Member D)) → SameMembers R is xs ys → trace (record { plan = plan; members = xs }) devices n ≡ trace (record { plan = plan; members = ys }) devices n
   trace_same plan devices zero is xs ys h = refl
   trace_same plan devices (suc n) is xs ys h =
-      let s = starts_same is xs ys h in
-      ap (λ (es : List Event). es ++ trace_from plan devices (suc n) first_tick (starts xs).members) s.lines
-      ∙ ap (λ (es : List Event). (starts ys).lines ++ es) (from_same plan devices (suc n) first_tick is _ _ s.members)
+      let s = starts_same first_tick condition.NormalStart is xs ys h in
+      ap (λ (es : List Event). es ++ trace_from plan devices (suc n) (Some first_tick) (starts xs).members) s.lines
+      ∙ ap (λ (es : List Event). (starts ys).lines ++ es) (from_same plan devices (suc n) (Some first_tick) is _ _ s.members)

@@ -73,7 +73,7 @@ misses (suc free) action s p r = record {
   step = record {
     part = put_row s (runner.Process p) (record r { deadline = None });
     lines = event.Error DeadlineMissed (Some r.who) level.Handler ∷ [];
-    actions = asks.Queue DeadlineMissed p (message []) ∷ [];
+    actions = asks.Queue (record { kind = DeadlineMissed; process = p; words = message [] }) ∷ [];
   };
   free = free;
   clears = None;

@@ -1,24 +1,36 @@
--- Application messages, and the errors of a process.
-use Rattle.std.specs.Prelude.{ℤ, pos, Bool, true, false, not, ◌&&◌, int_le, List, [], ◌∷◌, Option, Some, None, if◌then◌else◌}
+-- Application messages, the error handler, and the errors of a partition and of its processes.
+use Rattle.std.specs.Prelude.{ℕ, ◌+◌, ◌-◌, ℤ, pos, Bool, true, false, not, ◌&&◌, int_le, nat_lt, List, [], ◌∷◌, length, Option, Some, None, if◌then◌else◌}
+use Rattle.std.specs.Ordering.{int_eq}
 use Rattle.apex_types.specs.declared.codes.ErrorKind.{ErrorKind}
 use Rattle.apex_types.specs.declared.codes.ErrorKind.TheVariants as error
-use Rattle.apex_types.specs.declared.codes.Mode.TheVariants as mode
-use Rattle.apex_types.specs.declared.codes.PartitionAction.{PartitionAction}
-use Rattle.apex_types.specs.declared.codes.Response.TheVariants as level
 use Rattle.apex_types.specs.declared.codes.Mode.{Mode}
+use Rattle.apex_types.specs.declared.codes.PartitionAction.{PartitionAction}
+use Rattle.apex_types.specs.declared.codes.Response.{Response}
+use Rattle.apex_types.specs.declared.codes.Response.TheVariants as level
+use Rattle.apex_types.specs.declared.codes.Mode.TheVariants as mode
 use Rattle.apex_types.specs.declared.codes.ReturnCode.TheVariants as code
 use Rattle.apex_types.specs.declared.codes.StartCondition.TheVariants as condition
 use Rattle.apex_types.specs.declared.event.EventKind.TheVariants as event
+use Rattle.apex_types.specs.declared.event.Subject.{Subject}
 use Rattle.apex_types.specs.declared.identity.Runner.{Runner}
 use Rattle.apex_types.specs.declared.identity.Runner.TheVariants as runner
+use Rattle.apex_types.specs.declared.identity.TheConstants.{MOST_ERRORS}
+use Rattle.apex_types.specs.declared.process.Action.TheVariants as asks
+use Rattle.apex_types.specs.declared.process.ProcessStatus.{ProcessStatus}
+use Rattle.apex_types.specs.declared.process.WaitingError.{WaitingError}
 use Rattle.apex_types.specs.declared.row.HealthTable.{HealthTable}
 use Rattle.apex_types.specs.declared.service.ArrayPlace.{ArrayPlace}
 use Rattle.apex_types.specs.declared.service.Service.TheVariants as service
 use Rattle.apex_meaning.specs.Due.{mode_of_action}
-use Rattle.apex_meaning.specs.Kernel.{Kernel, of_processes}
+use Rattle.apex_meaning.specs.Errors.{Errors}
+use Rattle.apex_meaning.specs.Kernel.{Kernel, of_processes, with_errors}
 use Rattle.apex_meaning.specs.PartitionServices.{clears, rests_found}
-use Rattle.apex_meaning.specs.Processes.{Processes, row_of, subject, answers, refuses}
+use Rattle.apex_meaning.specs.Processes.{Processes, row_of, put_row, subject, answers, refuses, wakes, is_created, is_dormant, is_normal, is_same}
+use Rattle.apex_meaning.specs.Sharing as sharing
+use Rattle.apex_meaning.specs.Sharing.{Sharing, becomes, is_large_enough}
+use Rattle.apex_meaning.specs.Starts.{begins}
 use Rattle.apex_meaning.specs.Step.{Step, nothing, after, message, first_words, row}
+use Rattle.apex_meaning.specs.Waiting.{fills}
 
 -- ---- REPORT_APPLICATION_MESSAGE
 
@@ -36,7 +48,80 @@ report s p array length words =
     ((not (is_message_length array.size length), code.InvalidParam) ∷ [])
     (after (answers s p service.ReportApplicationMessage code.NoError []) (reports s p (first_words length words)))
 
--- ---- errors
+-- ---- the error handler
+
+-- a test of a record, which a missing one does not pass
+abbrev pub has_row : Option ProcessStatus → (ProcessStatus → Bool) → Bool
+has_row None test = false
+has_row (Some r) test = test r
+
+abbrev pub is_handler_created : Processes → Bool
+is_handler_created s = has_row (row_of s runner.Handler) is_created
+
+abbrev pub creates_found : Processes → Runner → Option ProcessStatus → Step Processes
+creates_found s p None = nothing s
+creates_found s p (Some r) = nothing (put_row s p (record r { created = true }))
+
+-- The handler is created, dormant. No handler in normal mode; one that the source has, and once.
+abbrev pub create_error_handler : Mode → Sharing Errors → Runner → Step (Sharing Errors)
+create_error_handler m b p =
+    row (sharing.refuses b p service.CreateErrorHandler)
+    ((is_normal m, code.InvalidMode)
+    ∷ (not b.shared.has_handler, code.InvalidConfig)
+    ∷ (is_handler_created b.processes, code.NoAction)
+    ∷ [])
+    (after (sharing.answers b p service.CreateErrorHandler code.NoError [])
+    (sharing.of_processes b (creates_found b.processes runner.Handler (row_of b.processes runner.Handler))))
+
+-- a created handler that is dormant begins with a fresh stack, and is ready
+abbrev pub begins_if_dormant : Processes → Option ProcessStatus → Step Processes
+begins_if_dormant s None = nothing s
+begins_if_dormant s (Some r) = if r.created && is_dormant r then after (begins s runner.Handler) (wakes s runner.Handler r) else nothing s
+
+abbrev pub is_waiting : List WaitingError → Bool
+is_waiting [] = false
+is_waiting (e ∷ rest) = true
+
+-- in normal mode the handler starts if an error waits for it
+abbrev pub starts_handler : Mode → Sharing Errors → Step Processes
+starts_handler m b =
+    if is_normal m && is_waiting b.shared.waiting
+    then begins_if_dormant b.processes (row_of b.processes runner.Handler)
+    else nothing b.processes
+
+-- ---- GET_ERROR_STATUS
+
+abbrev pub number_of_error : ErrorKind → ℕ
+number_of_error error.DeadlineMissed = 0
+number_of_error error.ApplicationError = 1
+number_of_error error.NumericError = 2
+number_of_error error.IllegalRequest = 3
+number_of_error error.StackOverflow = 4
+number_of_error error.MemoryViolation = 5
+number_of_error error.HardwareFault = 6
+
+-- the error, the number of the process that it is of, and the length of its message
+abbrev pub error_status : WaitingError → List ℤ
+error_status e = pos (number_of_error e.kind) ∷ pos (e.process.0 + 1) ∷ pos (length e.words.items) ∷ []
+
+-- the first error waits no longer, and its message goes into the array
+abbrev pub takes_error : Sharing Errors → Runner → ArrayPlace → List WaitingError → Step (Sharing Errors)
+takes_error b p array [] = sharing.refuses b p service.GetErrorStatus code.NoAction
+takes_error b p array (e ∷ rest) =
+    after (sharing.answers b p service.GetErrorStatus code.NoError (error_status e))
+    (after (fills b (Some array) e.words) (becomes b (record b.shared { waiting = rest })))
+
+-- The handler alone asks for errors, with an array for the longest message; where none waits nothing is
+-- done.
+abbrev pub get_error_status : Sharing Errors → Runner → ArrayPlace → Step (Sharing Errors)
+get_error_status b p array =
+    row (sharing.refuses b p service.GetErrorStatus)
+    ((not (is_same p runner.Handler), code.InvalidConfig)
+    ∷ (not (is_large_enough 16 array), code.InvalidParam)
+    ∷ [])
+    (takes_error b p array b.shared.waiting)
+
+-- ---- how an error is handled
 
 abbrev pub action_of : HealthTable → ErrorKind → PartitionAction
 action_of h error.DeadlineMissed = h.deadline_missed
@@ -46,6 +131,25 @@ action_of h error.IllegalRequest = h.illegal_request
 action_of h error.StackOverflow = h.stack_overflow
 action_of h error.MemoryViolation = h.memory_violation
 action_of h error.HardwareFault = h.hardware_fault
+
+-- how many more errors may wait for the handler: none unless it is created and the mode is normal
+abbrev pub free_places : Mode → Sharing Errors → ℕ
+free_places m b = if is_normal m && is_handler_created b.processes then MOST_ERRORS - length b.shared.waiting else 0
+
+-- an error of a process waits for the handler, where there is room
+abbrev pub may_wait : Mode → Sharing Errors → Runner → Bool
+may_wait m b (runner.Process p) = nat_lt 0 (free_places m b)
+may_wait m b _ = false
+
+-- any other error is handled by the partition's action for it
+abbrev pub response_of : HealthTable → Mode → Sharing Errors → Runner → ErrorKind → Response
+response_of h m b p e = if may_wait m b p then level.Handler else level.Partition (action_of h e)
+
+-- the line of an error, of this one if it is of a process, and how it is handled
+abbrev pub tells_error : Kernel → ErrorKind → Option Subject → Response → Step Kernel
+tells_error k e who response = record { part = k; lines = event.Error e who response ∷ []; actions = [] }
+
+-- ---- what is done on an error
 
 -- an error in what a process executes, after which it does not go on
 abbrev pub is_fault : ErrorKind → Bool
@@ -65,13 +169,44 @@ abbrev pub acts_on_error : Kernel → Runner → ErrorKind → Option Mode → S
 acts_on_error k p e None = goes_on k p e
 acts_on_error k p e (Some m) = clears k m condition.HmPartitionRestart
 
--- the line of an error of p at partition level, then what the action does
-abbrev pub handles : Kernel → Runner → ErrorKind → Step Kernel
-handles k p e =
-    let action = action_of k.fixed.health e in
-    let said : Step Kernel = record { part = k; lines = event.Error e (Some (subject k.processes p)) (level.Partition action) ∷ []; actions = [] } in
-    after said (acts_on_error k p e (mode_of_action action))
+-- the error of a process waits, with its message
+abbrev pub queues : Kernel → Runner → ErrorKind → List ℤ → Step Kernel
+queues k (runner.Process p) e words = record { part = k; lines = []; actions = asks.Queue (record { kind = e; process = p; words = message words }) ∷ [] }
+queues k _ e words = nothing k
+
+abbrev pub responds : Kernel → Runner → ErrorKind → List ℤ → Response → Step Kernel
+responds k p e words level.Handler = queues k p e words
+responds k p e words (level.Partition action) = acts_on_error k p e (mode_of_action action)
+responds k p e words (level.Module action) = nothing k
+
+-- the line of an error of p, then what is done
+abbrev pub handles : Kernel → Runner → ErrorKind → List ℤ → Step Kernel
+handles k p e words =
+    let response = response_of k.fixed.health k.mode (with_errors k) p e in
+    after (tells_error k e (Some (subject k.processes p)) response) (responds k p e words response)
 
 -- one with a fault becomes dormant first
 abbrev pub faults : Kernel → Runner → ErrorKind → Step Kernel
-faults k p e = let s = of_processes k (rests_found k.processes p (row_of k.processes p)) in after s (handles s.part p e)
+faults k p e = let s = of_processes k (rests_found k.processes p (row_of k.processes p)) in after s (handles s.part p e [])
+
+-- a Clear that an error leads to
+abbrev pub then_clears : Kernel → Option Mode → Step Kernel
+then_clears k None = nothing k
+then_clears k (Some m) = clears k m condition.HmPartitionRestart
+
+-- a fault of the partition's hardware: its line, then what the partition's action for it does
+abbrev pub breaks : Kernel → Step Kernel
+breaks k =
+    let action = action_of k.fixed.health error.HardwareFault in
+    after (tells_error k error.HardwareFault None (level.Partition action)) (then_clears k (mode_of_action action))
+
+-- ---- RAISE_APPLICATION_ERROR
+
+-- The caller's error APPLICATION_ERROR, with the first words of those that the call hands in.
+abbrev pub raise_application_error : Kernel → Runner → ℤ → ArrayPlace → ℤ → List ℤ → Step Kernel
+raise_application_error k p e array length words =
+    row (λ c. of_processes k (refuses k.processes p service.RaiseApplicationError c))
+    ((not (int_eq e (pos 1)), code.InvalidParam)
+    ∷ (not (is_message_length array.size length), code.InvalidParam)
+    ∷ [])
+    (after (of_processes k (answers k.processes p service.RaiseApplicationError code.NoError [])) (handles k p error.ApplicationError (first_words length words)))

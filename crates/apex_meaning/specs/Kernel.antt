@@ -3,6 +3,7 @@ use Rattle.std.specs.Prelude.{ℕ, List}
 use Rattle.apex_types.specs.declared.codes.Mode.{Mode}
 use Rattle.apex_types.specs.declared.codes.StartCondition.{StartCondition}
 use Rattle.apex_types.specs.declared.row.HealthTable.{HealthTable}
+use Rattle.apex_meaning.specs.Errors.{Errors}
 use Rattle.apex_meaning.specs.Objects.{Objects}
 use Rattle.apex_meaning.specs.Ports.{Ports}
 use Rattle.apex_meaning.specs.Processes.{Processes}
@@ -19,9 +20,6 @@ pub record Fixed : Type 0 where
   pub duration : ℕ
   pub schedule : Schedule
   pub health : HealthTable
-
--- the error handler and the errors that wait for it; there are none yet
-pub record Errors : Type 0 where
 
 pub record Kernel : Type 0 where
   pub fixed : Fixed
@@ -67,3 +65,14 @@ put_only_ports k o = record k { ports = o }
 -- a step of the ports alone is one of the partition
 abbrev pub of_ports_alone : Kernel → Step Ports → Step Kernel
 of_ports_alone k s = lifted (put_only_ports k) s
+
+-- the processes and the errors
+abbrev pub with_errors : Kernel → Sharing Errors
+with_errors k = record { processes = k.processes; shared = k.errors }
+
+abbrev pub put_errors : Kernel → Sharing Errors → Kernel
+put_errors k b = record k { processes = b.processes; errors = b.shared }
+
+-- a step of the processes and the errors is one of the partition
+abbrev pub of_errors : Kernel → Step (Sharing Errors) → Step Kernel
+of_errors k s = lifted (put_errors k) s

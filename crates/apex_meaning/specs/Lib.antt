@@ -14,6 +14,7 @@ pub mod Starts
 pub mod Due
 pub mod Objects
 pub mod Ports
+pub mod Errors
 pub mod Sharing
 pub mod Kernel
 pub mod PartitionServices

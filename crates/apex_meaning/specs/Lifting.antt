@@ -2,7 +2,7 @@
 use Rattle.std.specs.Prelude.{◌≡◌, List, [], ◌∷◌, Option, Some, None}
 use Rattle.apex_meaning.specs.Engine.{Simulates}
 use Rattle.apex_meaning.specs.Partition.{World, Moved, Member}
-use Rattle.apex_meaning.specs.Module.{Advanced}
+use Rattle.apex_meaning.specs.Module.{Advanced, Course}
 
 abbrev pub SameControl : {C D : Type 0} → (C → D → Type 0) → Option C → Option D → Type 0
 SameControl R None None = Unit {0}
@@ -41,3 +41,8 @@ SameMembers R _ _ _ = ⊥
 pub record SameAdvanced {I C D : Type 0} (R : I → C → D → Type 0) (is : List I) (m : Advanced C) (n : Advanced D) : Type 0 where
   pub members : SameMembers R is m.members n.members
   pub lines : m.lines ≡ n.lines
+
+pub record SameCourse {I C D : Type 0} (R : I → C → D → Type 0) (is : List I) (c : Course C) (d : Course D) : Type 0 where
+  pub at : c.at ≡ d.at
+  pub members : SameMembers R is c.members d.members
+  pub lines : c.lines ≡ d.lines

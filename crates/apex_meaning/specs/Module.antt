@@ -1,7 +1,12 @@
 -- The module: its partitions, each in its windows, tick by tick; the messages between them; its trace.
-use Rattle.std.specs.Prelude.{ℕ, zero, suc, ◌+◌, ◌==◌, ◌&&◌, ℤ, Bool, true, false, if◌then◌else◌, List, [], ◌∷◌, ◌++◌, Option, Some, None, length, map, filter, find, slice_get, slice_set}
+use Rattle.std.specs.Prelude.{ℕ, zero, suc, ◌+◌, ◌==◌, ◌&&◌, ℤ, Bool, false, List, [], ◌∷◌, ◌++◌, Option, Some, None, length, map, filter, find, option_map, slice_get, slice_set}
 use Rattle.std.specs.List.{flat_map}
 use Rattle.arrayvec.specs.ArrayVec.{ArrayVec}
+use Rattle.apex_types.specs.declared.codes.ErrorKind.TheVariants.{HardwareFault}
+use Rattle.apex_types.specs.declared.codes.ModuleAction.{ModuleAction}
+use Rattle.apex_types.specs.declared.codes.ModuleAction.TheVariants as reaction
+use Rattle.apex_types.specs.declared.codes.Response.TheVariants as level
+use Rattle.apex_types.specs.declared.codes.StartCondition.{StartCondition}
 use Rattle.apex_types.specs.declared.codes.StartCondition.TheVariants as condition
 use Rattle.apex_types.specs.declared.device.DeviceInput.{DeviceInput}
 use Rattle.apex_types.specs.declared.device.DeviceInput.TheVariants as input
@@ -14,14 +19,16 @@ use Rattle.apex_types.specs.declared.identity.PortId.{PortId}
 use Rattle.apex_types.specs.declared.row.ChannelEnd.{ChannelEnd}
 use Rattle.apex_types.specs.declared.row.ChannelEnd.TheVariants as ends
 use Rattle.apex_meaning.specs.Image.{Channel, at_number}
-use Rattle.apex_meaning.specs.Partition.{Member, Moved, with_world, cold_start, advances, arrives, leaves, leaving, admits, goes_out, messages_to_move}
+use Rattle.apex_meaning.specs.Partition.{Member, Moved, with_world, cold_start, breaks_down, advances, arrives, leaves, leaving, admits, goes_out, messages_to_move}
 use Rattle.apex_meaning.specs.Ports.{Port}
 use Rattle.apex_meaning.specs.Windows.{Schedule, tick_from, owner, ended}
 
--- what no tick of the module changes: the major frame with its windows, and the channels
+-- what no tick of the module changes: the major frame with its windows, the channels, and what is done on a
+-- fault of the module
 pub record Plan : Type 0 where
   pub schedule : Schedule
   pub channels : List Channel
+  pub fault : ModuleAction
 
 -- the partitions in their order
 pub record Module (Control : Type 0) : Type 0 where
@@ -40,6 +47,25 @@ still members = record { members = members; lines = [] }
 abbrev pub then_goes : {C : Type 0} → Advanced C → (List (Member C) → Advanced C) → Advanced C
 then_goes a rest = let b = rest a.members in record { members = b.members; lines = a.lines ++ b.lines }
 
+-- A step that may start the module again, or shut it down: the members after it, its lines, and the tick with
+-- the origin that counts from here on; it is none where the module is shut down.
+pub record Course (Control : Type 0) : Type 0 where
+  pub at : Option At
+  pub members : List (Member Control)
+  pub lines : List Event
+
+-- a step after which the origin counts that counted before
+abbrev pub goes_on : {C : Type 0} → At → Advanced C → Course C
+goes_on at a = record { at = Some at; members = a.members; lines = a.lines }
+
+-- one step, then another unless the module is shut down
+abbrev pub unless_down : {C : Type 0} → Course C → (At → List (Member C) → Course C) → Option At → Course C
+unless_down c rest None = c
+unless_down c rest (Some at) = let d = rest at c.members in record { at = d.at; members = d.members; lines = c.lines ++ d.lines }
+
+abbrev pub then_runs : {C : Type 0} → Course C → (At → List (Member C) → Course C) → Course C
+then_runs c rest = unless_down c rest c.at
+
 -- ---- a step of one partition, the others stay as they are
 
 abbrev pub steps_member : {C : Type 0} → (Member C → Moved C) → List (Member C) → ℕ → Option (Member C) → Advanced C
@@ -57,15 +83,19 @@ steps step members (suc place) = steps_member step members place (slice_get memb
 abbrev pub first_tick : At
 first_tick = tick_from 0 0
 
-abbrev pub started_member : {C : Type 0} → Member C → Member C
-started_member x = with_world x (cold_start first_tick condition.NormalStart x).world
+-- each partition in order clears to a cold start, for a reason
+abbrev pub started_member : {C : Type 0} → At → StartCondition → Member C → Member C
+started_member at c x = with_world x (cold_start at c x).world
 
-abbrev pub start_lines : {C : Type 0} → Member C → List Event
-start_lines x = (cold_start first_tick condition.NormalStart x).lines
+abbrev pub start_lines : {C : Type 0} → At → StartCondition → Member C → List Event
+start_lines at c x = (cold_start at c x).lines
 
--- each partition in order
+abbrev pub starts_all : {C : Type 0} → At → StartCondition → List (Member C) → Advanced C
+starts_all at c members = record { members = map (started_member at c) members; lines = flat_map (start_lines at c) members }
+
+-- the first start of the module
 abbrev pub starts : {C : Type 0} → List (Member C) → Advanced C
-starts members = record { members = map started_member members; lines = flat_map start_lines members }
+starts members = starts_all first_tick condition.NormalStart members
 
 -- ---- messages
 
@@ -86,16 +116,37 @@ abbrev pub goes_by : {C : Type 0} → At → ArrayVec ℤ → Option Channel →
 goes_by at m None members = still members
 goes_by at m (Some c) members = delivers_all at c m c.destinations members
 
+-- ---- faults of the module
+
+-- the line of a fault, which is no partition's
+abbrev pub fault_line : At → ModuleAction → Event
+fault_line at action = record { tick = at.now; partition = None; kind = event.Error HardwareFault None (level.Module action) }
+
+abbrev pub tells_fault : {C : Type 0} → At → ModuleAction → List (Member C) → Advanced C
+tells_fault at action members = record { members = members; lines = fault_line at action ∷ [] }
+
+-- a tick that is its own origin
+abbrev pub as_origin : At → At
+as_origin at = record { now = at.now; origin = at.now }
+
+-- A fault of the module is ignored, shuts it down, or resets it: this tick becomes the origin, and each
+-- partition in order clears to a cold start.
+abbrev pub breaks_module : {C : Type 0} → At → ModuleAction → List (Member C) → Course C
+breaks_module at reaction.Ignore members = goes_on at (tells_fault at reaction.Ignore members)
+breaks_module at reaction.Shutdown members = record { at = None; members = members; lines = fault_line at reaction.Shutdown ∷ [] }
+breaks_module at reaction.Reset members = goes_on (as_origin at) (then_goes (tells_fault at reaction.Reset members) (starts_all (as_origin at) condition.HmModuleRestart))
+
 -- ---- the devices
 
-abbrev pub inputs : {C : Type 0} → List Channel → At → DeviceInput → List (Member C) → Advanced C
-inputs channels at (input.Message channel m) members = goes_by at m (slice_get channels channel.0) members
-inputs channels at _ members = still members
+abbrev pub inputs : {C : Type 0} → Plan → At → DeviceInput → List (Member C) → Course C
+inputs plan at (input.Message channel m) members = goes_on at (goes_by at m (slice_get plan.channels channel.0) members)
+inputs plan at (input.PartitionFault p) members = goes_on at (steps (breaks_down at) members p.0)
+inputs plan at input.ModuleFault members = breaks_module at plan.fault members
 
--- each line in turn
-abbrev pub inputs_all : {C : Type 0} → List Channel → At → List DeviceLine → List (Member C) → Advanced C
-inputs_all channels at [] members = still members
-inputs_all channels at (l ∷ ls) members = then_goes (inputs channels at l.input members) (inputs_all channels at ls)
+-- each line in turn, unless the module is shut down
+abbrev pub inputs_all : {C : Type 0} → Plan → At → List DeviceLine → List (Member C) → Course C
+inputs_all plan at [] members = goes_on at (still members)
+inputs_all plan at (l ∷ ls) members = then_runs (inputs plan at l.input members) (λ a ms. inputs_all plan a ls ms)
 
 abbrev pub is_of_tick : ℕ → DeviceLine → Bool
 is_of_tick t l = l.tick.0 == t
@@ -165,17 +216,16 @@ abbrev pub ticks_owner : {C : Type 0} → At → List (Member C) → Option ℕ 
 ticks_owner at members None = still members
 ticks_owner at members (Some p) = steps (advances at) members p
 
--- what the devices do, then what moves
-abbrev pub exchanges : {C : Type 0} → Plan → At → List DeviceLine → List (Member C) → Advanced C
-exchanges plan at devices members =
-    then_goes (inputs_all plan.channels at (of_tick at.now.0 devices) members)
-    (λ ms. moves_ended plan.channels at ms (ended plan.schedule at))
+-- what moves, then the tick of the owner
+abbrev pub moves_and_ticks : {C : Type 0} → Plan → At → List (Member C) → Course C
+moves_and_ticks plan at members =
+    goes_on at (then_goes (moves_ended plan.channels at members (ended plan.schedule at)) (λ ms. ticks_owner at ms (owner plan.schedule at)))
 
 -- In a tick the devices' lines of this tick act first. Then the messages move of the partition whose window
--- has ended. Then the owner of the tick's window goes on.
-abbrev pub module_tick : {C : Type 0} → Plan → At → List DeviceLine → List (Member C) → Advanced C
+-- has ended. Then the owner of the tick's window goes on. After a shutdown nothing happens.
+abbrev pub module_tick : {C : Type 0} → Plan → At → List DeviceLine → List (Member C) → Course C
 module_tick plan at devices members =
-    then_goes (exchanges plan at devices members) (λ ms. ticks_owner at ms (owner plan.schedule at))
+    then_runs (inputs_all plan at (of_tick at.now.0 devices) members) (moves_and_ticks plan)
 
 -- ---- the trace
 
@@ -183,15 +233,16 @@ module_tick plan at devices members =
 abbrev pub next_tick : At → At
 next_tick at = tick_from at.origin.0 (at.now.0 + 1)
 
--- the lines of so many ticks from a tick on
-abbrev pub trace_from : {C : Type 0} → Plan → List DeviceLine → ℕ → At → List (Member C) → List Event
+-- the lines of so many ticks from a tick on; of a module that is shut down there are none
+abbrev pub trace_from : {C : Type 0} → Plan → List DeviceLine → ℕ → Option At → List (Member C) → List Event
 trace_from plan devices zero at members = []
-trace_from plan devices (suc n) at members =
+trace_from plan devices (suc n) None members = []
+trace_from plan devices (suc n) (Some at) members =
     let r = module_tick plan at devices members in
-    r.lines ++ trace_from plan devices n (next_tick at) r.members
+    r.lines ++ trace_from plan devices n (option_map next_tick r.at) r.members
 
 -- The trace of n ticks with these lines of the devices: the start of each partition before tick 0, then the
 -- ticks. Of no tick it is empty.
 abbrev pub trace : {C : Type 0} → Module C → List DeviceLine → ℕ → List Event
 trace m devices zero = []
-trace m devices (suc n) = let s = starts m.members in s.lines ++ trace_from m.plan devices (suc n) first_tick s.members
+trace m devices (suc n) = let s = starts m.members in s.lines ++ trace_from m.plan devices (suc n) (Some first_tick) s.members

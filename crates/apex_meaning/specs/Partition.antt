@@ -7,7 +7,6 @@ use Rattle.apex_types.specs.declared.codes.Mode.{Mode}
 use Rattle.apex_types.specs.declared.codes.Mode.TheVariants as mode
 use Rattle.apex_types.specs.declared.codes.ProcessState.TheVariants.{Ready, Running}
 use Rattle.apex_types.specs.declared.codes.StartCondition.{StartCondition}
-use Rattle.apex_types.specs.declared.codes.StartCondition.TheVariants as condition
 use Rattle.apex_types.specs.declared.event.Event.{Event}
 use Rattle.apex_types.specs.declared.event.EventKind.{EventKind}
 use Rattle.apex_types.specs.declared.event.EventKind.TheVariants as event
@@ -21,13 +20,15 @@ use Rattle.apex_types.specs.declared.process.Entry.{Entry}
 use Rattle.apex_types.specs.declared.process.Lock.{Lock}
 use Rattle.apex_types.specs.declared.process.Lock.TheVariants as lock
 use Rattle.apex_types.specs.declared.process.ProcessStatus.{ProcessStatus}
+use Rattle.apex_types.specs.declared.process.WaitingError.{WaitingError}
 use Rattle.apex_types.specs.declared.service.ArrayPlace.{ArrayPlace}
 use Rattle.apex_types.specs.declared.service.Call.{Call}
 use Rattle.apex_types.specs.declared.service.Call.TheVariants as call
 use Rattle.apex_meaning.specs.Due.{Treated, due}
 use Rattle.apex_meaning.specs.Engine.{Engine, Ticked, Asks, Nothing, Calls, Faults, Ends}
-use Rattle.apex_meaning.specs.HealthServices.{action_of, faults, report}
-use Rattle.apex_meaning.specs.Kernel.{Kernel, of_processes, of_objects, of_ports, of_ports_alone, with_objects, with_ports}
+use Rattle.apex_meaning.specs.Errors.{queued, emptied_errors}
+use Rattle.apex_meaning.specs.HealthServices.{action_of, breaks, create_error_handler, faults, free_places, get_error_status, raise_application_error, report, starts_handler, then_clears}
+use Rattle.apex_meaning.specs.Kernel.{Kernel, of_processes, of_errors, of_objects, of_ports, of_ports_alone, with_errors, with_objects, with_ports}
 use Rattle.apex_meaning.specs.ObjectServices as objects
 use Rattle.apex_meaning.specs.Arrival as arrival
 use Rattle.apex_meaning.specs.Ports.{Port, port_at, is_source}
@@ -91,19 +92,17 @@ chooses m s =
     if are_same s.running (pick m s) then nothing s
     else let l = leaves_processor s s.running in after l (takes_processor l.part (pick m s))
 
--- ---- what is due
+-- the handler starts if an error waits for it, then the choice
+abbrev pub chooses_with_handler : Kernel → Step Kernel
+chooses_with_handler k = of_processes k (let s = starts_handler k.mode (with_errors k) in after s (chooses k.mode s.part))
 
--- a Clear that a missed deadline leads to
-abbrev pub then_clears : Kernel → Option Mode → Step Kernel
-then_clears k None = nothing k
-then_clears k (Some m) = clears k m condition.HmPartitionRestart
+-- ---- what is due
 
 abbrev pub ends_due : Kernel → Treated → Step Kernel
 ends_due k d = let s = of_processes k d.step in after s (then_clears s.part d.clears)
 
--- without an error handler no error waits
 abbrev pub treats_due : At → Kernel → Step Kernel
-treats_due at k = ends_due k (due at 0 (action_of k.fixed.health DeadlineMissed) k.processes)
+treats_due at k = ends_due k (due at (free_places k.mode (with_errors k)) (action_of k.fixed.health DeadlineMissed) k.processes)
 
 -- ---- what a process asks for
 
@@ -161,6 +160,9 @@ serves at k p call.GetPartitionStatus words = get_partition_status k p
 serves at k p (call.SetPartitionMode m) words = set_partition_mode at k p m
 serves at k p call.StopSelf words = ends_body k p
 serves at k p (call.ReportApplicationMessage array length) words = of_processes k (report k.processes p array length words)
+serves at k p call.CreateErrorHandler words = of_errors k (create_error_handler k.mode (with_errors k) p)
+serves at k p (call.GetErrorStatus array) words = of_errors k (get_error_status (with_errors k) p array)
+serves at k p (call.RaiseApplicationError error array length) words = raise_application_error k p error array length words
 serves at k p c words = serves_processes at k p c words
 
 abbrev pub treats_asked : At → Kernel → Runner → Asks → List ℤ → Step Kernel
@@ -204,15 +206,22 @@ abbrev pub written : ℤ → List ℤ → List ℤ → List ℤ
 written (pos place) array words = put_words words place array
 written (negsuc n) array words = words
 
--- What the kernel asks is done. No error waits yet.
+-- the kernel with one more error that waits, and with none
+abbrev pub with_error : Kernel → WaitingError → Kernel
+with_error k e = record k { errors = queued k.errors e }
+
+abbrev pub without_errors : Kernel → Kernel
+without_errors k = record k { errors = emptied_errors k.errors }
+
+-- What the kernel asks is done.
 abbrev pub act : {C : Type 0} → Engine C → Action → World C → World C
 act e (action.Begin p) w = record w { controls = slice_set w.controls (place_of p) (Some (e.start p)) }
 act e (action.Stop p) w = record w { controls = slice_set w.controls (place_of p) None }
-act e action.StopAll w = record w { controls = map no_control w.controls }
+act e action.StopAll w = record w { controls = map no_control w.controls; kernel = without_errors w.kernel }
 act e (action.Reply p answer) w = record w { controls = slice_set w.controls (place_of p) (replied e (control_at w.controls (place_of p)) answer.items) }
 act e action.Restore w = record w { words = w.initial }
 act e (action.Write place array) w = record w { words = written place array.items w.words }
-act e (action.Queue error p words) w = w
+act e (action.Queue error) w = record w { kernel = with_error w.kernel error }
 
 abbrev pub act_all : {C : Type 0} → Engine C → List Action → World C → World C
 act_all e [] w = w
@@ -262,7 +271,7 @@ abbrev pub due_phase : {C : Type 0} → Engine C → At → World C → Moved C
 due_phase e at w = moved at e (treats_due at w.kernel) w
 
 abbrev pub choice_phase : {C : Type 0} → Engine C → At → World C → Moved C
-choice_phase e at w = moved at e (of_processes w.kernel (chooses w.kernel.mode w.kernel.processes)) w
+choice_phase e at w = moved at e (chooses_with_handler w.kernel) w
 
 abbrev pub spending_phase : {C : Type 0} → Engine C → At → World C → Moved C
 spending_phase e at w = spends_chosen e at w.kernel.processes.running w
@@ -270,7 +279,7 @@ spending_phase e at w = spends_chosen e at w.kernel.processes.running w
 abbrev pub prepares : {C : Type 0} → Engine C → At → World C → Moved C
 prepares e at w = followed_by (due_phase e at w) (choice_phase e at)
 
--- what is due, then the choice, then the tick of the chosen one
+-- what is due, then the choice with the handler's start, then the tick of the chosen one
 abbrev pub tick : {C : Type 0} → Engine C → At → World C → Moved C
 tick e at w = followed_by (prepares e at w) (spending_phase e at)
 
@@ -282,6 +291,10 @@ with_world x w = record { engine = x.engine; world = w }
 -- Clear to a cold start, for a reason
 abbrev pub cold_start : {C : Type 0} → At → StartCondition → Member C → Moved C
 cold_start at c x = moved at x.engine (clears x.world.kernel mode.ColdStart c) x.world
+
+-- a fault of the partition's hardware
+abbrev pub breaks_down : {C : Type 0} → At → Member C → Moved C
+breaks_down at x = moved at x.engine (breaks x.world.kernel) x.world
 
 -- one tick of a partition on its engine
 abbrev pub advances : {C : Type 0} → At → Member C → Moved C

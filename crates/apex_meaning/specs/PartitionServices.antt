@@ -63,8 +63,8 @@ abbrev pub clear_lines : Mode → List EventKind
 clear_lines mode.Idle = event.Mode mode.Idle ∷ []
 clear_lines m = event.Mode m ∷ event.State Init Ready ∷ []
 
--- All processes and objects go, and the ports are empty and no longer created. A cold start restores the initial data. Unless the partition is idle,
--- INIT starts.
+-- All processes and objects go, no error waits, and the ports are empty and no longer created. A cold start
+-- restores the initial data. Unless the partition is idle, INIT starts.
 abbrev pub clears : Kernel → Mode → StartCondition → Step Kernel
 clears k m c = record { part = cleared k m c; lines = clear_lines m; actions = clear_actions m }
 

@@ -1,6 +1,6 @@
 -- The two meanings of a module: of its sources, and of its image. Kernel, windows and trace are
 -- the same in both; they differ in the engine on which processes run.
-use Rattle.std.specs.Prelude.{ℕ, ◌+◌, ℤ, List, [], ◌∷◌, Option, None, option_map, map, replicate, false}
+use Rattle.std.specs.Prelude.{ℕ, ◌+◌, ℤ, List, [], ◌∷◌, Option, None, option_map, map, replicate, Bool, false, is_some}
 use Rattle.arrayvec.specs.ArrayVec.{ArrayVec}
 use Rattle.apex_types.specs.declared.identity.TheConstants.{WAITING_LISTS}
 use Rattle.apex_types.specs.declared.codes.Mode.TheVariants as mode
@@ -19,6 +19,7 @@ use Rattle.apex_types.specs.declared.row.BodyRow.{BodyRow}
 use Rattle.apex_types.specs.declared.row.PortRow.{PortRow}
 use Rattle.apex_types.specs.declared.row.ProcessRow.{ProcessRow}
 use Rattle.apex_meaning.specs.Engine.{Engine}
+use Rattle.apex_meaning.specs.Errors.{fresh_errors}
 use Rattle.apex_meaning.specs.Image.{Partition, Table, Item, Section, Image}
 use Rattle.apex_meaning.specs.Instructions.{reading}
 use Rattle.apex_meaning.specs.Kernel.{Fixed, Kernel}
@@ -70,9 +71,10 @@ fresh_processes rows = record { rows = init_row ∷ handler_row ∷ rows; ready 
 abbrev pub fixed_of : Schedule → ℕ → Partition → Fixed
 fixed_of schedule number p = record { name = p.name; number = number; period = p.period; duration = p.duration; schedule = schedule_of_partition number schedule; health = p.health }
 
--- a partition in idle mode with nothing created, of these processes, objects and ports
-abbrev pub fresh_kernel : Fixed → List ProcessStatus → Objects → Ports → Kernel
-fresh_kernel fixed rows objects ports = record { fixed = fixed; mode = mode.Idle; condition = condition.NormalStart; processes = fresh_processes rows; objects = objects; ports = ports; errors = record {} }
+-- A partition in idle mode with nothing created, of these processes, objects and ports. It has a handler, or
+-- none.
+abbrev pub fresh_kernel : Fixed → List ProcessStatus → Objects → Ports → Bool → Kernel
+fresh_kernel fixed rows objects ports has_handler = record { fixed = fixed; mode = mode.Idle; condition = condition.NormalStart; processes = fresh_processes rows; objects = objects; ports = ports; errors = fresh_errors has_handler }
 
 abbrev pub no_control_for : {C : Type 0} → ProcessStatus → Option C
 no_control_for r = None
@@ -89,7 +91,7 @@ abbrev pub source_objects : program.Program → Objects
 source_objects s = fresh_objects s.semaphores s.events s.buffers s.blackboards
 
 abbrev pub source_member : Fixed → List PortRow → program.Program → Member SourceControl
-source_member fixed ports source = record { engine = source_engine source; world = fresh_world (fresh_kernel fixed (map source_row source.processes) (source_objects source) (fresh_ports ports)) source.initial }
+source_member fixed ports source = record { engine = source_engine source; world = fresh_world (fresh_kernel fixed (map source_row source.processes) (source_objects source) (fresh_ports ports) (is_some source.handler)) source.initial }
 
 -- each partition with its source, in order, with their numbers
 abbrev pub source_members : Schedule → ℕ → List Partition → List program.Program → List (Member SourceControl)
@@ -99,7 +101,7 @@ source_members schedule number (p ∷ ps) (s ∷ ss) = source_member (fixed_of s
 
 -- what a table and the programs of its partitions mean
 abbrev pub source_module : Table → List program.Program → Module SourceControl
-source_module t sources = record { plan = record { schedule = t.schedule; channels = t.channels }; members = source_members t.schedule 1 t.partitions sources }
+source_module t sources = record { plan = record { schedule = t.schedule; channels = t.channels; fault = t.fault }; members = source_members t.schedule 1 t.partitions sources }
 
 -- the source meaning: the trace of n ticks with these lines of the devices
 abbrev pub source_trace : Table → List program.Program → List DeviceLine → ℕ → List Event
@@ -124,7 +126,7 @@ abbrev pub section_objects : Section → Objects
 section_objects s = fresh_objects s.semaphores s.events s.buffers s.blackboards
 
 abbrev pub machine_member : Fixed → List PortRow → Section → Member MachineControl
-machine_member fixed ports s = record { engine = section_engine s; world = fresh_world (fresh_kernel fixed (map machine_row s.processes) (section_objects s) (fresh_ports ports)) s.initial }
+machine_member fixed ports s = record { engine = section_engine s; world = fresh_world (fresh_kernel fixed (map machine_row s.processes) (section_objects s) (fresh_ports ports) (is_some s.handler)) s.initial }
 
 -- each partition in order, with their numbers
 abbrev pub machine_members : Schedule → ℕ → List Item → List (Member MachineControl)
@@ -132,7 +134,7 @@ machine_members schedule number [] = []
 machine_members schedule number (i ∷ is) = machine_member (fixed_of schedule number i.partition) i.partition.ports i.section ∷ machine_members schedule (number + 1) is
 
 abbrev pub machine_module : Image → Module MachineControl
-machine_module i = record { plan = record { schedule = i.schedule; channels = i.channels }; members = machine_members i.schedule 1 i.items }
+machine_module i = record { plan = record { schedule = i.schedule; channels = i.channels; fault = i.fault }; members = machine_members i.schedule 1 i.items }
 
 -- the machine meaning: the trace of n ticks with these lines of the devices
 abbrev pub machine_trace : Image → List DeviceLine → ℕ → List Event

@@ -63,6 +63,9 @@ impl Runner {
 /// The most objects of a kind in a partition, and the most ports.
 pub const MOST_OBJECTS: u8 = 16;
 
+/// The most errors that wait for an error handler.
+pub const MOST_ERRORS: u8 = 64;
+
 /// The waiting lists of a partition: one for each semaphore, event, buffer, blackboard and port that
 /// it may have.
 pub const WAITING_LISTS: u8 = 5 * MOST_OBJECTS;

@@ -35,14 +35,14 @@ pub use denotation::{Denotation, ObjectKind};
 pub use device::{DeviceFault, DeviceInput, DeviceLine};
 pub use event::{Event, EventKind, Events, Subject, Words};
 pub use identity::{
-    At, ChannelIndex, ListId, MOST_OBJECTS, MOST_PROCESSES, MOST_RUNNERS, PartitionId, PortId,
+    At, ChannelIndex, ListId, MOST_ERRORS, MOST_OBJECTS, MOST_PROCESSES, MOST_RUNNERS, PartitionId, PortId,
     Priority, ProcessIndex, Runner, Ticks, WAITING_LISTS,
 };
 pub use instruction::{BinaryOperator, Instr, UnaryOperator};
 pub use name::Name;
 pub use out::{Actions, Happenings, Out};
 pub use place::Place;
-pub use process::{Action, Due, Entry, Lock, ProcessStatus, Wait, Waiting};
+pub use process::{Action, Due, Entry, Lock, ProcessStatus, Wait, Waiting, WaitingError};
 pub use row::{
     BlackboardRow, BodyRow, BufferRow, ChannelEnd, HealthTable, PortDirection, PortKind, PortRow,
     ProcessRow, RoutineRow, Section, SemaphoreRow, WindowRow,

@@ -82,6 +82,15 @@ pub enum Lock {
     Held { level: u8, holder: ProcessIndex },
 }
 
+/// An error that waits for the error handler: what it is, the process that it is of, and the message
+/// of one that the process raised.
+#[derive(Drop)]
+pub struct WaitingError {
+    pub kind: ErrorKind,
+    pub process: ProcessIndex,
+    pub words: Words,
+}
+
 /// What a step of the kernel asks of the processor, of the partition's data and of its error
 /// queue.
 #[derive(Default, Drop)]
@@ -90,7 +99,7 @@ pub enum Action {
     Begin(Runner),
     /// The process has nothing left to do.
     Stop(Runner),
-    /// No process has anything left to do.
+    /// No process has anything left to do, and no error waits for the error handler.
     #[default]
     StopAll,
     /// The answer to a service call: the code, then the outputs.
@@ -99,6 +108,6 @@ pub enum Action {
     Restore,
     /// The words go into the data, from this place on.
     Write(i64, Words),
-    /// The error waits for the error handler: the process that it is of, and its message.
-    Queue(ErrorKind, ProcessIndex, Words),
+    /// The error waits for the error handler.
+    Queue(WaitingError),
 }
