@@ -1,6 +1,6 @@
 -- The text of the devices: what each line says, and why a line is refused.
 use Rattle.std.specs.Prelude.{ℕ, zero, suc, ◌+◌, ◌-◌, ◌^◌, ℤ, pos, negsuc, Bool, true, false, not, ◌&&◌, ◌==◌, nat_lt, nat_le, if◌then◌else◌, List, [], ◌∷◌, length, map, codes, Option, Some, None, Result, Ok, Err}
-use Rattle.std.specs.List.{list_all, list_any}
+use Rattle.std.specs.List.{list_all}
 use Rattle.apex_types.specs.NameText.{is_name}
 use Rattle.apex_types.specs.declared.device.DeviceFault.{DeviceFault}
 use Rattle.apex_types.specs.declared.device.DeviceFault.TheVariants as fault
@@ -213,14 +213,3 @@ row_of_item i = i.partition
 
 abbrev pub verdict_for : Image → List ℕ → Result (List DeviceLine) DeviceFault
 verdict_for image text = verdict (map row_of_item image.items) image.channels text
-
--- whether a line is of a fault
-abbrev pub is_fault_input : DeviceInput → Bool
-is_fault_input (input.Message channel m) = false
-is_fault_input _ = true
-
-abbrev pub is_fault : DeviceLine → Bool
-is_fault l = is_fault_input l.input
-
-abbrev pub has_fault : List DeviceLine → Bool
-has_fault lines = list_any is_fault lines

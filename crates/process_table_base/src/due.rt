@@ -13,7 +13,7 @@ use crate::start::released_at;
 use crate::table::ProcessTable;
 use apex_types::{
     Action, At, Due, ErrorKind, EventKind, MOST_RUNNERS, Mode, Out, PartitionAction, ProcessIndex,
-    ProcessStatus, Response, ReturnCode, Runner, Service, Ticks, Wait, Words,
+    ProcessStatus, Response, ReturnCode, Runner, Service, Ticks, Wait, WaitingError, Words,
 };
 
 /// What the treatment of processes comes to beside its lines: how many more errors may wait for the
@@ -82,8 +82,11 @@ impl ProcessTable {
         if free > 0 {
             out.lines
                 .push(EventKind::Error(error, Some(row.who), Response::Handler));
-            out.actions
-                .push(Action::Queue(error, process, Words::new()));
+            out.actions.push(Action::Queue(WaitingError {
+                kind: error,
+                process,
+                words: Words::new(),
+            }));
             Treated {
                 free: free - 1,
                 clears: None,
