@@ -1,0 +1,13 @@
+-- How the fields of the errors are seen, and what always holds of them.
+use Rattle.std.specs.Prelude.{◌≤◌, length}
+use Rattle.apex_types.specs.declared.identity.TheConstants.{MOST_ERRORS}
+use Rattle.apex_meaning.specs.Errors as meaning
+use Rattle.health.specs.declared.errors.Errors.TheInside as errors
+
+abbrev pub errors_of : errors.Inside → meaning.Errors
+errors_of x = record { has_handler = x.has_handler; waiting = x.waiting.items }
+
+-- the errors are no more than may wait, and these have memory
+pub record HasRing (x : errors.Inside) : Type 0 where
+  pub few : length x.waiting.items ≤ MOST_ERRORS
+  pub room : MOST_ERRORS ≤ x.waiting.capacity

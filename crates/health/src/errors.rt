@@ -1,0 +1,107 @@
+//! The errors that wait for the error handler of a partition.
+
+ghost use Rattle.std.specs.Prelude.{◌≡◌, ◌-◌, drop, length, slice_get, IfOk, IsNone};
+ghost use Rattle.apex_meaning.specs.Errors as meaning;
+ghost use Rattle.apex_meaning.specs.HealthServices.{is_waiting};
+
+use apex_types::{MOST_ERRORS, WaitingError};
+use circular_buffer::HeapCircularBuffer;
+use process_table_base::copied;
+use std::alloc::{AllocError, Global};
+use std::marker::Model;
+
+/// For how many errors there is memory.
+const PLACES: usize = MOST_ERRORS as usize;
+
+/// The error handler of a partition, and the errors that wait for it, at most 64. A contract sees it
+/// as the errors of the definitions.
+#[derive(Drop)]
+pub struct Errors {
+    has_handler: bool,
+    waiting: HeapCircularBuffer<WaitingError>,
+}
+
+impl Model for Errors {
+    ghost use Rattle.apex_meaning.specs.Errors as meaning;
+
+    ghost Value = { meaning.Errors };
+
+    ghost use Rattle.health.specs.View.{errors_of, HasRing};
+
+    ghost view = { errors_of };
+
+    ghost invariant = { HasRing };
+}
+
+/// The same error once more.
+fn copied_error(error: &WaitingError) -> WaitingError
+    ensures { result ≡ error.now }
+{
+    WaitingError {
+        kind: error.kind,
+        process: error.process,
+        words: copied(&error.words),
+    }
+}
+
+impl Errors {
+    /// No error waits; `has_handler` says whether the partition's source has an error handler. It takes
+    /// memory for 64 errors, and no other call takes any. An error is one of memory.
+    pub fn new(alloc: Global, has_handler: bool) -> Result<Errors, AllocError>
+        ensures { IfOk result (λ errors. errors ≡ meaning.fresh_errors has_handler) }
+    {
+        let waiting = HeapCircularBuffer::with_capacity(alloc, PLACES)?;
+        Ok(Errors {
+            has_handler,
+            waiting,
+        })
+    }
+
+    /// An error waits behind the others, with its message. Where 64 wait, it is lost.
+    pub fn queue(&mut self, error: &WaitingError)
+        ensures { self.new ≡ meaning.queued self.old error.now }
+    {
+        if self.waiting.len() < PLACES {
+            let _ = self.waiting.try_push_back(copied_error(error));
+        }
+    }
+
+    /// No error waits.
+    pub fn clear(&mut self)
+        ensures { self.new ≡ meaning.emptied_errors self.old }
+    {
+        self.waiting.clear();
+    }
+
+    /// Whether the partition's source has an error handler.
+    pub(crate) fn has_handler(&self) -> bool
+        ensures { result ≡ self.now.has_handler }
+    {
+        self.has_handler
+    }
+
+    /// Whether an error waits.
+    pub(crate) fn is_waiting(&self) -> bool
+        ensures { result ≡ is_waiting self.now.waiting }
+    {
+        self.waiting.front().is_some()
+    }
+
+    /// How many more errors may wait.
+    pub(crate) fn free_places(&self) -> u8
+        ensures { result ≡ MOST_ERRORS - length self.now.waiting }
+    {
+        let waiting = self.waiting.len();
+        prove!(waiting <= PLACES);
+        MOST_ERRORS - waiting as u8
+    }
+
+    /// Takes the error that waits longest.
+    pub(crate) fn pop(&mut self) -> Option<WaitingError>
+        ensures first { result ≡ slice_get self.old.waiting 0 }
+        ensures rest { self.new ≡ record self.old { waiting = drop 1 self.old.waiting } }
+        ensures empty { IsNone result → self.new ≡ self.old }
+    {
+        self.waiting.pop_front()
+    }
+}

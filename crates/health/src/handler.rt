@@ -1,0 +1,127 @@
+//! The error handler: its creation, its start, and the errors that it asks for.
+
+ghost use Rattle.std.specs.Prelude.{◌≡◌, pos};
+ghost use Rattle.apex_types.specs.Room.{HasRoom, Grows};
+ghost use Rattle.apex_meaning.specs.HealthServices as meaning;
+ghost use Rattle.apex_meaning.specs.Processes.{row_of};
+ghost use Rattle.apex_meaning.specs.Sharing.{both};
+ghost use Rattle.apex_meaning.specs.Step.{IsMade};
+
+use crate::errors::Errors;
+use crate::respond::is_handler_created;
+use apex_types::{Action, ArrayPlace, ErrorKind, Mode, Out, ReturnCode, Runner, Service};
+use process_table_base::{ProcessTable, fill, is_dormant, is_large_enough, is_same};
+
+/// CREATE_ERROR_HANDLER (ARINC 653 Part 1, health monitoring): the error handler is created, and is
+/// dormant until an error waits for it. INVALID_MODE: in normal mode; INVALID_CONFIG: the source has no
+/// error handler; NO_ACTION: it was created since the last Clear.
+pub fn create_error_handler(
+    table: &mut ProcessTable,
+    errors: &Errors,
+    mode: Mode,
+    caller: Runner,
+    out: &mut Out,
+)
+    requires { HasRoom 1 out.old }
+    ensures step { IsMade (meaning.create_error_handler mode (both table.old errors.now) caller) (both table.new errors.now) out.old out.new }
+    ensures grows { Grows 1 out.old out.new }
+{
+    let service = Service::CreateErrorHandler;
+    if mode == Mode::Normal {
+        return table.refuse(caller, service, ReturnCode::InvalidMode, &[], out);
+    }
+    if !errors.has_handler() {
+        return table.refuse(caller, service, ReturnCode::InvalidConfig, &[], out);
+    }
+    if is_handler_created(table) {
+        return table.refuse(caller, service, ReturnCode::NoAction, &[], out);
+    }
+    table.answer(caller, service, ReturnCode::NoError, &[], out);
+    if let Some(row) = table.row(Runner::Handler) {
+        table.create(Runner::Handler, row);
+    }
+}
+
+/// The number of an error in what a program reads, 0 to 6.
+fn number_of_error(error: ErrorKind) -> i64
+    ensures { result ≡ pos (meaning.number_of_error error) }
+{
+    error as i64
+}
+
+/// The first error waits no longer, and its message goes into the array. Where none waits nothing is
+/// done.
+#[tactic(auto, using(crate::proofs::Taking::taking))]
+fn take_error(
+    table: &ProcessTable,
+    errors: &mut Errors,
+    caller: Runner,
+    array: ArrayPlace,
+    out: &mut Out,
+)
+    requires { HasRoom 2 out.old }
+    ensures step { IsMade (meaning.takes_error (both table.now errors.old) caller array errors.old.waiting) (both table.now errors.new) out.old out.new }
+    ensures grows { Grows 2 out.old out.new }
+{
+    let service = Service::GetErrorStatus;
+    match errors.pop() {
+        Some(error) => {
+            let process = i64::from(error.process.0) + 1;
+            let length = error.words.len() as i64;
+            let outputs = [number_of_error(error.kind), process, length];
+            table.answer(caller, service, ReturnCode::NoError, &outputs, out);
+            fill(Some(array), &error.words, out);
+        }
+        None => table.refuse(caller, service, ReturnCode::NoAction, &[0, 0, 0], out),
+    }
+}
+
+/// GET_ERROR_STATUS (ARINC 653 Part 1, health monitoring): the error that waits longest waits no
+/// longer; its outputs are its number, 0 to 6, the number of its process, from 1 on, and the length of
+/// its message in words, which goes into the array. INVALID_CONFIG: the caller is not the error
+/// handler; INVALID_PARAM: an array without room for 16 words; NO_ACTION: no error waits.
+pub fn get_error_status(
+    table: &ProcessTable,
+    errors: &mut Errors,
+    caller: Runner,
+    array: ArrayPlace,
+    out: &mut Out,
+)
+    requires { HasRoom 2 out.old }
+    ensures step { IsMade (meaning.get_error_status (both table.now errors.old) caller array) (both table.now errors.new) out.old out.new }
+    ensures grows { Grows 2 out.old out.new }
+{
+    let service = Service::GetErrorStatus;
+    if !is_same(caller, Runner::Handler) {
+        return table.refuse(caller, service, ReturnCode::InvalidConfig, &[0, 0, 0], out);
+    }
+    if !is_large_enough(16, array) {
+        return table.refuse(caller, service, ReturnCode::InvalidParam, &[0, 0, 0], out);
+    }
+    take_error(table, errors, caller, array, out);
+}
+
+/// A created handler that is dormant begins with a fresh stack, and is ready.
+fn begin_if_dormant(table: &mut ProcessTable, out: &mut Out)
+    requires { HasRoom 1 out.old }
+    ensures step { IsMade (meaning.begins_if_dormant table.old (row_of table.old Runner.Handler)) table.new out.old out.new }
+    ensures grows { Grows 1 out.old out.new }
+{
+    if let Some(row) = table.row(Runner::Handler) {
+        if row.created && is_dormant(&row) {
+            out.actions.push(Action::Begin(Runner::Handler));
+            table.wake(Runner::Handler, row, out);
+        }
+    }
+}
+
+/// In normal mode a dormant error handler starts if an error waits for it, and is ready.
+pub fn start_handler(table: &mut ProcessTable, errors: &Errors, mode: Mode, out: &mut Out)
+    requires { HasRoom 1 out.old }
+    ensures step { IsMade (meaning.starts_handler mode (both table.old errors.now)) table.new out.old out.new }
+    ensures grows { Grows 1 out.old out.new }
+{
+    if mode == Mode::Normal && errors.is_waiting() {
+        begin_if_dormant(table, out);
+    }
+}

@@ -1,0 +1,13 @@
+//! Health monitoring of a partition: the errors that wait for its error handler, how an error is
+//! handled, and the services on errors and application messages.
+#![tactic(auto)]
+
+mod errors;
+mod handler;
+mod respond;
+mod tell;
+
+pub use errors::Errors;
+pub use handler::{create_error_handler, get_error_status, start_handler};
+pub use respond::{action_of, free_places, response_of};
+pub use tell::{is_message_length, report_application_message};
