@@ -102,6 +102,7 @@ pub fn get_error_status(
 }
 
 /// A created handler that is dormant begins with a fresh stack, and is ready.
+#[tactic(auto, using(crate::proofs::Waking::waking))]
 fn begin_if_dormant(table: &mut ProcessTable, out: &mut Out)
     requires { HasRoom 1 out.old }
     ensures step { IsMade (meaning.begins_if_dormant table.old (row_of table.old Runner.Handler)) table.new out.old out.new }
@@ -109,8 +110,8 @@ fn begin_if_dormant(table: &mut ProcessTable, out: &mut Out)
 {
     if let Some(row) = table.row(Runner::Handler) {
         if row.created && is_dormant(&row) {
-            out.actions.push(Action::Begin(Runner::Handler));
             table.wake(Runner::Handler, row, out);
+            out.actions.push(Action::Begin(Runner::Handler));
         }
     }
 }
