@@ -1,5 +1,5 @@
 -- What GET_ERROR_STATUS does with the errors that wait.
-use Rattle.std.proofs.Common.{◌≡◌, ℕ, ℤ, pos, Bool, List, [], ◌∷◌, length, drop, None, refl, rules}
+use Rattle.std.proofs.Common.{◌≡◌, List, [], ◌∷◌, drop, None, refl, rules}
 use Rattle.std.specs.Prelude.{Some, slice_get}
 use Rattle.apex_types.specs.declared.codes.ReturnCode.TheVariants as code
 use Rattle.apex_types.specs.declared.identity.Runner.{Runner}
