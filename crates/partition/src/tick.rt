@@ -67,6 +67,20 @@ impl<E: Executor> Partition<E> {
         self.finish(mem, name, at, events);
     }
 
+    /// A fault of the partition's hardware (ARINC 653 Part 1, health monitoring): its line, then what
+    /// the partition's action for it does.
+    pub fn break_down(&mut self, mem: &mut E::Mem, at: At, events: &mut Events)
+        requires fits { E.laid mem.old ≡ E.layout self.old.executor }
+        requires empty { events.old.items ≡ [] }
+        ensures fits { E.laid mem.new ≡ E.layout self.new.executor }
+        ensures moved { let x = member_of E.Executor self.old mem.old in IsMoved (meaning.breaks_down at x) x (member_of E.Executor self.new mem.new) events.old.items events.new.items }
+    {
+        let name = self.kernel.name();
+        self.out.clear();
+        self.kernel.break_down(&mut self.out);
+        self.finish(mem, name, at, events);
+    }
+
     /// What is due is treated.
     fn treat_due(&mut self, mem: &mut E::Mem, at: At, events: &mut Events)
         requires now { at.now.0 ≤ 2 ^ 40 }
@@ -87,11 +101,11 @@ impl<E: Executor> Partition<E> {
     fn choose(&mut self, mem: &mut E::Mem, at: At, events: &mut Events)
         requires fits { E.laid mem.old ≡ E.layout self.old.executor }
         requires idle { IsEmpty self.old.out }
-        requires room { length events.old.items + 2 ≤ 256 }
+        requires room { length events.old.items + 3 ≤ 256 }
         ensures fits { E.laid mem.new ≡ E.layout self.new.executor }
         ensures idle { IsEmpty self.new.out }
         ensures moved { let x = member_of E.Executor self.old mem.old in IsMoved (meaning.choice_phase x.engine at x.world) x (member_of E.Executor self.new mem.new) events.old.items events.new.items }
-        ensures few { length events.new.items ≤ length events.old.items + 2 }
+        ensures few { length events.new.items ≤ length events.old.items + 3 }
     {
         let name = self.kernel.name();
         self.kernel.choose(&mut self.out);
