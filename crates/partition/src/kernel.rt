@@ -2,7 +2,6 @@
 
 ghost use Rattle.std.specs.Prelude.{◌≡◌, ◌≤◌, ◌+◌, ◌^◌, length, map, IfOk};
 ghost use Rattle.apex_types.specs.Room.{HasRoom, Grows};
-ghost use Rattle.apex_meaning.specs.Kernel.{of_processes};
 ghost use Rattle.apex_meaning.specs.Partition as tick;
 ghost use Rattle.apex_meaning.specs.PartitionServices.{next_release_of};
 ghost use Rattle.apex_meaning.specs.Processes.{subject};
@@ -124,8 +123,6 @@ impl Kernel {
         let action = self.action_of(ErrorKind::DeadlineMissed);
         let free = free_places(&self.processes, &self.errors, self.mode);
         let treated = self.processes.due(at, free, action, out);
-        if let Some(mode) = treated.clears {
-            self.clear(mode, StartCondition::HmPartitionRestart, out);
-        }
+        self.then_clear(treated.clears, out);
     }
 }
