@@ -6,8 +6,7 @@ ghost use Rattle.apex_meaning.specs.Arrival as arrival;
 ghost use Rattle.apex_meaning.specs.Image.{at_number};
 ghost use Rattle.apex_meaning.specs.Kernel.{of_ports, of_ports_alone, with_ports};
 ghost use Rattle.apex_meaning.specs.Partition as meaning;
-ghost use Rattle.apex_meaning.specs.Ports as ports;
-ghost use Rattle.apex_meaning.specs.Ports.{port_at};
+ghost use Rattle.apex_meaning.specs.Ports.{port_at, is_source};
 ghost use Rattle.apex_meaning.specs.Step.{IsMade};
 ghost use Rattle.partition.specs.Members.{member_of, IsMoved};
 
@@ -63,7 +62,7 @@ impl Kernel {
 
     /// Whether a port is a source, if there is one of this number.
     pub fn is_source(&self, port: PortId) -> Option<bool>
-        ensures { result ≡ option_map ports.is_source (at_number self.now.ports.ports port.0) }
+        ensures { result ≡ option_map is_source (at_number self.now.ports.ports port.0) }
     {
         let place = port.0.checked_sub(1)?;
         self.ports.is_source(place)
