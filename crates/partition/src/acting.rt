@@ -8,7 +8,7 @@ use crate::kernel::Kernel;
 use apex_types::{Action, At, Event, EventKind, Events, Happenings, Name};
 use partition_base::Executor;
 
-/// Does what the kernel asks of the processor and the memory. No error waits for a handler yet.
+/// Does what the kernel asks of the processor, of the memory and of the errors that wait for the handler.
 fn act<E: Executor>(kernel: &mut Kernel, executor: &mut E, mem: &mut E::Mem, action: &Action)
     requires { E.laid mem.old ≡ E.layout executor.old }
     ensures fits { E.laid mem.new ≡ E.layout executor.new }
@@ -17,11 +17,14 @@ fn act<E: Executor>(kernel: &mut Kernel, executor: &mut E, mem: &mut E::Mem, act
     match action {
         Action::Begin(runner) => executor.begin(mem, *runner),
         Action::Stop(runner) => executor.stop(mem, *runner),
-        Action::StopAll => executor.stop_all(mem),
+        Action::StopAll => {
+            executor.stop_all(mem);
+            kernel.errors.clear();
+        }
         Action::Reply(runner, answer) => executor.reply(mem, *runner, answer),
         Action::Restore => executor.restore(mem),
         Action::Write(place, words) => executor.write(mem, *place, words),
-        Action::Queue(..) => {}
+        Action::Queue(error) => kernel.errors.queue(error),
     }
 }
 

@@ -2,7 +2,6 @@
 
 ghost use Rattle.std.specs.Prelude.{◌≡◌, ◌≤◌, ◌+◌, ◌^◌, length, map, IfOk};
 ghost use Rattle.apex_types.specs.Room.{HasRoom, Grows};
-ghost use Rattle.apex_meaning.specs.Kernel.{of_processes};
 ghost use Rattle.apex_meaning.specs.Partition as tick;
 ghost use Rattle.apex_meaning.specs.PartitionServices.{next_release_of};
 ghost use Rattle.apex_meaning.specs.Processes.{subject};
@@ -15,6 +14,7 @@ use crate::fixed::Fixed;
 use apex_types::{
     At, ErrorKind, MOST_PROCESSES, Mode, Name, Out, ProcessRow, Runner, StartCondition, Subject,
 };
+use health::{Errors, free_places, start_handler};
 use ports::Ports;
 use process_table_base::{Points, ProcessTable};
 use std::alloc::{AllocError, Global};
@@ -31,6 +31,7 @@ pub struct Kernel {
     pub(crate) processes: ProcessTable,
     pub(crate) objects: Objects,
     pub(crate) ports: Ports,
+    pub(crate) errors: Errors,
 }
 
 impl Model for Kernel {
@@ -44,21 +45,23 @@ impl Model for Kernel {
 }
 
 impl Kernel {
-    /// A partition in idle mode with nothing created, of these processes, objects and ports. An error
-    /// is one of memory.
+    /// A partition in idle mode with nothing created, of these processes, objects and ports. It has an
+    /// error handler, or none. An error is one of memory.
     pub fn new(
         alloc: Global,
         fixed: Fixed,
         processes: &[ProcessRow],
         objects: Objects,
         ports: Ports,
+        has_handler: bool,
     ) -> Result<Kernel, AllocError>
         requires few { length processes.now ≤ MOST_PROCESSES }
         requires short { AreShort processes.now }
-        ensures { IfOk result (λ kernel. kernel ≡ fresh_kernel (fixed_of fixed) (map machine_row processes.now) objects ports) }
+        ensures { IfOk result (λ kernel. kernel ≡ fresh_kernel (fixed_of fixed) (map machine_row processes.now) objects ports has_handler) }
     {
         Ok(Kernel {
             processes: ProcessTable::new(alloc, processes)?,
+            errors: Errors::new(alloc, has_handler)?,
             fixed,
             mode: Mode::Idle,
             condition: StartCondition::NormalStart,
@@ -99,13 +102,15 @@ impl Kernel {
         self.processes.subject(runner)
     }
 
-    /// The choice of who runs.
+    /// The error handler starts if an error waits for it; then the choice of who runs.
     pub(crate) fn choose(&mut self, out: &mut Out)
-        requires { HasRoom 2 out.old }
-        ensures step { IsMade (of_processes self.old (tick.chooses self.old.mode self.old.processes)) self.new out.old out.new }
-        ensures grows { Grows 2 out.old out.new }
+        requires { HasRoom 3 out.old }
+        ensures step { IsMade (tick.chooses_with_handler self.old) self.new out.old out.new }
+        ensures grows { Grows 3 out.old out.new }
     {
-        self.processes.choose(self.mode, out);
+        let mode = self.mode;
+        start_handler(&mut self.processes, &self.errors, mode, out);
+        self.processes.choose(mode, out);
     }
 
     /// What is due; a missed deadline may lead to a Clear.
@@ -116,9 +121,8 @@ impl Kernel {
         ensures grows { Grows 96 out.old out.new }
     {
         let action = self.action_of(ErrorKind::DeadlineMissed);
-        let treated = self.processes.due(at, 0, action, out);
-        if let Some(mode) = treated.clears {
-            self.clear(mode, StartCondition::HmPartitionRestart, out);
-        }
+        let free = free_places(&self.processes, &self.errors, self.mode);
+        let treated = self.processes.due(at, free, action, out);
+        self.then_clear(treated.clears, out);
     }
 }

@@ -60,15 +60,20 @@ impl Kernel {
         self.ports.count()
     }
 
-    /// How many messages a source port holds; none where there is no such source port.
-    pub fn messages_to_move(&self, port: PortId) -> Option<u8>
-        ensures { result ≡ meaning.messages_to_move (at_number self.now.ports.ports port.0) }
+    /// Whether a port is a source, if there is one of this number.
+    pub fn is_source(&self, port: PortId) -> Option<bool>
+        ensures { result ≡ option_map is_source (at_number self.now.ports.ports port.0) }
     {
         let place = port.0.checked_sub(1)?;
-        match self.ports.is_source(place) {
-            Some(true) => self.ports.message_count(place),
-            _ => None,
-        }
+        self.ports.is_source(place)
+    }
+
+    /// How many messages a port holds, if there is one of this number.
+    pub fn message_count(&self, port: PortId) -> Option<u8>
+        ensures { result ≡ option_map (λ x. length x.messages) (at_number self.now.ports.ports port.0) }
+    {
+        let place = port.0.checked_sub(1)?;
+        self.ports.message_count(place)
     }
 }
 

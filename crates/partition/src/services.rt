@@ -1,16 +1,15 @@
-//! The dispatch of service calls, and application messages.
+//! The dispatch of service calls.
 
 ghost use Rattle.std.specs.Prelude.{◌≡◌, ◌≤◌, ◌+◌, ◌^◌, length};
 ghost use Rattle.apex_types.specs.Room.{HasRoom, Grows};
-ghost use Rattle.apex_meaning.specs.HealthServices as health;
 ghost use Rattle.apex_meaning.specs.Partition as meaning;
-ghost use Rattle.apex_meaning.specs.Step.{IsMade, IsTold};
+ghost use Rattle.apex_meaning.specs.Step.{IsMade};
 ghost use Rattle.processor.specs.Views.{asks_of};
 
 use crate::kernel::Kernel;
 use crate::object_services::serve_objects;
 use crate::port_services::{is_on_ports, serve_ports};
-use apex_types::{ArrayPlace, At, Call, EventKind, Mode, Out, ReturnCode, Runner, Service, Words};
+use apex_types::{At, Call, Out, Runner, Words};
 use process_table::{
     create_process, delayed_start, get_my_id, get_process_id, get_process_status, get_time,
     lock_preemption, periodic_wait, replenish, resume, set_priority, start, stop, suspend,
@@ -19,27 +18,6 @@ use process_table::{
 use processor::Outcome;
 
 impl Kernel {
-    /// REPORT_APPLICATION_MESSAGE (ARINC 653 Part 1, health monitoring): the first words of those
-    /// that the call hands in go into the trace. INVALID_PARAM: a length below 1, above 16, or above
-    /// the array's size.
-    #[tactic(auto, using(apex_meaning::proofs::Numbers::handed_words))]
-    fn report(&self, caller: Runner, array: ArrayPlace, count: i64, words: Words, out: &mut Out)
-        requires { HasRoom 2 out.old }
-        ensures step { IsTold (health.report self.now.processes caller array count words.items) out.old out.new }
-        ensures grows { Grows 2 out.old out.new }
-    {
-        let service = Service::ReportApplicationMessage;
-        let processes = &self.processes;
-        if !is_message_length(array.size, count) {
-            return processes.refuse(caller, service, ReturnCode::InvalidParam, &[], out);
-        }
-        processes.answer(caller, service, ReturnCode::NoError, &[], out);
-        let mut message = words;
-        message.truncate(count as usize);
-        out.lines
-            .push(EventKind::Report(self.subject(caller), message));
-    }
-
     /// What a tick of this one came to; `words` are those that a call hands in.
     pub(crate) fn treat(
         &mut self,
@@ -78,6 +56,13 @@ impl Kernel {
             Call::ReportApplicationMessage { array, length } => {
                 self.report(caller, array, length, words, out)
             }
+            Call::CreateErrorHandler => self.create_error_handler(caller, out),
+            Call::GetErrorStatus { array } => self.get_error_status(caller, array, out),
+            Call::RaiseApplicationError {
+                error,
+                array,
+                length,
+            } => self.raise_application_error(caller, error, array, length, words, out),
             other => self.serve_processes(at, caller, other, words, out),
         }
     }
@@ -160,11 +145,4 @@ impl Kernel {
         let table = &mut self.processes;
         serve_ports(table, &mut self.ports, mode, at, caller, call, words, out);
     }
-}
-
-/// Whether a message of so many words may be handed in from an array of a size.
-fn is_message_length(size: i64, count: i64) -> bool
-    ensures { result ≡ health.is_message_length size count }
-{
-    1 <= count && count <= 16 && count <= size
 }

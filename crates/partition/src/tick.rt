@@ -67,6 +67,20 @@ impl<E: Executor> Partition<E> {
         self.finish(mem, name, at, events);
     }
 
+    /// A fault of the partition's hardware (ARINC 653 Part 1, health monitoring): its line, then what
+    /// the partition's action for it does.
+    pub fn break_down(&mut self, mem: &mut E::Mem, at: At, events: &mut Events)
+        requires fits { E.laid mem.old ≡ E.layout self.old.executor }
+        requires empty { events.old.items ≡ [] }
+        ensures fits { E.laid mem.new ≡ E.layout self.new.executor }
+        ensures moved { let x = member_of E.Executor self.old mem.old in IsMoved (meaning.breaks_down at x) x (member_of E.Executor self.new mem.new) events.old.items events.new.items }
+    {
+        let name = self.kernel.name();
+        self.out.clear();
+        self.kernel.break_down(&mut self.out);
+        self.finish(mem, name, at, events);
+    }
+
     /// What is due is treated.
     fn treat_due(&mut self, mem: &mut E::Mem, at: At, events: &mut Events)
         requires now { at.now.0 ≤ 2 ^ 40 }
@@ -87,15 +101,30 @@ impl<E: Executor> Partition<E> {
     fn choose(&mut self, mem: &mut E::Mem, at: At, events: &mut Events)
         requires fits { E.laid mem.old ≡ E.layout self.old.executor }
         requires idle { IsEmpty self.old.out }
-        requires room { length events.old.items + 2 ≤ 256 }
+        requires room { length events.old.items + 3 ≤ 256 }
         ensures fits { E.laid mem.new ≡ E.layout self.new.executor }
         ensures idle { IsEmpty self.new.out }
         ensures moved { let x = member_of E.Executor self.old mem.old in IsMoved (meaning.choice_phase x.engine at x.world) x (member_of E.Executor self.new mem.new) events.old.items events.new.items }
-        ensures few { length events.new.items ≤ length events.old.items + 2 }
+        ensures few { length events.new.items ≤ length events.old.items + 3 }
     {
         let name = self.kernel.name();
         self.kernel.choose(&mut self.out);
         self.finish(mem, name, at, events);
+    }
+
+    /// What is due, then the choice.
+    fn prepare(&mut self, mem: &mut E::Mem, at: At, events: &mut Events)
+        requires now { at.now.0 ≤ 2 ^ 40 }
+        requires fits { E.laid mem.old ≡ E.layout self.old.executor }
+        requires idle { IsEmpty self.old.out }
+        requires room { length events.old.items + 99 ≤ 256 }
+        ensures fits { E.laid mem.new ≡ E.layout self.new.executor }
+        ensures idle { IsEmpty self.new.out }
+        ensures moved { let x = member_of E.Executor self.old mem.old in IsMoved (meaning.prepares x.engine at x.world) x (member_of E.Executor self.new mem.new) events.old.items events.new.items }
+        ensures few { length events.new.items ≤ length events.old.items + 99 }
+    {
+        self.treat_due(mem, at, events);
+        self.choose(mem, at, events);
     }
 
     /// This one spends a tick, and what it asks for is done.
@@ -114,6 +143,21 @@ impl<E: Executor> Partition<E> {
         let words = self.given(mem, &outcome);
         self.kernel.treat(at, runner, outcome, words, &mut self.out);
         self.finish(mem, name, at, events);
+    }
+
+    /// The chosen one spends a tick, if there is one.
+    fn spend_chosen(&mut self, mem: &mut E::Mem, at: At, events: &mut Events)
+        requires past { at.origin.0 ≤ at.now.0 }
+        requires now { at.now.0 ≤ 2 ^ 40 }
+        requires fits { E.laid mem.old ≡ E.layout self.old.executor }
+        requires idle { IsEmpty self.old.out }
+        requires room { length events.old.items + 94 ≤ 256 }
+        ensures fits { E.laid mem.new ≡ E.layout self.new.executor }
+        ensures moved { let x = member_of E.Executor self.old mem.old in IsMoved (meaning.spending_phase x.engine at x.world) x (member_of E.Executor self.new mem.new) events.old.items events.new.items }
+    {
+        if let Some(runner) = self.kernel.running() {
+            self.spend(mem, at, runner, events);
+        }
     }
 
     /// The words that a call hands in: those of its array, at most 16.
@@ -140,11 +184,8 @@ impl<E: Executor> Partition<E> {
         ensures moved { let x = member_of E.Executor self.old mem.old in IsMoved (meaning.advances at x) x (member_of E.Executor self.new mem.new) events.old.items events.new.items }
     {
         self.out.clear();
-        self.treat_due(mem, at, events);
-        self.choose(mem, at, events);
-        if let Some(runner) = self.kernel.running() {
-            self.spend(mem, at, runner, events);
-        }
+        self.prepare(mem, at, events);
+        self.spend_chosen(mem, at, events);
     }
 }
 
