@@ -145,10 +145,10 @@ all_short other rows texts seen given e f a none =
     (subst (λ (rs : List PartitionRow). first_too_long (map partition_of rs) (programs_of given) ≡ None) e (subst (λ (ss : List AcceptedSource). first_too_long (map partition_of other) (programs_of ss) ≡ None) f none))
 
 -- the bytes of accepted sources that are compiled
-pub built_from : {A E : Type 0} (view : A → List ℕ) (t : Table) (sources : List (List ℕ)) (given : List AcceptedSource) (answer : Result A E)
+pub built_from : (t : Table) (sources : List (List ℕ)) (given : List AcceptedSource) (bytes : List ℕ)
     → AreSources t.partitions sources given → list_any is_too_long (programs_of given) ≡ false
-    → IfOk answer (λ b. view b ≡ spelling (built_image t (programs_of given))) → IfOk answer (λ b. AreCoded (programs_of given)) → IfOk answer (λ b. IsBuiltFrom t sources (view b))
-built_from view t sources given (Ok b) a short spelled coded =
+    → bytes ≡ spelling (built_image t (programs_of given)) → AreCoded (programs_of given) → IsBuiltFrom t sources bytes
+built_from t sources given bytes a short spelled coded =
     record {
       programs = programs_of given;
       accepted = are_accepted t.partitions sources given a;
@@ -156,7 +156,6 @@ built_from view t sources given (Ok b) a short spelled coded =
       coded = coded;
       spelled = spelled;
     }
-built_from view t sources given (Err e) a short spelled coded = tt
 
 -- ---- with an accepted table
 
