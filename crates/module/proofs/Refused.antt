@@ -1,11 +1,9 @@
 -- What is refused, and for what.
-use Rattle.std.proofs.Common.{◌≡◌, inl, inr, ℕ, zero, suc, ◌+◌, Bool, true, false, List, [], ◌∷◌, ◌++◌, length, map, drop, Some, None, Result, Ok, Err, IfOk, IfErr, refl, sym, ap, subst, ◌∙◌, arith, append-nil}
+use Rattle.std.proofs.Common.{◌≡◌, inl, inr, ℕ, zero, suc, ◌+◌, false, List, [], ◌∷◌, ◌++◌, length, map, drop, Some, None, Result, Ok, Err, IfErr, refl, sym, ap, subst, ◌∙◌, arith, append-nil}
 use Rattle.std.specs.Prelude.{IsErr, IsErrAnd, slice_get}
 use Rattle.std.specs.List.{list_any}
 use Rattle.std.proofs.lemmas.Option.{none-some, same_Some}
-use Rattle.apex_meaning.specs.GrammarWords.{words_of}
 use Rattle.apex_meaning.specs.Image.{Partition, Table}
-use Rattle.apex_meaning.proofs.ReadPrograms.{written_once}
 use Rattle.pal_base.specs.ProgramView.{program_of}
 use Rattle.pal_base.specs.declared.fault.PalFault.{PalFault}
 use Rattle.pal_base.specs.declared.fault.Refusal.{Refusal}
