@@ -1,5 +1,6 @@
 -- From accepted sources to the text of their trace.
 use Rattle.std.proofs.Common.{◌≡◌, ℕ, List, [], ◌∷◌, map, Option, Result, Ok, Err, IfOk, refl, sym, ap, subst, ◌∙◌}
+use Rattle.std.specs.Prelude.{IsErr}
 use Rattle.std.specs.List.{All}
 use Rattle.std.specs.Io.KnownBytes.{Appends}
 use Rattle.std.proofs.lemmas.List.Elements.{All-nil, All-cons}
@@ -20,7 +21,7 @@ use Rattle.apex_meaning.proofs.WellFormedSection.{accepted_section}
 use Rattle.module.specs.Accepted.{IsAccepted, AreAccepted, IsJudged, IsTable}
 use Rattle.module.specs.Built.{built_item, built_items, built_image, IsCoded, AreCoded, BecomesLawful, IsBuiltFrom}
 use Rattle.module.specs.Building.{IsImageOf}
-use Rattle.module.specs.Promises.{IsRun, IsOutside, IsDeviceRefusal, Runs, IsAcceptedRun, IsDeviceRefused, HasFault, Means, ran}
+use Rattle.module.specs.Promises.{IsRun, IsDeviceRefusal, Runs, IsAcceptedRun, IsDeviceRefused, Means, ran}
 use Rattle.module.specs.declared.fault.RunFault.{RunFault}
 use Rattle.module.specs.declared.fault.RunFault.TheVariants.{Ticks, Device, NotYet, Memory, Write}
 use Rattle.module.proofs.Built.{are_compiled}
@@ -60,7 +61,6 @@ module_image table sources t bytes is_table h = record {
   programs = h.programs;
   accepted = record { rows = is_table; accepted = h.accepted };
   short = h.short;
-  part = h.part;
   image = built_image t h.programs;
   loaded = ap image_at h.spelled ∙ spelled_is_read (built_image t h.programs) (lawful_image t sources h.programs (judged_table table t is_table) h.accepted h.coded);
   items = (items_lawful t.partitions sources h.programs h.accepted h.coded).0;
@@ -98,25 +98,16 @@ accepted_run : (table : List ℕ) (sources : List (List ℕ)) (bytes devices : L
     → IsAcceptedRun table sources devices n h.rows h.programs lines
 accepted_run table sources bytes devices n image lines h r = record {
   accepted = h.accepted;
-  taken = record {
-    read = sym (ap (λ (i : Image). verdict_for i devices) (same_image table sources bytes devices n image lines h r) ∙ same_verdict table sources bytes devices h) ∙ r.taken.read;
-    faultless = r.taken.faultless;
-  };
+  taken = sym (ap (λ (i : Image). verdict_for i devices) (same_image table sources bytes devices n image lines h r) ∙ same_verdict table sources bytes devices h) ∙ r.taken;
   few = r.few;
 }
 
--- an image that is loaded is refused for its devices alone
-has_fault_in : (table : List ℕ) (sources : List (List ℕ)) (bytes devices : List ℕ) (h : IsImageOf table sources bytes) (read : Result Image Fault) → read ≡ ok_image h.image → IsOutside read devices → HasFault table sources devices
-has_fault_in table sources bytes devices h (Ok image) e (lines, reads, fault) = record {
-  rows = h.rows;
-  programs = h.programs;
-  lines = lines;
-  accepted = h.accepted;
-  read = sym (ap (λ (i : Image). verdict_for i devices) (image_is image h.image e) ∙ same_verdict table sources bytes devices h) ∙ reads;
-  fault = fault;
-}
-has_fault_in table sources bytes devices h (Err f) e r = absurd cc
+-- what is an image is never refused as bytes that are none
+never_refused : (read : Result Image Fault) (i : Image) → read ≡ ok_image i → IsErr read → ⊥
+never_refused (Ok image) i e r = absurd cc
+never_refused (Err f) i e r = absurd cc
 
+-- an image that is loaded is refused for its devices alone
 is_refused_in : (table : List ℕ) (sources : List (List ℕ)) (bytes devices : List ℕ) (h : IsImageOf table sources bytes) (f : DeviceFault) (read : Result Image Fault) → read ≡ ok_image h.image → IsDeviceRefusal read devices f → IsDeviceRefused table sources devices f
 is_refused_in table sources bytes devices h f (Ok image) e refused = record {
   rows = h.rows;
@@ -134,5 +125,5 @@ run_means table sources bytes devices n old new (Err Write) h (image, lines, r, 
     (h.rows, h.programs, lines, accepted_run table sources bytes devices n image lines h r, subst (TakesBeginning old new) (same_text table sources bytes devices n image lines h r) out)
 run_means table sources bytes devices n old new (Err Ticks) h r = r
 run_means table sources bytes devices n old new (Err (Device f)) h r = (r.0, is_refused_in table sources bytes devices h f (image_at bytes) h.loaded r.1, r.2)
-run_means table sources bytes devices n old new (Err NotYet) h r = (r.0, has_fault_in table sources bytes devices h (image_at bytes) h.loaded r.1, r.2)
+run_means table sources bytes devices n old new (Err NotYet) h r = never_refused (image_at bytes) h.image h.loaded r.1
 run_means table sources bytes devices n old new (Err Memory) h r = r

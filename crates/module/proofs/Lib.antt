@@ -9,6 +9,5 @@ pub mod Runs
 pub mod SameTraces
 pub mod Starting
 pub mod Texts
-pub mod Parts
 pub mod Refused
 pub mod Written

@@ -1,12 +1,9 @@
 -- What is refused, and for what.
-use Rattle.std.proofs.Common.{◌≡◌, inl, inr, ℕ, zero, suc, ◌+◌, Bool, true, false, List, [], ◌∷◌, ◌++◌, length, map, drop, Some, None, Result, Ok, Err, IfOk, IfErr, refl, sym, ap, subst, ◌∙◌, arith, append-nil}
-use Rattle.std.specs.Prelude.{IsErr, IsErrAnd, ◌&&◌, not, slice_get}
-use Rattle.std.specs.List.{list_all, list_any}
-use Rattle.std.proofs.lemmas.List.Folds.{list_all-map}
+use Rattle.std.proofs.Common.{◌≡◌, inl, inr, ℕ, zero, suc, ◌+◌, false, List, [], ◌∷◌, ◌++◌, length, map, drop, Some, None, Result, Ok, Err, IfErr, refl, sym, ap, subst, ◌∙◌, arith, append-nil}
+use Rattle.std.specs.Prelude.{IsErr, IsErrAnd, slice_get}
+use Rattle.std.specs.List.{list_any}
 use Rattle.std.proofs.lemmas.Option.{none-some, same_Some}
-use Rattle.apex_meaning.specs.GrammarWords.{words_of}
 use Rattle.apex_meaning.specs.Image.{Partition, Table}
-use Rattle.apex_meaning.proofs.ReadPrograms.{written_once}
 use Rattle.pal_base.specs.ProgramView.{program_of}
 use Rattle.pal_base.specs.declared.fault.PalFault.{PalFault}
 use Rattle.pal_base.specs.declared.fault.Refusal.{Refusal}
@@ -15,9 +12,8 @@ use Rattle.module.specs.Accepted.{IsAccepted, AreAccepted, IsTable}
 use Rattle.apex_meaning.specs.ImageSpelling.{spelling}
 use Rattle.module.specs.Built.{built_image, AreCoded, IsBuiltFrom}
 use Rattle.module.proofs.Built.{none_too_long}
-use Rattle.module.specs.Part.{is_program_of_part, is_table_of_part, is_module_of_part}
-use Rattle.module.specs.Building.{IsNotAccepted, IsFirstRefused, IsRefusedWith, IsRefusal, IsTableRefusal, IsSourceRefusal, AreSourceRefusals, IsLengthRefusal, IsPartRefusal, is_too_long, first_too_long, unless_memory, refusal_of}
-use Rattle.module.specs.Sources.{programs_of, IsSource, AreSources, are_of_part}
+use Rattle.module.specs.Building.{IsNotAccepted, IsFirstRefused, IsRefusedWith, IsRefusal, IsTableRefusal, IsSourceRefusal, AreSourceRefusals, IsLengthRefusal, is_too_long, first_too_long, unless_memory, refusal_of}
+use Rattle.module.specs.Sources.{programs_of, IsSource, AreSources}
 use Rattle.std.proofs.lemmas.List.{append_assoc, length-map}
 use Rattle.image.specs.Items.{partition_of}
 use Rattle.window_table.specs.declared.table.PartitionRow.{PartitionRow}
@@ -102,7 +98,6 @@ here_refused rows texts i row source rows_are texts_are before (fault.Pal name f
     (subst (λ (rs : List PartitionRow). IsFirstRefused (map partition_of rs) (drop i texts) name f.refusal) (sym rows_are)
     (subst (λ (ts : List (List ℕ)). IsFirstRefused (map partition_of (row ∷ drop (i + 1) rows)) ts name f.refusal) (sym texts_are) (inl h)))
 here_refused rows texts i row source rows_are texts_are before (fault.Compile name) h = absurd h
-here_refused rows texts i row source rows_are texts_are before fault.NotYet h = absurd h
 here_refused rows texts i row source rows_are texts_are before fault.Memory h = tt
 
 -- all of them are accepted
@@ -147,24 +142,18 @@ all_short other rows texts seen given e f a none =
     none_too_long (map partition_of rows) (programs_of given) count
     (subst (λ (rs : List PartitionRow). first_too_long (map partition_of rs) (programs_of given) ≡ None) e (subst (λ (ss : List AcceptedSource). first_too_long (map partition_of other) (programs_of ss) ≡ None) f none))
 
--- the programs of sources of the part
-parts_same : (t : Table) (given : List AcceptedSource) → are_of_part t given ≡ is_module_of_part t (programs_of given)
-parts_same t given = ap (λ b. is_table_of_part t && b) (sym (list_all-map is_program_of_part (λ (a : AcceptedSource). program_of a.program) given))
-
--- the bytes of accepted sources of the part that are compiled
-pub built_from : {A E : Type 0} (view : A → List ℕ) (t : Table) (sources : List (List ℕ)) (given : List AcceptedSource) (answer : Result A E)
-    → AreSources t.partitions sources given → list_any is_too_long (programs_of given) ≡ false → IfOk answer (λ b. are_of_part t given ≡ true)
-    → IfOk answer (λ b. view b ≡ spelling (built_image t (programs_of given))) → IfOk answer (λ b. AreCoded (programs_of given)) → IfOk answer (λ b. IsBuiltFrom t sources (view b))
-built_from view t sources given (Ok b) a short part spelled coded =
+-- the bytes of accepted sources that are compiled
+pub built_from : (t : Table) (sources : List (List ℕ)) (given : List AcceptedSource) (bytes : List ℕ)
+    → AreSources t.partitions sources given → list_any is_too_long (programs_of given) ≡ false
+    → bytes ≡ spelling (built_image t (programs_of given)) → AreCoded (programs_of given) → IsBuiltFrom t sources bytes
+built_from t sources given bytes a short spelled coded =
     record {
       programs = programs_of given;
       accepted = are_accepted t.partitions sources given a;
       short = short;
-      part = sym (parts_same t given) ∙ part;
       coded = coded;
       spelled = spelled;
     }
-built_from view t sources given (Err e) a short part spelled coded = tt
 
 -- ---- with an accepted table
 
@@ -173,29 +162,13 @@ length_refused t sources given a (fault.Table f) h = absurd h
 length_refused t sources given a fault.Sources h = absurd h
 length_refused t sources given a (fault.Pal name f) h = absurd h
 length_refused t sources given a (fault.Compile name) h = record { programs = programs_of given; accepted = are_accepted t.partitions sources given a; first = h }
-length_refused t sources given a fault.NotYet h = absurd h
 length_refused t sources given a fault.Memory h = absurd h
-
-pub part_refused : (t : Table) (sources : List (List ℕ)) (given : List AcceptedSource) → AreSources t.partitions sources given → list_any is_too_long (programs_of given) ≡ false
-    → (f : BuildFault) → IsPartRefusal (are_of_part t given) f → IsRefusedWith t sources f
-part_refused t sources given a short (fault.Table f) h = absurd h
-part_refused t sources given a short fault.Sources h = absurd h
-part_refused t sources given a short (fault.Pal name f) h = absurd h
-part_refused t sources given a short (fault.Compile name) h = absurd h
-part_refused t sources given a short fault.NotYet h = record {
-  programs = programs_of given;
-  accepted = are_accepted t.partitions sources given a;
-  short = short;
-  outside = sym (parts_same t given) ∙ h;
-}
-part_refused t sources given a short fault.Memory h = tt
 
 pub source_refused : (t : Table) (sources : List (List ℕ)) → length sources ≡ length t.partitions → (f : BuildFault) → AreSourceRefusals t.partitions sources f → IsRefusedWith t sources f
 source_refused t sources count (fault.Table f) h = absurd h
 source_refused t sources count fault.Sources h = absurd h
 source_refused t sources count (fault.Pal name f) h = (count, h)
 source_refused t sources count (fault.Compile name) h = absurd h
-source_refused t sources count fault.NotYet h = absurd h
 source_refused t sources count fault.Memory h = tt
 
 -- ---- a module
@@ -205,7 +178,6 @@ table_refused table sources (fault.Table f) h = h
 table_refused table sources fault.Sources h = absurd h
 table_refused table sources (fault.Pal name f) h = absurd h
 table_refused table sources (fault.Compile name) h = absurd h
-table_refused table sources fault.NotYet h = absurd h
 table_refused table sources fault.Memory h = tt
 
 pub refused_with : (table : List ℕ) (sources : List (List ℕ)) (t : Table) → IsTable table t → (f : BuildFault) → IsRefusedWith t sources f → IsRefusal table sources f
@@ -213,5 +185,4 @@ refused_with table sources t is (fault.Table f) h = absurd h
 refused_with table sources t is fault.Sources h = (t, is, h)
 refused_with table sources t is (fault.Pal name f) h = (t, is, h)
 refused_with table sources t is (fault.Compile name) h = (t, is, h)
-refused_with table sources t is fault.NotYet h = (t, is, h)
 refused_with table sources t is fault.Memory h = tt

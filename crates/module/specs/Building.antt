@@ -1,5 +1,5 @@
 -- What building promises, and the parts of it.
-use Rattle.std.specs.Prelude.{◌≡◌, ◌≢◌, ◌⊎◌, ℕ, Bool, true, false, nat_lt, List, [], ◌∷◌, length, map, if◌then◌else◌, Option, Some, None, Ok, Err}
+use Rattle.std.specs.Prelude.{◌≡◌, ◌≢◌, ◌⊎◌, ℕ, Bool, false, nat_lt, List, ◌∷◌, length, map, if◌then◌else◌, Option, Some, None, Ok, Err}
 use Rattle.std.specs.List.{list_any}
 use Rattle.apex_types.specs.declared.device.DeviceLine.{DeviceLine}
 use Rattle.apex_meaning.specs.Cost.{size_of}
@@ -18,7 +18,6 @@ use Rattle.pal_base.specs.declared.fault.Refusal.TheVariants as refusal
 use Rattle.window_table.specs.Answers.{AnswersText}
 use Rattle.window_table.specs.declared.fault.TableFault.TheVariants as table_fault
 use Rattle.module.specs.Accepted.{IsAccepted, AreAccepted, IsTable, IsModule}
-use Rattle.module.specs.Part.{is_module_of_part}
 use Rattle.module.specs.declared.fault.BuildFault.{BuildFault}
 use Rattle.module.specs.declared.fault.BuildFault.TheVariants as fault
 
@@ -49,14 +48,13 @@ first_too_long (row ∷ rows) (p ∷ ps) = if is_too_long p then Some row.name e
 first_too_long _ _ = None
 
 -- The bytes are an image's, which for all lines of the devices and every number of ticks means what the
--- table and sources mean, and has the partitions and channels of the table: these are accepted, no program
--- is too long, and they are of the part that is built.
+-- table and sources mean, and has the partitions and channels of the table: these are accepted, and no
+-- program is too long.
 pub record IsImageOf (table : List ℕ) (sources : List (List ℕ)) (bytes : List ℕ) : Type 0 where
   pub rows : Table
   pub programs : List Program
   pub accepted : IsModule table sources rows programs
   pub short : list_any is_too_long programs ≡ false
-  pub part : is_module_of_part rows programs ≡ true
   pub image : Image
   pub loaded : image_at bytes ≡ Ok image
   pub items : map row_of_item image.items ≡ rows.partitions
@@ -70,13 +68,6 @@ pub record IsTooLong (t : Table) (sources : List (List ℕ)) (name : List ℕ) :
   pub accepted : AreAccepted t.partitions sources programs
   pub first : first_too_long t.partitions programs ≡ Some name
 
--- With this table the sources are accepted, no program is too long, and they are outside the part.
-pub record IsOutside (t : Table) (sources : List (List ℕ)) : Type 0 where
-  pub programs : List Program
-  pub accepted : AreAccepted t.partitions sources programs
-  pub short : list_any is_too_long programs ≡ false
-  pub outside : is_module_of_part t programs ≡ false
-
 -- ---- refusals of a module
 
 -- why sources are refused with an accepted table
@@ -85,13 +76,11 @@ IsRefusedWith t sources (fault.Table f) = ⊥
 IsRefusedWith t sources fault.Sources = length sources ≢ length t.partitions
 IsRefusedWith t sources (fault.Pal name f) = (length sources ≡ length t.partitions) × IsFirstRefused t.partitions sources name f.refusal
 IsRefusedWith t sources (fault.Compile name) = IsTooLong t sources name
-IsRefusedWith t sources fault.NotYet = IsOutside t sources
 IsRefusedWith t sources fault.Memory = Unit {0}
 
 -- Why a table and sources are refused: for the table; with an accepted table for the number of the
 -- sources, or for the first source that is refused; with accepted sources for the first program that
--- is too long; or because they are accepted, none is too long, and they are outside the part that is
--- built so far. Want of memory says nothing.
+-- is too long. Want of memory says nothing.
 abbrev pub IsRefusal : List ℕ → List (List ℕ) → BuildFault → Type 0
 IsRefusal table sources (fault.Table f) = (f ≢ table_fault.Memory) × AnswersText table (Err f)
 IsRefusal table sources fault.Memory = Unit {0}
@@ -130,9 +119,3 @@ AreSourceRefusals rows sources _ = ⊥
 abbrev pub IsLengthRefusal : List Partition → List Program → BuildFault → Type 0
 IsLengthRefusal rows ps (fault.Compile name) = first_too_long rows ps ≡ Some name
 IsLengthRefusal rows ps _ = ⊥
-
--- what accepted sources, none of them too long, are refused for: they are not of the part
-abbrev pub IsPartRefusal : Bool → BuildFault → Type 0
-IsPartRefusal of_part fault.NotYet = of_part ≡ false
-IsPartRefusal of_part fault.Memory = Unit {0}
-IsPartRefusal of_part _ = ⊥

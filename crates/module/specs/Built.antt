@@ -1,5 +1,5 @@
 -- The image that a module table and the programs of its partitions become.
-use Rattle.std.specs.Prelude.{◌≡◌, ◌≤◌, ℕ, true, false, List, [], ◌∷◌, map, Some, All, FitsSigned}
+use Rattle.std.specs.Prelude.{◌≡◌, ◌≤◌, ℕ, false, List, [], ◌∷◌, map, Some, All, FitsSigned}
 use Rattle.std.specs.Int.{w64}
 use Rattle.std.specs.List.{list_any}
 use Rattle.apex_meaning.specs.Cost.{size_of}
@@ -12,7 +12,6 @@ use Rattle.apex_meaning.specs.ImageSpelling.{spelling}
 use Rattle.apex_meaning.specs.Instructions.{reading}
 use Rattle.module.specs.Accepted.{AreAccepted}
 use Rattle.module.specs.Building.{is_too_long}
-use Rattle.module.specs.Part.{is_module_of_part}
 
 -- a partition with what its program is compiled to
 abbrev pub built_item : Partition → Program → Item
@@ -51,11 +50,10 @@ abbrev pub AreCompiled : List Program → Type 0
 AreCompiled [] = Unit {0}
 AreCompiled (p ∷ ps) = IsCompiled p × AreCompiled ps
 
--- The bytes spell the image of a table of the part whose sources are accepted, offered and compiled.
+-- The bytes spell the image of a table whose sources are accepted and compiled, none of them too long.
 pub record IsBuiltFrom (t : Table) (sources : List (List ℕ)) (bytes : List ℕ) : Type 0 where
   pub programs : List Program
   pub accepted : AreAccepted t.partitions sources programs
   pub short : list_any is_too_long programs ≡ false
-  pub part : is_module_of_part t programs ≡ true
   pub coded : AreCoded programs
   pub spelled : bytes ≡ spelling (built_image t programs)

@@ -8,4 +8,3 @@ pub mod Members
 pub mod Promises
 pub mod Views
 pub mod Written
-pub mod Part

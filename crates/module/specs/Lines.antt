@@ -25,7 +25,6 @@ build_line (build.Table fault) = codes "table " ++ decimal (number_of fault)
 build_line build.Sources = codes "sources"
 build_line (build.Pal partition fault) = source_line partition fault.refusal fault.line
 build_line (build.Compile partition) = codes "compile " ++ partition ++ codes " 1"
-build_line build.NotYet = codes "not yet"
 build_line build.Memory = codes "memory"
 
 abbrev pub run_line : RunFault → List ℕ

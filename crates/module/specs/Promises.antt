@@ -1,12 +1,12 @@
 -- What running an image, and building and running a module, promise.
-use Rattle.std.specs.Prelude.{◌≡◌, ℕ, true, false, ◌^◌, ◌<◌, ◌≤◌, List, Option, Result, Ok, Err}
+use Rattle.std.specs.Prelude.{◌≡◌, ℕ, ◌^◌, ◌<◌, ◌≤◌, List, Option, Result, Ok, Err, IsErr}
 use Rattle.std.specs.Io.KnownBytes.{Appends}
 use Rattle.apex_types.specs.Line.{text_of}
 use Rattle.apex_types.specs.Sink.{TakesBeginning}
 use Rattle.apex_types.specs.declared.device.DeviceFault.{DeviceFault}
 use Rattle.apex_types.specs.declared.device.DeviceLine.{DeviceLine}
 use Rattle.apex_types.specs.declared.event.Event.{Event}
-use Rattle.apex_meaning.specs.DeviceText.{verdict, verdict_for, has_fault}
+use Rattle.apex_meaning.specs.DeviceText.{verdict, verdict_for}
 use Rattle.apex_meaning.specs.ImageReading.{Fault}
 use Rattle.apex_meaning.specs.Image.{Image, Table}
 use Rattle.apex_meaning.specs.Program.{Program}
@@ -18,20 +18,10 @@ use Rattle.module.specs.declared.fault.RunFault.{RunFault}
 use Rattle.module.specs.declared.fault.RunFault.TheVariants.{Ticks, Device, NotYet, Memory, Write}
 use Rattle.module.specs.Building.{IsRefusal}
 
--- the lines of a device text without a fault, which is not served yet
-pub record AreTaken (judged : Result (List DeviceLine) DeviceFault) (lines : List DeviceLine) : Type 0 where
-  pub read : judged ≡ Ok lines
-  pub faultless : has_fault lines ≡ false
-
--- what is refused for now: bytes that are no image, and device texts with a fault
-abbrev pub IsOutside : Result Image Fault → List ℕ → Type 0
-IsOutside (Err fault) devices = Unit {0}
-IsOutside (Ok image) devices = (lines : List DeviceLine) × (verdict_for image devices ≡ Ok lines) × (has_fault lines ≡ true)
-
 -- the image that was read, and the lines of the device text, within the ticks that are run
 pub record IsRun (read : Result Image Fault) (devices : List ℕ) (n : ℕ) (image : Image) (lines : List DeviceLine) : Type 0 where
   pub loaded : read ≡ Ok image
-  pub taken : AreTaken (verdict_for image devices) lines
+  pub taken : verdict_for image devices ≡ Ok lines
   pub few : n ≤ 2 ^ 40
 
 -- the device text is refused for the image
@@ -47,7 +37,7 @@ Runs read devices n old new (Ok _) = (image : Image) × (lines : List DeviceLine
 Runs read devices n old new (Err Write) = (image : Image) × (lines : List DeviceLine) × IsRun read devices n image lines × TakesBeginning old new (text_of (machine_trace image lines n))
 Runs read devices n old new (Err Ticks) = (2 ^ 40 < n) × (new ≡ old)
 Runs read devices n old new (Err (Device f)) = (n ≤ 2 ^ 40) × IsDeviceRefusal read devices f × (new ≡ old)
-Runs read devices n old new (Err NotYet) = (n ≤ 2 ^ 40) × IsOutside read devices × (new ≡ old)
+Runs read devices n old new (Err NotYet) = (n ≤ 2 ^ 40) × IsErr read × (new ≡ old)
 Runs read devices n old new (Err Memory) = new ≡ old
 
 -- the same of an image with lines that are taken
@@ -59,14 +49,13 @@ RunsImage events old new (Err _) = ⊥
 
 -- why bytes are not run: they are no image
 abbrev pub IsRefused : Result Image Fault → RunFault → Type 0
-IsRefused (Err fault) NotYet = Unit {0}
+IsRefused read NotYet = IsErr read
 IsRefused read Memory = Unit {0}
 IsRefused _ _ = ⊥
 
 -- why a device text is not taken for an image
 abbrev pub AreRefused : Result (List DeviceLine) DeviceFault → RunFault → Type 0
 AreRefused (Err f) (Device g) = f ≡ g
-AreRefused (Ok lines) NotYet = has_fault lines ≡ true
 AreRefused read Memory = Unit {0}
 AreRefused _ _ = ⊥
 
@@ -74,34 +63,27 @@ AreRefused _ _ = ⊥
 -- them, to be run for so many ticks.
 pub record IsAcceptedRun (table : List ℕ) (sources : List (List ℕ)) (devices : List ℕ) (n : ℕ) (t : Table) (programs : List Program) (lines : List DeviceLine) : Type 0 where
   pub accepted : IsModule table sources t programs
-  pub taken : AreTaken (verdict t.partitions t.channels devices) lines
+  pub taken : verdict t.partitions t.channels devices ≡ Ok lines
   pub few : n ≤ 2 ^ 40
 
--- Table and sources are accepted, and with this table the device text is refused, or has a fault.
+-- Table and sources are accepted, and with this table the device text is refused.
 pub record IsDeviceRefused (table : List ℕ) (sources : List (List ℕ)) (devices : List ℕ) (f : DeviceFault) : Type 0 where
   pub rows : Table
   pub programs : List Program
   pub accepted : IsModule table sources rows programs
   pub refused : verdict rows.partitions rows.channels devices ≡ Err f
 
-pub record HasFault (table : List ℕ) (sources : List (List ℕ)) (devices : List ℕ) : Type 0 where
-  pub rows : Table
-  pub programs : List Program
-  pub lines : List DeviceLine
-  pub accepted : IsModule table sources rows programs
-  pub read : verdict rows.partitions rows.channels devices ≡ Ok lines
-  pub fault : has_fault lines ≡ true
-
 -- What building and running has written between two states of its sink: the text of the trace of n
 -- ticks that the accepted table and sources mean with the device text's lines; a beginning of that text where the sink failed;
--- nothing where it is refused, which is so only where it must be.
+-- nothing where it is refused, which is so only where it must be. What is built is an image, so its bytes are
+-- never refused.
 abbrev pub Means : List ℕ → List (List ℕ) → List ℕ → ℕ → Option (List ℕ) → Option (List ℕ) → Result (Unit {0}) BuildAndRunFault → Type 0
 Means table sources devices n old new (Ok _) = (t : Table) × (programs : List Program) × (lines : List DeviceLine) × IsAcceptedRun table sources devices n t programs lines × Appends old new (text_of (source_trace t programs lines n))
 Means table sources devices n old new (Err (Run Write)) = (t : Table) × (programs : List Program) × (lines : List DeviceLine) × IsAcceptedRun table sources devices n t programs lines × TakesBeginning old new (text_of (source_trace t programs lines n))
 Means table sources devices n old new (Err (Build fault)) = IsRefusal table sources fault × (new ≡ old)
 Means table sources devices n old new (Err (Run Ticks)) = (2 ^ 40 < n) × (new ≡ old)
 Means table sources devices n old new (Err (Run (Device f))) = (n ≤ 2 ^ 40) × IsDeviceRefused table sources devices f × (new ≡ old)
-Means table sources devices n old new (Err (Run NotYet)) = (n ≤ 2 ^ 40) × HasFault table sources devices × (new ≡ old)
+Means table sources devices n old new (Err (Run NotYet)) = ⊥
 Means table sources devices n old new (Err (Run Memory)) = new ≡ old
 
 -- the answer of a run as that of building and running

@@ -1,14 +1,12 @@
 //! Sources that are accepted for the partitions of a module table.
 
 ghost use Rattle.std.specs.Prelude.{◌≡◌, length, map, None, IfOk, IfErr};
-ghost use Rattle.std.specs.List.{list_all};
 ghost use Rattle.image.specs.Items.{partition_of};
 ghost use Rattle.pal_base.specs.ProgramView.{program_of};
 ghost use Rattle.module.specs.Building.{IsNotAccepted, IsSourceRefusal, AreSourceRefusals, IsLengthRefusal, first_too_long, is_too_long, refusal_of};
-ghost use Rattle.module.specs.Sources.{IsSource, AreSources, programs_of, is_source_of_part};
+ghost use Rattle.module.specs.Sources.{IsSource, AreSources, programs_of};
 
 use crate::fault::BuildFault;
-use crate::part::is_program_of_part;
 use apex_types::Name;
 use compiler::{MOST_INSTRUCTIONS, size_of_program};
 use pal::{Checked, check};
@@ -108,17 +106,4 @@ fn is_too_long(program: &Program) -> bool
     ensures { result ≡ is_too_long (program_of program.now) }
 {
     size_of_program(program) > MOST_INSTRUCTIONS
-}
-
-/// Whether each source is of the part that is built so far.
-pub fn are_of_part(sources: &[AcceptedSource]) -> bool
-    ensures { result ≡ list_all (λ source. is_source_of_part source) sources.now }
-{
-    sources.iter().all(|source| is_of_part(source))
-}
-
-fn is_of_part(source: &AcceptedSource) -> bool
-    ensures { result ≡ is_source_of_part source.now }
-{
-    is_program_of_part(&source.program)
 }

@@ -1,6 +1,6 @@
 //! From a module table and sources to the bytes of an image.
 
-ghost use Rattle.std.specs.Prelude.{◌≡◌, length, map, IfOk, IfErr, true, false};
+ghost use Rattle.std.specs.Prelude.{◌≡◌, length, map, IfOk, IfErr, false};
 ghost use Rattle.std.specs.List.{list_any};
 ghost use Rattle.apex_meaning.specs.CompiledCode as code_of;
 ghost use Rattle.apex_meaning.specs.ImageSpelling.{spelling};
@@ -9,13 +9,12 @@ ghost use Rattle.image.specs.Views.{image_of};
 ghost use Rattle.pal_base.specs.ProgramView.{program_of};
 ghost use Rattle.window_table.specs.Views.{table_of};
 ghost use Rattle.module.specs.Accepted.{IsJudged, IsTable};
-ghost use Rattle.module.specs.Building.{IsImageOf, IsRefusal, IsRefusedWith, IsTableRefusal, IsPartRefusal, is_too_long};
+ghost use Rattle.module.specs.Building.{IsImageOf, IsRefusal, IsRefusedWith, IsTableRefusal, is_too_long};
 ghost use Rattle.module.specs.Built.{BecomesLawful, IsBuiltFrom, IsCoded, AreCoded, built_image, built_item, built_items};
-ghost use Rattle.module.specs.Sources.{programs_of, are_of_part};
+ghost use Rattle.module.specs.Sources.{programs_of};
 
-use crate::accepting::{AcceptedSource, accept_sources, are_of_part, judge_lengths};
+use crate::accepting::{AcceptedSource, accept_sources, judge_lengths};
 use crate::fault::BuildFault;
-use crate::part::is_table_of_part;
 use apex_types::Section;
 use compiler::{CompileFault, compile_program};
 use image::{Image, PartitionItem, write_image};
@@ -30,9 +29,8 @@ use window_table::{ModuleTable, PartitionRow, TableFault, read_table};
 ///
 /// Memory where there is none left. Else, in this order: the lowest rule that the table breaks;
 /// a number of sources that is not the number of partitions; the lowest rule that a source breaks,
-/// with its line, of the first partition whose source is refused; the first partition whose program
-/// would have more than 65,536 instructions; and `NotYet` where all are accepted and are outside the
-/// part that is built so far.
+/// with its line, of the first partition whose source is refused; and the first partition whose program
+/// would have more than 65,536 instructions.
 pub fn build(alloc: Global, table: &[u8], sources: &[&[u8]]) -> Result<Vec<u8>, BuildFault>
     ensures image { IfOk result (λ bytes. IsImageOf table.now (map (λ s. s.now) sources.now) bytes.items) }
     ensures refused { IfErr result (λ fault. IsRefusal table.now (map (λ s. s.now) sources.now) fault) }
@@ -64,31 +62,25 @@ fn build_table(alloc: Global, table: ModuleTable, sources: &[&[u8]]) -> Result<V
     }
     let accepted = accept_sources(alloc, table.partitions.as_slice(), sources)?;
     judge_lengths(table.partitions.as_slice(), &accepted)?;
-    build_accepted(alloc, table, &accepted)
+    Ok(build_accepted(alloc, table, &accepted)?)
 }
 
-/// The bytes of the image of a table and its accepted sources, none of them too long, if they are of
-/// the part that is built so far.
+/// The bytes of the image of a table and its accepted sources, none of them too long.
 fn build_accepted(
     alloc: Global,
     table: ModuleTable,
     sources: &[AcceptedSource],
-) -> Result<Vec<u8>, BuildFault>
+) -> Result<Vec<u8>, AllocError>
     requires count { length sources.now ≡ length table.partitions.items }
     requires lawful { BecomesLawful (table_of table) (programs_of sources.now) }
     requires short { list_any is_too_long (programs_of sources.now) ≡ false }
     ensures spelled { IfOk result (λ bytes. bytes.items ≡ spelling (built_image (table_of table) (programs_of sources.now))) }
     ensures coded { IfOk result (λ bytes. AreCoded (programs_of sources.now)) }
-    ensures offered { IfOk result (λ bytes. are_of_part (table_of table) sources.now ≡ true) }
-    ensures refused { IfErr result (λ fault. IsPartRefusal (are_of_part (table_of table) sources.now) fault) }
 {
-    if !is_table_of_part(&table) || !are_of_part(sources) {
-        return Err(BuildFault::NotYet);
-    }
     let image = build_image(alloc, table, sources)?;
     match write_image(alloc, &image) {
         Ok(bytes) => Ok(bytes),
-        Err(_) => Err(BuildFault::Memory),
+        Err(_) => Err(AllocError),
     }
 }
 

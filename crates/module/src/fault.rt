@@ -27,8 +27,6 @@ pub enum BuildFault {
     /// The sources are accepted, and the program of the partition of that name would have more than
     /// 65,536 instructions.
     Compile(Name),
-    /// They are accepted, no program is too long, and they are outside the part that is built so far.
-    NotYet,
     Memory,
 }
 
@@ -55,7 +53,6 @@ impl fmt::Display for BuildFault {
                 fault.line
             ),
             BuildFault::Compile(partition) => write!(f, "compile {} 1", partition.as_str()),
-            BuildFault::NotYet => write!(f, "not yet"),
         }
     }
 }
@@ -69,7 +66,7 @@ pub enum RunFault {
     Ticks,
     /// The device text is refused for the image.
     Device(DeviceFault),
-    /// The image is refused, or the device text has a fault, which is not served so far.
+    /// The bytes are no image.
     NotYet,
     Memory,
     /// The sink failed. What it took is a beginning of the trace's text.

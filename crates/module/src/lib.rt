@@ -8,7 +8,6 @@ mod exchange;
 mod fault;
 mod load;
 mod member;
-mod part;
 mod running;
 mod step;
 mod ticks;

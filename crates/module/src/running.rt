@@ -1,18 +1,18 @@
 //! Running an image: its partitions in their windows, tick by tick, and the text of their trace.
 
 ghost use Rattle.std.specs.Prelude.{◌≡◌, ◌≤◌, ◌<◌, ◌+◌, ◌-◌, ◌^◌, Ok, map, IfOk, IfErr, OnOk, IsErrOf};
-ghost use Rattle.apex_meaning.specs.DeviceText.{verdict_for, has_fault, is_fault};
+ghost use Rattle.apex_meaning.specs.DeviceText.{verdict_for};
 ghost use Rattle.apex_meaning.specs.ImageReading.{image_at};
 ghost use Rattle.apex_meaning.specs.TwoMeanings.{machine_trace};
 ghost use Rattle.image.specs.Views.{image_of};
-ghost use Rattle.module.specs.Promises.{AreRefused, AreTaken, IsRefused, Means, Runs, RunsImage};
+ghost use Rattle.module.specs.Promises.{AreRefused, IsRefused, Means, Runs, RunsImage};
 ghost use Rattle.module.specs.Written.{AreFrom};
 
 use crate::building::build;
 use crate::fault::{BuildAndRunFault, RunFault};
 use crate::member::Module;
 use crate::ticks::run_module;
-use apex_types::{DeviceInput, DeviceLine, Sink, SinkFault};
+use apex_types::{DeviceLine, Sink, SinkFault};
 use image::{Image, ImageFault, load_image};
 use module_base::{DeviceTextFault, read_devices};
 use std::alloc::Global;
@@ -26,9 +26,8 @@ pub const MOST_TICKS: u64 = 1_099_511_627_776;
 ///
 /// # Errors
 ///
-/// In this order: more ticks than 2^40; an image that is refused; the lowest rule that the first wrong
-/// line of the device text breaks; a device text with a fault. Want of memory may come before a later
-/// one is reached.
+/// In this order: more ticks than 2^40; bytes that are no image; the lowest rule that the first wrong
+/// line of the device text breaks. Want of memory may come before a later one is reached.
 pub fn run<S: Sink>(
     alloc: Global,
     image: &[u8],
@@ -85,39 +84,17 @@ fn load(alloc: Global, bytes: &[u8]) -> Result<Image, RunFault>
     }
 }
 
-/// The lines of a device text for an image, none of them of a fault.
+/// The lines of a device text for an image.
 #[tactic(auto, using(crate::proofs::Devices::read_in_order))]
 fn take_devices(alloc: Global, image: &Image, text: &[u8]) -> Result<Vec<DeviceLine>, RunFault>
-    ensures taken { IfOk result (λ lines. AreTaken (verdict_for (image_of image.now) text.now) lines.items) }
+    ensures taken { IfOk result (λ lines. verdict_for (image_of image.now) text.now ≡ Ok lines.items) }
     ensures order { IfOk result (λ lines. AreFrom 0 lines.items) }
     ensures refused { IfErr result (λ fault. AreRefused (verdict_for (image_of image.now) text.now) fault) }
 {
     match read_devices(alloc, image, text) {
-        Ok(lines) => {
-            if has_fault(&lines) {
-                Err(RunFault::NotYet)
-            } else {
-                Ok(lines)
-            }
-        }
+        Ok(lines) => Ok(lines),
         Err(DeviceTextFault::Line(fault)) => Err(RunFault::Device(fault)),
         Err(DeviceTextFault::Memory) => Err(RunFault::Memory),
-    }
-}
-
-/// Whether a line is of a fault.
-fn has_fault(lines: &[DeviceLine]) -> bool
-    ensures { result ≡ has_fault lines.now }
-{
-    lines.iter().any(|line| is_fault(line))
-}
-
-fn is_fault(line: &DeviceLine) -> bool
-    ensures { result ≡ is_fault line.now }
-{
-    match line.input {
-        DeviceInput::Message(..) => false,
-        DeviceInput::ModuleFault | DeviceInput::PartitionFault(_) => true,
     }
 }
 

@@ -5,7 +5,7 @@ use Rattle.window_table.specs.declared.table.PartitionRow.{PartitionRow}
 use Rattle.module.specs.Building.{AreSourceRefusals, IsLengthRefusal}
 use Rattle.module.specs.Sources.{programs_of}
 use Rattle.module.proofs.Headline.{lawful_image}
-use Rattle.module.proofs.Refused.{weaker, passed_on, source_refused, are_accepted, as_many, all_short, built_from, same_sources, length_refused, part_refused}
+use Rattle.module.proofs.Refused.{passed_on, source_refused, are_accepted, as_many, all_short, built_from, same_sources, length_refused}
 use Rattle.module.proofs.building.build_table.Goals as goal
 
 pub returns-in_err-accepted-clause-refused : goal.returns-in_err-accepted-clause-refused
@@ -51,12 +51,4 @@ returns-clause-built c =
     let given = c.deref-2.result.now in
     let accepted = same_sources c.as_slice.result.now c.args.table.partitions.items texts c.in_ok-accepted.accepted.items given c.as_slice.ensures.value c.deref-2.ensures.value c.in_ok-accepted.ensures.accepted in
     let short = all_short c.as_slice-2.result.now c.args.table.partitions.items texts c.deref.result.now given c.as_slice-2.ensures.value (c.deref.ensures.value ∙ sym c.deref-2.ensures.value) accepted c.in_ok-judge_lengths.ensures.none in
-    built_from (λ bytes. bytes.items) (table_of c.args.table) texts given c.build_accepted.result accepted short c.build_accepted.ensures.offered c.build_accepted.ensures.spelled c.build_accepted.ensures.coded
-
-pub returns-clause-refused : goal.returns-clause-refused
-returns-clause-refused c =
-    let texts = map (λ s. s.now) c.args.sources.now in
-    let given = c.deref-2.result.now in
-    let accepted = same_sources c.as_slice.result.now c.args.table.partitions.items texts c.in_ok-accepted.accepted.items given c.as_slice.ensures.value c.deref-2.ensures.value c.in_ok-accepted.ensures.accepted in
-    let short = all_short c.as_slice-2.result.now c.args.table.partitions.items texts c.deref.result.now given c.as_slice-2.ensures.value (c.deref.ensures.value ∙ sym c.deref-2.ensures.value) accepted c.in_ok-judge_lengths.ensures.none in
-    weaker _ _ c.build_accepted.result (part_refused (table_of c.args.table) texts given accepted short) c.build_accepted.ensures.refused
+    built_from (table_of c.args.table) texts given c.in_ok-build_accepted.field-0.items accepted short c.in_ok-build_accepted.ensures.spelled c.in_ok-build_accepted.ensures.coded
