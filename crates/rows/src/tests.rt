@@ -4,6 +4,7 @@ mod files;
 mod first_run;
 mod flushes;
 mod greatest;
+mod health;
 mod images;
 mod largest;
 mod limits;
