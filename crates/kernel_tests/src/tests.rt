@@ -1,4 +1,5 @@
 mod dues;
+mod health;
 mod memory;
 mod schedules;
 mod scripts;
