@@ -1,5 +1,5 @@
 mod dues;
-mod health;
+mod errors;
 mod memory;
 mod schedules;
 mod scripts;

@@ -1,10 +1,10 @@
 mod commands;
 mod device_lines;
+mod errors;
 mod files;
 mod first_run;
 mod flushes;
 mod greatest;
-mod health;
 mod images;
 mod largest;
 mod limits;
