@@ -1,4 +1,5 @@
 mod dues;
+mod errors;
 mod memory;
 mod schedules;
 mod scripts;

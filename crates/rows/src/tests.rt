@@ -1,5 +1,6 @@
 mod commands;
 mod device_lines;
+mod errors;
 mod files;
 mod first_run;
 mod flushes;

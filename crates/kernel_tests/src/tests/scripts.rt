@@ -128,7 +128,7 @@ fn partition(alloc: Global) -> Result<Partition<Scripted>, Fail>
     };
     let objects = Objects::new(alloc, &[], 0, &[], &[])?;
     let ports = Ports::new(alloc, &[])?;
-    let kernel = Kernel::new(alloc, fixed, &rows, objects, ports)?;
+    let kernel = Kernel::new(alloc, fixed, &rows, objects, ports, false)?;
     Ok(Partition::new(kernel, scripted(alloc)?))
 }
 
