@@ -197,8 +197,9 @@ pub fn expect_refused(
     Ok(())
 }
 
-/// What `check` answers where the table and its sources are accepted.
+/// What `check` answers where the table and its sources are accepted and of the part that is
+/// offered.
 pub const ACCEPTED: (u8, &str, &str) = (0, "accepted\n", "");
 
-/// The line where bytes that are no image are run.
+/// The line where they are accepted, and are outside that part.
 pub const NOT_YET: &str = "mb: not yet\n";
