@@ -103,7 +103,7 @@ fn one_line_more(rt: HostRuntime) -> Result<(), Fail> {
 }
 
 #[test]
-fn the_most_faults(rt: HostRuntime) -> Result<(), Fail> {
+fn the_most_lines_with_a_fault(rt: HostRuntime) -> Result<(), Fail> {
     let mut devices = repeated(rt.alloc(), "0 FAULT\n", 65_536)?;
     expect(&rt, rt.alloc(), &devices, "0", (1, "", NOT_YET))?;
     devices.push_str("0 FAULT\n")?;

@@ -197,9 +197,8 @@ pub fn expect_refused(
     Ok(())
 }
 
-/// What `check` answers where the table and its sources are accepted and of the part that is
-/// offered.
+/// What `check` answers where the table and its sources are accepted.
 pub const ACCEPTED: (u8, &str, &str) = (0, "accepted\n", "");
 
-/// The line where they are accepted, and are outside that part.
+/// The line where the bytes to be run are no image.
 pub const NOT_YET: &str = "mb: not yet\n";
