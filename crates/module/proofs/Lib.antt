@@ -11,4 +11,5 @@ pub mod Starting
 pub mod Texts
 pub mod Parts
 pub mod Refused
+pub mod Shutdown
 pub mod Written
