@@ -1,12 +1,17 @@
 -- The lines of the devices, which stand in the order of their ticks.
-use Rattle.std.proofs.Common.{◌≡◌, ◌≢◌, ℕ, zero, suc, ◌+◌, ◌<◌, ◌≤◌, ◌==◌, Bool, true, false, if◌then◌else◌, List, [], ◌∷◌, ◌++◌, length, get_or, take, drop, refl, sym, ap, subst, ◌∙◌, arith}
+use Rattle.std.proofs.Common.{◌≡◌, ◌≢◌, ℕ, zero, suc, ◌+◌, ◌<◌, ◌≤◌, ◌==◌, Bool, true, false, if◌then◌else◌, List, [], ◌∷◌, ◌++◌, length, get_or, take, Option, Some, None, drop, refl, sym, ap, subst, ◌∙◌, arith}
 use Rattle.std.proofs.lemmas.List.{drop_more, drop_all}
 use Rattle.std.proofs.lemmas.Bool.Decides.{Decides-eqb}
+use Rattle.std.specs.Prelude.{option_map}
+use Rattle.apex_types.specs.declared.codes.ModuleAction.{ModuleAction}
+use Rattle.apex_types.specs.declared.codes.ModuleAction.TheVariants as reaction
+use Rattle.apex_types.specs.declared.device.DeviceInput.{DeviceInput}
+use Rattle.apex_types.specs.declared.device.DeviceInput.TheVariants as input
 use Rattle.apex_types.specs.declared.device.DeviceLine.{DeviceLine}
+use Rattle.apex_types.specs.declared.event.Event.{Event}
 use Rattle.apex_types.specs.declared.identity.At.{At}
-use Rattle.apex_meaning.specs.Module.{Plan, of_tick, inputs_all, moves_ended, ticks_owner, then_goes, module_tick, next_tick, trace_from}
+use Rattle.apex_meaning.specs.Module.{Plan, Course, unless_down, then_runs, breaks_module, of_tick, inputs, inputs_all, moves_and_ticks, module_tick, next_tick, trace_from}
 use Rattle.apex_meaning.specs.Partition.{Member}
-use Rattle.apex_meaning.specs.Windows.{owner, ended}
 use Rattle.module.specs.Written.{AreFrom}
 
 not_true : (b : Bool) → (b ≡ true → ⊥) → b ≡ false
@@ -98,17 +103,69 @@ of_tick_again t (l ∷ ls) =
     (λ e. ap (of_tick t) (own_stays t l ls e) ∙ own_stays t l (of_tick t ls) e ∙ ap (λ (r : List DeviceLine). l ∷ r) (of_tick_again t ls) ∙ sym (own_stays t l ls e))
     (λ h. let stays = later_stays t l ls (λ e. h (sym e)) in ap (of_tick t) stays ∙ of_tick_again t ls ∙ sym stays)
 
+-- ---- what counts as the tick after a step
+
+-- the tick is this one, where the module is not shut down
+abbrev pub IsNow : ℕ → Option At → Type 0
+IsNow t None = Unit {0}
+IsNow t (Some at) = at.now.0 ≡ t
+
+-- the tick is this one or a later one
+abbrev pub IsReached : ℕ → Option At → Type 0
+IsReached t None = Unit {0}
+IsReached t (Some at) = t ≤ at.now.0
+
+next_reached : (t : ℕ) (o : Option At) → IsNow t o → IsReached (t + 1) (option_map next_tick o)
+next_reached t None h = tt
+next_reached t (Some at) h = omega (arith, h)
+
+stays_now : {C : Type 0} (t : ℕ) (c : Course C) (rest : At → List (Member C) → Course C) (o : Option At) → IsNow t c.at → IsNow t o → ((at : At) (ms : List (Member C)) → IsNow at.now.0 (rest at ms).at) → IsNow t (unless_down c rest o).at
+stays_now t c rest None h k more = h
+stays_now t c rest (Some at) h k more = subst (λ n. IsNow n (rest at c.members).at) k (more at c.members)
+
+fault_now : {C : Type 0} (at : At) (action : ModuleAction) (ms : List (Member C)) → IsNow at.now.0 (breaks_module at action ms).at
+fault_now at reaction.Ignore ms = refl
+fault_now at reaction.Shutdown ms = tt
+fault_now at reaction.Reset ms = refl
+
+input_now : {C : Type 0} (plan : Plan) (at : At) (n : DeviceInput) (ms : List (Member C)) → IsNow at.now.0 (inputs plan at n ms).at
+input_now plan at (input.Message channel m) ms = refl
+input_now plan at (input.PartitionFault p) ms = refl
+input_now plan at input.ModuleFault ms = fault_now at plan.fault ms
+
+inputs_now : {C : Type 0} (plan : Plan) (ls : List DeviceLine) (at : At) (ms : List (Member C)) → IsNow at.now.0 (inputs_all plan at ls ms).at
+inputs_now plan [] at ms = refl
+inputs_now plan (l ∷ ls) at ms =
+    let first = inputs plan at l.input ms in
+    stays_now at.now.0 first (λ a ms. inputs_all plan a ls ms) first.at (input_now plan at l.input ms) (input_now plan at l.input ms) (λ a ms. inputs_now plan ls a ms)
+
+tick_now : {C : Type 0} (plan : Plan) (at : At) (ls : List DeviceLine) (ms : List (Member C)) → IsNow at.now.0 (module_tick plan at ls ms).at
+tick_now plan at ls ms =
+    let first = inputs_all plan at (of_tick at.now.0 ls) ms in
+    let now = inputs_now plan (of_tick at.now.0 ls) at ms in
+    stays_now at.now.0 first (moves_and_ticks plan) first.at now now (λ a ms. refl)
+
+-- a step after a tick of this number is in the next one, or later
+pub after_tick : {C : Type 0} (plan : Plan) (at : At) (ls : List DeviceLine) (ms : List (Member C)) → IsReached (at.now.0 + 1) (option_map next_tick (module_tick plan at ls ms).at)
+after_tick plan at ls ms = next_reached at.now.0 (module_tick plan at ls ms).at (tick_now plan at ls ms)
+
 -- ---- a tick, and a trace, with other lines
 
 -- only the lines of its tick count
 pub same_tick : {C : Type 0} (plan : Plan) (at : At) (xs ys : List DeviceLine) (ms : List (Member C)) → of_tick at.now.0 xs ≡ of_tick at.now.0 ys → module_tick plan at xs ms ≡ module_tick plan at ys ms
-same_tick plan at xs ys ms e =
-    ap (λ (ls : List DeviceLine). then_goes (then_goes (inputs_all plan.channels at ls ms) (λ ms. moves_ended plan.channels at ms (ended plan.schedule at))) (λ ms. ticks_owner at ms (owner plan.schedule at))) e
+same_tick plan at xs ys ms e = ap (λ (ls : List DeviceLine). then_runs (inputs_all plan at ls ms) (moves_and_ticks plan)) e
 
 -- only the lines of these ticks count
-pub same_trace : {C : Type 0} (plan : Plan) (n : ℕ) (at : At) (xs ys : List DeviceLine) (ms : List (Member C)) → ((t : ℕ) → at.now.0 ≤ t → of_tick t xs ≡ of_tick t ys) → trace_from plan xs n at ms ≡ trace_from plan ys n at ms
-same_trace plan zero at xs ys ms h = refl
-same_trace plan (suc n) at xs ys ms h =
-    let this = same_tick plan at xs ys ms (h at.now.0 (omega arith)) in
-    ap (λ r. r.lines ++ trace_from plan xs n (next_tick at) r.members) this
-    ∙ ap (λ es. (module_tick plan at ys ms).lines ++ es) (same_trace plan n (next_tick at) xs ys (module_tick plan at ys ms).members (λ t k. h t (omega (arith, k))))
+pub same_trace : {C : Type 0} (plan : Plan) (n t : ℕ) (o : Option At) (xs ys : List DeviceLine) (ms : List (Member C)) → IsReached t o → ((u : ℕ) → t ≤ u → of_tick u xs ≡ of_tick u ys) → trace_from plan xs n o ms ≡ trace_from plan ys n o ms
+same_trace plan zero t o xs ys ms p h = refl
+same_trace plan (suc n) t None xs ys ms p h = refl
+same_trace plan (suc n) t (Some at) xs ys ms p h =
+    let this = same_tick plan at xs ys ms (h at.now.0 p) in
+    let own = module_tick plan at ys ms in
+    ap (λ (r : Course _). r.lines ++ trace_from plan xs n (option_map next_tick r.at) r.members) this
+    ∙ ap (λ (es : List Event). own.lines ++ es) (same_trace plan n (at.now.0 + 1) (option_map next_tick own.at) xs ys own.members (after_tick plan at ys ms) (λ u k. h u (omega (arith, k, p))))
+
+-- of a module that is shut down there is no line
+pub none_after : {C : Type 0} (plan : Plan) (lines : List DeviceLine) (n : ℕ) (ms : List (Member C)) → trace_from plan lines n None ms ≡ []
+none_after plan lines zero ms = refl
+none_after plan lines (suc n) ms = refl

@@ -1,6 +1,6 @@
 -- The partitions of a lawful image fit the processor, and are idle with nothing to do.
 use Rattle.std.proofs.Common.{◌≡◌, ℕ, zero, suc, ◌+◌, ◌≤◌, List, [], ◌∷◌, ◌++◌, length, map, replicate, Option, Some, None, refl, ap, subst, ◌∙◌, arith, append_assoc}
-use Rattle.std.specs.Prelude.{ℤ, ◌^◌}
+use Rattle.std.specs.Prelude.{ℤ, ◌^◌, is_some}
 use Rattle.std.specs.Option.{option_map}
 use Rattle.std.proofs.lemmas.List.{length-map}
 use Rattle.std.proofs.lemmas.Option.{none-some, same_Some}
@@ -115,7 +115,7 @@ all_idle rows =
     ap (λ n. replicate n None) count ∙ ap (λ l. None ∷ None ∷ l) (idle_processes rows)
 
 abbrev idle : Fixed → List PortRow → Section → Kernel
-idle fixed ports s = fresh_kernel fixed (map machine_row s.processes.items) (section_objects (section_of s)) (fresh_ports ports)
+idle fixed ports s = fresh_kernel fixed (map machine_row s.processes.items) (section_objects (section_of s)) (fresh_ports ports) (is_some s.handler)
 
 abbrev member : Engine MachineControl → Kernel → List (Option MachineControl) → List ℤ → List ℤ → Member MachineControl
 member engine k controls words initial = record { engine = engine; world = record { kernel = k; controls = controls; words = words; initial = initial } }

@@ -10,4 +10,5 @@ pub mod SameTraces
 pub mod Starting
 pub mod Texts
 pub mod Refused
+pub mod Shutdown
 pub mod Written

@@ -1,10 +1,11 @@
 -- The trace of a built image is the trace of its sources.
-use Rattle.std.proofs.Common.{◌≡◌, ℕ, ◌+◌, ℤ, List, [], ◌∷◌, map, refl, ap, subst}
+use Rattle.std.proofs.Common.{◌≡◌, ℕ, ◌+◌, ℤ, Bool, List, [], ◌∷◌, map, Option, Some, None, refl, ap, subst}
+use Rattle.std.specs.Prelude.{is_some, option_map}
 use Rattle.apex_types.specs.declared.device.DeviceLine.{DeviceLine}
 use Rattle.apex_types.specs.declared.process.ProcessStatus.{ProcessStatus}
 use Rattle.apex_types.specs.declared.row.PortRow.{PortRow}
 use Rattle.apex_meaning.specs.Ports.{fresh_ports}
-use Rattle.apex_meaning.specs.CompiledCode.{section_of, process_rows, processes_place}
+use Rattle.apex_meaning.specs.CompiledCode.{section_of, body_row, handler_place, process_rows, processes_place}
 use Rattle.apex_meaning.specs.Cost.{size_of_process}
 use Rattle.apex_meaning.specs.Image.{Partition, Table}
 use Rattle.apex_meaning.specs.Instructions.{reading}
@@ -34,12 +35,21 @@ fresh_same R k initial = record { kernel = refl; controls = no_controls R k.proc
 abbrev Related : Program → SourceControl → MachineControl → Type 0
 Related p c m = Keeps (map reading (section_of p).code) p.procedures c m
 
+-- a section has a handler where its program has one
+handler_same : (p : Program) → is_some p.handler ≡ is_some (section_of p).handler
+handler_same p = one_too (body_row (handler_place p)) p.handler where
+  one_too : {A B : Type 0} (f : A → B) (o : Option A) → is_some o ≡ is_some (option_map f o)
+  one_too f None = refl
+  one_too f (Some x) = refl
+
 member_same : (fixed : Fixed) (ports : List PortRow) (p : Program) → IsCompiled p → SameMember (Related p) (source_member fixed ports p) (machine_member fixed ports (section_of p))
 member_same fixed ports p h =
-    let kernel = λ (rows : List ProcessStatus). fresh_kernel fixed rows (source_objects p) (fresh_ports ports) in
+    let kernel = λ (rows : List ProcessStatus) (has_handler : Bool). fresh_kernel fixed rows (source_objects p) (fresh_ports ports) has_handler in
+    let own = kernel (map source_row p.processes) (is_some p.handler) in
     record {
       engine = compiled_correctly p h.fits h.coded.code;
-      world = subst (λ (rows : List ProcessStatus). SameWorld (Related p) (fresh_world (kernel (map source_row p.processes)) p.initial) (fresh_world (kernel rows) p.initial)) (rows_same (processes_place p) p.processes) (fresh_same (Related p) (kernel (map source_row p.processes)) p.initial);
+      world = subst (λ (b : Bool). SameWorld (Related p) (fresh_world own p.initial) (fresh_world (kernel (map machine_row (section_of p).processes) b) p.initial)) (handler_same p)
+          (subst (λ (rows : List ProcessStatus). SameWorld (Related p) (fresh_world own p.initial) (fresh_world (kernel rows (is_some p.handler)) p.initial)) (rows_same (processes_place p) p.processes) (fresh_same (Related p) own p.initial));
     }
 
 -- the programs of the partitions that have one
@@ -54,4 +64,4 @@ members_same schedule number (row ∷ rows) [] h = tt
 members_same schedule number (row ∷ rows) (p ∷ ps) h = (member_same (fixed_of schedule number row) row.ports p h.0, members_same schedule (number + 1) rows ps h.1)
 
 pub traces_same : (t : Table) (programs : List Program) (lines : List DeviceLine) (n : ℕ) → AreCompiled programs → source_trace t programs lines n ≡ machine_trace (built_image t programs) lines n
-traces_same t programs lines n h = trace_same Related (record { schedule = t.schedule; channels = t.channels }) lines n (paired t.partitions programs) (source_members t.schedule 1 t.partitions programs) (machine_members t.schedule 1 (built_items t.partitions programs)) (members_same t.schedule 1 t.partitions programs h)
+traces_same t programs lines n h = trace_same Related (record { schedule = t.schedule; channels = t.channels; fault = t.fault }) lines n (paired t.partitions programs) (source_members t.schedule 1 t.partitions programs) (machine_members t.schedule 1 (built_items t.partitions programs)) (members_same t.schedule 1 t.partitions programs h)

@@ -1,15 +1,17 @@
 -- What is written of one step of the module after another.
-use Rattle.std.proofs.Common.{◌≡◌, ℕ, ◌+◌, List, [], ◌++◌, Option, Result, Ok, Err, refl, sym, ap, subst, ◌∙◌, append_assoc, append-nil}
+use Rattle.std.proofs.Common.{◌≡◌, ℕ, ◌+◌, List, [], ◌++◌, Option, Some, None, Result, Ok, Err, refl, sym, ap, subst, ◌∙◌, append_assoc, append-nil}
 use Rattle.std.proofs.KnownBytes.{Appends-nil, Appends-trans}
 use Rattle.std.proofs.lemmas.Option.{slice_get-map}
 use Rattle.std.specs.Io.KnownBytes.{Appends}
 use Rattle.apex_types.specs.Line.{text_of}
 use Rattle.apex_types.specs.declared.event.Event.{Event}
 use Rattle.apex_types.specs.declared.sink.SinkFault.{SinkFault}
-use Rattle.apex_meaning.specs.Module.{Advanced, still, then_goes}
+use Rattle.apex_types.specs.declared.identity.At.{At}
+use Rattle.apex_meaning.specs.Module as meaning
+use Rattle.apex_meaning.specs.Module.{Advanced, Course, still, then_goes, unless_down, then_runs}
 use Rattle.apex_meaning.specs.Partition.{Member}
 use Rattle.module.proofs.Texts.{text_append, first_fails, second_fails}
-use Rattle.module.specs.Written.{IsMade, IsCutOff, IsWritten}
+use Rattle.module.specs.Written.{IsMade, IsCutOff, IsWritten, done_in, IsCourse, IsCourseWritten}
 
 -- nothing is written of a step that changes nothing
 pub still_made : {C : Type 0} (members : List (Member C)) (taken : Option (List ℕ)) (failures : ℕ) → IsMade (still members) members taken taken failures failures
@@ -93,5 +95,66 @@ pub then_written : {C X : Type 0} {whole a : Advanced C} {old mid : Option (List
     → whole ≡ then_goes a rest → IsMade a between_them old mid before between → IsWritten (rest between_them) members mid new between after r → IsWritten whole members old new before after r
 then_written {whole = whole} {old = old} {before = before} rest between_them new after members r split h k =
     ends new after members r (goes_on rest between_them split (starts_out whole old before) h) k
+
+-- ---- steps that may start the module again, or shut it down
+
+-- what is answered where the sink has failed
+pub course_err : {C : Type 0} (c : Course C) {old new : Option (List ℕ)} {before after : ℕ} (now : List (Member C)) (e : SinkFault) (r : Result (Option At) SinkFault) → r ≡ Err e → IsCutOff (done_in c) old new before after → IsCourseWritten c now old new before after r
+course_err c {old = old} {new = new} {before = before} {after = after} now e r same h = subst (IsCourseWritten c now old new before after) (sym same) h
+
+-- what is answered where it has not
+pub course_ok : {C : Type 0} {c : Course C} {old new : Option (List ℕ)} {before after : ℕ} (now : List (Member C)) (at : Option At) (r : Result (Option At) SinkFault) → r ≡ Ok at → IsCourse c at now old new before after → IsCourseWritten c now old new before after r
+course_ok {c = c} {old = old} {new = new} {before = before} {after = after} now at r same h = subst (IsCourseWritten c now old new before after) (sym same) h
+
+-- Of a whole some part is made and written, and the rest is still to come.
+pub record IsCourseUnderWay {C : Type 0} (whole rest : Course C) (old new : Option (List ℕ)) (before after : ℕ) : Type 0 where
+  pub at : whole.at ≡ rest.at
+  pub way : IsUnderWay (done_in whole) (done_in rest) old new before after
+
+pub course_starts_out : {C : Type 0} (whole : Course C) (taken : Option (List ℕ)) (failures : ℕ) → IsCourseUnderWay whole whole taken taken failures failures
+course_starts_out whole taken failures = record { at = refl; way = starts_out (done_in whole) taken failures }
+
+-- one part more
+pub runs_on : {C : Type 0} {whole now c : Course C} {old mid new : Option (List ℕ)} {before between after : ℕ} (rest : At → List (Member C) → Course C) (at : At) (members : List (Member C))
+    → now ≡ then_runs c rest → Some at ≡ c.at → IsCourseUnderWay whole now old mid before between → IsMade (done_in c) members mid new between after → IsCourseUnderWay whole (rest at members) old new before after
+runs_on {now = now} {c = c} rest at members split same w h =
+    let there : now ≡ unless_down c rest (Some at) = split ∙ ap (λ (o : Option At). unless_down c rest o) (sym same) in
+    record {
+      at = w.at ∙ ap (λ (d : Course _). d.at) there ∙ ap (λ ms. (rest at ms).at) (sym h.members);
+      way = goes_on (λ ms. done_in (rest at ms)) members (ap done_in there) w.way h;
+    }
+
+-- a part shuts the module down, and the whole ends with it
+pub shuts_down : {C : Type 0} {whole now c : Course C} {old mid new : Option (List ℕ)} {before between after : ℕ} (rest : At → List (Member C) → Course C) (members : List (Member C))
+    → now ≡ then_runs c rest → None ≡ c.at → IsCourseUnderWay whole now old mid before between → IsMade (done_in c) members mid new between after → IsCourse whole None members old new before after
+shuts_down {now = now} {c = c} {mid = mid} {new = new} {between = between} {after = after} rest members split same w h =
+    let there : now ≡ c = split ∙ ap (λ (o : Option At). unless_down c rest o) (sym same) in
+    record {
+      at = same ∙ sym (w.at ∙ ap (λ (d : Course _). d.at) there);
+      made = ends_with members w.way (subst (λ (d : Course _). IsMade (done_in d) members mid new between after) (sym there) h);
+    }
+
+-- nothing is left
+pub course_is_over : {C : Type 0} {whole now : Course C} {old new : Option (List ℕ)} {before after : ℕ} (at : At) (members : List (Member C)) → now ≡ meaning.goes_on at (still members) → IsCourseUnderWay whole now old new before after → IsCourse whole (Some at) members old new before after
+course_is_over at members end w = record { at = sym (w.at ∙ ap (λ (d : Course _). d.at) end); made = is_over members (ap done_in end) w.way }
+
+-- the last part, which does not shut the module down
+pub course_ends_with : {C : Type 0} {whole now : Course C} {old mid new : Option (List ℕ)} {before between after : ℕ} (at : At) (members : List (Member C))
+    → Some at ≡ now.at → IsCourseUnderWay whole now old mid before between → IsMade (done_in now) members mid new between after → IsCourse whole (Some at) members old new before after
+course_ends_with at members same w h = record { at = same ∙ sym w.at; made = ends_with members w.way h }
+
+-- the next part fails, and so the whole
+fails_before : {C : Type 0} {whole now : Course C} {old mid new : Option (List ℕ)} {before between after : ℕ} (c : Course C) (rest : At → List (Member C) → Course C) (o : Option At)
+    → now ≡ unless_down c rest o → IsCourseUnderWay whole now old mid before between → IsCutOff (done_in c) mid new between after → IsCutOff (done_in whole) old new before after
+fails_before {mid = mid} {new = new} {between = between} {after = after} c rest None split w h = ends_cut_off w.way (subst (λ (d : Course _). IsCutOff (done_in d) mid new between after) (sym split) h)
+fails_before c rest (Some at) split w h = cut_off (λ ms. done_in (rest at ms)) (ap done_in split) w.way h
+
+pub course_cut_off : {C : Type 0} {whole now : Course C} {old mid new : Option (List ℕ)} {before between after : ℕ} (c : Course C) (rest : At → List (Member C) → Course C)
+    → now ≡ then_runs c rest → IsCourseUnderWay whole now old mid before between → IsCutOff (done_in c) mid new between after → IsCutOff (done_in whole) old new before after
+course_cut_off c rest split w h = fails_before c rest c.at split w h
+
+-- the last part fails, and so the whole
+pub course_ends_cut_off : {C : Type 0} {whole now : Course C} {old mid new : Option (List ℕ)} {before between after : ℕ} → IsCourseUnderWay whole now old mid before between → IsCutOff (done_in now) mid new between after → IsCutOff (done_in whole) old new before after
+course_ends_cut_off w h = ends_cut_off w.way h
 
 pub ruleset channels = (slice_get-map)

@@ -12,7 +12,7 @@ use Rattle.module.specs.declared.member.Members.{Members}
 use Rattle.module.specs.declared.member.Module.{Module}
 
 abbrev pub plan_of : Plan → meaning.Plan
-plan_of p = record { schedule = schedule_of p.schedule; channels = channels_of p.channels.items }
+plan_of p = record { schedule = schedule_of p.schedule; channels = channels_of p.channels.items; fault = p.fault }
 
 abbrev pub members_in : {E : Type 0} → (g : Ghosts E Space) → Members E g → List (Member g.Control)
 members_in g m = members_of g m.partitions.items m.memory

@@ -1,10 +1,9 @@
 //! A tick of the module.
 
-ghost use Rattle.std.specs.Prelude.{◌≡◌, ◌≤◌, ◌<◌, ◌-◌, ◌^◌, [], option_map, OnOk};
+ghost use Rattle.std.specs.Prelude.{◌≡◌, ◌≤◌, ◌<◌, ◌-◌, ◌^◌, [], option_map, IfOk, OnOk};
 ghost use Rattle.apex_meaning.specs.Module as meaning;
 ghost use Rattle.module.specs.Views.{members_in, plan_of};
-ghost use Rattle.module.specs.Written.{IsWritten};
-ghost use Rattle.image.specs.Items.{channels_of};
+ghost use Rattle.module.specs.Written.{done_in, IsOfTick, IsCourseWritten, IsWritten};
 
 use crate::member::{Members, Plan};
 use crate::step::Step;
@@ -40,12 +39,11 @@ impl<E: Executor<Mem = PartitionMem>> Members<E> {
         Ok(())
     }
 
-    /// What the devices do in a tick, in the lines of this tick, and then what moves.
-    fn exchange<S: Sink>(
+    /// What moves, then the tick of the owner.
+    fn move_and_tick<S: Sink>(
         &mut self,
         plan: &Plan,
         at: At,
-        lines: &[DeviceLine],
         events: &mut Events,
         sink: &mut S,
     ) -> Result<(), SinkFault>
@@ -53,16 +51,17 @@ impl<E: Executor<Mem = PartitionMem>> Members<E> {
         requires now { at.now.0 ≤ 2 ^ 40 }
         requires empty { events.old.items ≡ [] }
         requires failures { S.failures sink.old < 2 ^ 64 - 1 }
-        requires lines { meaning.of_tick at.now.0 lines.now ≡ lines.now }
         ensures empty { OnOk result (events.new.items ≡ []) }
-        ensures written { IsWritten (meaning.exchanges (plan_of plan.now) at lines.now (members_in E.Executor self.old)) (members_in E.Executor self.new) (S.taken sink.old) (S.taken sink.new) (S.failures sink.old) (S.failures sink.new) result }
+        ensures written { IsWritten (done_in (meaning.moves_and_ticks (plan_of plan.now) at (members_in E.Executor self.old))) (members_in E.Executor self.new) (S.taken sink.old) (S.taken sink.new) (S.failures sink.old) (S.failures sink.new) result }
     {
         let channels = plan.channels.as_slice();
-        self.input_all(channels, at, lines, events, sink)?;
-        self.move_ended(channels, at, plan.schedule.ended(at), events, sink)
+        self.move_ended(channels, at, plan.schedule.ended(at), events, sink)?;
+        self.tick_owner(at, plan.schedule.owner(at), events, sink)
     }
 
-    /// A tick of the module with the devices' lines of this tick.
+    /// A tick of the module with the devices' lines of this tick. It answers the tick with the origin that
+    /// counts from here on, or none where the module is shut down.
+    #[tactic(auto, using(crate::proofs::Shutdown::tick_ends_down))]
     pub fn tick<S: Sink>(
         &mut self,
         plan: &Plan,
@@ -70,16 +69,20 @@ impl<E: Executor<Mem = PartitionMem>> Members<E> {
         lines: &[DeviceLine],
         events: &mut Events,
         sink: &mut S,
-    ) -> Result<(), SinkFault>
+    ) -> Result<Option<At>, SinkFault>
         requires past { at.origin.0 ≤ at.now.0 }
         requires now { at.now.0 ≤ 2 ^ 40 }
         requires empty { events.old.items ≡ [] }
         requires failures { S.failures sink.old < 2 ^ 64 - 1 }
         requires lines { meaning.of_tick at.now.0 lines.now ≡ lines.now }
         ensures empty { OnOk result (events.new.items ≡ []) }
-        ensures written { IsWritten (meaning.module_tick (plan_of plan.now) at lines.now (members_in E.Executor self.old)) (members_in E.Executor self.new) (S.taken sink.old) (S.taken sink.new) (S.failures sink.old) (S.failures sink.new) result }
+        ensures of_tick { IfOk result (IsOfTick at) }
+        ensures written { IsCourseWritten (meaning.module_tick (plan_of plan.now) at lines.now (members_in E.Executor self.old)) (members_in E.Executor self.new) (S.taken sink.old) (S.taken sink.new) (S.failures sink.old) (S.failures sink.new) result }
     {
-        self.exchange(plan, at, lines, events, sink)?;
-        self.tick_owner(at, plan.schedule.owner(at), events, sink)
+        let Some(last) = self.input_all(plan, at, lines, events, sink)? else {
+            return Ok(None);
+        };
+        self.move_and_tick(plan, last, events, sink)?;
+        Ok(Some(last))
     }
 }

@@ -11,8 +11,7 @@ ghost use Rattle.module.specs.Written.{step_of, leaving_in, IsWritten};
 use crate::member::Members;
 use crate::step::Step;
 use apex_types::{
-    At, ChannelEnd, DeviceInput, DeviceLine, Events, PartitionId, PortId, Sink, SinkFault, Words,
-    write_events,
+    At, ChannelEnd, Events, PartitionId, PortId, Sink, SinkFault, Words, write_events,
 };
 use partition::Kernel;
 use partition_base::Executor;
@@ -101,7 +100,7 @@ impl<E: Executor<Mem = PartitionMem>> Members<E> {
 
     /// A message goes to all destinations of a channel, in their order; without a channel it goes
     /// nowhere.
-    fn go_by<S: Sink>(
+    pub fn go_by<S: Sink>(
         &mut self,
         at: At,
         message: &Words,
@@ -127,54 +126,6 @@ impl<E: Executor<Mem = PartitionMem>> Members<E> {
             ),
             None => Ok(()),
         }
-    }
-
-    /// What a device does to the module.
-    #[tactic(auto, using(crate::proofs::Written::channels))]
-    fn input<S: Sink>(
-        &mut self,
-        channels: &[ChannelRow],
-        at: At,
-        input: &DeviceInput,
-        events: &mut Events,
-        sink: &mut S,
-    ) -> Result<(), SinkFault>
-        requires past { at.origin.0 ≤ at.now.0 }
-        requires now { at.now.0 ≤ 2 ^ 40 }
-        requires empty { events.old.items ≡ [] }
-        requires failures { S.failures sink.old < 2 ^ 64 - 1 }
-        ensures empty { OnOk result (events.new.items ≡ []) }
-        ensures written { IsWritten (meaning.inputs (channels_of channels.now) at input.now (members_in E.Executor self.old)) (members_in E.Executor self.new) (S.taken sink.old) (S.taken sink.new) (S.failures sink.old) (S.failures sink.new) result }
-    {
-        match input {
-            DeviceInput::Message(channel, message) => {
-                let channel = channels.get(usize::from(channel.0));
-                self.go_by(at, message, channel, events, sink)
-            }
-            DeviceInput::ModuleFault | DeviceInput::PartitionFault(_) => Ok(()),
-        }
-    }
-
-    /// What the devices do in these lines, one after another.
-    pub fn input_all<S: Sink>(
-        &mut self,
-        channels: &[ChannelRow],
-        at: At,
-        lines: &[DeviceLine],
-        events: &mut Events,
-        sink: &mut S,
-    ) -> Result<(), SinkFault>
-        requires past { at.origin.0 ≤ at.now.0 }
-        requires now { at.now.0 ≤ 2 ^ 40 }
-        requires empty { events.old.items ≡ [] }
-        requires failures { S.failures sink.old < 2 ^ 64 - 1 }
-        ensures empty { OnOk result (events.new.items ≡ []) }
-        ensures written { IsWritten (meaning.inputs_all (channels_of channels.now) at lines.now (members_in E.Executor self.old)) (members_in E.Executor self.new) (S.taken sink.old) (S.taken sink.new) (S.failures sink.old) (S.failures sink.new) result }
-    {
-        for line in lines {
-            self.input(channels, at, &line.input, events, sink)?;
-        }
-        Ok(())
     }
 
     /// The first message of a port leaves it, and goes by its channel.
@@ -252,7 +203,10 @@ impl<E: Executor<Mem = PartitionMem>> Members<E> {
         ensures { result ≡ messages_to_move (at_number (meaning.ports_from (members_in E.Executor self.now) partition.0) port.0) }
     {
         let kernel = self.kernel(partition)?;
-        kernel.messages_to_move(port)
+        match kernel.is_source(port) {
+            Some(true) => kernel.message_count(port),
+            _ => None,
+        }
     }
 
     /// All messages that a source port holds, the oldest first; then the senders that wait for room in

@@ -36,6 +36,7 @@ impl Module<Machine> {
         let plan = Plan {
             schedule: image.schedule,
             channels: image.channels,
+            fault: image.fault,
         };
         Ok(Module {
             plan,
@@ -123,6 +124,14 @@ fn load_partition(
     let executor = Machine::new(alloc, section)?;
     let objects = load_objects(alloc, section)?;
     let ports = Ports::new(alloc, &item.row.ports)?;
-    let kernel = Kernel::new(alloc, fixed, &section.processes, objects, ports)?;
+    let has_handler = section.handler.is_some();
+    let kernel = Kernel::new(
+        alloc,
+        fixed,
+        &section.processes,
+        objects,
+        ports,
+        has_handler,
+    )?;
     Ok(Partition::new(kernel, executor))
 }

@@ -2,16 +2,19 @@
 
 ghost use Rattle.module.specs.Members.{AreFitting};
 
+use apex_types::ModuleAction;
 use partition::Partition;
 use partition_base::Executor;
 use regions::{Memory, PartitionMem};
 use window_table::{ChannelRow, Schedule};
 
-/// What no tick of the module changes: the major frame with its windows, and the channels.
+/// What no tick of the module changes: the major frame with its windows, the channels, and what is
+/// done on a fault of the module.
 #[derive(Drop)]
 pub struct Plan {
     pub schedule: Schedule,
     pub channels: Vec<ChannelRow>,
+    pub fault: ModuleAction,
 }
 
 /// The partitions of an image in their order, and the memory of all of them. Each partition is lent

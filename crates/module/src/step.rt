@@ -18,8 +18,8 @@ use regions::PartitionMem;
 /// What happens to one partition in a step of the module.
 #[derive(Drop)]
 pub enum Step {
-    /// Its first start.
-    Start,
+    /// It clears to a cold start, for a reason.
+    Start(StartCondition),
     /// A message arrives at a port.
     Arrive(PortId, Words),
     /// The first message of a port leaves it.
@@ -28,6 +28,8 @@ pub enum Step {
     Admit(PortId),
     /// A message leaves the module by the channel of a name.
     GoOut(Name, Words),
+    /// A fault of its hardware.
+    BreakDown,
     /// A tick in its window.
     Tick,
 }
@@ -50,13 +52,14 @@ fn step_member<E: Executor>(
     ensures message { result ≡ leaving_in step.now (member_of E.Executor partition.old mem.old) }
 {
     match step {
-        Step::Start => partition.clear(mem, at, StartCondition::NormalStart, events),
+        Step::Start(condition) => partition.clear(mem, at, *condition, events),
         Step::Arrive(port, message) => partition.arrive(mem, at, *port, copied(message), events),
         Step::Leave(port) => return partition.leave(mem, at, *port, events),
         Step::Admit(port) => partition.admit(mem, at, *port, events),
         Step::GoOut(channel, message) => {
             partition.go_out(mem, at, *channel, copied(message), events)
         }
+        Step::BreakDown => partition.break_down(mem, at, events),
         Step::Tick => partition.tick(mem, at, events),
     }
     None

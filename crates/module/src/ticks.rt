@@ -1,14 +1,13 @@
-//! The start of a module, and its ticks, written line by line.
+//! A run of a module: its start and its ticks, written line by line.
 
-ghost use Rattle.std.specs.Prelude.{◌≡◌, ◌≤◌, ◌<◌, ◌+◌, ◌-◌, ◌^◌, ℕ, [], length, drop, take, OnOk};
+ghost use Rattle.std.specs.Prelude.{◌≡◌, ◌≤◌, ◌<◌, ◌+◌, ◌-◌, ◌^◌, ℕ, Some, [], length, drop, take};
 ghost use Rattle.apex_meaning.specs.Module as meaning;
 ghost use Rattle.module.specs.Views.{members_in, module_of, plan_of};
-ghost use Rattle.module.specs.Written.{AreFrom, IsTraced, IsWritten};
+ghost use Rattle.module.specs.Written.{AreFrom, IsTraced};
 
 use crate::advance::FIRST_TICK;
 use crate::member::{Members, Module, Plan};
-use crate::step::Step;
-use apex_types::{At, DeviceLine, Events, Sink, SinkFault, Ticks, write_events};
+use apex_types::{At, DeviceLine, Events, Sink, SinkFault, StartCondition, Ticks};
 use partition_base::Executor;
 use regions::PartitionMem;
 
@@ -29,7 +28,10 @@ pub fn run_module<E: Executor<Mem = PartitionMem>, S: Sink>(
         return Ok(());
     }
     let mut events = Events::new();
-    start(&mut running.members, &mut events, sink)?;
+    let normal = StartCondition::NormalStart;
+    running
+        .members
+        .start_all(FIRST_TICK, normal, &mut events, sink)?;
     run_ticks(
         &running.plan,
         &mut running.members,
@@ -38,27 +40,6 @@ pub fn run_module<E: Executor<Mem = PartitionMem>, S: Sink>(
         &mut events,
         sink,
     )
-}
-
-/// The first start of each partition, in order.
-fn start<E: Executor<Mem = PartitionMem>, S: Sink>(
-    members: &mut Members<E>,
-    events: &mut Events,
-    sink: &mut S,
-) -> Result<(), SinkFault>
-    requires empty { events.old.items ≡ [] }
-    requires failures { S.failures sink.old < 2 ^ 64 - 1 }
-    ensures empty { OnOk result (events.new.items ≡ []) }
-    ensures written { IsWritten (meaning.starts (members_in E.Executor members.old)) (members_in E.Executor members.new) (S.taken sink.old) (S.taken sink.new) (S.failures sink.old) (S.failures sink.new) result }
-{
-    let mut place = 0;
-    while place < members.partitions.len() {
-        members.step_at(place, FIRST_TICK, &Step::Start, events);
-        write_events(events.as_slice(), sink)?;
-        events.clear();
-        place += 1;
-    }
-    Ok(())
 }
 
 /// How many of these lines, which are of this tick or later ones, are of this tick.
@@ -76,7 +57,7 @@ fn count_of_tick(lines: &[DeviceLine], now: Ticks) -> usize
     count
 }
 
-/// So many ticks from tick 0 on, with these lines of the devices.
+/// So many ticks from tick 0 on, with these lines of the devices; after a shutdown there is none.
 fn run_ticks<E: Executor<Mem = PartitionMem>, S: Sink>(
     plan: &Plan,
     members: &mut Members<E>,
@@ -89,19 +70,21 @@ fn run_ticks<E: Executor<Mem = PartitionMem>, S: Sink>(
     requires order { AreFrom 0 devices.now }
     requires empty { events.old.items ≡ [] }
     requires failures { S.failures sink.old < 2 ^ 64 - 1 }
-    ensures { IsTraced (meaning.trace_from (plan_of plan.now) devices.now ticks meaning.first_tick (members_in E.Executor members.old)) (S.taken sink.old) (S.taken sink.new) (S.failures sink.old) (S.failures sink.new) result }
+    ensures { IsTraced (meaning.trace_from (plan_of plan.now) devices.now ticks (Some meaning.first_tick) (members_in E.Executor members.old)) (S.taken sink.old) (S.taken sink.new) (S.failures sink.old) (S.failures sink.new) result }
 {
     let mut left = ticks;
     let mut at = FIRST_TICK;
     let mut lines = devices;
     while left > 0 {
         let (now, later) = lines.split_at(count_of_tick(lines, at.now));
-        members.tick(plan, at, now, events, sink)?;
+        let Some(last) = members.tick(plan, at, now, events, sink)? else {
+            return Ok(());
+        };
         lines = later;
         left -= 1;
         at = At {
-            now: Ticks(at.now.0 + 1),
-            origin: at.origin,
+            now: Ticks(last.now.0 + 1),
+            origin: last.origin,
         };
     }
     Ok(())

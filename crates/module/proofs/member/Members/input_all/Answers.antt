@@ -1,34 +1,36 @@
-use Rattle.std.proofs.Common.{◌+◌, ◌∷◌, ◌∙◌, List, drop, sym, ap, rules}
+use Rattle.std.proofs.Common.{◌≡◌, ◌+◌, ◌∷◌, ◌∙◌, List, drop, sym, ap, rules}
 use Rattle.std.proofs.lemmas.List.{drop_more}
 use Rattle.apex_types.specs.declared.device.DeviceLine.{DeviceLine}
-use Rattle.apex_meaning.specs.Module.{inputs_all}
-use Rattle.image.specs.Items.{channels_of}
-use Rattle.module.specs.Views.{members_in}
-use Rattle.module.proofs.Written.{goes_on, cut_off, written_err}
+use Rattle.apex_meaning.specs.Module.{inputs, inputs_all}
+use Rattle.module.specs.Views.{members_in, plan_of}
+use Rattle.module.proofs.Written.{runs_on, course_cut_off, course_err}
 use Rattle.module.proofs.member.Members.input_all.Goals as goal
 
 pub loop-line-preserved : goal.loop-line-preserved
 loop-line-preserved g c =
+    let plan = plan_of c.args.plan.now in
     let lines = c.args.lines.now in
     let i = c.loop-line.line-index in
     let line = c.line-item.result in
-    let rows = channels_of c.args.channels.now in
     let now = members_in g.E.Executor c.loop-line.self in
     let next = drop_more lines i line c.loop-line-test.true ∙ ap (λ (l : DeviceLine). l ∷ drop (i + 1) lines) (sym c.line-item.is) in
-    let split = ap (λ (ls : List DeviceLine). inputs_all rows c.args.at ls now) next in
+    let split = ap (λ (ls : List DeviceLine). inputs_all plan c.loop-line.last ls now) next in
+    let ran = c.in_ok-input.ensures.written in
     record {
       empty = search rules;
-      under_way = goes_on (inputs_all rows c.args.at (drop (i + 1) lines)) (members_in g.E.Executor c.input.new.self) split c.loop-line.invariant.under_way c.in_ok-input.ensures.written;
+      now = search rules;
+      past = search rules;
+      under_way = runs_on (λ a ms. inputs_all plan a (drop (i + 1) lines) ms) c.in-Some.next (members_in g.E.Executor c.input.new.self) split ran.at c.loop-line.invariant.under_way ran.made;
     }
 
 pub returns-in_err-input-clause-written : goal.returns-in_err-input-clause-written
 returns-in_err-input-clause-written g c =
+    let plan = plan_of c.args.plan.now in
     let lines = c.args.lines.now in
     let i = c.loop-line.line-index in
     let line = c.line-item.result in
-    let rows = channels_of c.args.channels.now in
     let now = members_in g.E.Executor c.loop-line.self in
     let next = drop_more lines i line c.loop-line-test.true ∙ ap (λ (l : DeviceLine). l ∷ drop (i + 1) lines) (sym c.line-item.is) in
-    let split = ap (λ (ls : List DeviceLine). inputs_all rows c.args.at ls now) next in
-    let cut = cut_off (inputs_all rows c.args.at (drop (i + 1) lines)) split c.loop-line.invariant.under_way c.in_err-input.ensures.written in
-    written_err _ c.in_err-input.field-0.0 _ (search rules) cut
+    let split = ap (λ (ls : List DeviceLine). inputs_all plan c.loop-line.last ls now) next in
+    let cut = course_cut_off (inputs plan c.loop-line.last line.input now) (λ a ms. inputs_all plan a (drop (i + 1) lines) ms) split c.loop-line.invariant.under_way c.in_err-input.ensures.written in
+    course_err (inputs_all plan c.args.at lines (members_in g.E.Executor c.args.self.now)) _ c.in_err-input.field-0.0 _ (search rules) cut
