@@ -49,7 +49,7 @@ member_same fixed ports p h =
     record {
       engine = compiled_correctly p h.fits h.coded.code;
       world = subst (λ (b : Bool). SameWorld (Related p) (fresh_world own p.initial) (fresh_world (kernel (map machine_row (section_of p).processes) b) p.initial)) (handler_same p)
-      (subst (λ (rows : List ProcessStatus). SameWorld (Related p) (fresh_world own p.initial) (fresh_world (kernel rows (is_some p.handler)) p.initial)) (rows_same (processes_place p) p.processes) (fresh_same (Related p) own p.initial));
+          (subst (λ (rows : List ProcessStatus). SameWorld (Related p) (fresh_world own p.initial) (fresh_world (kernel rows (is_some p.handler)) p.initial)) (rows_same (processes_place p) p.processes) (fresh_same (Related p) own p.initial));
     }
 
 -- the programs of the partitions that have one

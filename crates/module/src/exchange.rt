@@ -11,8 +11,7 @@ ghost use Rattle.module.specs.Written.{step_of, leaving_in, IsWritten};
 use crate::member::Members;
 use crate::step::Step;
 use apex_types::{
-    At, ChannelEnd, Events, PartitionId, PortId, Sink, SinkFault, Words,
-    write_events,
+    At, ChannelEnd, Events, PartitionId, PortId, Sink, SinkFault, Words, write_events,
 };
 use partition::Kernel;
 use partition_base::Executor;

@@ -73,12 +73,7 @@ impl<E: Executor<Mem = PartitionMem>> Members<E> {
 
     /// A fault of the module resets it: this tick becomes the origin, and each partition in order clears
     /// to a cold start.
-    fn reset<S: Sink>(
-        &mut self,
-        at: At,
-        events: &mut Events,
-        sink: &mut S,
-    ) -> Result<At, SinkFault>
+    fn reset<S: Sink>(&mut self, at: At, events: &mut Events, sink: &mut S) -> Result<At, SinkFault>
         requires now { at.now.0 ≤ 2 ^ 40 }
         requires empty { events.old.items ≡ [] }
         requires failures { S.failures sink.old < 2 ^ 64 - 1 }
@@ -97,7 +92,6 @@ impl<E: Executor<Mem = PartitionMem>> Members<E> {
 
     /// A fault of the module's hardware (ARINC 653 Part 1, health monitoring): it is ignored, shuts the
     /// module down, or resets it. Of a module that is shut down there is no tick more.
-    #[tactic(auto, using(crate::proofs::Shutdown::faults))]
     pub fn break_module<S: Sink>(
         &mut self,
         at: At,
