@@ -12,15 +12,15 @@ use Rattle.module.proofs.Written.{IsCourseUnderWay, course_starts_out, course_is
 use Rattle.module.specs.Written.{IsMade, IsCourse}
 
 -- after the last one nothing is left
-pub lines_are_over : {C : Type 0} {whole : Course C} {now : List (Member C)} {old new : Option (List ℕ)} {before after : ℕ} (plan : Plan) (at : At) (lines : List DeviceLine) (i : ℕ)
+pub lines_are_over : {C : Type 0} {whole : Course C} {old new : Option (List ℕ)} {before after : ℕ} (plan : Plan) (at : At) (lines : List DeviceLine) (i : ℕ) (now : List (Member C))
     → IsCourseUnderWay whole (inputs_all plan at (drop i lines) now) old new before after → length lines ≤ i → IsCourse whole (Some at) now old new before after
-lines_are_over {now = now} plan at lines i way past = course_is_over at now (ap (λ (ls : List DeviceLine). inputs_all plan at ls now) (drop_all lines i past)) way
+lines_are_over plan at lines i now way past = course_is_over at now (ap (λ (ls : List DeviceLine). inputs_all plan at ls now) (drop_all i lines past)) way
 
 -- a line shuts the module down, and so all do
-pub lines_end_down : {C : Type 0} {whole : Course C} {now members : List (Member C)} {old mid new : Option (List ℕ)} {before between after : ℕ} (plan : Plan) (at : At) (lines : List DeviceLine) (i : ℕ) (l : DeviceLine)
+pub lines_end_down : {C : Type 0} {whole : Course C} {members : List (Member C)} {old mid new : Option (List ℕ)} {before between after : ℕ} (plan : Plan) (at : At) (lines : List DeviceLine) (i : ℕ) (l : DeviceLine) (now : List (Member C))
     → IsCourseUnderWay whole (inputs_all plan at (drop i lines) now) old mid before between → i < length lines → l ≡ get_or lines i l
     → IsCourse (inputs plan at l.input now) None members mid new between after → IsCourse whole None members old new before after
-lines_end_down {now = now} {members = members} plan at lines i l way within is h =
+lines_end_down {members = members} plan at lines i l now way within is h =
     let next = drop_more lines i l within ∙ ap (λ (x : DeviceLine). x ∷ drop (i + 1) lines) (sym is) in
     let split = ap (λ (ls : List DeviceLine). inputs_all plan at ls now) next in
     shuts_down (λ a ms. inputs_all plan a (drop (i + 1) lines) ms) members split h.at way h.made
@@ -28,15 +28,15 @@ lines_end_down {now = now} {members = members} plan at lines i l way within is h
 pub ruleset lines_end = (lines_are_over, lines_end_down)
 
 -- the lines of a tick shut the module down, and so the tick does
-pub tick_ends_down : {C : Type 0} {now members : List (Member C)} {old new : Option (List ℕ)} {before after : ℕ} (plan : Plan) (at : At) (lines : List DeviceLine)
+pub tick_ends_down : {C : Type 0} {members : List (Member C)} {old new : Option (List ℕ)} {before after : ℕ} (plan : Plan) (at : At) (lines : List DeviceLine) (now : List (Member C))
     → IsCourse (inputs_all plan at lines now) None members old new before after → of_tick at.now.0 lines ≡ lines → IsCourse (module_tick plan at lines now) None members old new before after
-tick_ends_down {now = now} {members = members} {old = old} {before = before} plan at lines h of_now =
+tick_ends_down {members = members} {old = old} {before = before} plan at lines now h of_now =
     let split = ap (λ (ls : List DeviceLine). then_runs (inputs_all plan at ls now) (moves_and_ticks plan)) of_now in
     shuts_down (moves_and_ticks plan) members split h.at (course_starts_out (module_tick plan at lines now) old before) h.made
 
 -- ---- a fault of the module
 
-module _ {C : Type 0} {ms now : List (Member C)} {old new : Option (List ℕ)} {before after : ℕ} (at : At) where
+module _ {C : Type 0} {now : List (Member C)} {old new : Option (List ℕ)} {before after : ℕ} (ms : List (Member C)) (at : At) where
   pub fault_ignored : (action : ModuleAction) → action ≡ reaction.Ignore → IsMade (tells_fault at action ms) now old new before after → IsCourse (breaks_module at action ms) (Some at) now old new before after
   fault_ignored reaction.Ignore e h = record { at = refl; made = h }
   fault_ignored reaction.Shutdown e h = absurd cc
@@ -52,5 +52,3 @@ module _ {C : Type 0} {ms now : List (Member C)} {old new : Option (List ℕ)} {
   fault_resets origin reaction.Ignore e same h = absurd cc
   fault_resets origin reaction.Shutdown e same h = absurd cc
   fault_resets origin reaction.Reset e same h = record { at = ap (λ (a : At). Some a) same; made = h }
-
-pub ruleset faults = (fault_ignored, fault_shuts_down, fault_resets)

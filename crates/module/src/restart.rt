@@ -92,7 +92,6 @@ impl<E: Executor<Mem = PartitionMem>> Members<E> {
 
     /// A fault of the module's hardware (ARINC 653 Part 1, health monitoring): it is ignored, shuts the
     /// module down, or resets it. Of a module that is shut down there is no tick more.
-    #[tactic(auto, using(crate::proofs::Shutdown::faults))]
     pub fn break_module<S: Sink>(
         &mut self,
         at: At,

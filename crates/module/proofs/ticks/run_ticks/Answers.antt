@@ -4,7 +4,7 @@ use Rattle.apex_types.specs.declared.identity.At.{At}
 use Rattle.apex_types.proofs.Writing.{under_way_more, under_way_end, under_way_fails}
 use Rattle.apex_meaning.specs.Module.{of_tick, module_tick, trace_from, first_tick}
 use Rattle.module.specs.Views.{members_in, plan_of}
-use Rattle.module.specs.Written.{AreFrom}
+use Rattle.module.specs.Written.{AreFrom, IsOfTick}
 use Rattle.module.proofs.DeviceLines.{of_tick_again, none_after}
 use Rattle.module.proofs.Runs.{tick_text, traced_err}
 use Rattle.module.proofs.ticks.run_ticks.Goals as goal
@@ -15,8 +15,8 @@ tick-requires-clause-lines g c =
     let same = c.split_at.ensures.front ∙ c.count_of_tick.ensures.now in
     ap (of_tick t) same ∙ of_tick_again t c.loop-left.lines.now ∙ sym same
 
-pub loop-left-preserved-in-Some : goal.loop-left-preserved-in-Some
-loop-left-preserved-in-Some g c =
+pub loop-left-preserved : goal.loop-left-preserved
+loop-left-preserved g c =
     let i = c.loop-left.invariant in
     let at = c.loop-left.at in
     let left = c.loop-left.left in
@@ -25,15 +25,17 @@ loop-left-preserved-in-Some g c =
     let later = c.split_at.result.1.now in
     let plan = plan_of c.args.plan.now in
     let ms = members_in g.E.Executor c.loop-left.members in
-    let ran = c.in_ok-tick.ensures.written in
+    let ran = c.in_ok-last.ensures.written in
+    let some : c.in_ok-last.field-0 ≡ Some c.in-Some.last = search rules in
+    let own = subst (IsOfTick at) some c.in_ok-last.ensures.of_tick in
     let same = c.split_at.ensures.front ∙ c.count_of_tick.ensures.now in
     let one : left ≡ suc (left - 1) = omega arith in
     let split = tick_text plan lines now later left (left - 1) at (Some c.in-Some.last) ms (members_in g.E.Executor c.tick.new.self) one
     (ap (of_tick at.now.0) same ∙ of_tick_again at.now.0 lines)
     (λ t h. ap (of_tick t) c.split_at.ensures.back ∙ c.count_of_tick.ensures.rest t h)
-    ran.at ran.made.members in
+    (sym some ∙ ran.at) ran.made.members in
     let rest = rw split at i.under_way in
-    let after : c.in-Some.last.now.0 ≡ at.now.0 = c.in_ok-tick.ensures.of_tick.0 in
+    let after : c.in-Some.last.now.0 ≡ at.now.0 = own.0 in
     let from = subst (AreFrom (at.now.0 + 1)) (sym c.split_at.ensures.back) c.count_of_tick.ensures.later in
     record {
       empty = search rules;
@@ -41,11 +43,11 @@ loop-left-preserved-in-Some g c =
       under_way = under_way_more _ _ _ _ (text_of (module_tick plan at now ms).lines) _ rest ran.made.written;
       quiet = ran.made.quiet ∙ i.quiet;
       limit = omega (arith, after);
-      past = omega (arith, c.in_ok-tick.ensures.of_tick.1);
+      past = omega (arith, own.1);
     }
 
-pub returns-in_err-tick : goal.returns-in_err-tick
-returns-in_err-tick g c =
+pub returns-in_err-last : goal.returns-in_err-last
+returns-in_err-last g c =
     let i = c.loop-left.invariant in
     let at = c.loop-left.at in
     let left = c.loop-left.left in
@@ -62,13 +64,13 @@ returns-in_err-tick g c =
     (λ t h. ap (of_tick t) c.split_at.ensures.back ∙ c.count_of_tick.ensures.rest t h)
     refl refl in
     let rest = rw split at i.under_way in
-    let cut = c.in_err-tick.ensures.written in
-    traced_err (trace_from plan c.args.devices.now c.args.ticks (Some first_tick) (members_in g.E.Executor c.args.members.now)) _ _ _ _ c.in_err-tick.field-0.0 _ (search rules)
+    let cut = c.in_err-last.ensures.written in
+    traced_err (trace_from plan c.args.devices.now c.args.ticks (Some first_tick) (members_in g.E.Executor c.args.members.now)) _ _ _ _ c.in_err-last.field-0.0 _ (search rules)
     (under_way_fails _ _ _ _ (text_of own.lines) _ rest cut.beginning)
     (cut.failed ∙ ap (λ (n : ℕ). n + 1) i.quiet)
 
-pub returns-in-None : goal.returns-in-None
-returns-in-None g c =
+pub returns-in_default : goal.returns-in_default
+returns-in_default g c =
     let i = c.loop-left.invariant in
     let at = c.loop-left.at in
     let left = c.loop-left.left in
@@ -78,13 +80,14 @@ returns-in-None g c =
     let plan = plan_of c.args.plan.now in
     let ms = members_in g.E.Executor c.loop-left.members in
     let next = members_in g.E.Executor c.tick.new.self in
-    let ran = c.in_ok-tick.ensures.written in
+    let ran = c.in_ok-last.ensures.written in
+    let none : c.in_ok-last.field-0 ≡ None = search rules in
     let same = c.split_at.ensures.front ∙ c.count_of_tick.ensures.now in
     let one : left ≡ suc (left - 1) = omega arith in
     let split = tick_text plan lines now later left (left - 1) at None ms next one
     (ap (of_tick at.now.0) same ∙ of_tick_again at.now.0 lines)
     (λ t h. ap (of_tick t) c.split_at.ensures.back ∙ c.count_of_tick.ensures.rest t h)
-    ran.at ran.made.members in
+    (sym none ∙ ran.at) ran.made.members in
     let rest = rw split at i.under_way in
     let last = under_way_more _ _ _ _ (text_of (module_tick plan at now ms).lines) _ rest ran.made.written in
     let done = rw (none_after plan later (left - 1) next) at last in
