@@ -246,7 +246,6 @@ fn lines_of_refusals(rt: HostRuntime) -> Result<(), Fail> {
             Refusal::Build(BuildFault::Compile(partition)),
             "mb: compile engine_1 1",
         ),
-        (Refusal::Build(BuildFault::NotYet), "mb: not yet"),
         (Refusal::Build(BuildFault::Memory), "mb: memory"),
         (Refusal::Run(RunFault::Ticks), "mb: ticks"),
         (

@@ -1,4 +1,4 @@
-//! Images and device texts that are refused, and texts with a fault, which is not served so far.
+//! Images and device texts that are refused.
 
 use super::shelf::{NOT_YET, Shelf, expect_command};
 use super::sinks::narrow_sink;
@@ -50,14 +50,12 @@ fn an_image_with_one_byte_more(rt: HostRuntime) -> Result<(), Fail> {
 }
 
 /// Device texts for the smallest image, which has no channel, and what is answered.
-static DEVICES: [(&str, &str); 7] = [
+static DEVICES: [(&str, &str); 5] = [
     ("\n", "mb: device 1\n"),
     ("nothing", "mb: device 1\n"),
     ("3 FAULT\n2 FAULT a\n", "mb: device 2\n"),
     ("3 MSG c 1\n", "mb: device 3\n"),
     ("3 FAULT b\n", "mb: device 3\n"),
-    ("3 FAULT\n", NOT_YET),
-    ("3 FAULT a\n", NOT_YET),
 ];
 
 /// A shelf with the smallest image and that device text.
