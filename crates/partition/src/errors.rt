@@ -1,10 +1,12 @@
 //! The errors of a partition and of its processes, and the services on them.
 
-ghost use Rattle.std.specs.Prelude.{◌≡◌, ◌≤◌, ◌+◌, length};
+ghost use Rattle.std.specs.Prelude.{◌≡◌, ◌≤◌, ◌+◌, [], ◌∷◌, length, not, pos};
+ghost use Rattle.std.specs.Ordering.{int_eq};
 ghost use Rattle.apex_types.specs.Room.{HasRoom, Grows};
 ghost use Rattle.apex_meaning.specs.HealthServices as meaning;
 ghost use Rattle.apex_meaning.specs.Kernel.{of_errors, of_processes, with_errors};
-ghost use Rattle.apex_meaning.specs.Step.{IsMade};
+ghost use Rattle.apex_meaning.specs.Processes.{answers, refuses};
+ghost use Rattle.apex_meaning.specs.Step.{IsMade, after, first_words, row};
 
 use crate::kernel::Kernel;
 use apex_types::{
@@ -15,7 +17,7 @@ use health::{
     action_of, create_error_handler, get_error_status, is_message_length,
     report_application_message, response_of,
 };
-use process_table_base::mode_of_action;
+use process_table_base::{first_words, mode_of_action};
 
 impl Kernel {
     /// The partition's action for an error.
@@ -184,10 +186,42 @@ impl Kernel {
         get_error_status(&self.processes, &mut self.errors, caller, array, out);
     }
 
+    /// The answer to a caller, then its error APPLICATION_ERROR with its message.
+    fn raise(&mut self, caller: Runner, message: Words, out: &mut Out)
+        requires { HasRoom 5 out.old }
+        ensures step { IsMade (after (of_processes self.old (answers self.old.processes caller Service.RaiseApplicationError ReturnCode.NoError [])) (meaning.handles self.old caller ErrorKind.ApplicationError message.items)) self.new out.old out.new }
+        ensures grows { Grows 5 out.old out.new }
+    {
+        let service = Service::RaiseApplicationError;
+        self.processes
+            .answer(caller, service, ReturnCode::NoError, &[], out);
+        self.handle(caller, ErrorKind::ApplicationError, message, out);
+    }
+
+    /// The error is one that a process may raise; its message may have a wrong length.
+    fn raise_message(
+        &mut self,
+        caller: Runner,
+        array: ArrayPlace,
+        length: i64,
+        words: Words,
+        out: &mut Out,
+    )
+        requires { HasRoom 5 out.old }
+        ensures step { IsMade (row (λ c. of_processes self.old (refuses self.old.processes caller Service.RaiseApplicationError c)) ((not (meaning.is_message_length array.size length), ReturnCode.InvalidParam) ∷ []) (after (of_processes self.old (answers self.old.processes caller Service.RaiseApplicationError ReturnCode.NoError [])) (meaning.handles self.old caller ErrorKind.ApplicationError (first_words length words.items)))) self.new out.old out.new }
+        ensures grows { Grows 5 out.old out.new }
+    {
+        let service = Service::RaiseApplicationError;
+        if !is_message_length(array.size, length) {
+            let processes = &self.processes;
+            return processes.refuse(caller, service, ReturnCode::InvalidParam, &[], out);
+        }
+        self.raise(caller, first_words(length, &words), out);
+    }
+
     /// RAISE_APPLICATION_ERROR (ARINC 653 Part 1, health monitoring): the caller's error
     /// APPLICATION_ERROR with a message, which is the first words of those that the call hands in.
     /// INVALID_PARAM: the error is not 1, or a length below 1, above 16, or above the array's size.
-    #[tactic(auto, using(apex_meaning::proofs::Numbers::handed_words))]
     pub(crate) fn raise_application_error(
         &mut self,
         caller: Runner,
@@ -202,18 +236,19 @@ impl Kernel {
         ensures grows { Grows 5 out.old out.new }
     {
         let service = Service::RaiseApplicationError;
-        let processes = &self.processes;
-        if error != 1 {
+        if !is_application_error(error) {
+            let processes = &self.processes;
             return processes.refuse(caller, service, ReturnCode::InvalidParam, &[], out);
         }
-        if !is_message_length(array.size, length) {
-            return processes.refuse(caller, service, ReturnCode::InvalidParam, &[], out);
-        }
-        processes.answer(caller, service, ReturnCode::NoError, &[], out);
-        let mut message = words;
-        message.truncate(length as usize);
-        self.handle(caller, ErrorKind::ApplicationError, message, out);
+        self.raise_message(caller, array, length, words, out);
     }
+}
+
+/// Whether it is the number of the error that a process may raise.
+fn is_application_error(error: i64) -> bool
+    ensures { result ≡ int_eq error (pos 1) }
+{
+    error == 1
 }
 
 /// Whether it is an error in what a process executes, after which it does not go on.
