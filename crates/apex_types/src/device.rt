@@ -1,5 +1,7 @@
 //! What the devices of a module do to it.
 
+ghost use Rattle.std.specs.Prelude.{◌≡◌};
+
 use crate::event::Words;
 use crate::identity::{ChannelIndex, PartitionId, Ticks};
 
@@ -19,6 +21,15 @@ pub enum DeviceInput {
 pub struct DeviceLine {
     pub tick: Ticks,
     pub input: DeviceInput,
+}
+
+impl DeviceLine {
+    /// The tick in which it acts.
+    pub fn tick(&self) -> u64
+        ensures { result ≡ self.now.tick.0 }
+    {
+        self.tick.0
+    }
 }
 
 /// Why a line of a device text is refused. Of several reasons the first one here counts.
