@@ -8,7 +8,7 @@ use Rattle.apex_meaning.specs.ImageReading.{Fault}
 use Rattle.apex_meaning.specs.TwoMeanings.{source_trace, machine_trace}
 use Rattle.module.specs.Promises.{Means, Runs}
 use Rattle.module.specs.declared.fault.RunFault.{RunFault}
-use Rattle.module.specs.declared.fault.RunFault.TheVariants.{Ticks, Device, NotYet, Memory, Write}
+use Rattle.module.specs.declared.fault.RunFault.TheVariants.{Ticks, Image as NoImage, Device, Memory, Write, Failed}
 use Rattle.std.specs.Prelude.{IsErr, IsErrAnd, IfErr}
 use Rattle.apex_meaning.specs.ImageReading.{image_at}
 use Rattle.command_line.specs.Contents.{Contents, Holds}
@@ -40,8 +40,9 @@ runs_by read devices n v old new (Ok x) is h = subst (λ k. Runs read devices k 
 runs_by read devices n v old new (Err Write) is h = subst (λ k. Runs read devices k old new (Err Write)) (few_same n v is h.2.few) h
 runs_by read devices n v old new (Err Ticks) is h = (many_same n v is h.0, h.1)
 runs_by read devices n v old new (Err (Device f)) is h = (subst (λ k. k ≤ 2 ^ 40) (few_same n v is h.0) h.0, h.1, h.2)
-runs_by read devices n v old new (Err NotYet) is h = (subst (λ k. k ≤ 2 ^ 40) (few_same n v is h.0) h.0, h.1, h.2)
+runs_by read devices n v old new (Err (NoImage f)) is h = (subst (λ k. k ≤ 2 ^ 40) (few_same n v is h.0) h.0, h.1, h.2)
 runs_by read devices n v old new (Err Memory) is h = h
+runs_by read devices n v old new (Err Failed) is h = h
 
 -- ---- refusals that are handed on
 

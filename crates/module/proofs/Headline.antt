@@ -1,6 +1,5 @@
 -- From accepted sources to the text of their trace.
-use Rattle.std.proofs.Common.{◌≡◌, ℕ, List, [], ◌∷◌, map, Option, Result, Ok, Err, IfOk, refl, sym, ap, subst, ◌∙◌}
-use Rattle.std.specs.Prelude.{IsErr}
+use Rattle.std.proofs.Common.{◌≡◌, ℕ, List, [], ◌∷◌, map, Option, Some, None, Result, Ok, Err, IfOk, refl, sym, ap, subst, ◌∙◌}
 use Rattle.std.specs.List.{All}
 use Rattle.std.specs.Io.KnownBytes.{Appends}
 use Rattle.std.proofs.lemmas.List.Elements.{All-nil, All-cons}
@@ -21,9 +20,10 @@ use Rattle.apex_meaning.proofs.WellFormedSection.{accepted_section}
 use Rattle.module.specs.Accepted.{IsAccepted, AreAccepted, IsJudged, IsTable}
 use Rattle.module.specs.Built.{built_item, built_items, built_image, IsCoded, AreCoded, BecomesLawful, IsBuiltFrom}
 use Rattle.module.specs.Building.{IsImageOf}
-use Rattle.module.specs.Promises.{IsRun, IsDeviceRefusal, Runs, IsAcceptedRun, IsDeviceRefused, Means, ran}
+use Rattle.module.specs.Promises.{IsRun, IsDeviceRefusal, IsNamed, Runs, IsAcceptedRun, IsDeviceRefused, Means, ran}
+use Rattle.image.specs.Views.{named}
 use Rattle.module.specs.declared.fault.RunFault.{RunFault}
-use Rattle.module.specs.declared.fault.RunFault.TheVariants.{Ticks, Device, NotYet, Memory, Write}
+use Rattle.module.specs.declared.fault.RunFault.TheVariants.{Ticks, Image as NoImage, Device, Memory, Write, Failed}
 use Rattle.module.proofs.Built.{are_compiled}
 use Rattle.module.proofs.SameTraces.{traces_same}
 
@@ -103,9 +103,9 @@ accepted_run table sources bytes devices n image lines h r = record {
 }
 
 -- what is an image is never refused as bytes that are none
-never_refused : (read : Result Image Fault) (i : Image) → read ≡ ok_image i → IsErr read → ⊥
-never_refused (Ok image) i e r = absurd cc
-never_refused (Err f) i e r = absurd cc
+never_refused : (read : Result Image Fault) (i : Image) (f : Option Fault) → read ≡ ok_image i → IsNamed read f → ⊥
+never_refused read i None e r = r
+never_refused read i (Some f) e r = absurd cc
 
 -- an image that is loaded is refused for its devices alone
 is_refused_in : (table : List ℕ) (sources : List (List ℕ)) (bytes devices : List ℕ) (h : IsImageOf table sources bytes) (f : DeviceFault) (read : Result Image Fault) → read ≡ ok_image h.image → IsDeviceRefusal read devices f → IsDeviceRefused table sources devices f
@@ -125,5 +125,6 @@ run_means table sources bytes devices n old new (Err Write) h (image, lines, r, 
     (h.rows, h.programs, lines, accepted_run table sources bytes devices n image lines h r, subst (TakesBeginning old new) (same_text table sources bytes devices n image lines h r) out)
 run_means table sources bytes devices n old new (Err Ticks) h r = r
 run_means table sources bytes devices n old new (Err (Device f)) h r = (r.0, is_refused_in table sources bytes devices h f (image_at bytes) h.loaded r.1, r.2)
-run_means table sources bytes devices n old new (Err NotYet) h r = never_refused (image_at bytes) h.image h.loaded r.1
+run_means table sources bytes devices n old new (Err (NoImage f)) h r = never_refused (image_at bytes) h.image (named f) h.loaded r.1
 run_means table sources bytes devices n old new (Err Memory) h r = r
+run_means table sources bytes devices n old new (Err Failed) h r = r

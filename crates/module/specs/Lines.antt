@@ -1,6 +1,7 @@
 -- What is shown of each fault of building and running.
 use Rattle.std.specs.Prelude.{ℕ, List, ◌++◌, codes}
 use Rattle.std.specs.Fmt.{decimal}
+use Rattle.image.specs.Views.{number_of as number_of_image}
 use Rattle.module_base.specs.Refusals.{fault_number}
 use Rattle.pal_base.specs.Numbers.{refusal_number}
 use Rattle.pal_base.specs.declared.fault.Refusal.{Refusal}
@@ -29,10 +30,11 @@ build_line build.Memory = codes "memory"
 
 abbrev pub run_line : RunFault → List ℕ
 run_line run.Ticks = codes "ticks"
+run_line (run.Image fault) = codes "image " ++ decimal (number_of_image fault)
 run_line (run.Device fault) = codes "device " ++ decimal (fault_number fault)
-run_line run.NotYet = codes "not yet"
 run_line run.Memory = codes "memory"
 run_line run.Write = codes "write"
+run_line run.Failed = codes "failed"
 
 abbrev pub line_of_both : BuildAndRunFault → List ℕ
 line_of_both (Build fault) = build_line fault

@@ -1,5 +1,5 @@
 -- What running an image, and building and running a module, promise.
-use Rattle.std.specs.Prelude.{◌≡◌, ℕ, ◌^◌, ◌<◌, ◌≤◌, List, Option, Result, Ok, Err, IsErr}
+use Rattle.std.specs.Prelude.{◌≡◌, ℕ, ◌^◌, ◌<◌, ◌≤◌, List, Option, Some, None, Result, Ok, Err}
 use Rattle.std.specs.Io.KnownBytes.{Appends}
 use Rattle.apex_types.specs.Line.{text_of}
 use Rattle.apex_types.specs.Sink.{TakesBeginning}
@@ -14,8 +14,11 @@ use Rattle.apex_meaning.specs.TwoMeanings.{source_trace, machine_trace}
 use Rattle.module.specs.Accepted.{IsModule}
 use Rattle.module.specs.declared.fault.BuildAndRunFault.{BuildAndRunFault}
 use Rattle.module.specs.declared.fault.BuildAndRunFault.TheVariants.{Build, Run}
+use Rattle.image.specs.Views.{named}
+use Rattle.image.specs.declared.fault.ImageFault.{ImageFault}
+use Rattle.image.specs.declared.fault.ImageFault.TheVariants as image_fault
 use Rattle.module.specs.declared.fault.RunFault.{RunFault}
-use Rattle.module.specs.declared.fault.RunFault.TheVariants.{Ticks, Device, NotYet, Memory, Write}
+use Rattle.module.specs.declared.fault.RunFault.TheVariants.{Ticks, Image as NoImage, Device, Memory, Write, Failed}
 use Rattle.module.specs.Building.{IsRefusal}
 
 -- the image that was read, and the lines of the device text, within the ticks that are run
@@ -24,10 +27,19 @@ pub record IsRun (read : Result Image Fault) (devices : List ℕ) (n : ℕ) (ima
   pub taken : verdict_for image devices ≡ Ok lines
   pub few : n ≤ 2 ^ 40
 
+-- the bytes are refused with this fault, and not for want of memory
+abbrev pub IsNamed : Result Image Fault → Option Fault → Type 0
+IsNamed read None = ⊥
+IsNamed read (Some f) = read ≡ Err f
+
 -- the device text is refused for the image
 abbrev pub IsDeviceRefusal : Result Image Fault → List ℕ → DeviceFault → Type 0
 IsDeviceRefusal (Err fault) devices f = ⊥
 IsDeviceRefusal (Ok image) devices f = verdict_for image devices ≡ Err f
+
+-- reading the bytes of an image meets this fault first
+abbrev pub IsImageRefusal : Result Image Fault → ImageFault → Type 0
+IsImageRefusal read f = IsNamed read (named f)
 
 -- What a run of an image has written between two states of its sink: the text of the image's trace
 -- of n ticks with the device text's lines; a beginning of that text where the sink failed; nothing where
@@ -37,8 +49,9 @@ Runs read devices n old new (Ok _) = (image : Image) × (lines : List DeviceLine
 Runs read devices n old new (Err Write) = (image : Image) × (lines : List DeviceLine) × IsRun read devices n image lines × TakesBeginning old new (text_of (machine_trace image lines n))
 Runs read devices n old new (Err Ticks) = (2 ^ 40 < n) × (new ≡ old)
 Runs read devices n old new (Err (Device f)) = (n ≤ 2 ^ 40) × IsDeviceRefusal read devices f × (new ≡ old)
-Runs read devices n old new (Err NotYet) = (n ≤ 2 ^ 40) × IsErr read × (new ≡ old)
+Runs read devices n old new (Err (NoImage f)) = (n ≤ 2 ^ 40) × IsImageRefusal read f × (new ≡ old)
 Runs read devices n old new (Err Memory) = new ≡ old
+Runs read devices n old new (Err Failed) = ⊥
 
 -- the same of an image with lines that are taken
 abbrev pub RunsImage : List Event → Option (List ℕ) → Option (List ℕ) → Result (Unit {0}) RunFault → Type 0
@@ -49,9 +62,14 @@ RunsImage events old new (Err _) = ⊥
 
 -- why bytes are not run: they are no image
 abbrev pub IsRefused : Result Image Fault → RunFault → Type 0
-IsRefused read NotYet = IsErr read
+IsRefused read (NoImage f) = IsImageRefusal read f
 IsRefused read Memory = Unit {0}
 IsRefused _ _ = ⊥
+
+-- a fault of an image as one of its run; want of memory is told as such
+abbrev pub fault_of_image : ImageFault → RunFault
+fault_of_image image_fault.Memory = Memory
+fault_of_image f = NoImage f
 
 -- why a device text is not taken for an image
 abbrev pub AreRefused : Result (List DeviceLine) DeviceFault → RunFault → Type 0
@@ -83,8 +101,9 @@ Means table sources devices n old new (Err (Run Write)) = (t : Table) × (progra
 Means table sources devices n old new (Err (Build fault)) = IsRefusal table sources fault × (new ≡ old)
 Means table sources devices n old new (Err (Run Ticks)) = (2 ^ 40 < n) × (new ≡ old)
 Means table sources devices n old new (Err (Run (Device f))) = (n ≤ 2 ^ 40) × IsDeviceRefused table sources devices f × (new ≡ old)
-Means table sources devices n old new (Err (Run NotYet)) = ⊥
+Means table sources devices n old new (Err (Run (NoImage f))) = ⊥
 Means table sources devices n old new (Err (Run Memory)) = new ≡ old
+Means table sources devices n old new (Err (Run Failed)) = ⊥
 
 -- the answer of a run as that of building and running
 abbrev pub ran : Result (Unit {0}) RunFault → Result (Unit {0}) BuildAndRunFault

@@ -1,12 +1,14 @@
 //! Refusals of building and running.
 
 ghost use Rattle.std.specs.Prelude.{◌≡◌, Some};
+ghost use Rattle.module.specs.Promises.{fault_of_image};
 ghost use Rattle.module.specs.declared.fault.BuildFault.TheVariants as build;
 ghost use Rattle.module.specs.declared.fault.BuildAndRunFault.TheVariants as both;
 ghost use Rattle.module.specs.declared.fault.RunFault.TheVariants as run;
 ghost use Rattle.module.specs.Lines.{build_line, line_of_both, run_line};
 
 use apex_types::{DeviceFault, Name};
+use image::ImageFault;
 use module_base::fault_number;
 use pal_base::fault::{PalFault, Refusal};
 use std::alloc::{AllocError, AllocFailed};
@@ -59,18 +61,21 @@ impl fmt::Display for BuildFault {
 
 impl Error for BuildFault {}
 
-/// Why an image is not run to the end.
+/// Why an image is not run to the end. Where several reasons hold, the first of this list is answered;
+/// want of memory may be answered before.
 #[derive(Clone, Copy, Debug, PartialEq, Eq)]
 pub enum RunFault {
     /// More than 2^40 ticks are wanted.
     Ticks,
+    /// The bytes are no image.
+    Image(ImageFault),
     /// The device text is refused for the image.
     Device(DeviceFault),
-    /// The bytes are no image.
-    NotYet,
     Memory,
     /// The sink failed. What it took is a beginning of the trace's text.
     Write,
+    /// The sink failed in an earlier tick of this machine.
+    Failed,
 }
 
 impl fmt::Display for RunFault {
@@ -79,10 +84,11 @@ impl fmt::Display for RunFault {
     fn fmt<W: fmt::Write>(&self, f: &mut fmt::Formatter<W>) -> fmt::Result {
         match self {
             RunFault::Ticks => write!(f, "ticks"),
+            RunFault::Image(fault) => write!(f, "image {}", fault.number()),
             RunFault::Device(fault) => write!(f, "device {}", fault_number(*fault)),
-            RunFault::NotYet => write!(f, "not yet"),
             RunFault::Memory => write!(f, "memory"),
             RunFault::Write => write!(f, "write"),
+            RunFault::Failed => write!(f, "failed"),
         }
     }
 }
@@ -146,5 +152,16 @@ impl From<AllocError> for RunFault {
 
     fn from(_: AllocError) -> Self {
         RunFault::Memory
+    }
+}
+
+impl From<ImageFault> for RunFault {
+    ghost from_gives = { λ fault e. e ≡ fault_of_image fault };
+
+    fn from(fault: ImageFault) -> Self {
+        match fault {
+            ImageFault::Memory => RunFault::Memory,
+            _ => RunFault::Image(fault),
+        }
     }
 }

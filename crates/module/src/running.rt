@@ -13,7 +13,7 @@ use crate::fault::{BuildAndRunFault, RunFault};
 use crate::member::Module;
 use crate::ticks::run_module;
 use apex_types::{DeviceLine, Sink, SinkFault};
-use image::{Image, ImageFault, load_image};
+use image::{Image, load_image};
 use module_base::{DeviceTextFault, read_devices};
 use std::alloc::Global;
 
@@ -77,11 +77,7 @@ fn load(alloc: Global, bytes: &[u8]) -> Result<Image, RunFault>
     ensures read { IfOk result (λ image. image_at bytes.now ≡ Ok (image_of image)) }
     ensures refused { IfErr result (λ fault. IsRefused (image_at bytes.now) fault) }
 {
-    match load_image(alloc, bytes) {
-        Ok(image) => Ok(image),
-        Err(ImageFault::Memory) => Err(RunFault::Memory),
-        Err(_) => Err(RunFault::NotYet),
-    }
+    Ok(load_image(alloc, bytes)?)
 }
 
 /// The lines of a device text for an image.
