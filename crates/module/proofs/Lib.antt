@@ -3,12 +3,13 @@ pub mod DeviceLines
 pub mod Devices
 pub mod Headline
 pub mod Lawful
+pub mod Machines
 pub mod Members
 pub mod Moves
-pub mod Runs
 pub mod SameTraces
 pub mod Starting
 pub mod Texts
 pub mod Refused
 pub mod Shutdown
+pub mod Standing
 pub mod Written

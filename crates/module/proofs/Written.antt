@@ -157,4 +157,13 @@ course_cut_off c rest split w h = fails_before c rest c.at split w h
 pub course_ends_cut_off : {C : Type 0} {whole now : Course C} {old mid new : Option (List ℕ)} {before between after : ℕ} → IsCourseUnderWay whole now old mid before between → IsCutOff (done_in now) mid new between after → IsCutOff (done_in whole) old new before after
 course_ends_cut_off w h = ends_cut_off w.way h
 
+-- a step is made, and then one from where it led that may start the module again, or shut it down
+pub then_runs_written : {C : Type 0} {a : Advanced C} {old mid : Option (List ℕ)} {before between : ℕ} (at : At) (rest : At → List (Member C) → Course C) (between_them : List (Member C)) (new : Option (List ℕ)) (after : ℕ) (members : List (Member C)) (r : Result (Option At) SinkFault)
+    → IsMade a between_them old mid before between → IsCourseWritten (rest at between_them) members mid new between after r → IsCourseWritten (then_runs (meaning.goes_on at a) rest) members old new before after r
+then_runs_written at rest between_them new after members (Ok x) h k = record {
+  at = k.at ∙ ap (λ ms. (rest at ms).at) h.members;
+  made = then_made (λ ms. done_in (rest at ms)) between_them refl h k.made;
+}
+then_runs_written at rest between_them new after members (Err e) h k = then_cut_off (λ ms. done_in (rest at ms)) between_them refl h k
+
 pub ruleset channels = (slice_get-map)

@@ -2,8 +2,10 @@ pub mod Accepted
 pub mod Built
 pub mod Building
 pub mod Sources
+pub mod Standing
 pub mod Lines
 pub mod Loading
+pub mod Machines
 pub mod Members
 pub mod Promises
 pub mod Views

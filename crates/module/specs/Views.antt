@@ -7,15 +7,17 @@ use Rattle.partition_base.specs.declared.executor.Executor.{Ghosts}
 use Rattle.regions.specs.Space.{Space}
 use Rattle.window_table.specs.Schedules.{schedule_of}
 use Rattle.module.specs.Members.{members_of}
-use Rattle.module.specs.declared.member.Plan.{Plan}
+use Rattle.image.specs.declared.value.Image.{Image}
+use Rattle.apex_types.specs.declared.identity.Ticks.{Ticks}
+use Rattle.module.specs.Standing.{Standing, ticks_in}
 use Rattle.module.specs.declared.member.Members.{Members}
 use Rattle.module.specs.declared.member.Module.{Module}
 
-abbrev pub plan_of : Plan → meaning.Plan
+abbrev pub plan_of : Image → meaning.Plan
 plan_of p = record { schedule = schedule_of p.schedule; channels = channels_of p.channels.items; fault = p.fault }
 
 abbrev pub members_in : {E : Type 0} → (g : Ghosts E Space) → Members E g → List (Member g.Control)
 members_in g m = members_of g m.partitions.items m.memory
 
-abbrev pub module_of : {E : Type 0} → (g : Ghosts E Space) → Module E g → meaning.Module g.Control
-module_of g m = record { plan = plan_of m.plan; members = members_in g m.members }
+abbrev pub standing_of : {E : Type 0} → (g : Ghosts E Space) → Module E g → Standing g.Control
+standing_of g m = record { members = members_in g m.members; now = m.now.0; origin = ticks_in m.origin }

@@ -10,6 +10,7 @@ use Rattle.apex_types.specs.declared.identity.At.{At}
 use Rattle.apex_types.specs.declared.sink.SinkFault.{SinkFault}
 use Rattle.apex_meaning.specs.Module.{Advanced, Course}
 use Rattle.apex_meaning.specs.Partition.{Member, Moved, cold_start, breaks_down, advances, arrives, leaves, leaving, admits, goes_out}
+use Rattle.module.specs.Standing.{Standing, after}
 use Rattle.module.specs.declared.step.Step.{Step}
 use Rattle.module.specs.declared.step.Step.TheVariants as step
 
@@ -58,6 +59,16 @@ pub record IsCourse {C : Type 0} (c : Course C) (answer : Option At) (now : List
 abbrev pub IsCourseWritten : {C : Type 0} → Course C → List (Member C) → Option (List ℕ) → Option (List ℕ) → ℕ → ℕ → Result (Option At) SinkFault → Type 0
 IsCourseWritten c now old new before after (Ok at) = IsCourse c at now old new before after
 IsCourseWritten c now old new before after (Err fault) = IsCutOff (done_in c) old new before after
+
+-- The module has gone one tick on, and the lines of the tick were written, unless the sink failed.
+pub record HasGoneOn {C : Type 0} (c : Course C) (old_standing new_standing : Standing C) (old new : Option (List ℕ)) (before now : ℕ) : Type 0 where
+  pub standing : new_standing ≡ after old_standing c
+  pub written : Appends old new (text_of c.lines)
+  pub quiet : now ≡ before
+
+abbrev pub HasGone : {C X : Type 0} → Course C → Standing C → Standing C → Option (List ℕ) → Option (List ℕ) → ℕ → ℕ → Result X SinkFault → Type 0
+HasGone c old_standing new_standing old new before now (Ok x) = HasGoneOn c old_standing new_standing old new before now
+HasGone c old_standing new_standing old new before now (Err fault) = IsCutOff (done_in c) old new before now
 
 -- where the module is not shut down, the tick is this one, and the origin is not after it
 abbrev pub IsOfTick : At → Option At → Type 0

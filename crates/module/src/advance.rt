@@ -2,12 +2,14 @@
 
 ghost use Rattle.std.specs.Prelude.{◌≡◌, ◌≤◌, ◌<◌, ◌-◌, ◌^◌, [], option_map, IfOk, OnOk};
 ghost use Rattle.apex_meaning.specs.Module as meaning;
+ghost use Rattle.module.specs.Standing.{begins, begins_and_ticks};
 ghost use Rattle.module.specs.Views.{members_in, plan_of};
 ghost use Rattle.module.specs.Written.{done_in, IsOfTick, IsCourseWritten, IsWritten};
 
-use crate::member::{Members, Plan};
+use crate::member::Members;
 use crate::step::Step;
-use apex_types::{At, DeviceLine, Events, PartitionId, Sink, SinkFault, Ticks};
+use apex_types::{At, DeviceLine, Events, PartitionId, Sink, SinkFault, StartCondition, Ticks};
+use image::Image;
 use partition_base::Executor;
 use regions::PartitionMem;
 
@@ -42,7 +44,7 @@ impl<E: Executor<Mem = PartitionMem>> Members<E> {
     /// What moves, then the tick of the owner.
     fn move_and_tick<S: Sink>(
         &mut self,
-        plan: &Plan,
+        plan: &Image,
         at: At,
         events: &mut Events,
         sink: &mut S,
@@ -62,9 +64,9 @@ impl<E: Executor<Mem = PartitionMem>> Members<E> {
     /// A tick of the module with the devices' lines of this tick. It answers the tick with the origin that
     /// counts from here on, or none where the module is shut down.
     #[tactic(auto, using(crate::proofs::Shutdown::tick_ends_down))]
-    pub fn tick<S: Sink>(
+    fn tick<S: Sink>(
         &mut self,
-        plan: &Plan,
+        plan: &Image,
         at: At,
         lines: &[DeviceLine],
         events: &mut Events,
@@ -84,5 +86,45 @@ impl<E: Executor<Mem = PartitionMem>> Members<E> {
         };
         self.move_and_tick(plan, last, events, sink)?;
         Ok(Some(last))
+    }
+
+    /// Before the first tick each partition starts.
+    fn begin<S: Sink>(
+        &mut self,
+        at: At,
+        events: &mut Events,
+        sink: &mut S,
+    ) -> Result<(), SinkFault>
+        requires empty { events.old.items ≡ [] }
+        requires failures { S.failures sink.old < 2 ^ 64 - 1 }
+        ensures empty { OnOk result (events.new.items ≡ []) }
+        ensures written { IsWritten (begins at.now.0 (members_in E.Executor self.old)) (members_in E.Executor self.new) (S.taken sink.old) (S.taken sink.new) (S.failures sink.old) (S.failures sink.new) result }
+    {
+        if at.now.0 == 0 {
+            self.start_all(FIRST_TICK, StartCondition::NormalStart, events, sink)?;
+        }
+        Ok(())
+    }
+
+    /// What begins, then a tick of the module with the devices' lines of this tick. It answers as
+    /// [`Members::tick`] does.
+    pub fn begin_and_tick<S: Sink>(
+        &mut self,
+        plan: &Image,
+        at: At,
+        lines: &[DeviceLine],
+        events: &mut Events,
+        sink: &mut S,
+    ) -> Result<Option<At>, SinkFault>
+        requires past { at.origin.0 ≤ at.now.0 }
+        requires now { at.now.0 ≤ 2 ^ 40 }
+        requires empty { events.old.items ≡ [] }
+        requires failures { S.failures sink.old < 2 ^ 64 - 1 }
+        requires lines { meaning.of_tick at.now.0 lines.now ≡ lines.now }
+        ensures of_tick { IfOk result (IsOfTick at) }
+        ensures written { IsCourseWritten (begins_and_ticks (plan_of plan.now) at lines.now (members_in E.Executor self.old)) (members_in E.Executor self.new) (S.taken sink.old) (S.taken sink.new) (S.failures sink.old) (S.failures sink.new) result }
+    {
+        self.begin(at, events, sink)?;
+        self.tick(plan, at, lines, events, sink)
     }
 }

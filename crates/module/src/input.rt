@@ -5,9 +5,10 @@ ghost use Rattle.apex_meaning.specs.Module as meaning;
 ghost use Rattle.module.specs.Views.{members_in, plan_of};
 ghost use Rattle.module.specs.Written.{IsOfTick, IsCourseWritten};
 
-use crate::member::{Members, Plan};
+use crate::member::Members;
 use crate::step::Step;
 use apex_types::{At, DeviceInput, DeviceLine, Events, Sink, SinkFault};
+use image::Image;
 use partition_base::Executor;
 use regions::PartitionMem;
 
@@ -16,7 +17,7 @@ impl<E: Executor<Mem = PartitionMem>> Members<E> {
     #[tactic(auto, using(crate::proofs::Written::channels))]
     fn input<S: Sink>(
         &mut self,
-        plan: &Plan,
+        plan: &Image,
         at: At,
         input: &DeviceInput,
         events: &mut Events,
@@ -48,7 +49,7 @@ impl<E: Executor<Mem = PartitionMem>> Members<E> {
     #[tactic(auto, using(crate::proofs::Shutdown::lines_end))]
     pub fn input_all<S: Sink>(
         &mut self,
-        plan: &Plan,
+        plan: &Image,
         at: At,
         lines: &[DeviceLine],
         events: &mut Events,

@@ -8,6 +8,7 @@ mod exchange;
 mod fault;
 mod input;
 mod load;
+mod machine;
 mod member;
 mod restart;
 mod running;
@@ -16,4 +17,5 @@ mod ticks;
 
 pub use building::build;
 pub use fault::{BuildAndRunFault, BuildFault, RunFault};
+pub use machine::Machine;
 pub use running::{build_and_run, run};

@@ -10,11 +10,12 @@ ghost use Rattle.partition.specs.Members.{member_of};
 ghost use Rattle.partition_base.specs.Machines.{laid_of, layout_of};
 ghost use Rattle.module.specs.Loading.{AreFewObjects, AreFittingItems, IsFittingItem, fresh_item};
 ghost use Rattle.module.specs.Members.{members_of, AreFitting};
-ghost use Rattle.module.specs.Views.{module_of};
+ghost use Rattle.module.specs.Standing.{at_first};
+ghost use Rattle.module.specs.Views.{standing_of};
 ghost use Rattle.window_table.specs.Schedules.{schedule_of};
 
-use crate::member::{Members, Module, Plan};
-use apex_types::{PartitionId, Section};
+use crate::member::{Members, Module};
+use apex_types::{Events, PartitionId, Section, Ticks};
 use image::{Image, PartitionItem};
 use partition::{Fixed, Kernel, Partition};
 use partition_base::{Machine, memory_plan};
@@ -28,19 +29,18 @@ impl Module<Machine> {
     /// The partitions of an image, idle, with nothing created. An error is one of memory.
     #[tactic(auto, using(crate::proofs::Lawful::fitting_items))]
     pub fn load(alloc: Global, image: Image) -> Result<Module<Machine>, AllocError>
-        ensures { IfOk result (λ loaded. module_of machine loaded ≡ machine_module (image_of image)) }
+        ensures standing { IfOk result (λ loaded. standing_of machine loaded ≡ at_first (machine_module (image_of image)).members) }
+        ensures image { IfOk result (λ loaded. loaded.image ≡ image) }
     {
         let items = image.partitions.as_slice();
         let partitions = load_partitions(alloc, &image.schedule, items)?;
         let memory = load_memory(alloc, items)?;
-        let plan = Plan {
-            schedule: image.schedule,
-            channels: image.channels,
-            fault: image.fault,
-        };
         Ok(Module {
-            plan,
+            image,
             members: Members { partitions, memory },
+            now: Ticks(0),
+            origin: Some(Ticks(0)),
+            events: Events::new(),
         })
     }
 }

@@ -1,21 +1,14 @@
 //! The partitions of a module and the memory of all of them, over any executor.
 
+ghost use Rattle.std.specs.Prelude.{◌≤◌, ◌^◌};
 ghost use Rattle.module.specs.Members.{AreFitting};
+ghost use Rattle.module.specs.Standing.{origin_or_zero};
 
-use apex_types::ModuleAction;
+use apex_types::{Events, Ticks};
+use image::Image;
 use partition::Partition;
 use partition_base::Executor;
 use regions::{Memory, PartitionMem};
-use window_table::{ChannelRow, Schedule};
-
-/// What no tick of the module changes: the major frame with its windows, the channels, and what is
-/// done on a fault of the module.
-#[derive(Drop)]
-pub struct Plan {
-    pub schedule: Schedule,
-    pub channels: Vec<ChannelRow>,
-    pub fault: ModuleAction,
-}
 
 /// The partitions of an image in their order, and the memory of all of them. Each partition is lent
 /// its own part of the memory.
@@ -26,9 +19,19 @@ pub struct Members<E: Executor<Mem = PartitionMem>> {
     ghost fit: { AreFitting E.Executor partitions.items memory },
 }
 
-/// A module that runs.
+/// A module between two ticks.
 #[derive(Drop)]
 pub struct Module<E: Executor<Mem = PartitionMem>> {
-    pub plan: Plan,
+    /// What no tick changes: the major frame with its windows, the channels, and what is done on a
+    /// fault of the module.
+    pub image: Image,
     pub members: Members<E>,
+    /// The tick that comes next.
+    pub now: Ticks,
+    /// The tick from which the major frames count. There is none after a shutdown.
+    pub origin: Option<Ticks>,
+    /// The lines of a tick on their way to the sink.
+    pub events: Events,
+    ghost limit: { now.0 ≤ 2 ^ 40 },
+    ghost past: { origin_or_zero origin ≤ now.0 },
 }

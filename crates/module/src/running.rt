@@ -5,20 +5,17 @@ ghost use Rattle.apex_meaning.specs.DeviceText.{verdict_for};
 ghost use Rattle.apex_meaning.specs.ImageReading.{image_at};
 ghost use Rattle.apex_meaning.specs.TwoMeanings.{machine_trace};
 ghost use Rattle.image.specs.Views.{image_of};
-ghost use Rattle.module.specs.Promises.{AreRefused, IsRefused, Means, Runs, RunsImage};
+ghost use Rattle.module.specs.Machines.{fresh_machine, machine_of};
+ghost use Rattle.module.specs.Promises.{Means, Runs, RunsImage};
 ghost use Rattle.module.specs.Written.{AreFrom};
 
 use crate::building::build;
 use crate::fault::{BuildAndRunFault, RunFault};
-use crate::member::Module;
-use crate::ticks::run_module;
-use apex_types::{DeviceLine, Sink, SinkFault};
-use image::{Image, load_image};
-use module_base::{DeviceTextFault, read_devices};
+use crate::machine::{MOST_TICKS, Machine};
+use crate::ticks::count_of_tick;
+use apex_types::{DeviceLine, Sink, Ticks};
+use image::load_image;
 use std::alloc::Global;
-
-/// The most ticks of a run, 2^40.
-pub const MOST_TICKS: u64 = 1_099_511_627_776;
 
 /// Runs the image for so many ticks, with what the device text says, and writes the text of its trace
 /// into the sink. After [`RunFault::Write`] the sink has taken a beginning of that text; every other
@@ -43,55 +40,35 @@ pub fn run<S: Sink>(
     if ticks > MOST_TICKS {
         return Err(RunFault::Ticks);
     }
-    let image = load(alloc, image)?;
-    let lines = take_devices(alloc, &image, devices)?;
-    run_image(alloc, image, &lines, ticks, sink)
+    let mut machine = Machine::load(alloc, load_image(alloc, image)?)?;
+    let lines = machine.devices(alloc, devices)?;
+    run_ticks(&mut machine, &lines, ticks, sink)
 }
 
-/// Runs an image with these lines of the devices.
-fn run_image<S: Sink>(
-    alloc: Global,
-    image: Image,
-    lines: &[DeviceLine],
+/// So many ticks of a machine, with these lines of the devices; after a shutdown nothing happens.
+fn run_ticks<S: Sink>(
+    machine: &mut Machine,
+    devices: &[DeviceLine],
     ticks: u64,
     sink: &mut S,
 ) -> Result<(), RunFault>
     requires ticks { ticks ≤ 2 ^ 40 }
-    requires order { AreFrom 0 lines.now }
+    requires fresh { machine_of machine.old ≡ fresh_machine (machine_of machine.old).image }
+    requires order { AreFrom 0 devices.now }
     requires failures { S.failures sink.old < 2 ^ 64 - 1 }
-    ensures trace { RunsImage (machine_trace (image_of image) lines.now ticks) (S.taken sink.old) (S.taken sink.new) result }
+    ensures trace { RunsImage (machine_trace (machine_of machine.old).image devices.now ticks) (S.taken sink.old) (S.taken sink.new) result }
     ensures ok { OnOk result (S.failures sink.new ≡ S.failures sink.old) }
     ensures write { IsErrOf result RunFault.Write → S.failures sink.new ≡ S.failures sink.old + 1 }
 {
-    let Ok(mut module) = Module::load(alloc, image) else {
-        return Err(RunFault::Memory);
-    };
-    match run_module(&mut module, lines, ticks, sink) {
-        Ok(()) => Ok(()),
-        Err(SinkFault) => Err(RunFault::Write),
+    let mut left = ticks;
+    let mut lines = devices;
+    while left > 0 && !machine.is_shut_down() {
+        let (now, later) = lines.split_at(count_of_tick(lines, Ticks(machine.now())));
+        machine.tick(now, sink)?;
+        lines = later;
+        left -= 1;
     }
-}
-
-/// The image that the bytes are.
-fn load(alloc: Global, bytes: &[u8]) -> Result<Image, RunFault>
-    ensures read { IfOk result (λ image. image_at bytes.now ≡ Ok (image_of image)) }
-    ensures refused { IfErr result (λ fault. IsRefused (image_at bytes.now) fault) }
-{
-    Ok(load_image(alloc, bytes)?)
-}
-
-/// The lines of a device text for an image.
-#[tactic(auto, using(crate::proofs::Devices::read_in_order))]
-fn take_devices(alloc: Global, image: &Image, text: &[u8]) -> Result<Vec<DeviceLine>, RunFault>
-    ensures taken { IfOk result (λ lines. verdict_for (image_of image.now) text.now ≡ Ok lines.items) }
-    ensures order { IfOk result (λ lines. AreFrom 0 lines.items) }
-    ensures refused { IfErr result (λ fault. AreRefused (verdict_for (image_of image.now) text.now) fault) }
-{
-    match read_devices(alloc, image, text) {
-        Ok(lines) => Ok(lines),
-        Err(DeviceTextFault::Line(fault)) => Err(RunFault::Device(fault)),
-        Err(DeviceTextFault::Memory) => Err(RunFault::Memory),
-    }
+    Ok(())
 }
 
 /// Builds a module table and its sources, and runs the image for so many ticks with what the device

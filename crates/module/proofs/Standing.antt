@@ -1,0 +1,88 @@
+-- A module tick by tick, and its trace.
+use Rattle.std.proofs.Common.{◌≡◌, ℕ, zero, suc, ◌+◌, ◌<◌, ◌≤◌, List, [], ◌++◌, Option, Some, None, refl, sym, ap, ◌∙◌, append_assoc, arith}
+use Rattle.std.specs.Prelude.{option_map}
+use Rattle.apex_types.specs.Line.{text_of}
+use Rattle.apex_types.specs.declared.device.DeviceLine.{DeviceLine}
+use Rattle.apex_types.specs.declared.event.Event.{Event}
+use Rattle.apex_types.specs.declared.identity.At.{At}
+use Rattle.apex_meaning.specs.Module.{Plan, Advanced, Course, of_tick, first_tick, next_tick, still, starts, goes_on, then_runs, module_tick, trace_from, trace}
+use Rattle.apex_meaning.specs.Partition.{Member}
+use Rattle.apex_meaning.specs.Windows.{tick_from}
+use Rattle.module.specs.Standing.{Standing, at_first, begins, begins_and_ticks, ticks_from, ticks, origin_of, after, lines_of}
+use Rattle.module.proofs.DeviceLines.{IsNow, same_tick, tick_now, none_after}
+use Rattle.module.proofs.Texts.{text_append}
+
+-- what begins, and then the tick
+abbrev behind : {C : Type 0} → Advanced C → Course C → Course C
+behind b d = record { at = d.at; members = d.members; lines = b.lines ++ d.lines }
+
+-- ---- other lines of the devices
+
+-- only the lines of its tick count
+same_ticks : {C : Type 0} (plan : Plan) (xs ys : List DeviceLine) (t : ℕ) (ms : List (Member C)) (o : Option ℕ) → of_tick t xs ≡ of_tick t ys → ticks_from plan xs t ms o ≡ ticks_from plan ys t ms o
+same_ticks plan xs ys t ms None e = refl
+same_ticks plan xs ys t ms (Some origin) e = ap (behind (begins t ms)) (same_tick plan (tick_from origin t) xs ys (begins t ms).members e)
+
+-- only the lines of these ticks count
+same_lines : {C : Type 0} (plan : Plan) (n : ℕ) (s : Standing C) (xs ys : List DeviceLine) → ((u : ℕ) → s.now ≤ u → of_tick u xs ≡ of_tick u ys) → lines_of plan xs n s ≡ lines_of plan ys n s
+same_lines plan zero s xs ys h = refl
+same_lines plan (suc n) s xs ys h =
+    let own = ticks plan ys s in
+    ap (λ (c : Course _). c.lines ++ lines_of plan xs n (after s c)) (same_ticks plan xs ys s.now s.members s.origin (h s.now (omega arith)))
+    ∙ ap (λ (es : List Event). own.lines ++ es) (same_lines plan n (after s own) xs ys (λ u k. h u (omega (arith, k))))
+
+-- The text of the first of several ticks, with the lines of this tick, and of the rest, with the lines
+-- behind them.
+pub tick_text : {C : Type 0} (plan : Plan) (lines now later : List DeviceLine) (n k : ℕ) (s next : Standing C) → n ≡ suc k
+    → of_tick s.now now ≡ of_tick s.now lines → ((t : ℕ) → s.now < t → of_tick t later ≡ of_tick t lines)
+    → next ≡ after s (ticks plan now s)
+    → text_of (lines_of plan lines n s) ≡ text_of (ticks plan now s).lines ++ text_of (lines_of plan later k next)
+tick_text plan lines now later n k s next count of_now of_later same =
+    let own = ticks plan now s in
+    ap text_of (ap (λ m. lines_of plan lines m s) count
+    ∙ ap (λ (c : Course _). c.lines ++ lines_of plan lines k (after s c)) (same_ticks plan lines now s.now s.members s.origin (sym of_now))
+    ∙ ap (λ (es : List Event). own.lines ++ es) (same_lines plan k (after s own) lines later (λ u h. sym (of_later u (omega (arith, h)))) ∙ ap (λ (x : Standing _). lines_of plan later k x) (sym same)))
+    ∙ text_append own.lines (lines_of plan later k next)
+
+-- ---- after a shutdown
+
+none_from : {C : Type 0} (plan : Plan) (lines : List DeviceLine) (n now : ℕ) (ms : List (Member C)) → lines_of plan lines n (record { members = ms; now = now; origin = None }) ≡ []
+none_from plan lines zero now ms = refl
+none_from plan lines (suc n) now ms = none_from plan lines n (now + 1) ms
+
+-- of a module that is shut down there is no line
+pub none_down : {C : Type 0} (plan : Plan) (lines : List DeviceLine) (n now : ℕ) (ms : List (Member C)) (o : Option ℕ) → o ≡ None → lines_of plan lines n (record { members = ms; now = now; origin = o }) ≡ []
+none_down plan lines n now ms None e = none_from plan lines n now ms
+none_down plan lines n now ms (Some origin) e = absurd cc
+
+-- ---- the trace
+
+begins_later : {C : Type 0} (now : ℕ) (ms : List (Member C)) → 0 < now → begins now ms ≡ still ms
+begins_later zero ms h = absurd (omega (arith, h))
+begins_later (suc t) ms h = refl
+
+same_next : (now : ℕ) (o : Option At) → IsNow now o → option_map (λ x. tick_from x (now + 1)) (option_map origin_of o) ≡ option_map next_tick o
+same_next now None h = refl
+same_next now (Some a) h = ap (λ (n : ℕ). Some (tick_from a.origin.0 (n + 1))) (sym h)
+
+-- behind the first tick
+later_is : {C : Type 0} (plan : Plan) (lines : List DeviceLine) (n now : ℕ) (ms : List (Member C)) (o : Option ℕ) → 0 < now → lines_of plan lines n (record { members = ms; now = now; origin = o }) ≡ trace_from plan lines n (option_map (λ x. tick_from x now) o) ms
+later_is plan lines zero now ms o h = refl
+later_is plan lines (suc n) now ms None h = none_from plan lines n (now + 1) ms
+later_is plan lines (suc n) now ms (Some origin) h =
+    let at = tick_from origin now in
+    let own = module_tick plan at lines ms in
+    ap (λ (b : Advanced _). (b.lines ++ (module_tick plan at lines b.members).lines) ++ lines_of plan lines n (record { members = (module_tick plan at lines b.members).members; now = now + 1; origin = option_map origin_of (module_tick plan at lines b.members).at })) (begins_later now ms h)
+    ∙ ap (λ (es : List Event). own.lines ++ es)
+    (later_is plan lines n (now + 1) own.members (option_map origin_of own.at) (omega arith) ∙ ap (λ (x : Option At). trace_from plan lines n x own.members) (same_next now own.at (tick_now plan at lines ms)))
+
+-- so many ticks of a module, one after another, make its trace
+pub is_traced : {C : Type 0} (plan : Plan) (devices : List DeviceLine) (n : ℕ) (ms : List (Member C)) → trace (record { plan = plan; members = ms }) devices n ≡ lines_of plan devices n (at_first ms)
+is_traced plan devices zero ms = refl
+is_traced plan devices (suc n) ms =
+    let s = starts ms in
+    let own = module_tick plan first_tick devices s.members in
+    let next = lines_of plan devices n (record { members = own.members; now = 0 + 1; origin = option_map origin_of own.at }) in
+    sym (append_assoc s.lines own.lines next
+    ∙ ap (λ (es : List Event). s.lines ++ (own.lines ++ es))
+    (later_is plan devices n (0 + 1) own.members (option_map origin_of own.at) (omega arith) ∙ ap (λ (x : Option At). trace_from plan devices n x own.members) (same_next 0 own.at (tick_now plan first_tick devices s.members))))

@@ -1,0 +1,21 @@
+use Rattle.std.proofs.Common.{◌≡◌, ◌≤◌, ◌+◌, ◌^◌, false}
+use Rattle.apex_types.proofs.Writing.{IsUnderWay}
+use Rattle.apex_types.specs.Line.{text_of}
+use Rattle.apex_meaning.specs.TwoMeanings.{machine_module, machine_trace}
+use Rattle.module.specs.Machines.{machine_of}
+use Rattle.module.specs.Standing.{lines_of}
+use Rattle.module.specs.Written.{AreFrom}
+use Rattle.module.proofs.running.run_ticks.Given as goal
+
+abbrev pub invariant-loop-left : goal.invariant-loop-left
+invariant-loop-left g l = record {
+  image : (machine_of l.machine).image ≡ (machine_of l.fn.machine).image;
+  failed : (machine_of l.machine).failed ≡ false;
+  order : AreFrom (machine_of l.machine).standing.now l.lines;
+  limit : (machine_of l.machine).standing.now + l.left ≤ 2 ^ 40;
+  under_way : IsUnderWay (g.S.Sink.taken l.fn.sink) (g.S.Sink.taken l.sink) (text_of (machine_trace (machine_of l.fn.machine).image l.devices l.ticks)) (text_of (lines_of (machine_module (machine_of l.fn.machine).image).plan l.lines l.left (machine_of l.machine).standing));
+  quiet : g.S.Sink.failures l.sink ≡ g.S.Sink.failures l.fn.sink;
+}
+
+abbrev pub decreases-loop-left : goal.decreases-loop-left
+decreases-loop-left g l = l.left

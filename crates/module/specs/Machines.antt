@@ -1,0 +1,63 @@
+-- A machine that runs an image tick by tick, and what a tick of it promises.
+use Rattle.std.specs.Prelude.{◌≡◌, ◌<◌, ◌^◌, ℕ, ◌+◌, Bool, true, false, List, Option, Result, Ok, Err}
+use Rattle.std.specs.Io.KnownBytes.{Appends}
+use Rattle.apex_types.specs.Line.{text_of}
+use Rattle.apex_types.specs.Sink.{TakesBeginning}
+use Rattle.apex_types.specs.declared.device.DeviceLine.{DeviceLine}
+use Rattle.apex_meaning.specs.Image.{Image}
+use Rattle.apex_meaning.specs.MachineControl.{MachineControl}
+use Rattle.apex_meaning.specs.Module.{Course}
+use Rattle.apex_meaning.specs.TwoMeanings.{machine_module}
+use Rattle.image.specs.Views.{image_of}
+use Rattle.partition_base.specs.contracts.machine.MachineExecutor.TheImpl.{ghosts as executor}
+use Rattle.module.specs.Standing.{Standing, at_first, after, ticks}
+use Rattle.module.specs.Views.{standing_of}
+use Rattle.module.specs.declared.fault.RunFault.{RunFault}
+use Rattle.module.specs.declared.fault.RunFault.TheVariants as fault
+use Rattle.module.specs.declared.machine.Machine as code
+
+-- The image, the module between two ticks, and whether the sink failed in an earlier tick.
+pub record Machine : Type 0 where
+  pub image : Image
+  pub standing : Standing MachineControl
+  pub failed : Bool
+
+abbrev pub machine_of : code.Machine → Machine
+machine_of m = record { image = image_of m.module.image; standing = standing_of executor m.module; failed = m.has_failed }
+
+-- an image before its first tick
+abbrev pub fresh_machine : Image → Machine
+fresh_machine image = record { image = image; standing = at_first (machine_module image).members; failed = false }
+
+-- the next tick of an image, with these lines of the devices
+abbrev pub course_of : List DeviceLine → Machine → Course MachineControl
+course_of lines m = ticks (machine_module m.image).plan lines m.standing
+
+-- neither the machine nor the sink was touched
+pub record IsUntouched (m next : Machine) (old new : Option (List ℕ)) (before after : ℕ) : Type 0 where
+  pub machine : next ≡ m
+  pub taken : new ≡ old
+  pub quiet : after ≡ before
+
+-- The machine has gone one tick on, and the sink has taken the text of its lines.
+pub record HasGoneOn (lines : List DeviceLine) (m next : Machine) (old new : Option (List ℕ)) (before now : ℕ) : Type 0 where
+  pub image : next.image ≡ m.image
+  pub standing : next.standing ≡ after m.standing (course_of lines m)
+  pub failed : next.failed ≡ false
+  pub written : Appends old new (text_of (course_of lines m).lines)
+  pub quiet : now ≡ before
+
+-- The sink has failed, and has taken a beginning of the text of the tick's lines.
+pub record HasFailed (lines : List DeviceLine) (m next : Machine) (old new : Option (List ℕ)) (before now : ℕ) : Type 0 where
+  pub failed : next.failed ≡ true
+  pub beginning : TakesBeginning old new (text_of (course_of lines m).lines)
+  pub once : now ≡ before + 1
+
+-- What a tick has made of a machine and of a sink. A machine whose sink failed, and one that has gone 2^40
+-- ticks, is refused.
+abbrev pub HasTicked : List DeviceLine → Machine → Machine → Option (List ℕ) → Option (List ℕ) → ℕ → ℕ → Result (Unit {0}) RunFault → Type 0
+HasTicked lines m next old new before now (Ok done) = (m.failed ≡ false) × (m.standing.now < 2 ^ 40) × HasGoneOn lines m next old new before now
+HasTicked lines m next old new before now (Err fault.Write) = (m.failed ≡ false) × (m.standing.now < 2 ^ 40) × HasFailed lines m next old new before now
+HasTicked lines m next old new before now (Err fault.Failed) = (m.failed ≡ true) × IsUntouched m next old new before now
+HasTicked lines m next old new before now (Err fault.Ticks) = (m.failed ≡ false) × (m.standing.now ≡ 2 ^ 40) × IsUntouched m next old new before now
+HasTicked lines m next old new before now (Err _) = ⊥

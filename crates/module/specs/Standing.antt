@@ -1,0 +1,59 @@
+-- A module between two ticks, and the tick that comes next.
+use Rattle.std.specs.Prelude.{ℕ, zero, suc, ◌+◌, ◌==◌, if◌then◌else◌, List, [], ◌++◌, Option, Some, None, option_map, unwrap_or}
+use Rattle.apex_types.specs.declared.device.DeviceLine.{DeviceLine}
+use Rattle.apex_types.specs.declared.event.Event.{Event}
+use Rattle.apex_types.specs.declared.identity.At.{At}
+use Rattle.apex_types.specs.declared.identity.Ticks.{Ticks}
+use Rattle.apex_meaning.specs.Module.{Plan, Advanced, Course, still, starts, goes_on, then_runs, module_tick}
+use Rattle.apex_meaning.specs.Partition.{Member}
+use Rattle.apex_meaning.specs.Windows.{tick_from}
+
+-- The partitions, the tick that comes next, and the origin that counts. There is none after a shutdown.
+pub record Standing (Control : Type 0) : Type 0 where
+  pub members : List (Member Control)
+  pub now : ℕ
+  pub origin : Option ℕ
+
+-- before the first tick
+abbrev pub at_first : {C : Type 0} → List (Member C) → Standing C
+at_first members = record { members = members; now = 0; origin = Some 0 }
+
+-- before the first tick each partition starts
+abbrev pub begins : {C : Type 0} → ℕ → List (Member C) → Advanced C
+begins now members = if now == 0 then starts members else still members
+
+-- what begins, then the tick of the module
+abbrev pub begins_and_ticks : {C : Type 0} → Plan → At → List DeviceLine → List (Member C) → Course C
+begins_and_ticks plan at lines members = then_runs (goes_on at (begins at.now.0 members)) (λ a ms. module_tick plan a lines ms)
+
+-- after a shutdown nothing happens
+abbrev pub ticks_from : {C : Type 0} → Plan → List DeviceLine → ℕ → List (Member C) → Option ℕ → Course C
+ticks_from plan lines now members None = record { at = None; members = members; lines = [] }
+ticks_from plan lines now members (Some origin) = begins_and_ticks plan (tick_from origin now) lines members
+
+-- the tick that comes next, with these lines of the devices
+abbrev pub ticks : {C : Type 0} → Plan → List DeviceLine → Standing C → Course C
+ticks plan lines s = ticks_from plan lines s.now s.members s.origin
+
+abbrev pub origin_of : At → ℕ
+origin_of at = at.origin.0
+
+-- the module after its next tick
+abbrev pub after : {C : Type 0} → Standing C → Course C → Standing C
+after s c = record { members = c.members; now = s.now + 1; origin = option_map origin_of c.at }
+
+-- the lines of so many ticks, one after another
+pub lines_of : {C : Type 0} → Plan → List DeviceLine → ℕ → Standing C → List Event
+lines_of plan lines zero s = []
+lines_of plan lines (suc n) s = let c = ticks plan lines s in c.lines ++ lines_of plan lines n (after s c)
+
+-- ---- ticks as the code holds them
+
+abbrev pub ticks_of : Ticks → ℕ
+ticks_of t = t.0
+
+abbrev pub ticks_in : Option Ticks → Option ℕ
+ticks_in o = option_map ticks_of o
+
+abbrev pub origin_or_zero : Option Ticks → ℕ
+origin_or_zero o = unwrap_or (ticks_in o) 0

@@ -1,0 +1,103 @@
+//! An image that runs tick by tick.
+
+ghost use Rattle.std.specs.Prelude.{◌≡◌, ◌<◌, ◌-◌, ◌^◌, Ok, is_none, IfOk, IfErr};
+ghost use Rattle.apex_meaning.specs.DeviceText.{verdict_for};
+ghost use Rattle.apex_meaning.specs.Module.{of_tick};
+ghost use Rattle.image.specs.Views.{image_of};
+ghost use Rattle.module.specs.Machines.{HasTicked, fresh_machine, machine_of};
+ghost use Rattle.module.specs.Promises.{AreRefused};
+ghost use Rattle.module.specs.Written.{AreFrom};
+
+use crate::fault::RunFault;
+use crate::member::Module;
+use apex_types::{DeviceLine, Sink, SinkFault};
+use image::Image;
+use module_base::{DeviceTextFault, read_devices};
+use std::alloc::{AllocError, Global};
+
+/// The most ticks of a run, 2^40.
+pub const MOST_TICKS: u64 = 1_099_511_627_776;
+
+/// An image that runs tick by tick.
+///
+/// A program of one's own loads an image, reads the text of its devices, and hands each tick the
+/// lines of that tick. So many ticks write what [`run`](crate::run) writes.
+#[derive(Drop)]
+pub struct Machine {
+    module: Module<partition_base::Machine>,
+    /// The sink failed.
+    has_failed: bool,
+}
+
+impl Machine {
+    /// The machine of an image, before its first tick. An error is one of memory.
+    pub fn load(alloc: Global, image: Image) -> Result<Machine, AllocError>
+        ensures { IfOk result (λ machine. machine_of machine ≡ fresh_machine (image_of image)) }
+    {
+        let module = Module::load(alloc, image)?;
+        Ok(Machine {
+            module,
+            has_failed: false,
+        })
+    }
+
+    /// The lines of a device text for the image.
+    ///
+    /// # Errors
+    ///
+    /// [`RunFault::Device`] with the lowest rule that the first wrong line breaks; or want of memory.
+    #[tactic(auto, using(crate::proofs::Devices::read_in_order))]
+    pub fn devices(&self, alloc: Global, text: &[u8]) -> Result<Vec<DeviceLine>, RunFault>
+        ensures taken { IfOk result (λ lines. verdict_for (machine_of self.now).image text.now ≡ Ok lines.items) }
+        ensures order { IfOk result (λ lines. AreFrom 0 lines.items) }
+        ensures refused { IfErr result (λ fault. AreRefused (verdict_for (machine_of self.now).image text.now) fault) }
+    {
+        match read_devices(alloc, &self.module.image, text) {
+            Ok(lines) => Ok(lines),
+            Err(DeviceTextFault::Line(fault)) => Err(RunFault::Device(fault)),
+            Err(DeviceTextFault::Memory) => Err(RunFault::Memory),
+        }
+    }
+
+    /// The tick that comes next, from 0.
+    pub fn now(&self) -> u64
+        ensures { result ≡ (machine_of self.now).standing.now }
+    {
+        self.module.now.0
+    }
+
+    /// Whether the module is shut down, so that nothing happens any more.
+    pub fn is_shut_down(&self) -> bool
+        ensures { result ≡ is_none (machine_of self.now).standing.origin }
+    {
+        self.module.origin.is_none()
+    }
+
+    /// The next tick, with the devices' lines of this tick in their order. The lines of its trace go into
+    /// the sink; before the first tick these are the lines of the start too.
+    ///
+    /// # Errors
+    ///
+    /// [`RunFault::Failed`] where the sink failed in an earlier tick, and else [`RunFault::Ticks`] after
+    /// 2^40 ticks: nothing is changed, and nothing is written. [`RunFault::Write`] where the sink fails in
+    /// this tick: it has taken a beginning of the tick's lines.
+    pub fn tick<S: Sink>(&mut self, lines: &[DeviceLine], sink: &mut S) -> Result<(), RunFault>
+        requires lines { of_tick (machine_of self.old).standing.now lines.now ≡ lines.now }
+        requires failures { S.failures sink.old < 2 ^ 64 - 1 }
+        ensures { HasTicked lines.now (machine_of self.old) (machine_of self.new) (S.taken sink.old) (S.taken sink.new) (S.failures sink.old) (S.failures sink.new) result }
+    {
+        if self.has_failed {
+            return Err(RunFault::Failed);
+        }
+        if self.now() == MOST_TICKS {
+            return Err(RunFault::Ticks);
+        }
+        match self.module.tick(lines, sink) {
+            Ok(()) => Ok(()),
+            Err(SinkFault) => {
+                self.has_failed = true;
+                Err(RunFault::Write)
+            }
+        }
+    }
+}
