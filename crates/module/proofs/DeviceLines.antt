@@ -14,7 +14,7 @@ use Rattle.apex_meaning.specs.Module.{Plan, Course, unless_down, then_runs, brea
 use Rattle.apex_meaning.specs.Partition.{Member}
 use Rattle.module.specs.Written.{AreFrom}
 
-not_true : (b : Bool) → (b ≡ true → ⊥) → b ≡ false
+pub not_true : (b : Bool) → (b ≡ true → ⊥) → b ≡ false
 not_true true h = absurd (h refl)
 not_true false h = refl
 
@@ -139,7 +139,7 @@ inputs_now plan (l ∷ ls) at ms =
     let first = inputs plan at l.input ms in
     stays_now at.now.0 first (λ a ms. inputs_all plan a ls ms) first.at (input_now plan at l.input ms) (input_now plan at l.input ms) (λ a ms. inputs_now plan ls a ms)
 
-tick_now : {C : Type 0} (plan : Plan) (at : At) (ls : List DeviceLine) (ms : List (Member C)) → IsNow at.now.0 (module_tick plan at ls ms).at
+pub tick_now : {C : Type 0} (plan : Plan) (at : At) (ls : List DeviceLine) (ms : List (Member C)) → IsNow at.now.0 (module_tick plan at ls ms).at
 tick_now plan at ls ms =
     let first = inputs_all plan at (of_tick at.now.0 ls) ms in
     let now = inputs_now plan (of_tick at.now.0 ls) at ms in

@@ -1,38 +1,34 @@
 -- A tick of a machine within a run.
 use Rattle.std.proofs.Common.{◌≡◌, ◌<◌, ◌≤◌, ◌+◌, ◌^◌, ℕ, suc, Bool, true, false, List, [], ◌++◌, Option, Some, None, Result, Ok, Err, refl, sym, ap, subst, ◌∙◌, arith}
+use Rattle.std.specs.Io.KnownBytes.{Appends}
+use Rattle.std.specs.Prelude.{is_none}
 use Rattle.apex_types.specs.Line.{text_of}
 use Rattle.apex_types.specs.Sink.{TakesBeginning}
 use Rattle.apex_types.specs.declared.device.DeviceLine.{DeviceLine}
+use Rattle.apex_types.specs.declared.event.Event.{Event}
 use Rattle.apex_types.proofs.Writing.{IsUnderWay, under_way_more, under_way_end, under_way_fails, under_way_start}
 use Rattle.apex_meaning.specs.Image.{Image}
 use Rattle.apex_meaning.specs.Module.{of_tick}
+use Rattle.apex_meaning.specs.MachineControl.{MachineControl}
+use Rattle.apex_meaning.specs.Partition.{Member}
 use Rattle.apex_meaning.specs.TwoMeanings.{machine_module, machine_trace}
 use Rattle.module.specs.Machines.{Machine, HasGoneOn, HasFailed, HasTicked, course_of, fresh_machine}
-use Rattle.module.specs.Standing.{after, lines_of, ticks}
+use Rattle.module.specs.Promises.{RunsImage}
+use Rattle.module.specs.Standing.{Standing, after, lines_of, ticks}
 use Rattle.module.specs.declared.fault.RunFault.{RunFault}
 use Rattle.module.specs.declared.fault.RunFault.TheVariants as fault
 use Rattle.module.proofs.Standing.{tick_text, none_down, is_traced}
 
 -- ---- what a tick that may be made comes to
 
--- it is made
-pub gone_on : {lines : List DeviceLine} {m next : Machine} {old new : Option (List ℕ)} {before now : ℕ} (r : Result (Unit {0}) RunFault) (x : Unit {0}) → r ≡ Ok x → HasTicked lines m next old new before now r → HasGoneOn lines m next old new before now
-gone_on (Ok y) x e h = h.2
-gone_on (Err f) x e h = absurd cc
-
--- or the sink fails
-only_write : {lines : List DeviceLine} {m next : Machine} {old new : Option (List ℕ)} {before now : ℕ} (f : RunFault) → m.failed ≡ false → m.standing.now < 2 ^ 40 → HasTicked lines m next old new before now (Err f) → (f ≡ fault.Write) × HasFailed lines m next old new before now
+-- it is made, or the sink fails
+pub only_write : {lines : List DeviceLine} {m next : Machine} {old new : Option (List ℕ)} {before now : ℕ} (f : RunFault) → m.failed ≡ false → m.standing.now < 2 ^ 40 → HasTicked lines m next old new before now (Err f) → (f ≡ fault.Write) × HasFailed lines m next old new before now
 only_write fault.Write sound within h = (refl, h.2)
 only_write fault.Failed sound within h = let both : false ≡ true = sym sound ∙ h.0 in absurd cc
 only_write fault.Ticks sound within h = absurd (omega (arith, within, h.1))
 only_write (fault.Image f) sound within h = absurd h
 only_write (fault.Device f) sound within h = absurd h
 only_write fault.Memory sound within h = absurd h
-
-pub fails : {lines : List DeviceLine} {m next : Machine} {old new : Option (List ℕ)} {before now : ℕ} (r : Result (Unit {0}) RunFault) (f : RunFault) → r ≡ Err f → m.failed ≡ false → m.standing.now < 2 ^ 40 → HasTicked lines m next old new before now r → (f ≡ fault.Write) × HasFailed lines m next old new before now
-fails (Ok x) f e sound within h = absurd cc
-fails {lines = lines} {m = m} {next = next} {old = old} {new = new} {before = before} {now = now} (Err g) f e sound within h =
-    only_write f sound within (subst (λ r. HasTicked lines m next old new before now r) e h)
 
 -- ---- the text of a run
 
@@ -64,3 +60,19 @@ ends_early {old = old} {mid = mid} {new = new} {text = text} image m next lines 
     let course = ap (λ (i : Image). ticks (machine_module i).plan now m.standing) same in
     let split = tick_text plan lines now later n k m.standing (after m.standing (ticks plan now m.standing)) count of_now of_later refl in
     under_way_fails old mid new text (text_of (ticks plan now m.standing).lines) _ (rw split at way) (rw (ap (λ c. text_of c.lines) course) at h.beginning)
+
+-- the run fails with it
+pub run_fails : (events : List Event) (old new : Option (List ℕ)) (f : RunFault) (r : Result (Unit {0}) RunFault) → r ≡ Err f → f ≡ fault.Write → TakesBeginning old new (text_of events) → RunsImage events old new r
+run_fails events old new f r e is h = subst (RunsImage events old new) (sym (e ∙ ap (λ (x : RunFault). Err x) is)) h
+
+-- nothing is left to run
+pub nothing_left : {old new : Option (List ℕ)} {text : List ℕ} (image : Image) (lines : List DeviceLine) (n : ℕ) (s : Standing MachineControl) → n ≡ 0 → IsUnderWay old new text (text_of (lines_of (machine_module image).plan lines n s)) → Appends old new text
+nothing_left {old = old} {new = new} {text = text} image lines n s none way =
+    under_way_end old new text (subst (IsUnderWay old new text) (ap (λ k. text_of (lines_of (machine_module image).plan lines k s)) none) way)
+
+-- the module is shut down
+pub shut_down : {old new : Option (List ℕ)} {text : List ℕ} (image : Image) (lines : List DeviceLine) (n now : ℕ) (ms : List (Member MachineControl)) (o : Option ℕ) → is_none o ≡ true
+    → IsUnderWay old new text (text_of (lines_of (machine_module image).plan lines n (record { members = ms; now = now; origin = o }))) → Appends old new text
+shut_down {old = old} {new = new} {text = text} image lines n now ms None down way =
+    under_way_end old new text (subst (IsUnderWay old new text) (ap text_of (none_down (machine_module image).plan lines n now ms None refl)) way)
+shut_down image lines n now ms (Some origin) down way = absurd cc

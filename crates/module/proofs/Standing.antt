@@ -1,5 +1,6 @@
 -- A module tick by tick, and its trace.
-use Rattle.std.proofs.Common.{◌≡◌, ℕ, zero, suc, ◌+◌, ◌<◌, ◌≤◌, List, [], ◌++◌, Option, Some, None, refl, sym, ap, ◌∙◌, append_assoc, arith}
+use Rattle.std.proofs.Common.{◌≡◌, ℕ, zero, suc, ◌+◌, ◌<◌, ◌≤◌, ◌==◌, Bool, false, if◌then◌else◌, List, [], ◌++◌, Option, Some, None, refl, sym, ap, ◌∙◌, append_assoc, arith}
+use Rattle.std.proofs.lemmas.Bool.Decides.{Decides-eqb}
 use Rattle.std.specs.Prelude.{option_map}
 use Rattle.apex_types.specs.Line.{text_of}
 use Rattle.apex_types.specs.declared.device.DeviceLine.{DeviceLine}
@@ -9,7 +10,7 @@ use Rattle.apex_meaning.specs.Module.{Plan, Advanced, Course, of_tick, first_tic
 use Rattle.apex_meaning.specs.Partition.{Member}
 use Rattle.apex_meaning.specs.Windows.{tick_from}
 use Rattle.module.specs.Standing.{Standing, at_first, begins, begins_and_ticks, ticks_from, ticks, origin_of, after, lines_of}
-use Rattle.module.proofs.DeviceLines.{IsNow, same_tick, tick_now, none_after}
+use Rattle.module.proofs.DeviceLines.{IsNow, not_true, same_tick, tick_now, none_after}
 use Rattle.module.proofs.Texts.{text_append}
 
 -- what begins, and then the tick
@@ -58,8 +59,9 @@ none_down plan lines n now ms (Some origin) e = absurd cc
 -- ---- the trace
 
 begins_later : {C : Type 0} (now : ℕ) (ms : List (Member C)) → 0 < now → begins now ms ≡ still ms
-begins_later zero ms h = absurd (omega (arith, h))
-begins_later (suc t) ms h = refl
+begins_later now ms h =
+    let later : (now == 0) ≡ false = not_true (now == 0) (λ e. let first : now ≡ 0 = (Decides-eqb now 0).0 e in absurd (omega (arith, h, first))) in
+    ap (λ (b : Bool). if b then starts ms else still ms) later
 
 same_next : (now : ℕ) (o : Option At) → IsNow now o → option_map (λ x. tick_from x (now + 1)) (option_map origin_of o) ≡ option_map next_tick o
 same_next now None h = refl

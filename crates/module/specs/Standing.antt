@@ -43,7 +43,7 @@ abbrev pub after : {C : Type 0} → Standing C → Course C → Standing C
 after s c = record { members = c.members; now = s.now + 1; origin = option_map origin_of c.at }
 
 -- the lines of so many ticks, one after another
-pub lines_of : {C : Type 0} → Plan → List DeviceLine → ℕ → Standing C → List Event
+abbrev pub lines_of : {C : Type 0} → Plan → List DeviceLine → ℕ → Standing C → List Event
 lines_of plan lines zero s = []
 lines_of plan lines (suc n) s = let c = ticks plan lines s in c.lines ++ lines_of plan lines n (after s c)
 
