@@ -110,15 +110,6 @@ abbrev pub IsNow : ℕ → Option At → Type 0
 IsNow t None = Unit {0}
 IsNow t (Some at) = at.now.0 ≡ t
 
--- the tick is this one or a later one
-abbrev pub IsReached : ℕ → Option At → Type 0
-IsReached t None = Unit {0}
-IsReached t (Some at) = t ≤ at.now.0
-
-next_reached : (t : ℕ) (o : Option At) → IsNow t o → IsReached (t + 1) (option_map next_tick o)
-next_reached t None h = tt
-next_reached t (Some at) h = omega (arith, h)
-
 stays_now : {C : Type 0} (t : ℕ) (c : Course C) (rest : At → List (Member C) → Course C) (o : Option At) → IsNow t c.at → IsNow t o → ((at : At) (ms : List (Member C)) → IsNow at.now.0 (rest at ms).at) → IsNow t (unless_down c rest o).at
 stays_now t c rest None h k more = h
 stays_now t c rest (Some at) h k more = subst (λ n. IsNow n (rest at c.members).at) k (more at c.members)
@@ -145,25 +136,11 @@ tick_now plan at ls ms =
     let now = inputs_now plan (of_tick at.now.0 ls) at ms in
     stays_now at.now.0 first (moves_and_ticks plan) first.at now now (λ a ms. refl)
 
--- a step after a tick of this number is in the next one, or later
-pub after_tick : {C : Type 0} (plan : Plan) (at : At) (ls : List DeviceLine) (ms : List (Member C)) → IsReached (at.now.0 + 1) (option_map next_tick (module_tick plan at ls ms).at)
-after_tick plan at ls ms = next_reached at.now.0 (module_tick plan at ls ms).at (tick_now plan at ls ms)
-
--- ---- a tick, and a trace, with other lines
+-- ---- a tick with other lines
 
 -- only the lines of its tick count
 pub same_tick : {C : Type 0} (plan : Plan) (at : At) (xs ys : List DeviceLine) (ms : List (Member C)) → of_tick at.now.0 xs ≡ of_tick at.now.0 ys → module_tick plan at xs ms ≡ module_tick plan at ys ms
 same_tick plan at xs ys ms e = ap (λ (ls : List DeviceLine). then_runs (inputs_all plan at ls ms) (moves_and_ticks plan)) e
-
--- only the lines of these ticks count
-pub same_trace : {C : Type 0} (plan : Plan) (n t : ℕ) (o : Option At) (xs ys : List DeviceLine) (ms : List (Member C)) → IsReached t o → ((u : ℕ) → t ≤ u → of_tick u xs ≡ of_tick u ys) → trace_from plan xs n o ms ≡ trace_from plan ys n o ms
-same_trace plan zero t o xs ys ms p h = refl
-same_trace plan (suc n) t None xs ys ms p h = refl
-same_trace plan (suc n) t (Some at) xs ys ms p h =
-    let this = same_tick plan at xs ys ms (h at.now.0 p) in
-    let own = module_tick plan at ys ms in
-    ap (λ (r : Course _). r.lines ++ trace_from plan xs n (option_map next_tick r.at) r.members) this
-    ∙ ap (λ (es : List Event). own.lines ++ es) (same_trace plan n (at.now.0 + 1) (option_map next_tick own.at) xs ys own.members (after_tick plan at ys ms) (λ u k. h u (omega (arith, k, p))))
 
 -- of a module that is shut down there is no line
 pub none_after : {C : Type 0} (plan : Plan) (lines : List DeviceLine) (n : ℕ) (ms : List (Member C)) → trace_from plan lines n None ms ≡ []

@@ -32,6 +32,9 @@ only_write fault.Memory sound within h = absurd h
 
 -- ---- the text of a run
 
+pub ticks_are_the_trace : (image : Image) (lines : List DeviceLine) (n : ℕ) → lines_of (machine_module image).plan lines n (fresh_machine image).standing ≡ machine_trace image lines n
+ticks_are_the_trace image lines n = sym (is_traced (machine_module image).plan lines n (machine_module image).members)
+
 -- nothing is out before the first tick
 pub begins_with : (image : Image) (m : Machine) (devices : List DeviceLine) (n : ℕ) (taken : Option (List ℕ)) → m ≡ fresh_machine image → IsUnderWay taken taken (text_of (machine_trace image devices n)) (text_of (lines_of (machine_module image).plan devices n m.standing))
 begins_with image m devices n taken fresh =

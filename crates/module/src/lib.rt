@@ -17,5 +17,6 @@ mod ticks;
 
 pub use building::build;
 pub use fault::{BuildAndRunFault, BuildFault, RunFault};
-pub use machine::Machine;
+pub use machine::{Machine, ticks_make_the_trace};
 pub use running::{build_and_run, run};
+pub use ticks::split_tick;

@@ -1,10 +1,13 @@
 //! An image that runs tick by tick.
 
-ghost use Rattle.std.specs.Prelude.{◌≡◌, ◌<◌, ◌-◌, ◌^◌, Ok, is_none, IfOk, IfErr};
+ghost use Rattle.std.specs.Prelude.{◌≡◌, ◌<◌, ◌-◌, ◌^◌, ℕ, List, Ok, is_none, IfOk, IfErr};
 ghost use Rattle.apex_meaning.specs.DeviceText.{verdict_for};
 ghost use Rattle.apex_meaning.specs.Module.{of_tick};
 ghost use Rattle.image.specs.Views.{image_of};
+ghost use Rattle.apex_meaning.specs.Image as meant;
+ghost use Rattle.apex_meaning.specs.TwoMeanings.{machine_module, machine_trace};
 ghost use Rattle.module.specs.Machines.{HasTicked, fresh_machine, machine_of};
+ghost use Rattle.module.specs.Standing.{lines_of};
 ghost use Rattle.module.specs.Promises.{AreRefused};
 ghost use Rattle.module.specs.Written.{AreFrom};
 
@@ -101,3 +104,9 @@ impl Machine {
         }
     }
 }
+
+/// So many ticks of the machine of an image, one after another, write its trace.
+#[tactic(auto, using(crate::proofs::Machines::ticks_are_the_trace))]
+pub fn ticks_make_the_trace()
+    ensures { (image : meant.Image) (lines : List DeviceLine) (n : ℕ) → lines_of (machine_module image).plan lines n (fresh_machine image).standing ≡ machine_trace image lines n }
+{}

@@ -12,8 +12,8 @@ ghost use Rattle.module.specs.Written.{AreFrom};
 use crate::building::build;
 use crate::fault::{BuildAndRunFault, RunFault};
 use crate::machine::{MOST_TICKS, Machine};
-use crate::ticks::count_of_tick;
-use apex_types::{DeviceLine, Sink, Ticks};
+use crate::ticks::split_tick;
+use apex_types::{DeviceLine, Sink};
 use image::load_image;
 use std::alloc::Global;
 
@@ -63,7 +63,7 @@ fn run_ticks<S: Sink>(
     let mut left = ticks;
     let mut lines = devices;
     while left > 0 && !machine.is_shut_down() {
-        let (now, later) = lines.split_at(count_of_tick(lines, Ticks(machine.now())));
+        let (now, later) = split_tick(lines, machine.now());
         machine.tick(now, sink)?;
         lines = later;
         left -= 1;

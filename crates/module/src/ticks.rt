@@ -52,8 +52,19 @@ impl<E: Executor<Mem = PartitionMem>> Module<E> {
     }
 }
 
+/// Of these lines, which are of this tick or later ones, those of this tick, and those of later ticks.
+pub fn split_tick(lines: &[DeviceLine], tick: u64) -> (&[DeviceLine], &[DeviceLine])
+    requires order { AreFrom tick lines.now }
+    ensures own { result.0.now ≡ meaning.of_tick tick lines.now }
+    ensures of_tick { meaning.of_tick tick result.0.now ≡ result.0.now }
+    ensures later { AreFrom (tick + 1) result.1.now }
+    ensures rest { (t : ℕ) → tick < t → meaning.of_tick t result.1.now ≡ meaning.of_tick t lines.now }
+{
+    lines.split_at(count_of_tick(lines, Ticks(tick)))
+}
+
 /// How many of these lines, which are of this tick or later ones, are of this tick.
-pub fn count_of_tick(lines: &[DeviceLine], now: Ticks) -> usize
+fn count_of_tick(lines: &[DeviceLine], now: Ticks) -> usize
     requires order { AreFrom now.0 lines.now }
     ensures within { result ≤ length lines.now }
     ensures now { take result lines.now ≡ meaning.of_tick now.0 lines.now }
