@@ -26,9 +26,13 @@ abbrev pub instruction_lines : ℕ → List (List ℕ) → List ℕ
 instruction_lines index [] = []
 instruction_lines index (bytes ∷ others) = instruction_line index bytes ++ instruction_lines (index + 1) others
 
+-- the line of a partition's name
+abbrev pub name_line : List ℕ → List ℕ
+name_line name = codes "partition " ++ name ++ 10 ∷ []
+
 -- a partition: the line of its name, then the lines of its instructions from 0
 abbrev pub partition_text : Item → List ℕ
-partition_text it = codes "partition " ++ it.partition.name ++ 10 ∷ [] ++ instruction_lines 0 it.section.code
+partition_text it = name_line it.partition.name ++ instruction_lines 0 it.section.code
 
 -- the text of an image: its partitions, in their order
 abbrev pub code_text : Image → List ℕ
