@@ -68,9 +68,11 @@ fn costs_of_sources(
     ensures { IfOk result (λ costs. AreCosted (map partition_of rows.now) (programs_of sources.items) costs.items) }
 {
     let mut costs = Vec::with_capacity(alloc, rows.len())?;
+    let mut place = 0usize;
     for source in sources {
-        let row = &rows[costs.len()];
+        let row = &rows[place];
         costs.push(partition_costs(alloc, row, source)?)?;
+        place += 1;
     }
     Ok(costs)
 }
