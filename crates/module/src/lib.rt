@@ -4,6 +4,7 @@
 mod accepting;
 mod advance;
 mod building;
+mod costing;
 mod exchange;
 mod fault;
 mod input;
@@ -16,6 +17,7 @@ mod step;
 mod ticks;
 
 pub use building::build;
+pub use costing::{PartitionCosts, costs};
 pub use fault::{BuildAndRunFault, BuildFault, RunFault};
 pub use machine::{Machine, ticks_make_the_trace};
 pub use running::{build_and_run, run};
