@@ -9,6 +9,7 @@ mod images;
 mod largest;
 mod limits;
 mod lines;
+mod machines;
 mod memory;
 mod shelf;
 mod sinks;
