@@ -16,6 +16,7 @@ mod grammar;
 mod reading;
 mod refusal;
 mod running;
+mod showing;
 mod stream;
 mod telling;
 
