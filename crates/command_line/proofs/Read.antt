@@ -1,14 +1,10 @@
 -- What is read, and what is built of it.
 use Rattle.std.proofs.Common.{◌≡◌, ℕ, List, [], ◌∷◌, ◌++◌, length, map, drop, Option, Result, Ok, Err, IfOk, IfErr, refl, sym, ap, subst, ◌∙◌, append-nil, Bor}
-use Rattle.apex_meaning.specs.Image.{Image}
-use Rattle.apex_meaning.specs.ImageReading.{image_at}
 use Rattle.module.specs.Building.{IsImageOf}
 use Rattle.module.specs.Costs.{AreCosts}
-use Rattle.module.specs.Promises.{IsRefused}
 use Rattle.module.specs.declared.costing.PartitionCosts.{PartitionCosts}
-use Rattle.module.specs.declared.fault.RunFault.{RunFault}
 use Rattle.command_line.specs.Contents.{Contents, Holds, HoldAll}
-use Rattle.command_line.specs.Done.{AreCosted, IsBuilt, IsImageIn}
+use Rattle.command_line.specs.Done.{AreCosted, IsBuilt}
 use Rattle.command_line.specs.Reading.{IsRefusedText, IsUncostedText}
 use Rattle.command_line.specs.Refusals.{IsNotBuilt, IsNotCosted}
 use Rattle.command_line.specs.declared.refusal.Refusal.{Refusal}

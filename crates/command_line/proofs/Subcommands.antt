@@ -1,5 +1,5 @@
 -- Commands of a command, one by one.
-use Rattle.std.proofs.Common.{◌≡◌, Bool, Result, Ok, Err, IfOk, ap, ◌∙◌, ◌||◌}
+use Rattle.std.proofs.Common.{Bool, Result, Ok, Err, IfOk, ap, ◌∙◌, ◌||◌}
 use Rattle.clap.specs.Built.{AddsSubcommand}
 use Rattle.clap.specs.Simple.{App, shape_of, with_subcommand}
 use Rattle.clap.specs.declared.builder.command.Command.{Command}
