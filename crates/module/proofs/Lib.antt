@@ -1,4 +1,5 @@
 pub mod Built
+pub mod Costed
 pub mod DeviceLines
 pub mod Devices
 pub mod Headline

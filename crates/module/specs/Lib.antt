@@ -1,6 +1,7 @@
 pub mod Accepted
 pub mod Built
 pub mod Building
+pub mod Costs
 pub mod Sources
 pub mod Lines
 pub mod Loading

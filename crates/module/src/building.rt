@@ -40,7 +40,7 @@ pub fn build(alloc: Global, table: &[u8], sources: &[&[u8]]) -> Result<Vec<u8>, 
 }
 
 /// The module table that the text is.
-fn read(alloc: Global, text: &[u8]) -> Result<ModuleTable, BuildFault>
+pub fn read(alloc: Global, text: &[u8]) -> Result<ModuleTable, BuildFault>
     ensures table { IfOk result (λ table. IsTable text.now (table_of table)) }
     ensures refused { IfErr result (λ fault. IsTableRefusal text.now fault) }
 {

@@ -4,6 +4,7 @@
 mod accepting;
 mod advance;
 mod building;
+mod costing;
 mod exchange;
 mod fault;
 mod input;
@@ -15,5 +16,6 @@ mod step;
 mod ticks;
 
 pub use building::build;
+pub use costing::{PartitionCosts, costs};
 pub use fault::{BuildAndRunFault, BuildFault, RunFault};
 pub use running::{build_and_run, run};

@@ -1,0 +1,10 @@
+//! What an integrator reads of an image and of sources: the instructions of each partition, and the
+//! costs of each body.
+#![tactic(auto)]
+
+mod code;
+mod costs;
+mod line;
+
+pub use code::write_code;
+pub use costs::write_costs;

@@ -1,0 +1,44 @@
+//! The bytes of one line.
+
+ghost use Rattle.std.specs.Prelude.{◌≡◌, ℕ, ◌+◌, ◌≤◌, ◌++◌, length};
+ghost use Rattle.std.specs.Fmt.{decimal, signed_decimal};
+ghost use Rattle.arrayvec.specs.ArrayVec.{array_vec_len};
+
+use arrayvec::ArrayVec;
+
+/// The bytes of one line. The longest has two names of 30, three numbers of 20 digits and 28 other bytes.
+pub type Line = ArrayVec<u8, 160>;
+
+pub fn push_bytes(line: &mut Line, bytes: &[u8])
+    requires { array_vec_len line.old + length bytes.now ≤ 160 }
+    ensures items { line.new.items ≡ line.old.items ++ bytes.now }
+    ensures len { array_vec_len line.new ≡ array_vec_len line.old + length bytes.now }
+{
+    line.try_extend_from_slice(bytes).unwrap();
+}
+
+pub fn push_text(line: &mut Line, text: &str)
+    requires { array_vec_len line.old + length text.now ≤ 160 }
+    ensures items { line.new.items ≡ line.old.items ++ text.now }
+    ensures len { array_vec_len line.new ≡ array_vec_len line.old + length text.now }
+{
+    push_bytes(line, text.as_bytes());
+}
+
+pub fn push_number(line: &mut Line, number: u64)
+    requires { array_vec_len line.old + 20 ≤ 160 }
+    ensures items { line.new.items ≡ line.old.items ++ decimal number }
+    ensures len { array_vec_len line.new ≤ array_vec_len line.old + 20 }
+{
+    let mut buffer = itoa::Buffer::new();
+    push_text(line, buffer.format(number));
+}
+
+pub fn push_word(line: &mut Line, word: i64)
+    requires { array_vec_len line.old + 20 ≤ 160 }
+    ensures items { line.new.items ≡ line.old.items ++ signed_decimal word }
+    ensures len { array_vec_len line.new ≤ array_vec_len line.old + 20 }
+{
+    let mut buffer = itoa::Buffer::new();
+    push_text(line, buffer.format(word));
+}

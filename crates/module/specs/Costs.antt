@@ -1,0 +1,77 @@
+-- What the bodies of the partitions of a module cost.
+use Rattle.std.specs.Prelude.{◌≡◌, ℕ, List, [], ◌∷◌, ◌++◌, length, map, Option, Some, None}
+use Rattle.apex_meaning.specs.Cost as cost
+use Rattle.apex_meaning.specs.Image.{Partition, Table}
+use Rattle.apex_meaning.specs.Program.{Program, Procedure, Body, Process}
+use Rattle.pal.specs.declared.report.BodyCost.{BodyCost}
+use Rattle.pal.specs.declared.report.BodyName.{BodyName}
+use Rattle.pal.specs.declared.report.BodyName.TheVariants as body
+use Rattle.pal_base.specs.Costs.{held}
+use Rattle.module.specs.Accepted.{AreAccepted, IsModule}
+use Rattle.module.specs.Building.{IsRefusal, IsRefusedWith}
+use Rattle.module.specs.declared.costing.PartitionCosts.{PartitionCosts}
+use Rattle.module.specs.declared.fault.BuildFault.{BuildFault}
+use Rattle.module.specs.declared.fault.BuildFault.TheVariants as fault
+
+-- ---- the costs of a program
+
+-- its instructions, its frame, and the sum of the costs of its constructs
+abbrev pub cost_of_body : BodyName → Body → BodyCost
+cost_of_body name b = record { name = name; instructions = held (cost.size_of_body b); frame = held (cost.frame_of_body b); cost = held (cost.cost_of_body b) }
+
+abbrev pub cost_of_procedure : List ℕ → Procedure → BodyCost
+cost_of_procedure name p = record { name = body.Procedure name; instructions = held (cost.size_of_procedure p); frame = held (cost.frame_of_procedure p); cost = held (cost.cost_of_procedure p) }
+
+abbrev pub cost_of_process : Process → BodyCost
+cost_of_process p = cost_of_body (body.Process p.name) p.body
+
+abbrev pub costs_of_handler : Option Body → List BodyCost
+costs_of_handler None = []
+costs_of_handler (Some b) = cost_of_body body.Handler b ∷ []
+
+-- procedures with their names: a program with its names resolved has numbers in place of them
+abbrev pub costs_of_procedures : List (List ℕ) → List Procedure → List BodyCost
+costs_of_procedures (name ∷ names) (p ∷ ps) = cost_of_procedure name p ∷ costs_of_procedures names ps
+costs_of_procedures _ _ = []
+
+-- INIT, the handler, the processes, and the procedures with these names
+abbrev pub costs_of_program : List (List ℕ) → Program → List BodyCost
+costs_of_program names p = cost_of_body body.Init p.init ∷ costs_of_handler p.handler ++ map cost_of_process p.processes ++ costs_of_procedures names p.procedures
+
+-- ---- the costs of a module
+
+-- the costs of a partition's program, with a name for each of its procedures
+pub record IsCosted (row : Partition) (p : Program) (c : PartitionCosts) : Type 0 where
+  pub partition : c.partition ≡ row.name
+  pub procedures : List (List ℕ)
+  pub named : length procedures ≡ length p.procedures
+  pub bodies : c.bodies.items ≡ costs_of_program procedures p
+
+-- one for each partition, in order
+abbrev pub AreCosted : List Partition → List Program → List PartitionCosts → Type 0
+AreCosted [] [] [] = Unit {0}
+AreCosted (row ∷ rows) (p ∷ ps) (c ∷ costs) = IsCosted row p c × AreCosted rows ps costs
+AreCosted _ _ _ = ⊥
+
+-- with this table the sources are accepted, and these are the costs of their programs
+pub record AreCostsWith (t : Table) (sources : List (List ℕ)) (costs : List PartitionCosts) : Type 0 where
+  pub programs : List Program
+  pub accepted : AreAccepted t.partitions sources programs
+  pub costed : AreCosted t.partitions programs costs
+
+-- the table and the sources are accepted, and these are the costs of their programs
+pub record AreCosts (table : List ℕ) (sources : List (List ℕ)) (costs : List PartitionCosts) : Type 0 where
+  pub rows : Table
+  pub programs : List Program
+  pub accepted : IsModule table sources rows programs
+  pub costed : AreCosted rows.partitions programs costs
+
+-- ---- refusals: as of building, but no program is too long
+
+abbrev pub IsCostRefusedWith : Table → List (List ℕ) → BuildFault → Type 0
+IsCostRefusedWith t sources (fault.Compile name) = ⊥
+IsCostRefusedWith t sources f = IsRefusedWith t sources f
+
+abbrev pub IsCostRefusal : List ℕ → List (List ℕ) → BuildFault → Type 0
+IsCostRefusal table sources (fault.Compile name) = ⊥
+IsCostRefusal table sources f = IsRefusal table sources f

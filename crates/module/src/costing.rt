@@ -1,0 +1,95 @@
+//! What the bodies of accepted sources cost.
+
+ghost use Rattle.std.specs.Prelude.{◌≡◌, length, map, IfOk, IfErr};
+ghost use Rattle.image.specs.Items.{partition_of};
+ghost use Rattle.pal_base.specs.ProgramView.{program_of};
+ghost use Rattle.window_table.specs.Views.{table_of};
+ghost use Rattle.module.specs.Costs.{AreCosted, AreCosts, AreCostsWith, IsCostRefusal, IsCostRefusedWith, IsCosted};
+ghost use Rattle.module.specs.Sources.{programs_of};
+
+use crate::accepting::{AcceptedSource, accept_sources};
+use crate::building::read;
+use crate::fault::BuildFault;
+use apex_types::Name;
+use pal::{BodyCost, Checked, cost_report};
+use std::alloc::{AllocError, Global};
+use window_table::{ModuleTable, PartitionRow};
+
+/// The costs of the bodies of a partition's program: INIT, the handler, the processes, the procedures.
+#[derive(Drop)]
+pub struct PartitionCosts {
+    pub partition: Name,
+    pub bodies: Vec<BodyCost>,
+}
+
+/// The costs of the bodies of a module table's partitions, whose source texts stand in their order.
+///
+/// # Errors
+///
+/// Memory where there is none left. Else, in this order: the lowest rule that the table breaks;
+/// a number of sources that is not the number of partitions; and the lowest rule that a source breaks,
+/// with its line, of the first partition whose source is refused.
+pub fn costs(
+    alloc: Global,
+    table: &[u8],
+    sources: &[&[u8]],
+) -> Result<Vec<PartitionCosts>, BuildFault>
+    ensures costs { IfOk result (λ costs. AreCosts table.now (map (λ s. s.now) sources.now) costs.items) }
+    ensures refused { IfErr result (λ fault. IsCostRefusal table.now (map (λ s. s.now) sources.now) fault) }
+{
+    let table = read(alloc, table)?;
+    costs_with(alloc, &table, sources)
+}
+
+/// The costs of sources with an accepted table.
+fn costs_with(
+    alloc: Global,
+    table: &ModuleTable,
+    sources: &[&[u8]],
+) -> Result<Vec<PartitionCosts>, BuildFault>
+    ensures costs { IfOk result (λ costs. AreCostsWith (table_of table.now) (map (λ s. s.now) sources.now) costs.items) }
+    ensures refused { IfErr result (λ fault. IsCostRefusedWith (table_of table.now) (map (λ s. s.now) sources.now) fault) }
+{
+    if sources.len() != table.partitions.len() {
+        return Err(BuildFault::Sources);
+    }
+    let rows = table.partitions.as_slice();
+    let accepted = accept_sources(alloc, rows, sources)?;
+    Ok(costs_of_sources(alloc, rows, accepted)?)
+}
+
+/// The costs of accepted sources, one for each partition.
+fn costs_of_sources(
+    alloc: Global,
+    rows: &[PartitionRow],
+    sources: Vec<AcceptedSource>,
+) -> Result<Vec<PartitionCosts>, AllocError>
+    requires { length sources.items ≡ length rows.now }
+    ensures { IfOk result (λ costs. AreCosted (map partition_of rows.now) (programs_of sources.items) costs.items) }
+{
+    let mut costs = Vec::with_capacity(alloc, rows.len())?;
+    let mut place = 0usize;
+    for source in sources {
+        let row = &rows[place];
+        costs.push(partition_costs(alloc, row, source)?)?;
+        place += 1;
+    }
+    Ok(costs)
+}
+
+/// The costs of a partition's program.
+fn partition_costs(
+    alloc: Global,
+    row: &PartitionRow,
+    source: AcceptedSource,
+) -> Result<PartitionCosts, AllocError>
+    ensures { IfOk result (λ costs. IsCosted (partition_of row.now) (program_of source.program) costs) }
+{
+    let checked = Checked {
+        program: source.program,
+    };
+    Ok(PartitionCosts {
+        partition: row.name,
+        bodies: cost_report(alloc, &checked)?,
+    })
+}
