@@ -1,0 +1,2 @@
+pub mod OpcodeNames
+pub mod UnderWay

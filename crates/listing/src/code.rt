@@ -7,8 +7,8 @@ ghost use Rattle.image.specs.Views.{image_of};
 ghost use Rattle.listing.specs.Code.{code_text, five_digits, instruction_line, instruction_lines, name_line, opcode_text, partition_text};
 ghost use Rattle.listing.specs.Listed.{IsListed};
 
-use crate::line::{Line, push_bytes, push_number, push_text, push_word};
-use apex_types::{Name, Sink, SinkFault, put_all};
+use crate::line::{Line, push_bytes, push_number, push_text, push_word, write_line};
+use apex_types::{Name, Sink, SinkFault};
 use image::{Image, PartitionItem};
 use processor::{fields, op_name};
 
@@ -33,7 +33,7 @@ fn write_partition<S: Sink>(item: &PartitionItem, sink: &mut S) -> Result<(), Si
     requires { S.failures sink.old < 2 ^ 64 - 1 }
     ensures { IsListed (partition_text (item_of item.now)) (S.taken sink.old) (S.taken sink.new) (S.failures sink.old) (S.failures sink.new) result }
 {
-    put_all(sink, name_line(&item.row.name).as_slice())?;
+    write_line(&name_line(&item.row.name), sink)?;
     write_instructions(item.section.code.as_slice(), sink)
 }
 
@@ -43,7 +43,7 @@ fn write_instructions<S: Sink>(code: &[[u8; 16]], sink: &mut S) -> Result<(), Si
     ensures { IsListed (instruction_lines 0 code.now) (S.taken sink.old) (S.taken sink.new) (S.failures sink.old) (S.failures sink.new) result }
 {
     for (index, instruction) in code.iter().enumerate() {
-        put_all(sink, instruction_line(index, instruction).as_slice())?;
+        write_line(&instruction_line(index, instruction), sink)?;
     }
     Ok(())
 }

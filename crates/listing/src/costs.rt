@@ -5,8 +5,8 @@ ghost use Rattle.arrayvec.specs.ArrayVec.{array_vec_len};
 ghost use Rattle.listing.specs.Costs.{body_text, cost_line, costs_text, partition_text};
 ghost use Rattle.listing.specs.Listed.{IsListed};
 
-use crate::line::{Line, push_bytes, push_number, push_text};
-use apex_types::{Name, Sink, SinkFault, put_all};
+use crate::line::{Line, push_bytes, push_number, push_text, write_line};
+use apex_types::{Name, Sink, SinkFault};
 use module::PartitionCosts;
 use pal::{BodyCost, BodyName};
 
@@ -36,7 +36,7 @@ fn write_bodies<S: Sink>(
     ensures { IsListed (flat_map (cost_line partition.now) bodies.now) (S.taken sink.old) (S.taken sink.new) (S.failures sink.old) (S.failures sink.new) result }
 {
     for body in bodies {
-        put_all(sink, cost_line(partition, body).as_slice())?;
+        write_line(&cost_line(partition, body), sink)?;
     }
     Ok(())
 }

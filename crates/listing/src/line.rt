@@ -1,9 +1,11 @@
 //! The bytes of one line.
 
-ghost use Rattle.std.specs.Prelude.{◌≡◌, ℕ, ◌+◌, ◌≤◌, ◌++◌, length};
+ghost use Rattle.std.specs.Prelude.{◌≡◌, ◌+◌, ◌-◌, ◌^◌, ◌<◌, ◌≤◌, ◌++◌, length};
 ghost use Rattle.std.specs.Fmt.{decimal, signed_decimal};
 ghost use Rattle.arrayvec.specs.ArrayVec.{array_vec_len};
+ghost use Rattle.listing.specs.Listed.{IsListed};
 
+use apex_types::{Sink, SinkFault, put_all};
 use arrayvec::ArrayVec;
 
 /// The bytes of one line. The longest has two names of 30, three numbers of 20 digits and 28 other bytes.
@@ -41,4 +43,12 @@ pub fn push_word(line: &mut Line, word: i64)
 {
     let mut buffer = itoa::Buffer::new();
     push_text(line, buffer.format(word));
+}
+
+/// Writes a line. An error is answered only where the sink failed; then a beginning of the line is out.
+pub fn write_line<S: Sink>(line: &Line, sink: &mut S) -> Result<(), SinkFault>
+    requires { S.failures sink.old < 2 ^ 64 - 1 }
+    ensures { IsListed line.now.items (S.taken sink.old) (S.taken sink.new) (S.failures sink.old) (S.failures sink.new) result }
+{
+    put_all(sink, line.as_slice())
 }
