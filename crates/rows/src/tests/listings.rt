@@ -28,6 +28,37 @@ partition a
 /// The costs of the smallest source: a number, a service, an answer and the end.
 const COSTS: &str = "a INIT instructions 4 frame 4 cost 10\n";
 
+/// A source with a body of each kind.
+const BODIES: &str = "\
+array m[2];
+proc f(n) { return f(n + 1); }
+init stack 16 {
+    local r;
+    local i;
+    CREATE_PROCESS(p) -> r, i;
+    START(i) -> r;
+    SET_PARTITION_MODE(3) -> r;
+}
+handler stack 16 { }
+process p priority 5 period -1 capacity -1 stack 16 {
+    local r;
+    local t;
+    work 3;
+    GET_TIME() -> r, t;
+    m[0] := t;
+    m[1] := 7;
+    REPORT_APPLICATION_MESSAGE(m, 2) -> r;
+}
+";
+
+/// Its costs: those of `p` are the ticks that it runs in the trace of the first module.
+const COSTS_OF_BODIES: &str = "\
+a INIT instructions 11 frame 6 cost 27
+a HANDLER instructions 1 frame 2 cost 4
+a p instructions 16 frame 7 cost 31
+a f instructions 7 frame 5 cost 11
+";
+
 /// A shelf with the smallest image, whose byte at each of these places is another.
 fn shelf_with(alloc: Global, changes: &[(usize, u8)]) -> Result<Shelf<'static>, AllocError> {
     let mut image = Vec::from_slice(alloc, &SMALLEST_IMAGE)?;
@@ -80,6 +111,15 @@ fn costs_of_the_smallest_source(rt: HostRuntime) {
     let words = ["mb", "cost", "table", "source"];
     expect_command(&rt, rt.alloc(), &mut shelf, &words, (0, COSTS, ""));
     assert!(rt; shelf.image.is_none());
+}
+
+#[test]
+fn costs_of_each_kind_of_body(rt: HostRuntime) {
+    let sources = [BODIES.as_bytes()];
+    let mut shelf = Shelf::new(rt.alloc(), TABLE.as_bytes(), &sources);
+    let words = ["mb", "cost", "table", "source"];
+    let wanted = (0, COSTS_OF_BODIES, "");
+    expect_command(&rt, rt.alloc(), &mut shelf, &words, wanted);
 }
 
 /// The words behind a table that is accepted and a source that is not, and what is answered.
