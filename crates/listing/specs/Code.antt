@@ -4,7 +4,7 @@ use Rattle.std.specs.Fmt.{decimal, signed_decimal}
 use Rattle.apex_meaning.specs.Image.{Image, Item}
 use Rattle.apex_meaning.specs.Instructions.{opcode_in, x_in, v_in, name_of_opcode}
 
--- a number in 5 digits, with zeros in front
+-- a number below 100,000 in 5 digits, with zeros in front
 abbrev pub five_digits : ℕ → List ℕ
 five_digits n = map (λ unit. 48 + n / unit % 10) (10000 ∷ 1000 ∷ 100 ∷ 10 ∷ 1 ∷ [])
 

@@ -2,7 +2,7 @@
 
 ghost use Rattle.std.specs.Prelude.{◌≡◌, ℕ, ◌+◌, ◌-◌, ◌^◌, ◌<◌, ◌≤◌, ◌++◌, flat_map};
 ghost use Rattle.arrayvec.specs.ArrayVec.{array_vec_len};
-ghost use Rattle.listing.specs.Costs.{body_text, cost_line, costs_text, partition_text};
+ghost use Rattle.listing.specs.Costs.{body_text, cost_line, costs_text};
 ghost use Rattle.listing.specs.Listed.{IsListed};
 
 use crate::line::{Line, push_bytes, push_number, push_text, write_line};

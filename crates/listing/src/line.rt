@@ -8,7 +8,7 @@ ghost use Rattle.listing.specs.Listed.{IsListed};
 use apex_types::{Sink, SinkFault, put_all};
 use arrayvec::ArrayVec;
 
-/// The bytes of one line. The longest has two names of 30, three numbers of 20 digits and 28 other bytes.
+/// The bytes of one line. The longest has two names of 30, three numbers of 20 digits and 29 other bytes.
 pub type Line = ArrayVec<u8, 160>;
 
 pub fn push_bytes(line: &mut Line, bytes: &[u8])
