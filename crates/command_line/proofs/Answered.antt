@@ -10,7 +10,7 @@ use Rattle.clap.specs.declared.error.kind.ErrorKind.TheVariants as kind
 use Rattle.command_line.specs.Answers.{AskForHelp, AreNoCommand, IsAnswer, IsHelp, IsMistake, IsTold, IsUsageTold}
 use Rattle.command_line.specs.Done.{IsDone}
 use Rattle.command_line.specs.Lines.{line_of}
-use Rattle.command_line.specs.Orders.{Order, First, Check, Build, Run}
+use Rattle.command_line.specs.Orders.{Order, First, Check, Build, Run, Cost, Dis}
 use Rattle.command_line.specs.Refusals.{IsFailure, IsFailureOfWords, IsRefused, IsWrongTicks}
 use Rattle.command_line.specs.States.{Seen, State, state, TakesLine}
 use Rattle.command_line.specs.Words.{mb_app}
@@ -69,6 +69,8 @@ memory_refused First s = (refl, refl)
 memory_refused (Check table sources) s = ((refl, refl), tt)
 memory_refused (Build table image sources) s = (refl, inl (refl, tt))
 memory_refused (Run image devices ticks) s = (inr refl, (refl, refl))
+memory_refused (Cost table sources) s = ((refl, refl), tt)
+memory_refused (Dis image) s = ((refl, refl), tt)
 
 -- words that the library of command lines does not take
 pub words_failed : (kinds own : Kinds) (order : Order) (s : State) (e : Error) (answer : Result (Unit {0}) Failure) → own ≡ kinds → HasKind own e

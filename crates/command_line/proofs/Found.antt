@@ -14,7 +14,7 @@ use Rattle.clap.specs.declared.parser.matches.ArgMatches.TheViews.{out-ArgMatche
 use Rattle.clap.specs.declared.parser.matches.Found.{Found}
 use Rattle.clap.specs.declared.parser.matches.SubCommand.{SubCommand}
 use Rattle.clap.proofs.WalkLemmas.{first_value-rows, raw_values-rows}
-use Rattle.command_line.specs.Orders.{First, Check, Build, Run, check_of, build_of, run_of, order_named, order_of, word_at, words_at}
+use Rattle.command_line.specs.Orders.{First, Check, Build, Run, Cost, Dis, check_of, build_of, run_of, cost_of, dis_of, order_named, order_of, word_at, words_at}
 use Rattle.command_line.specs.Words.{mb_app}
 
 pub word_is : (f : Found) (name : List ℕ) (given : Option (Bor (List ℕ))) (none word : Bor (List ℕ))
@@ -83,10 +83,22 @@ run_is m name rows image devices ticks named found is one two three =
     order_is m name (codes "run") rows named found is
     ∙ sym (ap (λ i. Run i devices ticks) one ∙ ap (λ d. Run (word_at (codes "IMAGE") rows) d ticks) two ∙ ap (Run (word_at (codes "IMAGE") rows) (word_at (codes "DEVICES") rows)) three)
 
--- no command of the three
+pub cost_is : (m : ArgMatches) (name : List ℕ) (rows : List Row) (table : List ℕ) (sources : List (List ℕ)) → Some name ≡ subcommand_name_of m → Some rows ≡ option_map (λ p. p.1) (subcommand_rows_of m) → name ≡ codes "cost"
+    → table ≡ word_at (codes "TABLE") rows → sources ≡ words_at (codes "SOURCE") rows → order_of (subcommand_rows_of m) ≡ Cost table sources
+cost_is m name rows table sources named found is one two =
+    order_is m name (codes "cost") rows named found is ∙ sym (ap (λ t. Cost t sources) one ∙ ap (Cost (word_at (codes "TABLE") rows)) two)
+
+pub dis_is : (m : ArgMatches) (name : List ℕ) (rows : List Row) (image : List ℕ) → Some name ≡ subcommand_name_of m → Some rows ≡ option_map (λ p. p.1) (subcommand_rows_of m) → name ≡ codes "dis"
+    → image ≡ word_at (codes "IMAGE") rows → order_of (subcommand_rows_of m) ≡ Dis image
+dis_is m name rows image named found is one = order_is m name (codes "dis") rows named found is ∙ sym (ap Dis one)
+
+-- no command of the five
 pub other_is : (m : ArgMatches) (name : List ℕ) (rows : List Row) → Some name ≡ subcommand_name_of m → Some rows ≡ option_map (λ p. p.1) (subcommand_rows_of m)
-    → name ≢ codes "check" → name ≢ codes "build" → name ≢ codes "run" → order_of (subcommand_rows_of m) ≡ First
-other_is m name rows named found one two three = order_is m name name rows named found refl ∙ last (bytes_eq name (codes "check")) (bytes_eq name (codes "build")) (bytes_eq name (codes "run")) (differ (codes "check") one) (differ (codes "build") two) (differ (codes "run") three)
+    → name ≢ codes "check" → name ≢ codes "build" → name ≢ codes "run" → name ≢ codes "cost" → name ≢ codes "dis" → order_of (subcommand_rows_of m) ≡ First
+other_is m name rows named found one two three four five =
+    order_is m name name rows named found refl
+    ∙ last (bytes_eq name (codes "check")) (bytes_eq name (codes "build")) (bytes_eq name (codes "run")) (bytes_eq name (codes "cost")) (bytes_eq name (codes "dis"))
+    (differ (codes "check") one) (differ (codes "build") two) (differ (codes "run") three) (differ (codes "cost") four) (differ (codes "dis") five)
   where
     no : (b : Bool) (P : Type 0) → (b ≡ true → P) → (P → ⊥) → b ≡ false
     no true P d h = absurd (h (d refl))
@@ -95,11 +107,9 @@ other_is m name rows named found one two three = order_is m name name rows named
     differ : (known : List ℕ) → name ≢ known → bytes_eq name known ≡ false
     differ known h = no (bytes_eq name known) (name ≡ known) (bytes_eq-Decides name known).0 h
 
-    last : (a b c : Bool) → a ≡ false → b ≡ false → c ≡ false → (if a then check_of rows else if b then build_of rows else if c then run_of rows else First) ≡ First
-    last true b c h k l = absurd cc
-    last false true c h k l = absurd cc
-    last false false true h k l = absurd cc
-    last false false false h k l = refl
+    last : (a b c d e : Bool) → a ≡ false → b ≡ false → c ≡ false → d ≡ false → e ≡ false
+        → (if a then check_of rows else if b then build_of rows else if c then run_of rows else if d then cost_of rows else if e then dis_of rows else First) ≡ First
+    last a b c d e h k l m n = rw (h, k, l, m, n) refl
 
 pub none_entered : (m : ArgMatches) → None ≡ subcommand_name_of m → order_of (subcommand_rows_of m) ≡ First
 none_entered m named = go (out-ArgMatches m).subcommand named

@@ -2,3 +2,5 @@ pub mod Answered
 pub mod Found
 pub mod Ran
 pub mod Read
+pub mod Shown
+pub mod Subcommands

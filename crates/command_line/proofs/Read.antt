@@ -1,10 +1,12 @@
 -- What is read, and what is built of it.
 use Rattle.std.proofs.Common.{◌≡◌, ℕ, List, [], ◌∷◌, ◌++◌, length, map, drop, Option, Result, Ok, Err, IfOk, IfErr, refl, sym, ap, subst, ◌∙◌, append-nil, Bor}
 use Rattle.module.specs.Building.{IsImageOf}
+use Rattle.module.specs.Costs.{AreCosts}
+use Rattle.module.specs.declared.costing.PartitionCosts.{PartitionCosts}
 use Rattle.command_line.specs.Contents.{Contents, Holds, HoldAll}
-use Rattle.command_line.specs.Done.{IsBuilt}
-use Rattle.command_line.specs.Reading.{IsRefusedText}
-use Rattle.command_line.specs.Refusals.{IsNotBuilt}
+use Rattle.command_line.specs.Done.{AreCosted, IsBuilt}
+use Rattle.command_line.specs.Reading.{IsRefusedText, IsUncostedText}
+use Rattle.command_line.specs.Refusals.{IsNotBuilt, IsNotCosted}
 use Rattle.command_line.specs.declared.refusal.Refusal.{Refusal}
 use Rattle.command_line.specs.declared.refusal.Refusal.TheVariants.{Build, Run, File, Memory, Write}
 
@@ -39,3 +41,20 @@ refused_named files now table sources table_text texts (Err (Run fault)) same in
 refused_named files now table sources table_text texts (Err (File name)) same in_table in_sources h = absurd h
 refused_named files now table sources table_text texts (Err Memory) same in_table in_sources h = tt
 refused_named files now table sources table_text texts (Err Write) same in_table in_sources h = absurd h
+
+-- the costs are those of the texts in the files
+pub costed_named : {A E : Type 0} (view : A → List PartitionCosts) (files now : Option Contents) (table : List ℕ) (sources : List (List ℕ)) (table_text : List ℕ) (texts : List (List ℕ)) (answer : Result A E)
+    → now ≡ files → Holds files table table_text → HoldAll now sources texts → IfOk answer (λ costs. AreCosts table_text texts (view costs)) → IfOk answer (λ costs. AreCosted files table sources (view costs))
+costed_named view files now table sources table_text texts (Ok costs) same in_table in_sources costed =
+    record { texts = record { table_text = table_text; source_texts = texts; in_table = in_table; in_sources = subst (λ f. HoldAll f sources texts) same in_sources }; costed = costed }
+costed_named view files now table sources table_text texts (Err e) same in_table in_sources costed = tt
+
+pub uncosted_named : {A : Type 0} (files now : Option Contents) (table : List ℕ) (sources : List (List ℕ)) (table_text : List ℕ) (texts : List (List ℕ)) (answer : Result A Refusal)
+    → now ≡ files → Holds files table table_text → HoldAll now sources texts → IfErr answer (λ r. IsUncostedText table_text texts r) → IfErr answer (λ r. IsNotCosted files table sources r)
+uncosted_named files now table sources table_text texts (Ok costs) same in_table in_sources h = tt
+uncosted_named files now table sources table_text texts (Err (Build fault)) same in_table in_sources h =
+    (record { table_text = table_text; source_texts = texts; in_table = in_table; in_sources = subst (λ f. HoldAll f sources texts) same in_sources }, h)
+uncosted_named files now table sources table_text texts (Err (Run fault)) same in_table in_sources h = absurd h
+uncosted_named files now table sources table_text texts (Err (File name)) same in_table in_sources h = absurd h
+uncosted_named files now table sources table_text texts (Err Memory) same in_table in_sources h = tt
+uncosted_named files now table sources table_text texts (Err Write) same in_table in_sources h = absurd h

@@ -3,13 +3,18 @@ use Rattle.std.specs.Prelude.{◌≡◌, ℕ, List, [], ◌∷◌, ◌++◌, len
 use Rattle.std.specs.Fmt.{decimal}
 use Rattle.std.specs.Io.KnownBytes.{Appends}
 use Rattle.std.specs.Str.Parse.{IsNumeral, digits_value}
+use Rattle.apex_meaning.specs.Image.{Image}
 use Rattle.apex_meaning.specs.ImageReading.{image_at}
+use Rattle.listing.specs.Code.{code_text}
+use Rattle.listing.specs.Costs.{costs_text}
 use Rattle.module.specs.Building.{IsImageOf}
+use Rattle.module.specs.Costs.{AreCosts}
 use Rattle.module.specs.Promises.{Means, Runs}
+use Rattle.module.specs.declared.costing.PartitionCosts.{PartitionCosts}
 use Rattle.module.specs.declared.fault.BuildAndRunFault.{BuildAndRunFault}
 use Rattle.module.specs.declared.fault.RunFault.{RunFault}
 use Rattle.command_line.specs.Contents.{Contents, Holds, HoldAll, Spares}
-use Rattle.command_line.specs.Orders.{Order, First, Check, Build, Run}
+use Rattle.command_line.specs.Orders.{Order, First, Check, Build, Run, Cost, Dis}
 use Rattle.command_line.specs.States.{State}
 use Rattle.command_line.specs.declared.first_run.TheConstants.{SOURCE, TABLE, TICKS}
 
@@ -26,6 +31,17 @@ pub record Texts (files : Option Contents) (table : List ℕ) (sources : List (L
 pub record IsBuilt (files : Option Contents) (table : List ℕ) (sources : List (List ℕ)) (image : List ℕ) : Type 0 where
   pub texts : Texts files table sources
   pub built : IsImageOf texts.table_text texts.source_texts image
+
+-- They are accepted, and their bodies cost this.
+pub record AreCosted (files : Option Contents) (table : List ℕ) (sources : List (List ℕ)) (costs : List PartitionCosts) : Type 0 where
+  pub texts : Texts files table sources
+  pub costed : AreCosts texts.table_text texts.source_texts costs
+
+-- This image, in the file of this name.
+pub record IsImageIn (files : Option Contents) (name : List ℕ) (image : Image) : Type 0 where
+  pub image_bytes : List ℕ
+  pub in_image : Holds files name image_bytes
+  pub loaded : image_at image_bytes ≡ Ok image
 
 -- An image and a device text, in the files of these names.
 pub record Inputs (files : Option Contents) (image devices : List ℕ) : Type 0 where
@@ -69,3 +85,7 @@ IsDone (Build table name sources) before after =
     (image : List ℕ) × IsBuilt before.files table sources image × Holds after.files name image × Spares name before.files after.files
     × Appends before.out.bytes after.out.bytes (size_text (length image))
 IsDone (Run image devices ticks) before after = IsNumeral 10 ticks × IsRunDone image devices (digits_value 10 ticks) before after
+IsDone (Cost table sources) before after =
+    (after.files ≡ before.files) × (costs : List PartitionCosts) × AreCosted before.files table sources costs × Appends before.out.bytes after.out.bytes (costs_text costs)
+IsDone (Dis name) before after =
+    (after.files ≡ before.files) × (image : Image) × IsImageIn before.files name image × Appends before.out.bytes after.out.bytes (code_text image)

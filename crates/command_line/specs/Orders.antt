@@ -9,6 +9,8 @@ pub data Order : Type 0 where
   Check : (table : List ℕ) (sources : List (List ℕ)) → Order
   Build : (table : List ℕ) (image : List ℕ) (sources : List (List ℕ)) → Order
   Run : (image : List ℕ) (devices : List ℕ) (ticks : List ℕ) → Order
+  Cost : (table : List ℕ) (sources : List (List ℕ)) → Order
+  Dis : (image : List ℕ) → Order
 
 -- the word, and the words, that were found for an argument
 abbrev pub word_at : List ℕ → List Row → List ℕ
@@ -26,12 +28,20 @@ build_of rows = Build (word_at (codes "TABLE") rows) (word_at (codes "IMAGE") ro
 abbrev pub run_of : List Row → Order
 run_of rows = Run (word_at (codes "IMAGE") rows) (word_at (codes "DEVICES") rows) (word_at (codes "TICKS") rows)
 
+abbrev pub cost_of : List Row → Order
+cost_of rows = Cost (word_at (codes "TABLE") rows) (words_at (codes "SOURCE") rows)
+
+abbrev pub dis_of : List Row → Order
+dis_of rows = Dis (word_at (codes "IMAGE") rows)
+
 -- a command by its name
 abbrev pub order_named : List ℕ → List Row → Order
 order_named name rows =
     if bytes_eq name (codes "check") then check_of rows
     else if bytes_eq name (codes "build") then build_of rows
     else if bytes_eq name (codes "run") then run_of rows
+    else if bytes_eq name (codes "cost") then cost_of rows
+    else if bytes_eq name (codes "dis") then dis_of rows
     else First
 
 -- without a command the stored module

@@ -1,6 +1,7 @@
 -- The steps of reading and building what the words name.
 use Rattle.std.specs.Prelude.{◌≡◌, ℕ, List, map, Option, string_bytes}
 use Rattle.module.specs.Building.{IsRefusal}
+use Rattle.module.specs.Costs.{IsCostRefusal}
 use Rattle.command_line.specs.Contents.{Contents}
 use Rattle.command_line.specs.Refusals.{IsFirstUnread}
 use Rattle.command_line.specs.declared.refusal.Refusal.{Refusal}
@@ -28,3 +29,9 @@ abbrev pub IsRefusedText : List ℕ → List (List ℕ) → Refusal → Type 0
 IsRefusedText table sources (Build fault) = IsRefusal table sources fault
 IsRefusedText table sources Memory = Unit {0}
 IsRefusedText table sources _ = ⊥
+
+-- no costs are found of the texts
+abbrev pub IsUncostedText : List ℕ → List (List ℕ) → Refusal → Type 0
+IsUncostedText table sources (Build fault) = IsCostRefusal table sources fault
+IsUncostedText table sources Memory = Unit {0}
+IsUncostedText table sources _ = ⊥

@@ -4,13 +4,21 @@ use Rattle.std.specs.Str.Parse.{IsNumeral, digits_value}
 use Rattle.clap.specs.Kinds.{Kinds, IsAmong}
 use Rattle.clap.specs.Values.{kind_of}
 use Rattle.clap.specs.declared.error.kind.ErrorKind.TheVariants.{ValueValidation}
+use Rattle.apex_types.specs.Sink.{TakesBeginning}
+use Rattle.apex_meaning.specs.Image.{Image}
+use Rattle.apex_meaning.specs.ImageReading.{image_at}
+use Rattle.listing.specs.Code.{code_text}
+use Rattle.listing.specs.Costs.{costs_text}
 use Rattle.module.specs.Building.{IsRefusal}
+use Rattle.module.specs.Costs.{IsCostRefusal}
+use Rattle.module.specs.Promises as promises
+use Rattle.module.specs.declared.costing.PartitionCosts.{PartitionCosts}
 use Rattle.module.specs.declared.fault.BuildAndRunFault.{BuildAndRunFault}
 use Rattle.module.specs.declared.fault.BuildAndRunFault.TheVariants as both
 use Rattle.module.specs.declared.fault.RunFault.TheVariants as faults
 use Rattle.command_line.specs.Contents.{Contents, Holds, Spares}
-use Rattle.command_line.specs.Done.{Texts, IsBuilt, Inputs, IsRunOf, IsRunDone, IsFirstRun, is_ok}
-use Rattle.command_line.specs.Orders.{Order, First as first, Check as check, Build as build, Run as run}
+use Rattle.command_line.specs.Done.{Texts, IsBuilt, AreCosted, IsImageIn, Inputs, IsRunOf, IsRunDone, IsFirstRun, is_ok}
+use Rattle.command_line.specs.Orders.{Order, First as first, Check as check, Build as build, Run as run, Cost as cost, Dis as dis}
 use Rattle.command_line.specs.States.{Seen, State}
 use Rattle.command_line.specs.declared.refusal.Refusal.{Refusal}
 use Rattle.command_line.specs.declared.refusal.Refusal.TheVariants.{Build, Run, File, Memory, Write}
@@ -41,6 +49,22 @@ IsNotBuilt files table sources (Build fault) = (texts : Texts files table source
 IsNotBuilt files table sources (Run fault) = ⊥
 IsNotBuilt files table sources Memory = Unit {0}
 IsNotBuilt files table sources Write = ⊥
+
+-- why no costs are found of the texts in these files
+abbrev pub IsNotCosted : Option Contents → List ℕ → List (List ℕ) → Refusal → Type 0
+IsNotCosted files table sources (File name) = IsFirstUnread files (table ∷ sources) (string_bytes name)
+IsNotCosted files table sources (Build fault) = (texts : Texts files table sources) × IsCostRefusal texts.table_text texts.source_texts fault
+IsNotCosted files table sources (Run fault) = ⊥
+IsNotCosted files table sources Memory = Unit {0}
+IsNotCosted files table sources Write = ⊥
+
+-- why no image is loaded of the file of this name
+abbrev pub IsNotLoaded : Option Contents → List ℕ → Refusal → Type 0
+IsNotLoaded files name (File shown) = string_bytes shown ≡ name
+IsNotLoaded files name (Run fault) = (bytes : List ℕ) × Holds files name bytes × promises.IsRefused (image_at bytes) fault
+IsNotLoaded files name (Build fault) = ⊥
+IsNotLoaded files name Memory = Unit {0}
+IsNotLoaded files name Write = ⊥
 
 -- an image is built, which is not written
 abbrev pub IsNotWritten : List ℕ → List (List ℕ) → List ℕ → State → State → Refusal → Type 0
@@ -82,10 +106,25 @@ IsStoredRefused old new Memory = new.bytes ≡ old.bytes
 IsStoredRefused old new Write = (new.failed ≡ true) × IsFirstRun old.bytes new.bytes is_ok
 IsStoredRefused old new (File name) = ⊥
 
+-- where standard output took no more, it has a beginning of the listing
+abbrev pub IsCostRefused : List ℕ → List (List ℕ) → State → State → Refusal → Type 0
+IsCostRefused table sources before after Write =
+    (after.out.failed ≡ true) × (after.files ≡ before.files)
+    × (costs : List PartitionCosts) × AreCosted before.files table sources costs × TakesBeginning before.out.bytes after.out.bytes (costs_text costs)
+IsCostRefused table sources before after r = IsUntouched before after × IsNotCosted before.files table sources r
+
+abbrev pub IsDisRefused : List ℕ → State → State → Refusal → Type 0
+IsDisRefused name before after Write =
+    (after.out.failed ≡ true) × (after.files ≡ before.files)
+    × (image : Image) × IsImageIn before.files name image × TakesBeginning before.out.bytes after.out.bytes (code_text image)
+IsDisRefused name before after r = IsUntouched before after × IsNotLoaded before.files name r
+
 abbrev pub IsRefused : Order → State → State → Refusal → Type 0
 IsRefused first before after r = (after.files ≡ before.files) × IsStoredRefused before.out after.out r
 IsRefused (check table sources) before after r = IsCheckRefused table sources before after r
 IsRefused (build table image sources) before after r = IsBuildRefused table image sources before after r
+IsRefused (cost table sources) before after r = IsCostRefused table sources before after r
+IsRefused (dis image) before after r = IsDisRefused image before after r
 IsRefused (run image devices ticks) before after r =
     (IsNumeral 10 ticks ⊎ (r ≡ Memory)) × IsRunRefused image devices (digits_value 10 ticks) before after r
 

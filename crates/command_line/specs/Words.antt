@@ -24,8 +24,14 @@ build_app = with_rule (with_rule (with_rule (new_app (codes "build")) (word_rule
 abbrev pub run_app : App
 run_app = with_rule (with_rule (with_rule (new_app (codes "run")) (word_rule (codes "IMAGE"))) (word_rule (codes "DEVICES"))) (word_rule (codes "TICKS"))
 
+abbrev pub cost_app : App
+cost_app = with_rule (with_rule (new_app (codes "cost")) (word_rule (codes "TABLE"))) sources_rule
+
+abbrev pub dis_app : App
+dis_app = with_rule (new_app (codes "dis")) (word_rule (codes "IMAGE"))
+
 abbrev pub mb_app : App
-mb_app = with_subcommand (with_subcommand (with_subcommand (new_app (codes "mb")) check_app.top) build_app.top) run_app.top
+mb_app = with_subcommand (with_subcommand (with_subcommand (with_subcommand (with_subcommand (new_app (codes "mb")) check_app.top) build_app.top) run_app.top) cost_app.top) dis_app.top
 
 -- a command with these arguments and no other, none of them for its own commands
 pub record IsCommand (command : Command) (app : App) : Type 0 where

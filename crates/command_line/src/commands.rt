@@ -16,6 +16,7 @@ use crate::grammar::grammar;
 use crate::reading::build_named;
 use crate::refusal::{Failure, Refusal};
 use crate::running::{run, run_stored};
+use crate::showing::{cost, dis};
 use crate::stream::Stream;
 use clap::ArgMatches;
 use std::alloc::Global;
@@ -68,6 +69,12 @@ fn obey<F: Files, O: Write>(
             let (image, devices) = (word(found, "IMAGE"), word(found, "DEVICES"));
             run(alloc, image, devices, word(found, "TICKS"), files, out)
         }
+        Some(("cost", found)) => {
+            let table = word(found, "TABLE");
+            let sources = found.get_strs("SOURCE").unwrap_or(&[]);
+            Ok(cost(alloc, table, sources, files, out)?)
+        }
+        Some(("dis", found)) => Ok(dis(alloc, word(found, "IMAGE"), files, out)?),
         _ => Ok(run_stored(alloc, out)?),
     }
 }

@@ -6,7 +6,7 @@ ghost use Rattle.clap.specs.Values.{kind_of};
 ghost use Rattle.clap.specs.Walk.{rule_of};
 ghost use Rattle.clap.specs.declared.error.kind.ErrorKind.TheVariants.{ValueValidation};
 ghost use Rattle.command_line.specs.Ticks.{ReadsTicks};
-ghost use Rattle.command_line.specs.Words.{IsCommand, word_rule, sources_rule, check_app, build_app, run_app, mb_app};
+ghost use Rattle.command_line.specs.Words.{IsCommand, word_rule, sources_rule, check_app, build_app, run_app, cost_app, dis_app, mb_app};
 
 use clap::error::ErrorKind;
 use clap::{Arg, ArgAction, Command, Error};
@@ -22,7 +22,9 @@ pub fn grammar<'a>(alloc: Global) -> Result<Command<'a>, AllocError>
         )
         .subcommand(check(alloc)?)?
         .subcommand(build(alloc)?)?
-        .subcommand(run(alloc)?)
+        .subcommand(run(alloc)?)?
+        .subcommand(cost(alloc)?)?
+        .subcommand(dis(alloc)?)
 }
 
 fn check<'a>(alloc: Global) -> Result<Command<'a>, AllocError>
@@ -52,6 +54,23 @@ fn run<'a>(alloc: Global) -> Result<Command<'a>, AllocError>
         .arg(file(alloc, "IMAGE"))?
         .arg(file(alloc, "DEVICES"))?
         .arg(file(alloc, "TICKS"))
+}
+
+fn cost<'a>(alloc: Global) -> Result<Command<'a>, AllocError>
+    ensures { IfOk result (λ command. IsCommand command cost_app) }
+{
+    Command::new(alloc, "cost")
+        .about("Writes the instructions, the frame and the cost of each body of the sources")
+        .arg(file(alloc, "TABLE"))?
+        .arg(sources(alloc))
+}
+
+fn dis<'a>(alloc: Global) -> Result<Command<'a>, AllocError>
+    ensures { IfOk result (λ command. IsCommand command dis_app) }
+{
+    Command::new(alloc, "dis")
+        .about("Writes the instructions of an image")
+        .arg(file(alloc, "IMAGE"))
 }
 
 fn file<'a>(alloc: Global, name: &'a str) -> Arg<'a>

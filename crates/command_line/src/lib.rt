@@ -16,6 +16,7 @@ mod grammar;
 mod reading;
 mod refusal;
 mod running;
+mod showing;
 mod stream;
 mod telling;
 
@@ -32,8 +33,9 @@ use telling::tell;
 /// status: 0; 1 for a refused command, with one line on `err`; 2 for words that are no command,
 /// with the usage on `err`. Help goes to `out`, with status 0.
 ///
-/// Faults are met in this order: the words, the files read in the order of the words, the build
-/// or the run, the file written, the line printed. An image is written only if it was built.
+/// Faults are met in this order: the words, the files read in the order of the words, the build,
+/// the run or what is listed, the file written, the lines printed. An image is written only if it
+/// was built.
 pub fn command<S: AsStr, F: Files, O: Write, E: Write>(
     alloc: Global,
     words: &[S],

@@ -1,14 +1,20 @@
 //! The texts of the files that the words name.
 
-ghost use Rattle.std.specs.Prelude.{◌≡◌, map, IfOk, IfErr};
+ghost use Rattle.std.specs.Prelude.{◌≡◌, map, Ok, IfOk, IfErr};
+ghost use Rattle.apex_meaning.specs.ImageReading.{image_at};
+ghost use Rattle.image.specs.Views.{image_of};
 ghost use Rattle.command_line.specs.Contents.{HoldAll, Holds};
-ghost use Rattle.command_line.specs.Done.{IsBuilt};
-ghost use Rattle.command_line.specs.Reading.{IsRefusedText, IsUnread, IsUnreadAmong, texts_of};
+ghost use Rattle.command_line.specs.Done.{AreCosted, IsBuilt, IsImageIn};
+ghost use Rattle.command_line.specs.Reading.{IsRefusedText, IsUncostedText, IsUnread, IsUnreadAmong, texts_of};
 ghost use Rattle.module.specs.Building.{IsImageOf};
-ghost use Rattle.command_line.specs.Refusals.{IsNotBuilt};
+ghost use Rattle.module.specs.Costs.{AreCosts};
+ghost use Rattle.module.specs.Promises.{IsRefused};
+ghost use Rattle.command_line.specs.Refusals.{IsNotBuilt, IsNotCosted, IsNotLoaded};
 
 use crate::files::Files;
 use crate::refusal::Refusal;
+use image::{Image, load_image};
+use module::{PartitionCosts, RunFault};
 use std::alloc::{AllocError, Global};
 
 /// The bytes of the file of that name.
@@ -59,6 +65,53 @@ fn build_texts(alloc: Global, table: &[u8], sources: &[Vec<u8>]) -> Result<Vec<u
 {
     let texts = slices(alloc, sources)?;
     Ok(module::build(alloc, table, texts.as_slice())?)
+}
+
+/// The costs of the table and the sources in the files of these names.
+pub fn costs_named<F: Files>(
+    alloc: Global,
+    table: &str,
+    sources: &[&str],
+    files: &mut F,
+) -> Result<Vec<PartitionCosts>, Refusal>
+    ensures costed { IfOk result (λ costs. AreCosted (F.contents files.old) table.now (map (λ s. s.now) sources.now) costs.items) }
+    ensures refused { IfErr result (λ r. IsNotCosted (F.contents files.old) table.now (map (λ s. s.now) sources.now) r) }
+    ensures unchanged { F.contents files.new ≡ F.contents files.old }
+{
+    let table = read(alloc, table, files)?;
+    let sources = read_all(alloc, sources, files)?;
+    costs_of_texts(alloc, table.as_slice(), sources.as_slice())
+}
+
+/// The costs of a table and its sources.
+fn costs_of_texts(
+    alloc: Global,
+    table: &[u8],
+    sources: &[Vec<u8>],
+) -> Result<Vec<PartitionCosts>, Refusal>
+    ensures costed { IfOk result (λ costs. AreCosts table.now (texts_of sources.now) costs.items) }
+    ensures refused { IfErr result (λ r. IsUncostedText table.now (texts_of sources.now) r) }
+{
+    let texts = slices(alloc, sources)?;
+    Ok(module::costs(alloc, table, texts.as_slice())?)
+}
+
+/// The image in the file of that name.
+pub fn load_named<F: Files>(alloc: Global, name: &str, files: &mut F) -> Result<Image, Refusal>
+    ensures loaded { IfOk result (λ image. IsImageIn (F.contents files.old) name.now (image_of image)) }
+    ensures refused { IfErr result (λ r. IsNotLoaded (F.contents files.old) name.now r) }
+    ensures unchanged { F.contents files.new ≡ F.contents files.old }
+{
+    let bytes = read(alloc, name, files)?;
+    Ok(load(alloc, bytes.as_slice())?)
+}
+
+/// The image that the bytes are.
+fn load(alloc: Global, bytes: &[u8]) -> Result<Image, RunFault>
+    ensures loaded { IfOk result (λ image. image_at bytes.now ≡ Ok (image_of image)) }
+    ensures refused { IfErr result (λ fault. IsRefused (image_at bytes.now) fault) }
+{
+    Ok(load_image(alloc, bytes)?)
 }
 
 /// Each of them as a slice.

@@ -7,10 +7,12 @@ use host::HostFiles;
 use std::io;
 
 /// The words of each command.
-static COMMANDS: [&[&str]; 8] = [
+static COMMANDS: [&[&str]; 10] = [
     &["mb", "run", "image", "devices", "128"],
     &["mb", "build", "table", "image", "source"],
     &["mb", "run", "image", "devices", "128"],
+    &["mb", "dis", "image"],
+    &["mb", "cost", "table", "source"],
     &["mb", "run", "source", "devices", "128"],
     &["mb", "check", "table", "gone"],
     &["mb", "check", "folder", "source"],

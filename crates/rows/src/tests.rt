@@ -9,6 +9,7 @@ mod images;
 mod largest;
 mod limits;
 mod lines;
+mod listings;
 mod machines;
 mod memory;
 mod shelf;

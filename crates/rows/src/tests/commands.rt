@@ -5,6 +5,7 @@ ghost use Rattle.std.specs.Prelude.{◌≡◌};
 use super::texts::TABLE;
 use apex_types::{DeviceFault, Name};
 use command_line::{FileFault, Files, Refusal, Stream, command};
+use image::ImageFault;
 use module::{BuildFault, RunFault};
 use pal_base::fault::{PalFault, Refusal as SourceRefusal};
 use std::alloc::Global;
@@ -85,7 +86,7 @@ impl Write for FullWriter {
 
 /// The words after the program's name, the status, and the line on standard error (for a usage
 /// any text).
-static REFUSALS: [(&[&str], u8, &str); 18] = [
+static REFUSALS: [(&[&str], u8, &str); 25] = [
     (&["mb", "check", "first table"], 2, USAGE),
     (&["mb", "check"], 2, USAGE),
     (&["mb", "check", "gone", "lost"], 1, "mb: file gone\n"),
@@ -123,6 +124,17 @@ static REFUSALS: [(&[&str], u8, &str); 18] = [
         1,
         "mb: ticks\n",
     ),
+    (&["mb", "cost", "gone"], 2, USAGE),
+    (&["mb", "cost", "gone", "lost"], 1, "mb: file gone\n"),
+    (
+        &["mb", "cost", "table", "source", "lost"],
+        1,
+        "mb: file lost\n",
+    ),
+    (&["mb", "cost", "table", "source"], 1, "mb: table 1\n"),
+    (&["mb", "dis", "image", "image"], 2, USAGE),
+    (&["mb", "dis", "gone"], 1, "mb: file gone\n"),
+    (&["mb", "dis", "image"], 1, "mb: image 1\n"),
     (
         &[
             "mb",
@@ -264,7 +276,14 @@ fn lines_of_refusals(rt: HostRuntime) -> Result<(), Fail> {
             Refusal::Run(RunFault::Device(DeviceFault::Size)),
             "mb: device 4",
         ),
-        (Refusal::Run(RunFault::NotYet), "mb: not yet"),
+        (
+            Refusal::Run(RunFault::Image(ImageFault::Truncated)),
+            "mb: image 1",
+        ),
+        (
+            Refusal::Run(RunFault::Image(ImageFault::Trailing)),
+            "mb: image 5",
+        ),
         (Refusal::Run(RunFault::Memory), "mb: memory"),
         (Refusal::Run(RunFault::Write), "mb: write"),
         (Refusal::Memory, "mb: memory"),

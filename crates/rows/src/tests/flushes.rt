@@ -21,11 +21,13 @@ impl Write for StuckWriter {
 }
 
 /// The words of each command, and of help.
-static COMMANDS: [&[&str]; 5] = [
+static COMMANDS: [&[&str]; 7] = [
     &["mb"],
     &["mb", "check", "table", "source"],
     &["mb", "build", "table", "image", "source"],
     &["mb", "run", "image", "devices", "5"],
+    &["mb", "cost", "table", "source"],
+    &["mb", "dis", "image"],
     &["mb", "help"],
 ];
 

@@ -1,6 +1,6 @@
 //! The longest code and the most data.
 
-use super::shelf::{expect_accepted, expect_refused};
+use super::shelf::{Shelf, expect_accepted, expect_command, expect_refused};
 use super::sinks::narrow_sink;
 use super::texts::{HEALTH, SMALLEST, SMALLEST_TRACE, TABLE};
 use module::{build, run};
@@ -114,6 +114,25 @@ fn code_that_is_too_long_in_its_order(rt: HostRuntime) -> Result<(), Fail> {
     ] {
         expect_refused(&rt, rt.alloc(), table, &sources, line)?;
     }
+    Ok(())
+}
+
+/// The costs of the smallest source, and of the sum: 65,535 ticks, one for the assignment and four for
+/// the end; two operands wait, beside the local and two words.
+const LONG_COSTS: &str = "\
+a INIT instructions 4 frame 4 cost 10
+b INIT instructions 65537 frame 5 cost 65540
+";
+
+/// What is too long for an image has its costs.
+#[test]
+fn costs_of_code_that_is_too_long(rt: HostRuntime) -> Result<(), Fail> {
+    let table = halves(rt.alloc())?;
+    let long = summing(rt.alloc())?;
+    let sources = [SMALLEST.as_bytes(), long.as_slice()];
+    let mut shelf = Shelf::new(rt.alloc(), table.as_str().as_bytes(), &sources);
+    let words = ["mb", "cost", "table", "source", "source2"];
+    expect_command(&rt, rt.alloc(), &mut shelf, &words, (0, LONG_COSTS, ""));
     Ok(())
 }
 

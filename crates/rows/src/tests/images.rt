@@ -1,27 +1,35 @@
 //! Images and device texts that are refused.
 
-use super::shelf::{NOT_YET, Shelf, expect_command};
+use super::shelf::{Shelf, expect_command};
 use super::sinks::narrow_sink;
 use super::texts::SMALLEST_IMAGE;
+use image::ImageFault;
 use module::RunFault;
 use std::alloc::{AllocError, Global};
 use std::test::Fail;
 
-/// Bytes that are no image.
-static NO_IMAGES: [&[u8]; 4] = [
-    b"",
-    b"image",
-    b"AP653IMG",
-    b"AP653IMH\x01\0\x80\0\0\0\0\x01\0\0\0\x01a\x80\0\0\0\x80\0\0\0",
+/// Bytes that are no image, and what is answered: fewer than eight are truncated whatever they are,
+/// the first eight are judged before the version, and the version before what follows.
+static NO_IMAGES: [(&[u8], &str); 7] = [
+    (b"", "mb: image 1\n"),
+    (b"image", "mb: image 1\n"),
+    (b"AP653IMH", "mb: image 2\n"),
+    (b"AP653IMG", "mb: image 1\n"),
+    (b"AP653IMG\x02\0", "mb: image 2\n"),
+    (b"AP653IMG\x01\0\0\0\0\0", "mb: image 3\n"),
+    (
+        b"AP653IMH\x01\0\x80\0\0\0\0\x01\0\0\0\x01a\x80\0\0\0\x80\0\0\0",
+        "mb: image 2\n",
+    ),
 ];
 
 #[test]
 fn bytes_that_are_no_image(rt: HostRuntime) -> Result<(), Fail> {
-    for bytes in &NO_IMAGES {
+    for (bytes, line) in &NO_IMAGES {
         let mut shelf = Shelf::new(rt.alloc(), &[], &[]);
         shelf.image = Some(Vec::from_slice(rt.alloc(), bytes)?);
         let words = ["mb", "run", "image", "devices", "128"];
-        expect_command(&rt, rt.alloc(), &mut shelf, &words, (1, "", NOT_YET));
+        expect_command(&rt, rt.alloc(), &mut shelf, &words, (1, "", *line));
     }
     Ok(())
 }
@@ -32,7 +40,8 @@ fn a_cut_image(rt: HostRuntime) -> Result<(), Fail> {
         let bytes = SMALLEST_IMAGE.as_slice().get(..length).ok_or("short")?;
         let mut sink = narrow_sink(512, false);
         let found = module::run(rt.alloc(), bytes, &[], 128, &mut sink);
-        assert!(rt; found == Err(RunFault::NotYet), "cut at {length}");
+        let wanted = Err(RunFault::Image(ImageFault::Truncated));
+        assert!(rt; found == wanted, "cut at {length}");
         assert!(rt; sink.taken.is_empty());
     }
     Ok(())
@@ -45,7 +54,8 @@ fn an_image_with_one_byte_more(rt: HostRuntime) -> Result<(), Fail> {
     let mut shelf = Shelf::new(rt.alloc(), &[], &[]);
     shelf.image = Some(image);
     let words = ["mb", "run", "image", "devices", "128"];
-    expect_command(&rt, rt.alloc(), &mut shelf, &words, (1, "", NOT_YET));
+    let wanted = (1, "", "mb: image 5\n");
+    expect_command(&rt, rt.alloc(), &mut shelf, &words, wanted);
     Ok(())
 }
 

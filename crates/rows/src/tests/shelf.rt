@@ -199,6 +199,3 @@ pub fn expect_refused(
 
 /// What `check` answers where the table and its sources are accepted.
 pub const ACCEPTED: (u8, &str, &str) = (0, "accepted\n", "");
-
-/// The line where the bytes to be run are no image.
-pub const NOT_YET: &str = "mb: not yet\n";

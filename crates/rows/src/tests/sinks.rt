@@ -54,8 +54,8 @@ pub fn narrow_sink(room: usize, is_stalling: bool) -> NarrowSink
 
 /// Takes as many bytes a call as its room has left, and fails when it has none left.
 #[derive(Drop)]
-struct RoomyWriter {
-    taken: ArrayVec<u8, 512>,
+pub struct RoomyWriter {
+    pub taken: ArrayVec<u8, 512>,
     room: usize,
 }
 
@@ -75,14 +75,19 @@ impl Write for RoomyWriter {
     }
 }
 
+/// A writer with so much room.
+pub fn roomy_writer(room: usize) -> RoomyWriter {
+    RoomyWriter {
+        taken: ArrayVec::new(),
+        room,
+    }
+}
+
 #[test]
 fn a_writer_that_fails_has_a_beginning(rt: HostRuntime) {
     let trace = SMALLEST_TRACE.as_bytes();
     for room in 0..209 {
-        let mut sink = WriterSink::new(RoomyWriter {
-            taken: ArrayVec::new(),
-            room,
-        });
+        let mut sink = WriterSink::new(roomy_writer(room));
         let found = run(rt.alloc(), &SMALLEST_IMAGE, &[], 128, &mut sink);
         assert!(rt; found == Err(RunFault::Write), "room for {room}");
         assert_eq!(rt; sink.failures, 1);
@@ -114,10 +119,7 @@ fn room_for_the_whole_trace(rt: HostRuntime) {
     assert!(rt; found.is_ok());
     assert_eq!(rt; sink.failures, 0);
     assert_eq!(rt; sink.taken.as_slice(), trace);
-    let mut sink = WriterSink::new(RoomyWriter {
-        taken: ArrayVec::new(),
-        room: 209,
-    });
+    let mut sink = WriterSink::new(roomy_writer(209));
     let found = run(rt.alloc(), &SMALLEST_IMAGE, &[], 128, &mut sink);
     assert!(rt; found.is_ok());
     assert_eq!(rt; sink.writer.taken.as_slice(), trace);

@@ -4,7 +4,7 @@ use super::shelf::{Shelf, expect_command};
 use super::texts::TABLE;
 
 /// Words, the status, and the texts on the standard output and the standard error.
-static USAGES: [(&[&str], u8, &str, &str); 25] = [
+static USAGES: [(&[&str], u8, &str, &str); 31] = [
     (
         &["mb", "check"],
         2,
@@ -84,6 +84,30 @@ static USAGES: [(&[&str], u8, &str, &str); 25] = [
         "error: invalid value '' for '<TICKS>'\n\nUsage: mb [COMMAND]\n\nFor more information, try '--help'.\n",
     ),
     (
+        &["mb", "cost"],
+        2,
+        "",
+        "error: the following required arguments were not provided:\n  <TABLE>\n  <SOURCE>...\n\nUsage: mb cost <TABLE> <SOURCE>...\n\nFor more information, try '--help'.\n",
+    ),
+    (
+        &["mb", "cost", "table"],
+        2,
+        "",
+        "error: the following required arguments were not provided:\n  <SOURCE>...\n\nUsage: mb cost <TABLE> <SOURCE>...\n\nFor more information, try '--help'.\n",
+    ),
+    (
+        &["mb", "dis"],
+        2,
+        "",
+        "error: the following required arguments were not provided:\n  <IMAGE>\n\nUsage: mb dis <IMAGE>\n\nFor more information, try '--help'.\n",
+    ),
+    (
+        &["mb", "dis", "image", "5"],
+        2,
+        "",
+        "error: unexpected argument '5' found\n\nUsage: mb dis <IMAGE>\n\nFor more information, try '--help'.\n",
+    ),
+    (
         &["mb", "walk"],
         2,
         "",
@@ -92,13 +116,13 @@ static USAGES: [(&[&str], u8, &str, &str); 25] = [
     (
         &["mb", "help"],
         0,
-        "Builds ARINC 653 modules and runs them; without a command, runs a stored first module\n\nUsage: mb [COMMAND]\n\nCommands:\n  check  Builds a module table and one source a partition, and writes no image\n  build  Builds an image of a module table and one source a partition, in their order\n  run    Runs an image for so many ticks and writes its trace\n  help   Print this message or the help of the given subcommand(s)\n\nOptions:\n  -h, --help  Print help\n",
+        "Builds ARINC 653 modules and runs them; without a command, runs a stored first module\n\nUsage: mb [COMMAND]\n\nCommands:\n  check  Builds a module table and one source a partition, and writes no image\n  build  Builds an image of a module table and one source a partition, in their order\n  run    Runs an image for so many ticks and writes its trace\n  cost   Writes the instructions, the frame and the cost of each body of the sources\n  dis    Writes the instructions of an image\n  help   Print this message or the help of the given subcommand(s)\n\nOptions:\n  -h, --help  Print help\n",
         "",
     ),
     (
         &["mb", "--help"],
         0,
-        "Builds ARINC 653 modules and runs them; without a command, runs a stored first module\n\nUsage: mb [COMMAND]\n\nCommands:\n  check  Builds a module table and one source a partition, and writes no image\n  build  Builds an image of a module table and one source a partition, in their order\n  run    Runs an image for so many ticks and writes its trace\n  help   Print this message or the help of the given subcommand(s)\n\nOptions:\n  -h, --help  Print help\n",
+        "Builds ARINC 653 modules and runs them; without a command, runs a stored first module\n\nUsage: mb [COMMAND]\n\nCommands:\n  check  Builds a module table and one source a partition, and writes no image\n  build  Builds an image of a module table and one source a partition, in their order\n  run    Runs an image for so many ticks and writes its trace\n  cost   Writes the instructions, the frame and the cost of each body of the sources\n  dis    Writes the instructions of an image\n  help   Print this message or the help of the given subcommand(s)\n\nOptions:\n  -h, --help  Print help\n",
         "",
     ),
     (
@@ -153,6 +177,18 @@ static USAGES: [(&[&str], u8, &str, &str); 25] = [
         &["mb", "run", "-h"],
         0,
         "Runs an image for so many ticks and writes its trace\n\nUsage: mb run <IMAGE> <DEVICES> <TICKS>\n\nArguments:\n  <IMAGE>    \n  <DEVICES>  \n  <TICKS>    \n\nOptions:\n  -h, --help  Print help\n",
+        "",
+    ),
+    (
+        &["mb", "help", "cost"],
+        0,
+        "Writes the instructions, the frame and the cost of each body of the sources\n\nUsage: mb cost <TABLE> <SOURCE>...\n\nArguments:\n  <TABLE>      \n  <SOURCE>...  \n\nOptions:\n  -h, --help  Print help\n",
+        "",
+    ),
+    (
+        &["mb", "dis", "--help"],
+        0,
+        "Writes the instructions of an image\n\nUsage: mb dis <IMAGE>\n\nArguments:\n  <IMAGE>  \n\nOptions:\n  -h, --help  Print help\n",
         "",
     ),
 ];

@@ -8,7 +8,7 @@ use Rattle.command_line.specs.Orders.{First, order_of, words_at}
 use Rattle.command_line.specs.Refusals.{IsRefused}
 use Rattle.command_line.specs.States.{seen, state}
 use Rattle.command_line.specs.declared.refusal.Failure.TheVariants.{Refused}
-use Rattle.command_line.proofs.Found.{words_are, check_is, build_is, run_is, other_is, none_entered}
+use Rattle.command_line.proofs.Found.{words_are, check_is, build_is, run_is, cost_is, dis_is, other_is, none_entered}
 use Rattle.command_line.proofs.Ran.{told_as}
 use Rattle.command_line.proofs.commands.obey.Goals.{in_default-via-in-Some+in_default, in_default-via-in_default}
 use Rattle.command_line.proofs.commands.obey.Goals as goal
@@ -39,6 +39,30 @@ returns-in_err-build-in-Some-build-default-clause-failed g c =
     told_as _ (Refused r) c.from_residual-in_err-build-in-Some-build-default.result c.from_residual-in_err-build-in-Some-build-default.ensures
     (subst (λ o. IsRefused o before after r) (sym order) c.in_err-build-in-Some-build-default.ensures.refused)
 
+pub returns-in_err-cost-in-Some-cost-default-clause-failed : goal.returns-in_err-cost-in-Some-cost-default-clause-failed
+returns-in_err-cost-in-Some-cost-default-clause-failed g c =
+    let before = state (g.F.Files.contents c.args.files.now) (seen g.O.Write.contents c.args.out.now) in
+    let after = state (g.F.Files.contents c.cost.new.files) (seen g.O.Write.contents c.cost.new.out) in
+    let arm = c.in-Some-cost-default in
+    let rows = rows_of (found_of arm.found.now) in
+    let sources : map (λ s. s.now) c.unwrap_or-sources-in-Some-cost-default.result.now ≡ words_at (codes "SOURCE") rows =
+    words_are (found_of arm.found.now) (codes "SOURCE") c.get_strs-in-Some-cost-default.result _ c.unwrap_or-sources-in-Some-cost-default.result c.get_strs-in-Some-cost-default.ensures (search rules) c.unwrap_or-sources-in-Some-cost-default.ensures in
+    let order = cost_is c.args.matches.now arm.field-0-0.now rows c.word-table-in-Some-cost-default.result.now (map (λ s. s.now) c.unwrap_or-sources-in-Some-cost-default.result.now) arm.ensures.name arm.ensures.rows arm.is-cost c.word-table-in-Some-cost-default.ensures sources in
+    let r = c.in_err-cost-in-Some-cost-default.field-0.0 in
+    told_as _ (Refused r) c.from_residual-in_err-cost-in-Some-cost-default.result c.from_residual-in_err-cost-in-Some-cost-default.ensures
+    (subst (λ o. IsRefused o before after r) (sym order) c.in_err-cost-in-Some-cost-default.ensures.refused)
+
+pub returns-in_err-dis-in-Some-dis-default-clause-failed : goal.returns-in_err-dis-in-Some-dis-default-clause-failed
+returns-in_err-dis-in-Some-dis-default-clause-failed g c =
+    let before = state (g.F.Files.contents c.args.files.now) (seen g.O.Write.contents c.args.out.now) in
+    let after = state (g.F.Files.contents c.dis.new.files) (seen g.O.Write.contents c.dis.new.out) in
+    let arm = c.in-Some-dis-default in
+    let rows = rows_of (found_of arm.found.now) in
+    let order = dis_is c.args.matches.now arm.field-0-0.now rows c.word-in-Some-dis-default.result.now arm.ensures.name arm.ensures.rows arm.is-dis c.word-in-Some-dis-default.ensures in
+    let r = c.in_err-dis-in-Some-dis-default.field-0.0 in
+    told_as _ (Refused r) c.from_residual-in_err-dis-in-Some-dis-default.result c.from_residual-in_err-dis-in-Some-dis-default.ensures
+    (subst (λ o. IsRefused o before after r) (sym order) c.in_err-dis-in-Some-dis-default.ensures.refused)
+
 pub returns-in_ok-check-in-Some-check-default-clause-done : goal.returns-in_ok-check-in-Some-check-default-clause-done
 returns-in_ok-check-in-Some-check-default-clause-done g c =
     let before = state (g.F.Files.contents c.args.files.now) (seen g.O.Write.contents c.args.out.now) in
@@ -61,6 +85,26 @@ returns-in_ok-build-in-Some-build-default-clause-done g c =
     let order = build_is c.args.matches.now arm.field-0-0.now rows c.word-table-in-Some-build-default.result.now c.word-image.result.now (map (λ s. s.now) c.unwrap_or-sources-in-Some-build-default.result.now) arm.ensures.name arm.ensures.rows arm.is-build c.word-table-in-Some-build-default.ensures c.word-image.ensures sources in
     subst (λ o. IsDone o before after) (sym order) c.in_ok-build-in-Some-build-default.ensures.done
 
+pub returns-in_ok-cost-in-Some-cost-default-clause-done : goal.returns-in_ok-cost-in-Some-cost-default-clause-done
+returns-in_ok-cost-in-Some-cost-default-clause-done g c =
+    let before = state (g.F.Files.contents c.args.files.now) (seen g.O.Write.contents c.args.out.now) in
+    let after = state (g.F.Files.contents c.cost.new.files) (seen g.O.Write.contents c.cost.new.out) in
+    let arm = c.in-Some-cost-default in
+    let rows = rows_of (found_of arm.found.now) in
+    let sources : map (λ s. s.now) c.unwrap_or-sources-in-Some-cost-default.result.now ≡ words_at (codes "SOURCE") rows =
+    words_are (found_of arm.found.now) (codes "SOURCE") c.get_strs-in-Some-cost-default.result _ c.unwrap_or-sources-in-Some-cost-default.result c.get_strs-in-Some-cost-default.ensures (search rules) c.unwrap_or-sources-in-Some-cost-default.ensures in
+    let order = cost_is c.args.matches.now arm.field-0-0.now rows c.word-table-in-Some-cost-default.result.now (map (λ s. s.now) c.unwrap_or-sources-in-Some-cost-default.result.now) arm.ensures.name arm.ensures.rows arm.is-cost c.word-table-in-Some-cost-default.ensures sources in
+    subst (λ o. IsDone o before after) (sym order) c.in_ok-cost-in-Some-cost-default.ensures.done
+
+pub returns-in_ok-dis-in-Some-dis-default-clause-done : goal.returns-in_ok-dis-in-Some-dis-default-clause-done
+returns-in_ok-dis-in-Some-dis-default-clause-done g c =
+    let before = state (g.F.Files.contents c.args.files.now) (seen g.O.Write.contents c.args.out.now) in
+    let after = state (g.F.Files.contents c.dis.new.files) (seen g.O.Write.contents c.dis.new.out) in
+    let arm = c.in-Some-dis-default in
+    let rows = rows_of (found_of arm.found.now) in
+    let order = dis_is c.args.matches.now arm.field-0-0.now rows c.word-in-Some-dis-default.result.now arm.ensures.name arm.ensures.rows arm.is-dis c.word-in-Some-dis-default.ensures in
+    subst (λ o. IsDone o before after) (sym order) c.in_ok-dis-in-Some-dis-default.ensures.done
+
 pub returns-in-Some-run-default-clause-done : goal.returns-in-Some-run-default-clause-done
 returns-in-Some-run-default-clause-done g c =
     let before = state (g.F.Files.contents c.args.files.now) (seen g.O.Write.contents c.args.out.now) in
@@ -76,7 +120,7 @@ returns-in_ok-run_stored-in_default-clause-done g c =
     let before = state (g.F.Files.contents c.args.files.now) (seen g.O.Write.contents c.args.out.now) in
     let after = state (g.F.Files.contents c.args.files.now) (seen g.O.Write.contents c.run_stored.new.out) in
     let order : order_of (subcommand_rows_of c.args.matches.now) ≡ First = elim c.in_default.branch [
-      | in_default-via-in-Some+in_default w ↦ other_is c.args.matches.now w.in_default.field-0.0.now (rows_of (found_of w.in_default.field-0.1.now)) (search (rules, c.subcommand.ensures.name)) (search (rules, c.subcommand.ensures.rows)) (search rules) (search rules) (search rules)
+      | in_default-via-in-Some+in_default w ↦ other_is c.args.matches.now w.in_default.field-0.0.now (rows_of (found_of w.in_default.field-0.1.now)) (search (rules, c.subcommand.ensures.name)) (search (rules, c.subcommand.ensures.rows)) (search rules) (search rules) (search rules) (search rules) (search rules)
       | in_default-via-in_default w ↦ none_entered c.args.matches.now (search (rules, c.subcommand.ensures.name))
     ] in
     subst (λ o. IsDone o before after) (sym order) (refl, c.in_ok-run_stored-in_default.ensures.done)

@@ -1,0 +1,19 @@
+use Rattle.std.proofs.Common.{rules, map, sym, subst}
+use Rattle.command_line.specs.Contents.{Holds}
+use Rattle.command_line.specs.Reading.{texts_of}
+use Rattle.command_line.proofs.Read.{costed_named, uncosted_named}
+use Rattle.command_line.proofs.reading.costs_named.Goals as goal
+
+pub returns-clause-costed : goal.returns-clause-costed
+returns-clause-costed g c =
+    let files = g.F.Files.contents c.args.files.now in
+    let names = map (λ s. s.now) c.args.sources.now in
+    let table : Holds files c.args.table.now c.as_slice.result.now = subst (Holds files c.args.table.now) (sym c.as_slice.ensures.value) c.in_ok-table.ensures.held in
+    costed_named (λ costs. costs.items) files (g.F.Files.contents c.read.new.files) c.args.table.now names c.as_slice.result.now (texts_of c.as_slice-2.result.now) c.costs_of_texts.result c.in_ok-table.ensures.unchanged table (search rules) c.costs_of_texts.ensures.costed
+
+pub returns-clause-refused : goal.returns-clause-refused
+returns-clause-refused g c =
+    let files = g.F.Files.contents c.args.files.now in
+    let names = map (λ s. s.now) c.args.sources.now in
+    let table : Holds files c.args.table.now c.as_slice.result.now = subst (Holds files c.args.table.now) (sym c.as_slice.ensures.value) c.in_ok-table.ensures.held in
+    uncosted_named files (g.F.Files.contents c.read.new.files) c.args.table.now names c.as_slice.result.now (texts_of c.as_slice-2.result.now) c.costs_of_texts.result c.in_ok-table.ensures.unchanged table (search rules) c.costs_of_texts.ensures.refused
