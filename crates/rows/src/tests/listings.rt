@@ -157,9 +157,8 @@ fn a_writer_that_fails(rt: HostRuntime) -> Result<(), Fail> {
     let sources = [SMALLEST.as_bytes()];
     for (words, text) in &LISTINGS {
         for room in 0..text.len() {
-            let mut shelf = shelf_with(rt.alloc(), &[])?;
-            shelf.table = TABLE.as_bytes();
-            shelf.sources = &sources;
+            let mut shelf = Shelf::new(rt.alloc(), TABLE.as_bytes(), &sources);
+            shelf.image = Some(Vec::from_slice(rt.alloc(), &SMALLEST_IMAGE)?);
             let mut out = Stream::new(roomy_writer(room));
             let mut err = Stream::new(Vec::new(rt.alloc()));
             let status = command(rt.alloc(), words, &mut shelf, &mut out, &mut err);
