@@ -10,7 +10,6 @@ use std::alloc::Global;
 use std::test::Fail;
 
 /// A tick without lines of the devices.
-#[tactic(auto, using(crate::proofs::Ticks::fails_once))]
 fn tick(machine: &mut Machine, sink: &mut NarrowSink) -> Result<(), RunFault>
     requires { sink.old.failures < 100 }
     ensures { sink.new.failures ≤ sink.old.failures + 1 }
