@@ -1,5 +1,5 @@
 -- A tick of a machine within a run.
-use Rattle.std.proofs.Common.{◌≡◌, ◌<◌, ◌≤◌, ◌+◌, ◌^◌, ℕ, suc, Bool, true, false, List, [], ◌++◌, Option, Some, None, Result, Ok, Err, refl, sym, ap, subst, ◌∙◌, arith}
+use Rattle.std.proofs.Common.{◌≡◌, ◌<◌, ◌^◌, ℕ, suc, true, false, List, Option, Some, None, Result, Err, refl, sym, ap, subst, ◌∙◌, arith}
 use Rattle.std.specs.Io.KnownBytes.{Appends}
 use Rattle.std.specs.Prelude.{is_none}
 use Rattle.apex_types.specs.Line.{text_of}
@@ -12,7 +12,7 @@ use Rattle.apex_meaning.specs.Module.{of_tick}
 use Rattle.apex_meaning.specs.MachineControl.{MachineControl}
 use Rattle.apex_meaning.specs.Partition.{Member}
 use Rattle.apex_meaning.specs.TwoMeanings.{machine_module, machine_trace}
-use Rattle.module.specs.Machines.{Machine, HasGoneOn, HasFailed, HasTicked, course_of, fresh_machine}
+use Rattle.module.specs.Machines.{Machine, HasGoneOn, HasFailed, HasTicked, fresh_machine}
 use Rattle.module.specs.Promises.{RunsImage}
 use Rattle.module.specs.Standing.{Standing, after, lines_of, ticks}
 use Rattle.module.specs.declared.fault.RunFault.{RunFault}
