@@ -1,0 +1,1 @@
+autocmd BufRead,BufNewFile *.pal setfiletype pal
