@@ -1,9 +1,8 @@
 -- The costs of programs, one after the other.
 use Rattle.std.proofs.Common.{◌≡◌, ℕ, ◌+◌, ◌<◌, List, [], ◌∷◌, ◌++◌, length, map, take, get_or, Option, Some, None, Result, Ok, Err, IfOk, refl, sym, ap, ◌∙◌, arith}
 use Rattle.std.specs.Option.{option_map}
-use Rattle.std.proofs.lemmas.List.{length-map, map-append, take_more}
+use Rattle.std.proofs.lemmas.List.{map-append, take_more}
 use Rattle.apex_meaning.specs.Image.{Partition, Table}
-use Rattle.apex_meaning.specs.Program.{Program}
 use Rattle.image.specs.Items.{partition_of}
 use Rattle.pal_base.specs.ProgramView.{body_of, procedure_of, process_of, program_of}
 use Rattle.pal_base.specs.declared.program.Body as code_body
@@ -11,17 +10,17 @@ use Rattle.pal_base.specs.declared.program.Procedure as code_procedure
 use Rattle.pal_base.specs.declared.program.Process as code_process
 use Rattle.pal_base.specs.declared.program.Program as code_program
 use Rattle.pal.specs.Costs as report
+use Rattle.pal.specs.ProcedureNames.{names_of_procedures}
 use Rattle.pal.specs.declared.report.BodyCost.{BodyCost}
 use Rattle.window_table.specs.declared.table.PartitionRow.{PartitionRow}
 use Rattle.module.specs.Accepted.{IsTable}
 use Rattle.module.specs.Building.{AreSourceRefusals, IsTableRefusal}
-use Rattle.module.specs.Costs.{AreCosted, AreCosts, AreCostsWith, IsCosted, IsCostRefusal, IsCostRefusedWith, cost_of_process, costs_of_handler, costs_of_procedures, costs_of_program}
-use Rattle.module.specs.Sources.{AreSources, programs_of}
+use Rattle.module.specs.Costs.{AreCosted, AreCosts, AreCostsOf, IsCosted, IsCostOf, IsCostRefusal, IsCostRefusedWith, cost_of_process, costs_of_handler, costs_of_procedures, costs_of_program}
+use Rattle.module.specs.Sources.{AreSources, IsSource}
 use Rattle.module.specs.declared.accepting.AcceptedSource.{AcceptedSource}
 use Rattle.module.specs.declared.costing.PartitionCosts.{PartitionCosts}
 use Rattle.module.specs.declared.fault.BuildFault.{BuildFault}
 use Rattle.module.specs.declared.fault.BuildFault.TheVariants as fault
-use Rattle.module.proofs.Refused.{are_accepted}
 
 -- ---- one program
 
@@ -33,48 +32,54 @@ process_costs : (ps : List code_process.Process) → map report.cost_of_process 
 process_costs [] = refl
 process_costs (p ∷ ps) = ap (λ (costs : List BodyCost). report.cost_of_process p ∷ costs) (process_costs ps)
 
-abbrev pub names_of : List code_procedure.Procedure → List (List ℕ)
-names_of ps = map (λ (p : code_procedure.Procedure). p.name) ps
-
-procedure_costs : (ps : List code_procedure.Procedure) → map report.cost_of_procedure ps ≡ costs_of_procedures (names_of ps) (map procedure_of ps)
+procedure_costs : (ps : List code_procedure.Procedure) → map report.cost_of_procedure ps ≡ costs_of_procedures (names_of_procedures ps) (map procedure_of ps)
 procedure_costs [] = refl
 procedure_costs (p ∷ ps) = ap (λ (costs : List BodyCost). report.cost_of_procedure p ∷ costs) (procedure_costs ps)
 
-costs_of_code : (p : code_program.Program) → report.costs_of p ≡ costs_of_program (names_of p.procedures.items) (program_of p)
+costs_of_code : (p : code_program.Program) → report.costs_of p ≡ costs_of_program (names_of_procedures p.procedures.items) (program_of p)
 costs_of_code p =
     rw (sym (handler_costs p.handler), sym (process_costs p.processes.items), sym (procedure_costs p.procedures.items)) refl
 
-as_many_names : (ps : List code_procedure.Procedure) → length (names_of ps) ≡ length (map procedure_of ps)
-as_many_names ps = length-map ps (λ (p : code_procedure.Procedure). p.name) ∙ sym (length-map ps procedure_of)
-
-pub is_costed : (row : Partition) (p : code_program.Program) (c : PartitionCosts) → c.partition ≡ row.name → c.bodies.items ≡ report.costs_of p → IsCosted row (program_of p) c
-is_costed row p c named same = record {
-  partition = named;
-  procedures = names_of p.procedures.items;
-  named = as_many_names p.procedures.items;
-  bodies = same ∙ costs_of_code p;
+is_costed : (row : Partition) (source : List ℕ) (a : AcceptedSource) (c : PartitionCosts) → IsSource row source a → IsCostOf row a c → IsCosted row source c
+is_costed row source a c is of = record {
+  partition = of.partition;
+  tree = is.tree;
+  written = is.written;
+  program = program_of a.program;
+  judged = is.judged;
+  bodies = of.bodies ∙ costs_of_code a.program ∙ ap (λ (names : List (List ℕ)). costs_of_program names (program_of a.program)) is.named;
 }
+
+pub are_costed : (rows : List Partition) (sources : List (List ℕ)) (given : List AcceptedSource) (costs : List PartitionCosts)
+    → AreSources rows sources given → AreCostsOf rows given costs → AreCosted rows sources costs
+are_costed [] [] [] [] is of = tt
+are_costed [] [] [] (c ∷ costs) is of = absurd of
+are_costed [] [] (a ∷ given) costs is of = absurd is
+are_costed [] (s ∷ sources) given costs is of = absurd is
+are_costed (row ∷ rows) [] given costs is of = absurd is
+are_costed (row ∷ rows) (s ∷ sources) [] costs is of = absurd is
+are_costed (row ∷ rows) (s ∷ sources) (a ∷ given) [] is of = absurd of
+are_costed (row ∷ rows) (s ∷ sources) (a ∷ given) (c ∷ costs) is of = (is_costed row s a c is.0 of.0, are_costed rows sources given costs is.1 of.1)
 
 -- ---- programs one after the other
 
-one_more_costed : (rows : List Partition) (ps : List Program) (costs : List PartitionCosts) (row : Partition) (p : Program) (c : PartitionCosts)
-    → AreCosted rows ps costs → IsCosted row p c → AreCosted (rows ++ row ∷ []) (ps ++ p ∷ []) (costs ++ c ∷ [])
-one_more_costed [] [] [] row p c h one = (one, tt)
-one_more_costed [] [] (d ∷ costs) row p c h one = absurd h
-one_more_costed [] (q ∷ ps) costs row p c h one = absurd h
-one_more_costed (r ∷ rows) [] costs row p c h one = absurd h
-one_more_costed (r ∷ rows) (q ∷ ps) [] row p c h one = absurd h
-one_more_costed (r ∷ rows) (q ∷ ps) (d ∷ costs) row p c h one = (h.0, one_more_costed rows ps costs row p c h.1 one)
+one_more_costed : (rows : List Partition) (given : List AcceptedSource) (costs : List PartitionCosts) (row : Partition) (a : AcceptedSource) (c : PartitionCosts)
+    → AreCostsOf rows given costs → IsCostOf row a c → AreCostsOf (rows ++ row ∷ []) (given ++ a ∷ []) (costs ++ c ∷ [])
+one_more_costed [] [] [] row a c h one = (one, tt)
+one_more_costed [] [] (d ∷ costs) row a c h one = absurd h
+one_more_costed [] (b ∷ given) costs row a c h one = absurd h
+one_more_costed (r ∷ rows) [] costs row a c h one = absurd h
+one_more_costed (r ∷ rows) (b ∷ given) [] row a c h one = absurd h
+one_more_costed (r ∷ rows) (b ∷ given) (d ∷ costs) row a c h one = (h.0, one_more_costed rows given costs row a c h.1 one)
 
 pub next_costed : (rows : List PartitionRow) (place : ℕ) (given : List AcceptedSource) (a : AcceptedSource) (costs next : List PartitionCosts) (row : PartitionRow) (c : PartitionCosts)
-    → place < length rows → row ≡ get_or rows place row → next ≡ costs ++ c ∷ [] → IsCosted (partition_of row) (program_of a.program) c
-    → AreCosted (map partition_of (take place rows)) (programs_of given) costs
-    → AreCosted (map partition_of (take (place + 1) rows)) (programs_of (given ++ a ∷ [])) next
+    → place < length rows → row ≡ get_or rows place row → next ≡ costs ++ c ∷ [] → IsCostOf (partition_of row) a c
+    → AreCostsOf (map partition_of (take place rows)) given costs
+    → AreCostsOf (map partition_of (take (place + 1) rows)) (given ++ a ∷ []) next
 next_costed rows place given a costs next row c within read pushed one h =
     let taken : take (place + 1) rows ≡ take place rows ++ row ∷ [] = take_more rows place row within ∙ ap (λ (r : PartitionRow). take place rows ++ r ∷ []) (sym read) in
     let rows_are : map partition_of (take (place + 1) rows) ≡ map partition_of (take place rows) ++ partition_of row ∷ [] = ap (map partition_of) taken ∙ map-append partition_of (take place rows) (row ∷ []) in
-    let programs_are : programs_of (given ++ a ∷ []) ≡ programs_of given ++ program_of a.program ∷ [] = map-append (λ (s : AcceptedSource). program_of s.program) given (a ∷ []) in
-    rw (rows_are, programs_are, pushed) (one_more_costed (map partition_of (take place rows)) (programs_of given) costs (partition_of row) (program_of a.program) c h one)
+    rw (rows_are, pushed) (one_more_costed (map partition_of (take place rows)) given costs (partition_of row) a c h one)
 
 -- where a source is left, there is a row for it
 pub stands_within : {A B : Type 0} (rows : List A) (place : ℕ) (source : B) (left rest : List B) → left ≡ source ∷ rest → place + length left ≡ length rows → place < length rows
@@ -85,13 +90,9 @@ one_fewer rows place source left rest split all = omega (arith, ap length split)
 
 -- ---- a module
 
-pub costed_with : (t : Table) (sources : List (List ℕ)) (given : List AcceptedSource) (costs : List PartitionCosts)
-    → AreSources t.partitions sources given → AreCosted t.partitions (programs_of given) costs → AreCostsWith t sources costs
-costed_with t sources given costs a h = record { programs = programs_of given; accepted = are_accepted t.partitions sources given a; costed = h }
-
 pub are_costs : {A : Type 0} (items : A → List PartitionCosts) (table : List ℕ) (sources : List (List ℕ)) (t : Table) (answer : Result A BuildFault)
-    → IsTable table t → IfOk answer (λ x. AreCostsWith t sources (items x)) → IfOk answer (λ x. AreCosts table sources (items x))
-are_costs items table sources t (Ok x) is h = record { rows = t; programs = h.programs; accepted = record { rows = is; accepted = h.accepted }; costed = h.costed }
+    → IsTable table t → IfOk answer (λ x. AreCosted t.partitions sources (items x)) → IfOk answer (λ x. AreCosts table sources (items x))
+are_costs items table sources t (Ok x) is h = record { rows = t; accepted = is; costed = h }
 are_costs items table sources t (Err f) is h = tt
 
 pub table_not_costed : (table : List ℕ) (sources : List (List ℕ)) (f : BuildFault) → IsTableRefusal table f → IsCostRefusal table sources f

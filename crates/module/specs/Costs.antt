@@ -1,14 +1,20 @@
 -- What the bodies of the partitions of a module cost.
-use Rattle.std.specs.Prelude.{◌≡◌, ℕ, List, [], ◌∷◌, ◌++◌, length, map, Option, Some, None}
+use Rattle.std.specs.Prelude.{◌≡◌, ℕ, List, [], ◌∷◌, ◌++◌, map, Option, Some, None, Ok}
 use Rattle.apex_meaning.specs.Cost as cost
 use Rattle.apex_meaning.specs.Image.{Partition, Table}
 use Rattle.apex_meaning.specs.Program.{Program, Procedure, Body, Process}
+use Rattle.apex_meaning.specs.Syntax as written
+use Rattle.apex_meaning.specs.WellFormed.{verdict}
+use Rattle.pal.specs.Costs.{costs_of}
+use Rattle.pal.specs.ProcedureNames.{procedure_names}
 use Rattle.pal.specs.declared.report.BodyCost.{BodyCost}
 use Rattle.pal.specs.declared.report.BodyName.{BodyName}
 use Rattle.pal.specs.declared.report.BodyName.TheVariants as body
+use Rattle.pal_base.specs.Answers.{IsProgramOf}
 use Rattle.pal_base.specs.Costs.{held}
-use Rattle.module.specs.Accepted.{AreAccepted, IsModule}
+use Rattle.module.specs.Accepted.{IsTable}
 use Rattle.module.specs.Building.{IsRefusal, IsRefusedWith}
+use Rattle.module.specs.declared.accepting.AcceptedSource.{AcceptedSource}
 use Rattle.module.specs.declared.costing.PartitionCosts.{PartitionCosts}
 use Rattle.module.specs.declared.fault.BuildFault.{BuildFault}
 use Rattle.module.specs.declared.fault.BuildFault.TheVariants as fault
@@ -29,7 +35,7 @@ abbrev pub costs_of_handler : Option Body → List BodyCost
 costs_of_handler None = []
 costs_of_handler (Some b) = cost_of_body body.Handler b ∷ []
 
--- procedures with their names: a program with its names resolved has numbers in place of them
+-- procedures with these names: a program with its names resolved has numbers in place of them
 abbrev pub costs_of_procedures : List (List ℕ) → List Procedure → List BodyCost
 costs_of_procedures (name ∷ names) (p ∷ ps) = cost_of_procedure name p ∷ costs_of_procedures names ps
 costs_of_procedures _ _ = []
@@ -40,31 +46,37 @@ costs_of_program names p = cost_of_body body.Init p.init ∷ costs_of_handler p.
 
 -- ---- the costs of a module
 
--- the costs of a partition's program, with a name for each of its procedures
-pub record IsCosted (row : Partition) (p : Program) (c : PartitionCosts) : Type 0 where
+-- The source is the text of a program, which is well formed for its partition, and these are its costs.
+pub record IsCosted (row : Partition) (source : List ℕ) (c : PartitionCosts) : Type 0 where
   pub partition : c.partition ≡ row.name
-  pub procedures : List (List ℕ)
-  pub named : length procedures ≡ length p.procedures
-  pub bodies : c.bodies.items ≡ costs_of_program procedures p
+  pub tree : written.Program
+  pub written : IsProgramOf source tree
+  pub program : Program
+  pub judged : verdict row.ports row.period tree ≡ Ok program
+  pub bodies : c.bodies.items ≡ costs_of_program (procedure_names tree.declarations) program
 
 -- one for each partition, in order
-abbrev pub AreCosted : List Partition → List Program → List PartitionCosts → Type 0
+abbrev pub AreCosted : List Partition → List (List ℕ) → List PartitionCosts → Type 0
 AreCosted [] [] [] = Unit {0}
-AreCosted (row ∷ rows) (p ∷ ps) (c ∷ costs) = IsCosted row p c × AreCosted rows ps costs
+AreCosted (row ∷ rows) (source ∷ sources) (c ∷ costs) = IsCosted row source c × AreCosted rows sources costs
 AreCosted _ _ _ = ⊥
-
--- with this table the sources are accepted, and these are the costs of their programs
-pub record AreCostsWith (t : Table) (sources : List (List ℕ)) (costs : List PartitionCosts) : Type 0 where
-  pub programs : List Program
-  pub accepted : AreAccepted t.partitions sources programs
-  pub costed : AreCosted t.partitions programs costs
 
 -- the table and the sources are accepted, and these are the costs of their programs
 pub record AreCosts (table : List ℕ) (sources : List (List ℕ)) (costs : List PartitionCosts) : Type 0 where
   pub rows : Table
-  pub programs : List Program
-  pub accepted : IsModule table sources rows programs
-  pub costed : AreCosted rows.partitions programs costs
+  pub accepted : IsTable table rows
+  pub costed : AreCosted rows.partitions sources costs
+
+-- ---- the costs of accepted sources
+
+pub record IsCostOf (row : Partition) (a : AcceptedSource) (c : PartitionCosts) : Type 0 where
+  pub partition : c.partition ≡ row.name
+  pub bodies : c.bodies.items ≡ costs_of a.program
+
+abbrev pub AreCostsOf : List Partition → List AcceptedSource → List PartitionCosts → Type 0
+AreCostsOf [] [] [] = Unit {0}
+AreCostsOf (row ∷ rows) (a ∷ accepted) (c ∷ costs) = IsCostOf row a c × AreCostsOf rows accepted costs
+AreCostsOf _ _ _ = ⊥
 
 -- ---- refusals: as of building, but no program is too long
 

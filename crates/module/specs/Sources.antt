@@ -6,16 +6,18 @@ use Rattle.apex_meaning.specs.Syntax as written
 use Rattle.apex_meaning.specs.WellFormed.{verdict}
 use Rattle.pal_base.specs.Answers.{IsProgramOf}
 use Rattle.pal_base.specs.ProgramView.{program_of}
+use Rattle.pal.specs.ProcedureNames.{names_of_procedures, procedure_names}
 use Rattle.module.specs.declared.accepting.AcceptedSource.{AcceptedSource}
 
 abbrev pub programs_of : List AcceptedSource → List Program
 programs_of accepted = map (λ (a : AcceptedSource). program_of a.program) accepted
 
--- The source is the text of a program, which is well formed for its partition.
+-- The source is the text of a program, which is well formed for its partition; its procedures keep their names.
 pub record IsSource (row : Partition) (source : List ℕ) (a : AcceptedSource) : Type 0 where
   pub tree : written.Program
   pub written : IsProgramOf source tree
   pub judged : verdict row.ports row.period tree ≡ Ok (program_of a.program)
+  pub named : names_of_procedures a.program.procedures.items ≡ procedure_names tree.declarations
 
 abbrev pub AreSources : List Partition → List (List ℕ) → List AcceptedSource → Type 0
 AreSources [] [] [] = Unit {0}

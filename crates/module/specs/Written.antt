@@ -75,12 +75,6 @@ abbrev pub IsOfTick : At → Option At → Type 0
 IsOfTick at None = Unit {0}
 IsOfTick at (Some a) = (a.now.0 ≡ at.now.0) × (a.origin.0 ≤ a.now.0)
 
--- Between two states of a sink the text of these events was written. Where the sink failed, a beginning
--- of it was.
-abbrev pub IsTraced : {X : Type 0} → List Event → Option (List ℕ) → Option (List ℕ) → ℕ → ℕ → Result X SinkFault → Type 0
-IsTraced events old new before after (Ok x) = Appends old new (text_of events) × (after ≡ before)
-IsTraced events old new before after (Err fault) = TakesBeginning old new (text_of events) × (after ≡ before + 1)
-
 -- the ticks of these lines are in order, and none is below this one
 abbrev pub AreFrom : ℕ → List DeviceLine → Type 0
 AreFrom t [] = Unit {0}

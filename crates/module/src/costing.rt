@@ -2,10 +2,8 @@
 
 ghost use Rattle.std.specs.Prelude.{◌≡◌, length, map, IfOk, IfErr};
 ghost use Rattle.image.specs.Items.{partition_of};
-ghost use Rattle.pal_base.specs.ProgramView.{program_of};
 ghost use Rattle.window_table.specs.Views.{table_of};
-ghost use Rattle.module.specs.Costs.{AreCosted, AreCosts, AreCostsWith, IsCostRefusal, IsCostRefusedWith, IsCosted};
-ghost use Rattle.module.specs.Sources.{programs_of};
+ghost use Rattle.module.specs.Costs.{AreCosted, AreCosts, AreCostsOf, IsCostOf, IsCostRefusal, IsCostRefusedWith};
 
 use crate::accepting::{AcceptedSource, accept_sources};
 use crate::building::read;
@@ -47,7 +45,7 @@ fn costs_with(
     table: &ModuleTable,
     sources: &[&[u8]],
 ) -> Result<Vec<PartitionCosts>, BuildFault>
-    ensures costs { IfOk result (λ costs. AreCostsWith (table_of table.now) (map (λ s. s.now) sources.now) costs.items) }
+    ensures costs { IfOk result (λ costs. AreCosted (table_of table.now).partitions (map (λ s. s.now) sources.now) costs.items) }
     ensures refused { IfErr result (λ fault. IsCostRefusedWith (table_of table.now) (map (λ s. s.now) sources.now) fault) }
 {
     if sources.len() != table.partitions.len() {
@@ -65,7 +63,7 @@ fn costs_of_sources(
     sources: Vec<AcceptedSource>,
 ) -> Result<Vec<PartitionCosts>, AllocError>
     requires { length sources.items ≡ length rows.now }
-    ensures { IfOk result (λ costs. AreCosted (map partition_of rows.now) (programs_of sources.items) costs.items) }
+    ensures { IfOk result (λ costs. AreCostsOf (map partition_of rows.now) sources.items costs.items) }
 {
     let mut costs = Vec::with_capacity(alloc, rows.len())?;
     let mut place = 0usize;
@@ -83,7 +81,7 @@ fn partition_costs(
     row: &PartitionRow,
     source: AcceptedSource,
 ) -> Result<PartitionCosts, AllocError>
-    ensures { IfOk result (λ costs. IsCosted (partition_of row.now) (program_of source.program) costs) }
+    ensures { IfOk result (λ costs. IsCostOf (partition_of row.now) source costs) }
 {
     let checked = Checked {
         program: source.program,

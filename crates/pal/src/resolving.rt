@@ -14,6 +14,7 @@ ghost use Rattle.pal_base.specs.ProgramView as shown;
 ghost use Rattle.pal.specs.Tables.{entries_of};
 ghost use Rattle.pal.specs.Scopes.{names_of, sees};
 ghost use Rattle.pal.specs.Parts.{limits_hold_among, resolve_among, exprs_onto};
+ghost use Rattle.pal.specs.ProcedureNames.{names_of_procedures, procedure_names};
 
 use crate::meanings::Counts;
 use crate::numbers::{limited, signed_word_of, word_of};
@@ -37,7 +38,8 @@ pub fn resolve(
     program: &Program,
 ) -> Result<program::Program, AllocError>
     requires { limits_hold_among (entries_of declared.now) (view.program_of program.now) ≡ true }
-    ensures { IfOk result (λ resolved. shown.program_of resolved ≡ resolve_among (entries_of declared.now) (view.program_of program.now)) }
+    ensures resolved { IfOk result (λ resolved. shown.program_of resolved ≡ resolve_among (entries_of declared.now) (view.program_of program.now)) }
+    ensures named { IfOk result (λ resolved. names_of_procedures resolved.procedures.items ≡ procedure_names (view.program_of program.now).declarations) }
 {
     let names = &program.names;
     let declarations = &program.declarations;
@@ -212,7 +214,8 @@ fn resolve_procedures(
     declarations: &[Declaration],
 ) -> Result<Vec<program::Procedure>, AllocError>
     requires { list_all (keeps_declaration (entries_of declared.now)) (map (view.declaration_of (texts names.now.keys)) declarations.now) ≡ true }
-    ensures { IfOk result (λ procedures. map shown.procedure_of procedures.items ≡ filter_map (λ d. meant.procedure_of (entries_of declared.now) d.kind) (map (view.declaration_of (texts names.now.keys)) declarations.now)) }
+    ensures procedures { IfOk result (λ procedures. map shown.procedure_of procedures.items ≡ filter_map (λ d. meant.procedure_of (entries_of declared.now) d.kind) (map (view.declaration_of (texts names.now.keys)) declarations.now)) }
+    ensures named { IfOk result (λ procedures. names_of_procedures procedures.items ≡ procedure_names (map (view.declaration_of (texts names.now.keys)) declarations.now)) }
 {
     let mut procedures = Vec::new(alloc);
     for declaration in declarations {

@@ -1,8 +1,9 @@
 //! The verdict on a program.
 
-ghost use Rattle.std.specs.Prelude.{◌≡◌, is_ok, IfErr};
+ghost use Rattle.std.specs.Prelude.{◌≡◌, is_ok, IfErr, IfOk};
 ghost use Rattle.apex_meaning.specs.WellFormed as well_formed;
 ghost use Rattle.pal_base.specs.View.{program_of};
+ghost use Rattle.pal.specs.ProcedureNames.{names_of_procedures, procedure_names};
 ghost use Rattle.pal.specs.Tables.{entries_of};
 ghost use Rattle.pal.specs.Verdicts.{Answers, verdict_among};
 
@@ -28,16 +29,19 @@ pub struct Checked {
 }
 
 /// The program with its names resolved, if it is well formed for a partition. Otherwise the refusal
-/// with the lowest number, and the first line that breaks this rule.
+/// with the lowest number, and the first line that breaks this rule. The procedures stand in the order
+/// of their declarations, and keep their names.
 pub fn check(alloc: Global, program: Program, row: &PartitionRow) -> Result<Checked, PalFault>
-    ensures { Answers result (well_formed.verdict row.now.ports.items row.now.period (program_of program)) }
+    ensures verdict { Answers result (well_formed.verdict row.now.ports.items row.now.period (program_of program)) }
+    ensures named { IfOk result (λ checked. names_of_procedures checked.program.procedures.items ≡ procedure_names (program_of program).declarations) }
 {
     judged(alloc, &program, row)
 }
 
 /// As [`check`], but keeps the program.
 fn judged(alloc: Global, program: &Program, row: &PartitionRow) -> Result<Checked, PalFault>
-    ensures { Answers result (well_formed.verdict row.now.ports.items row.now.period (program_of program.now)) }
+    ensures verdict { Answers result (well_formed.verdict row.now.ports.items row.now.period (program_of program.now)) }
+    ensures named { IfOk result (λ checked. names_of_procedures checked.program.procedures.items ≡ procedure_names (program_of program.now).declarations) }
 {
     let declared = declared_names(alloc, program, &row.ports)?;
     let names = check_names(alloc, &declared.table, program)?;
@@ -52,7 +56,8 @@ fn well_formed(
     program: &Program,
     period: u32,
 ) -> Result<Checked, PalFault>
-    ensures { Answers result (verdict_among (entries_of declared.now) period (program_of program.now)) }
+    ensures verdict { Answers result (verdict_among (entries_of declared.now) period (program_of program.now)) }
+    ensures named { IfOk result (λ checked. names_of_procedures checked.program.procedures.items ≡ procedure_names (program_of program.now).declarations) }
 {
     let kinds = check_kinds(alloc, declared, program)?;
     refused_by(Refusal::Kind, kinds)?;

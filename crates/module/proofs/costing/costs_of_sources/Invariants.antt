@@ -1,12 +1,11 @@
 use Rattle.std.proofs.Common.{◌≡◌, ◌+◌, map, take, length}
 use Rattle.image.specs.Items.{partition_of}
-use Rattle.module.specs.Costs.{AreCosted}
-use Rattle.module.specs.Sources.{programs_of}
+use Rattle.module.specs.Costs.{AreCostsOf}
 use Rattle.module.proofs.costing.costs_of_sources.Given as goal
 
 abbrev pub invariant-loop-source : goal.invariant-loop-source
 invariant-loop-source l = record {
   place : l.place ≡ length l.yielded;
   left : l.place + length l.source-iterator.rest.items ≡ length l.rows;
-  costed : AreCosted (map partition_of (take l.place l.rows)) (programs_of l.yielded) l.costs.items;
+  costed : AreCostsOf (map partition_of (take l.place l.rows)) l.yielded l.costs.items;
 }

@@ -4,9 +4,9 @@ use Rattle.image.specs.Items.{partition_of}
 use Rattle.window_table.specs.Views.{partition_view, table_of}
 use Rattle.window_table.specs.declared.table.PartitionRow.{PartitionRow}
 use Rattle.module.specs.Building.{AreSourceRefusals}
-use Rattle.module.specs.Costs.{AreCosted}
-use Rattle.module.specs.Sources.{AreSources, programs_of}
-use Rattle.module.proofs.Costed.{costed_with, source_not_costed}
+use Rattle.module.specs.Costs.{AreCostsOf}
+use Rattle.module.specs.Sources.{AreSources}
+use Rattle.module.proofs.Costed.{are_costed, source_not_costed}
 use Rattle.module.proofs.Refused.{as_many, passed_on}
 use Rattle.module.proofs.costing.costs_with.Goals as goal
 
@@ -28,5 +28,5 @@ returns-clause-costs c =
     let given = c.in_ok-accepted.accepted.items in
     let costs = c.in_ok-costs_of_sources.field-0.items in
     let accepted = subst (λ (rows : List PartitionRow). AreSources (map partition_view rows) texts given) c.as_slice-rows.ensures.value c.in_ok-accepted.ensures.accepted in
-    let costed = subst (λ (rows : List PartitionRow). AreCosted (map partition_view rows) (programs_of given) costs) c.as_slice-rows.ensures.value c.in_ok-costs_of_sources.ensures in
-    costed_with (table_of c.args.table.now) texts given costs accepted costed
+    let costed = subst (λ (rows : List PartitionRow). AreCostsOf (map partition_view rows) given costs) c.as_slice-rows.ensures.value c.in_ok-costs_of_sources.ensures in
+    are_costed (table_of c.args.table.now).partitions texts given costs accepted costed
