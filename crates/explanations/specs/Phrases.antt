@@ -1,5 +1,9 @@
 -- How symbols of the grammar, and what else is looked for, stand in an explanation.
 use Rattle.std.specs.Prelude.{ℕ, List, codes}
+use Rattle.explanations.specs.declared.sought.Choice.{Choice}
+use Rattle.explanations.specs.declared.sought.Choice.TheVariants as choice
+use Rattle.explanations.specs.declared.sought.Sought.{Sought}
+use Rattle.explanations.specs.declared.sought.Sought.TheVariants as sought
 use Rattle.explanations.specs.declared.symbols.Symbol.{Symbol}
 use Rattle.explanations.specs.declared.symbols.Symbol.TheVariants as symbol
 
@@ -55,3 +59,39 @@ symbol_phrase symbol.BracketOpens = codes "'['"
 symbol_phrase symbol.BracketCloses = codes "']'"
 symbol_phrase symbol.Stray = codes "a symbol of the grammar"
 symbol_phrase symbol.End = codes "the end of the text"
+
+abbrev pub choice_phrase : Choice → List ℕ
+choice_phrase choice.DeclarationOrInit = codes "a declaration or 'init'"
+choice_phrase choice.EqualOrSemicolon = codes "'=' or ';'"
+choice_phrase choice.NumberOrSemicolon = codes "a number or ';'"
+choice_phrase choice.SignedNumber = codes "a number"
+choice_phrase choice.FifoOrPriority = codes "'fifo' or 'priority'"
+choice_phrase choice.NameOrParenthesis = codes "a name or ')'"
+choice_phrase choice.CommaOrParenthesis = codes "',' or ')'"
+choice_phrase choice.HandlerProcessOrEnd = codes "'handler', 'process' or the end of the text"
+choice_phrase choice.ProcessOrEnd = codes "'process' or the end of the text"
+choice_phrase choice.Brace = codes "'{'"
+choice_phrase choice.LocalStatementOrBrace = codes "'local', a statement or '}'"
+choice_phrase choice.StatementOrBrace = codes "a statement or '}'"
+choice_phrase choice.BecomesOrBracket = codes "':=' or '['"
+choice_phrase choice.ArrowOrSemicolon = codes "'->' or ';'"
+choice_phrase choice.CommaOrSemicolon = codes "',' or ';'"
+choice_phrase choice.Expression = codes "an expression"
+choice_phrase choice.ExpressionOrParenthesis = codes "an expression or ')'"
+choice_phrase choice.OperatorCommaOrParenthesis = codes "an operator, ',' or ')'"
+choice_phrase choice.OperatorOrSemicolon = codes "an operator or ';'"
+choice_phrase choice.OperatorOrBrace = codes "an operator or '{'"
+choice_phrase choice.OperatorOrParenthesis = codes "an operator or ')'"
+choice_phrase choice.OperatorOrBracket = codes "an operator or ']'"
+choice_phrase choice.NoFurtherLevel = codes "a text of at most 64 levels"
+choice_phrase choice.Grammar = codes "a text of the grammar"
+choice_phrase choice.Ascii = codes "bytes up to 127"
+choice_phrase choice.Length = codes "a text of at most 1,048,576 bytes"
+choice_phrase choice.Declared = codes "a name that is declared once"
+choice_phrase choice.Kind = codes "a name of the right kind, all arguments and targets, and a return in a procedure"
+choice_phrase choice.Limit = codes "names, numbers, counts and frames within their limits"
+choice_phrase choice.Period = codes "a period of -1 or a multiple of the partition's period"
+
+abbrev pub phrase : Sought → List ℕ
+phrase (sought.Symbol symbol) = symbol_phrase symbol
+phrase (sought.Choice choice) = choice_phrase choice

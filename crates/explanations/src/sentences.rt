@@ -120,9 +120,7 @@ pub fn command_sentence(fault: CommandFault) -> &'static str
     ensures { result.now ≡ command_sentence fault }
 {
     match fault {
-        CommandFault::Sources => {
-            "There are fewer or more sources than partitions in the table."
-        }
+        CommandFault::Sources => { "There are fewer or more sources than partitions in the table." }
         CommandFault::Compile => "The program of the partition has more than 65,536 instructions.",
         CommandFault::Ticks => "The number of ticks is above 1,099,511,627,776, which is 2^40.",
         CommandFault::File => "The file cannot be opened, read or written.",

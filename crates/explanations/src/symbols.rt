@@ -1,6 +1,6 @@
 //! The symbols of Pal's grammar, and how a text is cut into them: the longest one wins.
 
-ghost use Rattle.std.specs.Prelude.{◌≡◌, ◌<◌, length, IfSome};
+ghost use Rattle.std.specs.Prelude.{◌≡◌};
 ghost use Rattle.explanations.specs.Phrases.{symbol_phrase};
 
 use apex_types::SERVICES;
@@ -124,76 +124,177 @@ impl Symbol {
     }
 }
 
-/// The fixed words of the grammar.
-static WORDS: [(&[u8], Symbol); 25] = [
-    (b"var", Symbol::Var),
-    (b"array", Symbol::Array),
-    (b"semaphore", Symbol::Semaphore),
-    (b"event", Symbol::Event),
-    (b"buffer", Symbol::Buffer),
-    (b"blackboard", Symbol::Blackboard),
-    (b"port", Symbol::Port),
-    (b"proc", Symbol::Proc),
-    (b"fifo", Symbol::Fifo),
-    (b"priority", Symbol::Priority),
-    (b"init", Symbol::Init),
-    (b"stack", Symbol::Stack),
-    (b"handler", Symbol::Handler),
-    (b"process", Symbol::Process),
-    (b"period", Symbol::Period),
-    (b"capacity", Symbol::Capacity),
-    (b"local", Symbol::Local),
-    (b"if", Symbol::If),
-    (b"else", Symbol::Else),
-    (b"while", Symbol::While),
-    (b"work", Symbol::Work),
-    (b"return", Symbol::Return),
-    (b"and", Symbol::And),
-    (b"or", Symbol::Or),
-    (b"not", Symbol::Not),
-];
-
-/// The signs. One stands before those that begin it.
-static SIGNS: [(&[u8], Symbol); 21] = [
-    (b":=", Symbol::Becomes),
-    (b"->", Symbol::Arrow),
-    (b"<>", Symbol::NotEqual),
-    (b"<=", Symbol::LessOrEqual),
-    (b">=", Symbol::GreaterOrEqual),
-    (b"+", Symbol::Plus),
-    (b"-", Symbol::Minus),
-    (b"*", Symbol::Times),
-    (b"/", Symbol::Slash),
-    (b"%", Symbol::Percent),
-    (b"=", Symbol::Equal),
-    (b"<", Symbol::Less),
-    (b">", Symbol::Greater),
-    (b";", Symbol::Semicolon),
-    (b",", Symbol::Comma),
-    (b"(", Symbol::ParenthesisOpens),
-    (b")", Symbol::ParenthesisCloses),
-    (b"{", Symbol::BraceOpens),
-    (b"}", Symbol::BraceCloses),
-    (b"[", Symbol::BracketOpens),
-    (b"]", Symbol::BracketCloses),
-];
-
-/// The symbol at the front of a text that begins with no blank, and how many bytes it has.
-pub fn symbol_at(text: &[u8]) -> (Symbol, usize) {
-    let Some(first) = text.first() else {
-        return (Symbol::End, 0);
+/// The symbol at the front of a text that begins with no blank, and what stands behind it.
+pub fn symbol_at(text: &[u8]) -> (Symbol, &[u8]) {
+    let Some((first, others)) = text.split_first() else {
+        return (Symbol::End, text);
     };
-    match *first {
-        b'a'..=b'z' => {
-            let run = front(text, |byte| matches!(byte, b'a'..=b'z' | b'0'..=b'9' | b'_'));
-            (word(run), run.len())
+    match run_of(*first) {
+        Some(run) => {
+            let (front, rest) = split_run(text, run);
+            (symbol_of(front, run), rest)
         }
-        b'0'..=b'9' => (Symbol::Number, front(text, |byte| matches!(byte, b'0'..=b'9')).len()),
-        b'A'..=b'Z' => {
-            let run = front(text, |byte| matches!(byte, b'A'..=b'Z' | b'_'));
-            (service(run), run.len())
-        }
-        _ => sign_at(text),
+        None => sign_at(*first, others),
     }
 }
 
+/// What follows the blanks and the comments at the front, and the line in which it stands.
+pub fn behind_blanks(text: &[u8], line: u32) -> (&[u8], u32) {
+    let mut rest = text;
+    let mut line = line;
+    let mut is_comment = false;
+    while let Some((byte, others)) = rest.split_first() {
+        match *byte {
+            b'\n' => {
+                line = line.saturating_add(1);
+                is_comment = false;
+            }
+            b'#' => is_comment = true,
+            b' ' | b'\t' => {}
+            _ => {
+                if !is_comment {
+                    return (rest, line);
+                }
+            }
+        }
+        rest = others;
+    }
+    (rest, line)
+}
+
+/// The kinds of runs of characters.
+#[derive(Clone, Copy)]
+enum Run {
+    Name,
+    Number,
+    Service,
+}
+
+/// The run that begins with this character.
+fn run_of(byte: u8) -> Option<Run> {
+    match byte {
+        b'a'..=b'z' => Some(Run::Name),
+        b'0'..=b'9' => Some(Run::Number),
+        b'A'..=b'Z' => Some(Run::Service),
+        _ => None,
+    }
+}
+
+fn belongs(byte: u8, run: Run) -> bool {
+    match run {
+        Run::Name => matches!(byte, b'a'..=b'z' | b'0'..=b'9' | b'_'),
+        Run::Number => matches!(byte, b'0'..=b'9'),
+        Run::Service => matches!(byte, b'A'..=b'Z' | b'_'),
+    }
+}
+
+/// The longest run of this kind at the front, and what stands behind it.
+fn split_run(text: &[u8], run: Run) -> (&[u8], &[u8]) {
+    let length = text
+        .iter()
+        .position(|byte| !belongs(*byte, run))
+        .unwrap_or(text.len());
+    text.split_at(length)
+}
+
+/// The symbol that a run is.
+fn symbol_of(run: &[u8], kind: Run) -> Symbol {
+    let Ok(text) = str::from_utf8(run) else {
+        return Symbol::Stray;
+    };
+    match kind {
+        Run::Name => word(text),
+        Run::Number => Symbol::Number,
+        Run::Service => service(text),
+    }
+}
+
+/// The fixed word of the grammar, or else a name.
+fn word(text: &str) -> Symbol {
+    match text {
+        "var" => Symbol::Var,
+        "array" => Symbol::Array,
+        "semaphore" => Symbol::Semaphore,
+        "event" => Symbol::Event,
+        "buffer" => Symbol::Buffer,
+        "blackboard" => Symbol::Blackboard,
+        "port" => Symbol::Port,
+        "proc" => Symbol::Proc,
+        "fifo" => Symbol::Fifo,
+        "priority" => Symbol::Priority,
+        "init" => Symbol::Init,
+        "stack" => Symbol::Stack,
+        "handler" => Symbol::Handler,
+        "process" => Symbol::Process,
+        "period" => Symbol::Period,
+        "capacity" => Symbol::Capacity,
+        "local" => Symbol::Local,
+        "if" => Symbol::If,
+        "else" => Symbol::Else,
+        "while" => Symbol::While,
+        "work" => Symbol::Work,
+        "return" => Symbol::Return,
+        "and" => Symbol::And,
+        "or" => Symbol::Or,
+        "not" => Symbol::Not,
+        _ => Symbol::Name,
+    }
+}
+
+/// A service, if one has this name.
+fn service(text: &str) -> Symbol {
+    for service in SERVICES.iter() {
+        if service.word() == text {
+            return Symbol::Service;
+        }
+    }
+    Symbol::Stray
+}
+
+/// The sign that begins with this character, and what stands behind it.
+fn sign_at(first: u8, others: &[u8]) -> (Symbol, &[u8]) {
+    if let Some((second, rest)) = others.split_first() {
+        if let Some(sign) = long_sign(first, *second) {
+            return (sign, rest);
+        }
+    }
+    (short_sign(first), others)
+}
+
+/// The sign of these two characters.
+fn long_sign(first: u8, second: u8) -> Option<Symbol> {
+    match first {
+        b':' => (second == b'=').then_some(Symbol::Becomes),
+        b'-' => (second == b'>').then_some(Symbol::Arrow),
+        b'>' => (second == b'=').then_some(Symbol::GreaterOrEqual),
+        b'<' => match second {
+            b'>' => Some(Symbol::NotEqual),
+            b'=' => Some(Symbol::LessOrEqual),
+            _ => None,
+        },
+        _ => None,
+    }
+}
+
+/// The sign of this one character.
+fn short_sign(byte: u8) -> Symbol {
+    match byte {
+        b'+' => Symbol::Plus,
+        b'-' => Symbol::Minus,
+        b'*' => Symbol::Times,
+        b'/' => Symbol::Slash,
+        b'%' => Symbol::Percent,
+        b'=' => Symbol::Equal,
+        b'<' => Symbol::Less,
+        b'>' => Symbol::Greater,
+        b';' => Symbol::Semicolon,
+        b',' => Symbol::Comma,
+        b'(' => Symbol::ParenthesisOpens,
+        b')' => Symbol::ParenthesisCloses,
+        b'{' => Symbol::BraceOpens,
+        b'}' => Symbol::BraceCloses,
+        b'[' => Symbol::BracketOpens,
+        b']' => Symbol::BracketCloses,
+        _ => Symbol::Stray,
+    }
+}
