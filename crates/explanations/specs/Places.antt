@@ -1,10 +1,13 @@
 -- The lines of a text, and how one is shown.
-use Rattle.std.specs.Prelude.{ℕ, zero, suc, ◌-◌, ◌<◌, Bool, List, [], ◌∷◌, map, take, if◌then◌else◌, nat_eq, nat_lt}
+use Rattle.std.specs.Prelude.{ℕ, zero, suc, ◌-◌, Bool, not, List, [], ◌∷◌, map, take, if◌then◌else◌, nat_eq, nat_lt}
+use Rattle.std.specs.List.{prefix_len}
+
+abbrev pub is_no_feed : ℕ → Bool
+is_no_feed byte = not (nat_eq byte 10)
 
 -- what stands before the first line feed
 abbrev pub first_line : List ℕ → List ℕ
-first_line [] = []
-first_line (byte ∷ rest) = if nat_eq byte 10 then [] else byte ∷ first_line rest
+first_line text = take (prefix_len is_no_feed text) text
 
 -- what stands behind the first line feed
 abbrev pub behind_feed : List ℕ → List ℕ

@@ -1,6 +1,6 @@
 //! The line of a refusal, as it is shown.
 
-ghost use Rattle.std.specs.Prelude.{◌≡◌, IfOk, string_bytes};
+ghost use Rattle.std.specs.Prelude.{◌≡◌, IfOk, map, string_bytes};
 ghost use Rattle.explanations.specs.Places.{behind_feed, behind_lines, first_line, line_at, shown, shown_byte};
 
 use std::alloc::{AllocError, Global};
@@ -21,8 +21,10 @@ fn behind_lines(text: &[u8], count: u32) -> &[u8]
     ensures { result.now ≡ behind_lines count text.now }
 {
     let mut rest = text;
-    for _ in 0..count {
+    let mut left = count;
+    while 0 < left {
         rest = behind_feed(rest);
+        left -= 1;
     }
     rest
 }
@@ -45,10 +47,15 @@ fn behind_feed(text: &[u8]) -> &[u8]
 fn first_line(text: &[u8]) -> &[u8]
     ensures { result.now ≡ first_line text.now }
 {
-    let length = text
-        .iter()
-        .position(|byte| *byte == b'\n')
-        .unwrap_or(text.len());
+    let mut length = 0;
+    let mut rest = text;
+    while let Some((byte, others)) = rest.split_first() {
+        if *byte == b'\n' {
+            break;
+        }
+        length += 1;
+        rest = others;
+    }
     let (line, _) = text.split_at(length);
     line
 }
@@ -62,8 +69,16 @@ fn first_line(text: &[u8]) -> &[u8]
 pub fn shown(alloc: Global, line: &[u8]) -> Result<String, AllocError>
     ensures { IfOk result (λ text. string_bytes text ≡ shown line.now) }
 {
+    let (front, _) = line.split_at(line.len().min(MOST_SHOWN));
+    shown_bytes(alloc, front)
+}
+
+/// Bytes as they are shown.
+fn shown_bytes(alloc: Global, bytes: &[u8]) -> Result<String, AllocError>
+    ensures { IfOk result (λ text. string_bytes text ≡ map shown_byte bytes.now) }
+{
     let mut text = String::new(alloc);
-    for byte in &line[..line.len().min(MOST_SHOWN)] {
+    for byte in bytes {
         text.push(char::from(shown_byte(*byte)))?;
     }
     Ok(text)
