@@ -1,0 +1,28 @@
+-- The explanation of a refused source.
+use Rattle.std.specs.Prelude.{◌≡◌, ℕ, List, [], ◌∷◌, ◌++◌, codes}
+use Rattle.std.specs.Fmt.{decimal}
+use Rattle.pal_base.specs.declared.fault.PalFault.{PalFault}
+use Rattle.pal_base.specs.declared.fault.Refusal.{Refusal}
+use Rattle.pal_base.specs.declared.fault.Refusal.TheVariants.{Memory}
+use Rattle.explanations.specs.Phrases.{phrase}
+use Rattle.explanations.specs.Places.{line_at, shown}
+use Rattle.explanations.specs.Sentences.{source_sentence}
+use Rattle.explanations.specs.declared.sought.Sought.{Sought}
+
+-- the sentence of the rule, on a line of its own
+abbrev pub sentence_line : Refusal → List ℕ
+sentence_line refusal = source_sentence refusal ++ 10 ∷ []
+
+-- the number and the text of the refused line, and what was looked for there
+abbrev pub place_line : List ℕ → ℕ → Sought → List ℕ
+place_line source number sought =
+    codes "line " ++ decimal number ++ codes ": \"" ++ shown (line_at number source) ++ codes "\", looked for " ++ phrase sought ++ 10 ∷ []
+
+-- the text explains this refusal: the sentence, and except for a lack of memory the refused line with
+-- something that was looked for
+abbrev pub IsExplanation : List ℕ → ℕ → List ℕ → Refusal → Type 0
+IsExplanation source number text Memory = text ≡ sentence_line Memory
+IsExplanation source number text refusal = (sought : Sought) × (text ≡ sentence_line refusal ++ place_line source number sought)
+
+abbrev pub IsExplanationOf : List ℕ → PalFault → List ℕ → Type 0
+IsExplanationOf source fault text = IsExplanation source fault.line text fault.refusal

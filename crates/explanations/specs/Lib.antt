@@ -1,0 +1,4 @@
+pub mod Explanation
+pub mod Phrases
+pub mod Places
+pub mod Sentences

@@ -1,0 +1,23 @@
+//! Refusals in plain words: the sentence of the rule, and for a source the refused line and what was
+//! looked for there.
+#![tactic(auto)]
+
+mod explanation;
+mod expressions;
+mod grammar;
+mod lines;
+mod looking;
+mod reading;
+mod sentences;
+mod sought;
+mod statements;
+mod symbols;
+
+pub use explanation::explain_source;
+pub use lines::{refused_line, shown};
+pub use looking::looked_for;
+pub use sentences::{
+    CommandFault, command_sentence, device_sentence, image_sentence, source_sentence,
+    table_sentence,
+};
+pub use sought::Sought;

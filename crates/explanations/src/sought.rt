@@ -1,0 +1,101 @@
+//! What was looked for at a refused line.
+
+ghost use Rattle.std.specs.Prelude.{◌≡◌};
+ghost use Rattle.explanations.specs.Phrases.{choice_phrase, phrase};
+
+use crate::symbols::Symbol;
+
+/// What was looked for.
+#[derive(Clone, Copy)]
+pub enum Sought {
+    Symbol(Symbol),
+    Choice(Choice),
+}
+
+impl Sought {
+    /// The phrase that says so.
+    pub fn phrase(self) -> &'static str
+        ensures { result.now ≡ phrase self }
+    {
+        match self {
+            Sought::Symbol(symbol) => symbol.phrase(),
+            Sought::Choice(choice) => choice.phrase(),
+        }
+    }
+}
+
+/// What was looked for, where it is not one symbol.
+#[derive(Clone, Copy, Debug, PartialEq, Eq)]
+pub enum Choice {
+    DeclarationOrInit,
+    EqualOrSemicolon,
+    NumberOrSemicolon,
+    SignedNumber,
+    FifoOrPriority,
+    NameOrParenthesis,
+    CommaOrParenthesis,
+    HandlerProcessOrEnd,
+    ProcessOrEnd,
+    Brace,
+    LocalStatementOrBrace,
+    StatementOrBrace,
+    BecomesOrBracket,
+    ArrowOrSemicolon,
+    CommaOrSemicolon,
+    Expression,
+    ExpressionOrParenthesis,
+    OperatorCommaOrParenthesis,
+    OperatorOrSemicolon,
+    OperatorOrBrace,
+    OperatorOrParenthesis,
+    OperatorOrBracket,
+    NoFurtherLevel,
+    Grammar,
+    Ascii,
+    Length,
+    Declared,
+    Kind,
+    Limit,
+    Period,
+}
+
+impl Choice {
+    /// The phrase that says so.
+    pub fn phrase(self) -> &'static str
+        ensures { result.now ≡ choice_phrase self }
+    {
+        match self {
+            Choice::DeclarationOrInit => "a declaration or 'init'",
+            Choice::EqualOrSemicolon => "'=' or ';'",
+            Choice::NumberOrSemicolon => "a number or ';'",
+            Choice::SignedNumber => "a number",
+            Choice::FifoOrPriority => "'fifo' or 'priority'",
+            Choice::NameOrParenthesis => "a name or ')'",
+            Choice::CommaOrParenthesis => "',' or ')'",
+            Choice::HandlerProcessOrEnd => "'handler', 'process' or the end of the text",
+            Choice::ProcessOrEnd => "'process' or the end of the text",
+            Choice::Brace => "'{'",
+            Choice::LocalStatementOrBrace => "'local', a statement or '}'",
+            Choice::StatementOrBrace => "a statement or '}'",
+            Choice::BecomesOrBracket => "':=' or '['",
+            Choice::ArrowOrSemicolon => "'->' or ';'",
+            Choice::CommaOrSemicolon => "',' or ';'",
+            Choice::Expression => "an expression",
+            Choice::ExpressionOrParenthesis => "an expression or ')'",
+            Choice::OperatorCommaOrParenthesis => "an operator, ',' or ')'",
+            Choice::OperatorOrSemicolon => "an operator or ';'",
+            Choice::OperatorOrBrace => "an operator or '{'",
+            Choice::OperatorOrParenthesis => "an operator or ')'",
+            Choice::OperatorOrBracket => "an operator or ']'",
+            Choice::NoFurtherLevel => "a text of at most 64 levels",
+            Choice::Grammar => "a text of the grammar",
+            Choice::Ascii => "bytes up to 127",
+            Choice::Length => "a text of at most 1,048,576 bytes",
+            Choice::Declared => "a name that is declared once",
+            Choice::Kind =>
+                "a name of the right kind, all arguments and targets, and a return in a procedure",
+            Choice::Limit => "names, numbers, counts and frames within their limits",
+            Choice::Period => "a period of -1 or a multiple of the partition's period",
+        }
+    }
+}
