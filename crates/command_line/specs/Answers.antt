@@ -1,15 +1,17 @@
 -- What each status of a command means.
-use Rattle.std.specs.Prelude.{◌≡◌, ◌≢◌, ◌⊎◌, ◌≤◌, ℕ, [], true, Result, Ok, Err}
+use Rattle.std.specs.Prelude.{◌≡◌, ◌≢◌, ◌⊎◌, ◌≤◌, ℕ, Bool, [], true, false, Result, Ok, Err}
 use Rattle.clap.specs.Kinds.{Kinds, IsAmong}
 use Rattle.clap.specs.Values.{kind_of}
 use Rattle.clap.specs.declared.error.Error.{Error}
 use Rattle.clap.specs.declared.error.kind.ErrorKind.{ErrorKind}
 use Rattle.clap.specs.declared.error.kind.ErrorKind.TheVariants.{DisplayHelp, DisplayVersion}
 use Rattle.command_line.specs.Done.{IsDone}
+use Rattle.command_line.specs.Explained.{told_text}
 use Rattle.command_line.specs.Lines.{line_of}
 use Rattle.command_line.specs.Orders.{Order}
 use Rattle.command_line.specs.Refusals.{IsFailureOfWords, IsUntouched, IsWrongTicks}
-use Rattle.command_line.specs.States.{Seen, State, TakesLine}
+use Rattle.command_line.specs.States.{Seen, State, TakesLine, TakesText}
+use Rattle.command_line.specs.declared.explaining.Note.{Note}
 use Rattle.command_line.specs.declared.refusal.Failure.{Failure}
 use Rattle.command_line.specs.declared.refusal.Failure.TheVariants.{Refused, Usage}
 use Rattle.command_line.specs.declared.refusal.Refusal.{Refusal}
@@ -43,13 +45,17 @@ abbrev pub IsRefusedFor : Kinds → Order → State → State → Refusal → Ty
 IsRefusedFor kinds order before after r =
     IsFailureOfWords kinds order before after (Refused r) ⊎ ((r ≡ Write) × AskForHelp kinds × (after.files ≡ before.files))
 
+-- standard error has the line of the refusal, and an explanation behind it only if the words ask for one
+abbrev pub IsRefusalTold : Bool → Seen → Seen → Refusal → Type 0
+IsRefusalTold asked old_err new_err r = (explained : Bool) × (note : Note) × (asked ≡ false → explained ≡ false) × TakesText old_err new_err (told_text explained r note)
+
 -- With 0 the order is done, and standard error is as it was; with 1 it is refused, and standard error has
--- the line of the refusal; with 2 the words are no command, and neither files nor standard output were
+-- the line of the refusal, with an explanation if that was asked for; with 2 the words are no command, and neither files nor standard output were
 -- touched.
-pub record IsAnswer (kinds : Kinds) (order : Order) (before after : State) (old_err new_err : Seen) (status : ℕ) : Type 0 where
+pub record IsAnswer (kinds : Kinds) (order : Order) (asked : Bool) (before after : State) (old_err new_err : Seen) (status : ℕ) : Type 0 where
   pub range : status ≤ 2
   pub done : status ≡ 0 → IsDoneOrHelp kinds order before after × (new_err ≡ old_err)
-  pub refused : status ≡ 1 → (r : Refusal) × IsRefusedFor kinds order before after r × TakesLine old_err new_err (line_of r)
+  pub refused : status ≡ 1 → (r : Refusal) × IsRefusedFor kinds order before after r × IsRefusalTold asked old_err new_err r
   pub usage : status ≡ 2 → IsUntouched before after × AreNoCommand kinds order
 
 -- ---- what was told of an outcome
@@ -59,7 +65,7 @@ pub record IsUsageTold (error : Error) (old_out new_out old_err new_err : Seen) 
   pub mistake : IsMistake (kind_of error) → (status ≡ 2) × (new_out ≡ old_out)
   pub help : IsHelp (kind_of error) → ((status ≡ 0) × (new_out.flushed ≡ true) × (new_err ≡ old_err)) ⊎ ((status ≡ 1) × TakesLine old_err new_err (line_of Write))
 
-abbrev pub IsTold : Result (Unit {0}) Failure → Seen → Seen → Seen → Seen → ℕ → Type 0
-IsTold (Ok done) old_out new_out old_err new_err status = (status ≡ 0) × (new_out ≡ old_out) × (new_err ≡ old_err)
-IsTold (Err (Refused r)) old_out new_out old_err new_err status = (status ≡ 1) × (new_out ≡ old_out) × TakesLine old_err new_err (line_of r)
-IsTold (Err (Usage error)) old_out new_out old_err new_err status = IsUsageTold error old_out new_out old_err new_err status
+abbrev pub IsTold : Result (Unit {0}) Failure → Bool → Note → Seen → Seen → Seen → Seen → ℕ → Type 0
+IsTold (Ok done) asked note old_out new_out old_err new_err status = (status ≡ 0) × (new_out ≡ old_out) × (new_err ≡ old_err)
+IsTold (Err (Refused r)) asked note old_out new_out old_err new_err status = (status ≡ 1) × (new_out ≡ old_out) × TakesText old_err new_err (told_text asked r note)
+IsTold (Err (Usage error)) asked note old_out new_out old_err new_err status = IsUsageTold error old_out new_out old_err new_err status

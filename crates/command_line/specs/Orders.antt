@@ -1,5 +1,5 @@
 -- What the words of a command line order.
-use Rattle.std.specs.Prelude.{ℕ, List, [], Option, Some, None, unwrap_or, if◌then◌else◌, codes}
+use Rattle.std.specs.Prelude.{ℕ, Bool, false, List, [], Option, Some, None, unwrap_or, if◌then◌else◌, codes}
 use Rattle.std.specs.Str.{bytes_eq}
 use Rattle.clap.specs.Walk.{Row, first_of, all_of}
 
@@ -48,3 +48,8 @@ order_named name rows =
 abbrev pub order_of : Option (List ℕ × List Row) → Order
 order_of None = First
 order_of (Some entered) = order_named entered.0 entered.1
+
+-- whether the words ask for an explanation of a refusal
+abbrev pub asks : Option (List ℕ × List Row) → Bool
+asks None = false
+asks (Some entered) = bytes_eq (word_at (codes "explain") entered.1) (codes "true")

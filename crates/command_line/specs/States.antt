@@ -22,6 +22,10 @@ pub record State : Type 0 where
 abbrev pub state : Option Contents → Seen → State
 state files out = record { files = files; out = out }
 
+-- the stream has taken this text, where it did not fail
+abbrev pub TakesText : Seen → Seen → List ℕ → Type 0
+TakesText old new text = new.failed ≡ false → Appends old.bytes new.bytes text
+
 -- the stream has taken this line, where it did not fail
 abbrev pub TakesLine : Seen → Seen → List ℕ → Type 0
 TakesLine old new line = new.failed ≡ false → Appends old.bytes new.bytes (line ++ 10 ∷ [])

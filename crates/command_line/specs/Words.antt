@@ -3,7 +3,7 @@ use Rattle.std.specs.Prelude.{◌≡◌, ℕ, List, Some, true, false, codes}
 use Rattle.clap.specs.Lexer.{usize_max}
 use Rattle.clap.specs.Simple.{App, app_of, new_app, new_rule, with_rule, with_subcommand}
 use Rattle.clap.specs.Walk.{Rule}
-use Rattle.clap.specs.declared.builder.action.ArgAction.TheVariants.{Set, Append}
+use Rattle.clap.specs.declared.builder.action.ArgAction.TheVariants.{Set, SetTrue, Append}
 use Rattle.clap.specs.declared.builder.command.Command.{Command}
 use Rattle.clap.specs.declared.builder.command.Command.TheViews.{out-Command}
 
@@ -15,20 +15,28 @@ word_rule name = record (new_rule name) { required = true; action = Some Set }
 abbrev pub sources_rule : Rule
 sources_rule = record (new_rule (codes "SOURCE")) { required = true; range = Some (record { start_inclusive = 1; end_inclusive = usize_max }); action = Some Append }
 
+-- the flag that asks for an explanation of a refusal
+abbrev pub explain_rule : Rule
+explain_rule = record (new_rule (codes "explain")) { long = Some (codes "explain"); action = Some SetTrue }
+
+-- a command that takes the flag
+abbrev pub explained_app : List ℕ → App
+explained_app name = with_rule (new_app name) explain_rule
+
 abbrev pub check_app : App
-check_app = with_rule (with_rule (new_app (codes "check")) (word_rule (codes "TABLE"))) sources_rule
+check_app = with_rule (with_rule (explained_app (codes "check")) (word_rule (codes "TABLE"))) sources_rule
 
 abbrev pub build_app : App
-build_app = with_rule (with_rule (with_rule (new_app (codes "build")) (word_rule (codes "TABLE"))) (word_rule (codes "IMAGE"))) sources_rule
+build_app = with_rule (with_rule (with_rule (explained_app (codes "build")) (word_rule (codes "TABLE"))) (word_rule (codes "IMAGE"))) sources_rule
 
 abbrev pub run_app : App
-run_app = with_rule (with_rule (with_rule (new_app (codes "run")) (word_rule (codes "IMAGE"))) (word_rule (codes "DEVICES"))) (word_rule (codes "TICKS"))
+run_app = with_rule (with_rule (with_rule (explained_app (codes "run")) (word_rule (codes "IMAGE"))) (word_rule (codes "DEVICES"))) (word_rule (codes "TICKS"))
 
 abbrev pub cost_app : App
-cost_app = with_rule (with_rule (new_app (codes "cost")) (word_rule (codes "TABLE"))) sources_rule
+cost_app = with_rule (with_rule (explained_app (codes "cost")) (word_rule (codes "TABLE"))) sources_rule
 
 abbrev pub dis_app : App
-dis_app = with_rule (new_app (codes "dis")) (word_rule (codes "IMAGE"))
+dis_app = with_rule (explained_app (codes "dis")) (word_rule (codes "IMAGE"))
 
 abbrev pub mb_app : App
 mb_app = with_subcommand (with_subcommand (with_subcommand (with_subcommand (with_subcommand (new_app (codes "mb")) check_app.top) build_app.top) run_app.top) cost_app.top) dis_app.top

@@ -1,16 +1,17 @@
 //! What each command does.
 
-ghost use Rattle.std.specs.Prelude.{◌≡◌, [], map, true, IfErr, OnOk};
+ghost use Rattle.std.specs.Prelude.{◌≡◌, [], map, true, false, IfErr, OnOk};
 ghost use Rattle.clap.specs.Faults.{fault_of};
 ghost use Rattle.clap.specs.Matches.{found_of};
 ghost use Rattle.clap.specs.Simple.{subcommand_of, subcommand_rows_of};
 ghost use Rattle.clap.specs.Walk.{rows_of};
 ghost use Rattle.command_line.specs.Done.{IsDone};
-ghost use Rattle.command_line.specs.Orders.{Build, Check, order_of, word_at};
+ghost use Rattle.command_line.specs.Orders.{Build, Check, asks, order_of, word_at};
 ghost use Rattle.command_line.specs.Refusals.{IsBuildRefused, IsCheckRefused, IsFailure, IsFailureOfWords};
 ghost use Rattle.command_line.specs.States.{seen, state};
 ghost use Rattle.command_line.specs.Words.{mb_app};
 
+use crate::explaining::Note;
 use crate::files::Files;
 use crate::grammar::grammar;
 use crate::reading::build_named;
@@ -23,13 +24,17 @@ use std::alloc::Global;
 use std::convert::AsStr;
 use std::io::Write;
 
-/// Does what the words say.
+/// Does what the words say. `asked` becomes true if they ask for an explanation of a refusal; `note`
+/// gets what is to be told of a refused source then.
 pub fn perform<S: AsStr, F: Files, O: Write>(
     alloc: Global,
     words: &[S],
     files: &mut F,
     out: &mut Stream<O>,
+    asked: &mut bool,
+    note: &mut Note,
 ) -> Result<(), Failure>
+    ensures asked { asked.old ≡ false → asks (subcommand_of mb_app (map S.text words.now)) ≡ false → asked.new ≡ false }
     ensures command { OnOk result (fault_of mb_app (map S.text words.now) ≡ []) }
     ensures done { OnOk result (IsDone (order_of (subcommand_of mb_app (map S.text words.now)))
         (state (F.contents files.old) (seen O.contents out.old)) (state (F.contents files.new) (seen O.contents out.new))) }
@@ -38,7 +43,19 @@ pub fn perform<S: AsStr, F: Files, O: Write>(
         (state (F.contents files.old) (seen O.contents out.old)) (state (F.contents files.new) (seen O.contents out.new)) f) }
 {
     let matches = grammar(alloc)?.try_get_matches_from(words)?;
-    obey(alloc, &matches, files, out)
+    *asked = asks(&matches);
+    *note = Note::new(*asked);
+    obey(alloc, &matches, files, out, note)
+}
+
+/// Whether the words ask for an explanation of a refusal.
+fn asks(matches: &ArgMatches<'_>) -> bool
+    ensures { result ≡ asks (subcommand_rows_of matches.now) }
+{
+    match matches.subcommand() {
+        Some((_, found)) => word(found, "explain").as_bytes() == b"true",
+        None => false,
+    }
 }
 
 /// Does what was found in the words.
@@ -47,6 +64,7 @@ fn obey<F: Files, O: Write>(
     matches: &ArgMatches<'_>,
     files: &mut F,
     out: &mut Stream<O>,
+    note: &mut Note,
 ) -> Result<(), Failure>
     ensures done { OnOk result (IsDone (order_of (subcommand_rows_of matches.now))
         (state (F.contents files.old) (seen O.contents out.old)) (state (F.contents files.new) (seen O.contents out.new))) }
@@ -58,12 +76,12 @@ fn obey<F: Files, O: Write>(
         Some(("check", found)) => {
             let table = word(found, "TABLE");
             let sources = found.get_strs("SOURCE").unwrap_or(&[]);
-            Ok(check(alloc, table, sources, files, out)?)
+            Ok(check(alloc, table, sources, files, out, note)?)
         }
         Some(("build", found)) => {
             let (table, image) = (word(found, "TABLE"), word(found, "IMAGE"));
             let sources = found.get_strs("SOURCE").unwrap_or(&[]);
-            Ok(build(alloc, table, image, sources, files, out)?)
+            Ok(build(alloc, table, image, sources, files, out, note)?)
         }
         Some(("run", found)) => {
             let (image, devices) = (word(found, "IMAGE"), word(found, "DEVICES"));
@@ -72,7 +90,7 @@ fn obey<F: Files, O: Write>(
         Some(("cost", found)) => {
             let table = word(found, "TABLE");
             let sources = found.get_strs("SOURCE").unwrap_or(&[]);
-            Ok(cost(alloc, table, sources, files, out)?)
+            Ok(cost(alloc, table, sources, files, out, note)?)
         }
         Some(("dis", found)) => Ok(dis(alloc, word(found, "IMAGE"), files, out)?),
         _ => Ok(run_stored(alloc, out)?),
@@ -93,6 +111,7 @@ fn check<F: Files, O: Write>(
     sources: &[&str],
     files: &mut F,
     out: &mut Stream<O>,
+    note: &mut Note,
 ) -> Result<(), Refusal>
     ensures done { OnOk result (IsDone (Check table.now (map (λ s. s.now) sources.now))
         (state (F.contents files.old) (seen O.contents out.old)) (state (F.contents files.new) (seen O.contents out.new))) }
@@ -100,7 +119,7 @@ fn check<F: Files, O: Write>(
     ensures refused { IfErr result (λ r. IsCheckRefused table.now (map (λ s. s.now) sources.now)
         (state (F.contents files.old) (seen O.contents out.old)) (state (F.contents files.new) (seen O.contents out.new)) r) }
 {
-    build_named(alloc, table, sources, files)?;
+    build_named(alloc, table, sources, files, note)?;
     Ok(out.line("accepted")?)
 }
 
@@ -112,6 +131,7 @@ fn build<F: Files, O: Write>(
     sources: &[&str],
     files: &mut F,
     out: &mut Stream<O>,
+    note: &mut Note,
 ) -> Result<(), Refusal>
     ensures done { OnOk result (IsDone (Build table.now name.now (map (λ s. s.now) sources.now))
         (state (F.contents files.old) (seen O.contents out.old)) (state (F.contents files.new) (seen O.contents out.new))) }
@@ -119,7 +139,7 @@ fn build<F: Files, O: Write>(
     ensures refused { IfErr result (λ r. IsBuildRefused table.now name.now (map (λ s. s.now) sources.now)
         (state (F.contents files.old) (seen O.contents out.old)) (state (F.contents files.new) (seen O.contents out.new)) r) }
 {
-    let image = build_named(alloc, table, sources, files)?;
+    let image = build_named(alloc, table, sources, files, note)?;
     if let Err(fault) = files.write(name, image.as_slice()) {
         return Err(Refusal::of_file(alloc, name, fault));
     }

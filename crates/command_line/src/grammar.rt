@@ -6,7 +6,7 @@ ghost use Rattle.clap.specs.Values.{kind_of};
 ghost use Rattle.clap.specs.Walk.{rule_of};
 ghost use Rattle.clap.specs.declared.error.kind.ErrorKind.TheVariants.{ValueValidation};
 ghost use Rattle.command_line.specs.Ticks.{ReadsTicks};
-ghost use Rattle.command_line.specs.Words.{IsCommand, word_rule, sources_rule, check_app, build_app, run_app, cost_app, dis_app, mb_app};
+ghost use Rattle.command_line.specs.Words.{IsCommand, word_rule, sources_rule, explain_rule, explained_app, check_app, build_app, run_app, cost_app, dis_app, mb_app};
 
 use clap::error::ErrorKind;
 use clap::{Arg, ArgAction, Command, Error};
@@ -30,7 +30,7 @@ pub fn grammar<'a>(alloc: Global) -> Result<Command<'a>, AllocError>
 fn check<'a>(alloc: Global) -> Result<Command<'a>, AllocError>
     ensures { IfOk result (λ command. IsCommand command check_app) }
 {
-    Command::new(alloc, "check")
+    explained(alloc, "check")?
         .about("Builds a module table and one source a partition, and writes no image")
         .arg(file(alloc, "TABLE"))?
         .arg(sources(alloc))
@@ -39,7 +39,7 @@ fn check<'a>(alloc: Global) -> Result<Command<'a>, AllocError>
 fn build<'a>(alloc: Global) -> Result<Command<'a>, AllocError>
     ensures { IfOk result (λ command. IsCommand command build_app) }
 {
-    Command::new(alloc, "build")
+    explained(alloc, "build")?
         .about("Builds an image of a module table and one source a partition, in their order")
         .arg(file(alloc, "TABLE"))?
         .arg(file(alloc, "IMAGE"))?
@@ -49,7 +49,7 @@ fn build<'a>(alloc: Global) -> Result<Command<'a>, AllocError>
 fn run<'a>(alloc: Global) -> Result<Command<'a>, AllocError>
     ensures { IfOk result (λ command. IsCommand command run_app) }
 {
-    Command::new(alloc, "run")
+    explained(alloc, "run")?
         .about("Runs an image for so many ticks and writes its trace")
         .arg(file(alloc, "IMAGE"))?
         .arg(file(alloc, "DEVICES"))?
@@ -59,7 +59,7 @@ fn run<'a>(alloc: Global) -> Result<Command<'a>, AllocError>
 fn cost<'a>(alloc: Global) -> Result<Command<'a>, AllocError>
     ensures { IfOk result (λ command. IsCommand command cost_app) }
 {
-    Command::new(alloc, "cost")
+    explained(alloc, "cost")?
         .about("Writes the instructions, the frame and the cost of each body of the sources")
         .arg(file(alloc, "TABLE"))?
         .arg(sources(alloc))
@@ -68,9 +68,26 @@ fn cost<'a>(alloc: Global) -> Result<Command<'a>, AllocError>
 fn dis<'a>(alloc: Global) -> Result<Command<'a>, AllocError>
     ensures { IfOk result (λ command. IsCommand command dis_app) }
 {
-    Command::new(alloc, "dis")
+    explained(alloc, "dis")?
         .about("Writes the instructions of an image")
         .arg(file(alloc, "IMAGE"))
+}
+
+/// A command that takes the flag for explanations.
+fn explained<'a>(alloc: Global, name: &'a str) -> Result<Command<'a>, AllocError>
+    ensures { IfOk result (λ command. IsCommand command (explained_app name.entry.now)) }
+{
+    Command::new(alloc, name).arg(explain(alloc))
+}
+
+fn explain<'a>(alloc: Global) -> Arg<'a>
+    ensures rule { rule_of result ≡ explain_rule }
+    ensures local { result.global ≡ false }
+{
+    Arg::new(alloc, "explain")
+        .long("explain")
+        .action(ArgAction::SetTrue)
+        .help("Explains a refusal in plain words")
 }
 
 fn file<'a>(alloc: Global, name: &'a str) -> Arg<'a>

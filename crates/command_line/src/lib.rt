@@ -5,11 +5,12 @@ ghost use Rattle.std.specs.Prelude.{◌≡◌, ◌≤◌, map};
 ghost use Rattle.clap.specs.Faults.{fault_of};
 ghost use Rattle.clap.specs.Simple.{subcommand_of};
 ghost use Rattle.command_line.specs.Answers.{IsAnswer};
-ghost use Rattle.command_line.specs.Orders.{order_of};
+ghost use Rattle.command_line.specs.Orders.{asks, order_of};
 ghost use Rattle.command_line.specs.States.{seen, state};
 ghost use Rattle.command_line.specs.Words.{mb_app};
 
 mod commands;
+mod explaining;
 mod files;
 mod first_run;
 mod grammar;
@@ -21,6 +22,7 @@ mod stream;
 mod telling;
 
 use commands::perform;
+use explaining::Note;
 pub use files::{FileFault, Files};
 pub use refusal::Refusal;
 use std::alloc::Global;
@@ -30,7 +32,8 @@ pub use stream::Stream;
 use telling::tell;
 
 /// Does what the words of a command line say, the program's name first, and answers the exit
-/// status: 0; 1 for a refused command, with one line on `err`; 2 for words that are no command,
+/// status: 0; 1 for a refused command, with its line on `err`, and an explanation behind it if the
+/// words ask for one; 2 for words that are no command,
 /// with the usage on `err`. Help goes to `out`, with status 0.
 ///
 /// Faults are met in this order: the words, the files read in the order of the words, the build,
@@ -43,10 +46,12 @@ pub fn command<S: AsStr, F: Files, O: Write, E: Write>(
     out: &mut Stream<O>,
     err: &mut Stream<E>,
 ) -> u8
-    ensures { IsAnswer (fault_of mb_app (map S.text words.now)) (order_of (subcommand_of mb_app (map S.text words.now)))
+    ensures { IsAnswer (fault_of mb_app (map S.text words.now)) (order_of (subcommand_of mb_app (map S.text words.now))) (asks (subcommand_of mb_app (map S.text words.now)))
         (state (F.contents files.old) (seen O.contents out.old)) (state (F.contents files.new) (seen O.contents out.new))
         (seen E.contents err.old) (seen E.contents err.new) result }
 {
-    let outcome = perform(alloc, words, files, out);
-    tell(outcome, out, err)
+    let mut asked = false;
+    let mut note = Note::new(false);
+    let outcome = perform(alloc, words, files, out, &mut asked, &mut note);
+    tell(outcome, asked, note, out, err)
 }

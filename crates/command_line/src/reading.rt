@@ -11,6 +11,7 @@ ghost use Rattle.module.specs.Costs.{AreCosts};
 ghost use Rattle.module.specs.Promises.{IsRefused};
 ghost use Rattle.command_line.specs.Refusals.{IsNotBuilt, IsNotCosted, IsNotLoaded};
 
+use crate::explaining::Note;
 use crate::files::Files;
 use crate::refusal::Refusal;
 use image::{Image, load_image};
@@ -42,12 +43,14 @@ fn read_all<F: Files>(alloc: Global, names: &[&str], files: &mut F) -> Result<Ve
     Ok(texts)
 }
 
-/// The image of the table and the sources in the files of these names.
+/// The image of the table and the sources in the files of these names. The refusal of a source is
+/// explained in `note`.
 pub fn build_named<F: Files>(
     alloc: Global,
     table: &str,
     sources: &[&str],
     files: &mut F,
+    note: &mut Note,
 ) -> Result<Vec<u8>, Refusal>
     ensures built { IfOk result (λ image. IsBuilt (F.contents files.old) table.now (map (λ s. s.now) sources.now) image.items) }
     ensures refused { IfErr result (λ r. IsNotBuilt (F.contents files.old) table.now (map (λ s. s.now) sources.now) r) }
@@ -55,24 +58,37 @@ pub fn build_named<F: Files>(
 {
     let table = read(alloc, table, files)?;
     let sources = read_all(alloc, sources, files)?;
-    build_texts(alloc, table.as_slice(), sources.as_slice())
+    build_texts(alloc, table.as_slice(), sources.as_slice(), note)
 }
 
 /// The image of a table and its sources.
-fn build_texts(alloc: Global, table: &[u8], sources: &[Vec<u8>]) -> Result<Vec<u8>, Refusal>
+fn build_texts(
+    alloc: Global,
+    table: &[u8],
+    sources: &[Vec<u8>],
+    note: &mut Note,
+) -> Result<Vec<u8>, Refusal>
     ensures built { IfOk result (λ image. IsImageOf table.now (texts_of sources.now) image.items) }
     ensures refused { IfErr result (λ r. IsRefusedText table.now (texts_of sources.now) r) }
 {
     let texts = slices(alloc, sources)?;
-    Ok(module::build(alloc, table, texts.as_slice())?)
+    match module::build(alloc, table, texts.as_slice()) {
+        Ok(image) => Ok(image),
+        Err(fault) => {
+            note.explain(alloc, table, texts.as_slice(), &fault);
+            Err(Refusal::Build(fault))
+        }
+    }
 }
 
-/// The costs of the table and the sources in the files of these names.
+/// The costs of the table and the sources in the files of these names. The refusal of a source is
+/// explained in `note`.
 pub fn costs_named<F: Files>(
     alloc: Global,
     table: &str,
     sources: &[&str],
     files: &mut F,
+    note: &mut Note,
 ) -> Result<Vec<PartitionCosts>, Refusal>
     ensures costed { IfOk result (λ costs. AreCosted (F.contents files.old) table.now (map (λ s. s.now) sources.now) costs.items) }
     ensures refused { IfErr result (λ r. IsNotCosted (F.contents files.old) table.now (map (λ s. s.now) sources.now) r) }
@@ -80,7 +96,7 @@ pub fn costs_named<F: Files>(
 {
     let table = read(alloc, table, files)?;
     let sources = read_all(alloc, sources, files)?;
-    costs_of_texts(alloc, table.as_slice(), sources.as_slice())
+    costs_of_texts(alloc, table.as_slice(), sources.as_slice(), note)
 }
 
 /// The costs of a table and its sources.
@@ -88,12 +104,19 @@ fn costs_of_texts(
     alloc: Global,
     table: &[u8],
     sources: &[Vec<u8>],
+    note: &mut Note,
 ) -> Result<Vec<PartitionCosts>, Refusal>
     ensures costed { IfOk result (λ costs. AreCosts table.now (texts_of sources.now) costs.items) }
     ensures refused { IfErr result (λ r. IsUncostedText table.now (texts_of sources.now) r) }
 {
     let texts = slices(alloc, sources)?;
-    Ok(module::costs(alloc, table, texts.as_slice())?)
+    match module::costs(alloc, table, texts.as_slice()) {
+        Ok(costs) => Ok(costs),
+        Err(fault) => {
+            note.explain(alloc, table, texts.as_slice(), &fault);
+            Err(Refusal::Build(fault))
+        }
+    }
 }
 
 /// The image in the file of that name.

@@ -11,6 +11,7 @@ ghost use Rattle.command_line.specs.Orders.{Cost, Dis};
 ghost use Rattle.command_line.specs.Refusals.{IsCostRefused, IsDisRefused};
 ghost use Rattle.command_line.specs.States.{seen, state};
 
+use crate::explaining::Note;
 use crate::files::Files;
 use crate::reading::{costs_named, load_named};
 use crate::refusal::Refusal;
@@ -29,6 +30,7 @@ pub fn cost<F: Files, O: Write>(
     sources: &[&str],
     files: &mut F,
     out: &mut Stream<O>,
+    note: &mut Note,
 ) -> Result<(), Refusal>
     ensures done { OnOk result (IsDone (Cost table.now (map (λ s. s.now) sources.now))
         (state (F.contents files.old) (seen O.contents out.old)) (state (F.contents files.new) (seen O.contents out.new))) }
@@ -36,7 +38,7 @@ pub fn cost<F: Files, O: Write>(
     ensures refused { IfErr result (λ r. IsCostRefused table.now (map (λ s. s.now) sources.now)
         (state (F.contents files.old) (seen O.contents out.old)) (state (F.contents files.new) (seen O.contents out.new)) r) }
 {
-    let costs = costs_named(alloc, table, sources, files)?;
+    let costs = costs_named(alloc, table, sources, files, note)?;
     Ok(show_costs(&costs, out)?)
 }
 

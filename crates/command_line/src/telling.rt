@@ -2,25 +2,35 @@
 
 ghost use Rattle.std.specs.Prelude.{◌≡◌, ◌++◌, ◌∷◌, [], false};
 ghost use Rattle.command_line.specs.Answers.{IsTold, IsUsageTold};
+ghost use Rattle.command_line.specs.Explained.{told_text};
 ghost use Rattle.command_line.specs.Lines.{line_of};
-ghost use Rattle.command_line.specs.States.{TakesLine, seen};
+ghost use Rattle.command_line.specs.States.{TakesLine, TakesText, seen};
 
+use crate::explaining::{Note, Told};
 use crate::refusal::{Failure, Refusal};
 use crate::stream::Stream;
 use std::io::Write;
 
-/// Tells what a command came to, and answers its status.
+/// Tells what a command came to, and answers its status. A refusal is explained if that was asked
+/// for.
 pub fn tell<O: Write, E: Write>(
     outcome: Result<(), Failure>,
+    asked: bool,
+    note: Note,
     out: &mut Stream<O>,
     err: &mut Stream<E>,
 ) -> u8
-    ensures { IsTold outcome (seen O.contents out.old) (seen O.contents out.new) (seen E.contents err.old) (seen E.contents err.new) result }
+    ensures { IsTold outcome asked note (seen O.contents out.old) (seen O.contents out.new) (seen E.contents err.old) (seen E.contents err.new) result }
 {
     match outcome {
         Ok(()) => 0,
         Err(Failure::Refused(refusal)) => {
-            refuse(refusal, err);
+            let told = Told {
+                refusal,
+                explained: asked,
+                note,
+            };
+            explain(told, err);
             1
         }
         Err(Failure::Usage(error)) => usage(&error, out, err),
@@ -41,6 +51,13 @@ fn usage<O: Write, E: Write>(error: &clap::Error, out: &mut Stream<O>, err: &mut
         return 1;
     }
     0
+}
+
+/// Writes a refusal with what explains it. As in `refuse`, what is not taken is not told.
+fn explain<E: Write>(told: Told, err: &mut Stream<E>)
+    ensures { TakesText (seen E.contents err.old) (seen E.contents err.new) (told_text told.explained told.refusal told.note) }
+{
+    let _ = err.text(told);
 }
 
 /// Writes the line of a refusal. What standard error does not take is told by the status alone.

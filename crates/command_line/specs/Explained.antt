@@ -1,0 +1,43 @@
+-- What is told of a refusal: its line and, where that is asked for, an explanation behind it.
+use Rattle.std.specs.Prelude.{ℕ, Bool, true, false, List, [], ◌∷◌, ◌++◌, string_bytes}
+use Rattle.explanations.specs.Sentences.{command_sentence, device_sentence, image_sentence, source_sentence, table_sentence}
+use Rattle.explanations.specs.declared.sentences.CommandFault.TheVariants as command
+use Rattle.module.specs.declared.fault.BuildFault.{BuildFault}
+use Rattle.module.specs.declared.fault.BuildFault.TheVariants as build
+use Rattle.module.specs.declared.fault.RunFault.{RunFault}
+use Rattle.module.specs.declared.fault.RunFault.TheVariants as run
+use Rattle.command_line.specs.Lines.{line_of}
+use Rattle.command_line.specs.declared.explaining.Note.{Note}
+use Rattle.command_line.specs.declared.explaining.Note.TheVariants.{Unwanted, Wanted, Source}
+use Rattle.command_line.specs.declared.refusal.Refusal.{Refusal}
+use Rattle.command_line.specs.declared.refusal.Refusal.TheVariants.{Build, Run, File, Memory, Write}
+
+abbrev pub build_sentence : BuildFault → List ℕ
+build_sentence (build.Table fault) = table_sentence fault
+build_sentence build.Sources = command_sentence command.Sources
+build_sentence (build.Pal name fault) = source_sentence fault.refusal
+build_sentence (build.Compile name) = command_sentence command.Compile
+build_sentence build.Memory = command_sentence command.Memory
+
+abbrev pub run_sentence : RunFault → List ℕ
+run_sentence run.Ticks = command_sentence command.Ticks
+run_sentence (run.Image fault) = image_sentence fault
+run_sentence (run.Device fault) = device_sentence fault
+run_sentence run.Memory = command_sentence command.Memory
+run_sentence run.Write = command_sentence command.Write
+run_sentence run.Failed = command_sentence command.Write
+
+-- the sentence of the rule
+abbrev pub sentence_of : Refusal → List ℕ
+sentence_of (Build fault) = build_sentence fault
+sentence_of (Run fault) = run_sentence fault
+sentence_of (File name) = command_sentence command.File
+sentence_of Memory = command_sentence command.Memory
+sentence_of Write = command_sentence command.Write
+
+-- The line alone; or the line and its explanation: what was noted of a refused source, else the sentence.
+abbrev pub told_text : Bool → Refusal → Note → List ℕ
+told_text false r note = line_of r ++ 10 ∷ []
+told_text true r Unwanted = line_of r ++ 10 ∷ sentence_of r ++ 10 ∷ []
+told_text true r Wanted = line_of r ++ 10 ∷ sentence_of r ++ 10 ∷ []
+told_text true r (Source text) = line_of r ++ 10 ∷ string_bytes text

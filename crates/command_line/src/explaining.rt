@@ -1,0 +1,129 @@
+//! Explanations of refusals.
+
+ghost use Rattle.std.specs.Prelude.{◌≡◌, Some};
+ghost use Rattle.command_line.specs.Explained.{build_sentence, run_sentence, sentence_of, told_text};
+
+use crate::refusal::Refusal;
+use apex_types::Name;
+use explanations::{
+    CommandFault, command_sentence, device_sentence, explain_source, image_sentence,
+    source_sentence, table_sentence,
+};
+use module::{BuildFault, RunFault};
+use std::alloc::Global;
+use std::fmt;
+use window_table::read_table;
+
+/// What is noted of a refused source, to be told behind the line of its refusal.
+#[derive(Drop)]
+pub enum Note {
+    /// Nobody asked for an explanation.
+    Unwanted,
+    /// No source is refused so far.
+    Wanted,
+    /// The lines that explain the refusal of a source, to their end.
+    Source(String),
+}
+
+impl Note {
+    /// Nothing is noted yet.
+    pub fn new(wanted: bool) -> Note {
+        if wanted { Note::Wanted } else { Note::Unwanted }
+    }
+
+    /// Notes the explanation of a refused source, if it is wanted and there is memory for it.
+    pub fn explain(&mut self, alloc: Global, table: &[u8], sources: &[&[u8]], fault: &BuildFault) {
+        let Note::Wanted = self else {
+            return;
+        };
+        let BuildFault::Pal { partition, fault } = fault else {
+            return;
+        };
+        let Some(source) = source_of(alloc, table, sources, *partition) else {
+            return;
+        };
+        if let Ok(text) = explain_source(alloc, source, *fault) {
+            *self = Note::Source(text);
+        }
+    }
+}
+
+/// The source of the partition of that name.
+fn source_of<'a>(
+    alloc: Global,
+    table: &[u8],
+    sources: &'a [&'a [u8]],
+    partition: Name,
+) -> Option<&'a [u8]> {
+    let Ok(table) = read_table(alloc, table) else {
+        return None;
+    };
+    let mut place = 0usize;
+    for row in table.partitions.as_slice() {
+        if row.name == partition {
+            return sources.get(place).copied();
+        }
+        place = place.saturating_add(1);
+    }
+    None
+}
+
+/// The sentence of the rule by which a command is refused.
+pub fn sentence_of(refusal: &Refusal) -> &'static str
+    ensures { result.now ≡ sentence_of refusal.now }
+{
+    match refusal {
+        Refusal::Build(fault) => build_sentence(fault),
+        Refusal::Run(fault) => run_sentence(fault),
+        Refusal::File(_) => command_sentence(CommandFault::File),
+        Refusal::Memory => command_sentence(CommandFault::Memory),
+        Refusal::Write => command_sentence(CommandFault::Write),
+    }
+}
+
+fn build_sentence(fault: &BuildFault) -> &'static str
+    ensures { result.now ≡ build_sentence fault.now }
+{
+    match fault {
+        BuildFault::Table(fault) => table_sentence(*fault),
+        BuildFault::Sources => command_sentence(CommandFault::Sources),
+        BuildFault::Pal { fault, .. } => source_sentence(fault.refusal),
+        BuildFault::Compile(_) => command_sentence(CommandFault::Compile),
+        BuildFault::Memory => command_sentence(CommandFault::Memory),
+    }
+}
+
+fn run_sentence(fault: &RunFault) -> &'static str
+    ensures { result.now ≡ run_sentence fault.now }
+{
+    match fault {
+        RunFault::Ticks => command_sentence(CommandFault::Ticks),
+        RunFault::Image(fault) => image_sentence(*fault),
+        RunFault::Device(fault) => device_sentence(*fault),
+        RunFault::Memory => command_sentence(CommandFault::Memory),
+        RunFault::Write | RunFault::Failed => command_sentence(CommandFault::Write),
+    }
+}
+
+/// A refusal as it is told: its line, and an explanation behind it if that was asked for.
+#[derive(Drop)]
+pub struct Told {
+    pub refusal: Refusal,
+    pub explained: bool,
+    pub note: Note,
+}
+
+impl fmt::Display for Told {
+    ghost output = { λ told. Some (told_text told.explained told.refusal told.note) };
+
+    fn fmt<W: fmt::Write>(&self, f: &mut fmt::Formatter<W>) -> fmt::Result {
+        let refusal = &self.refusal;
+        if !self.explained {
+            return writeln!(f, "{refusal}");
+        }
+        match &self.note {
+            Note::Source(text) => write!(f, "{refusal}\n{text}"),
+            Note::Unwanted | Note::Wanted => writeln!(f, "{refusal}\n{}", sentence_of(refusal)),
+        }
+    }
+}
