@@ -1,5 +1,5 @@
 -- From what a command came to, to its status.
-use Rattle.std.proofs.Common.{◌≡◌, ◌≢◌, ◌⊎◌, inl, inr, ℕ, true, [], Result, Ok, Err, refl, sym, ap, subst, ◌∙◌, arith}
+use Rattle.std.proofs.Common.{◌≡◌, ◌≢◌, ◌⊎◌, inl, inr, ℕ, Bool, true, false, [], Result, Ok, Err, refl, sym, ap, subst, ◌∙◌, arith}
 use Rattle.std.specs.Prelude.{IsErr, IsErrAnd, IfErr, OnOk}
 use Rattle.clap.specs.Faults.{is_simple_and_free}
 use Rattle.clap.specs.Kinds.{Kinds, HasKind, IsAmong}
@@ -14,6 +14,8 @@ use Rattle.command_line.specs.Orders.{Order, First, Check, Build, Run, Cost, Dis
 use Rattle.command_line.specs.Refusals.{IsFailure, IsFailureOfWords, IsRefused, IsWrongTicks}
 use Rattle.command_line.specs.States.{Seen, State, state, TakesLine}
 use Rattle.command_line.specs.Words.{mb_app}
+use Rattle.command_line.specs.declared.explaining.Note.{Note}
+use Rattle.command_line.specs.declared.explaining.Note.TheVariants.{Unwanted}
 use Rattle.command_line.specs.declared.refusal.Failure.{Failure}
 use Rattle.command_line.specs.declared.refusal.Failure.TheVariants.{Refused, Usage}
 use Rattle.command_line.specs.declared.refusal.Refusal.TheVariants as refusal
@@ -107,9 +109,9 @@ on_ok (Err e) p = tt
 
 -- ---- the status
 
-of_usage : (kinds : Kinds) (order : Order) (before mid : State) (new_out old_err new_err : Seen) (status : ℕ) (e : Error) → IsFailureOfWords kinds order before mid (Usage e) → IsUsageTold e mid.out new_out old_err new_err status
-    → IsHelp (kind_of e) ⊎ IsMistake (kind_of e) → IsAnswer kinds order before (state mid.files new_out) old_err new_err status
-of_usage kinds order before mid new_out old_err new_err status e (untouched, why) told (inr mistake) =
+of_usage : (kinds : Kinds) (order : Order) (asked : Bool) (before mid : State) (new_out old_err new_err : Seen) (status : ℕ) (e : Error) → IsFailureOfWords kinds order before mid (Usage e) → IsUsageTold e mid.out new_out old_err new_err status
+    → IsHelp (kind_of e) ⊎ IsMistake (kind_of e) → IsAnswer kinds order asked before (state mid.files new_out) old_err new_err status
+of_usage kinds order asked before mid new_out old_err new_err status e (untouched, why) told (inr mistake) =
     let it = told.mistake mistake in
     record {
       range = omega (arith, it.0);
@@ -121,34 +123,35 @@ of_usage kinds order before mid new_out old_err new_err status e (untouched, why
     no_command : IsAmong (kind_of e) kinds ⊎ ((kinds ≡ []) × IsWrongTicks order × (kind_of e ≡ kind.ValueValidation)) → AreNoCommand kinds order
     no_command (inl a) = inl (kind_of e, a, mistake)
     no_command (inr (none, wrong, is)) = inr (none, wrong)
-of_usage kinds order before mid new_out old_err new_err status e (untouched, why) told (inl help) = by (told.help help)
+of_usage kinds order asked before mid new_out old_err new_err status e (untouched, why) told (inl help) = by (told.help help)
   where
     no_ticks : (k : ErrorKind) → k ≡ kind.ValueValidation → IsHelp k → ⊥
     no_ticks k is (inl h) = cc
     no_ticks k is (inr h) = cc
 
-    asks : IsAmong (kind_of e) kinds ⊎ ((kinds ≡ []) × IsWrongTicks order × (kind_of e ≡ kind.ValueValidation)) → AskForHelp kinds
-    asks (inl a) = (kind_of e, a, help)
-    asks (inr (none, wrong, is)) = absurd (no_ticks (kind_of e) is help)
+    wants : IsAmong (kind_of e) kinds ⊎ ((kinds ≡ []) × IsWrongTicks order × (kind_of e ≡ kind.ValueValidation)) → AskForHelp kinds
+    wants (inl a) = (kind_of e, a, help)
+    wants (inr (none, wrong, is)) = absurd (no_ticks (kind_of e) is help)
 
-    by : ((status ≡ 0) × (new_out.flushed ≡ true) × (new_err ≡ old_err)) ⊎ ((status ≡ 1) × TakesLine old_err new_err (line_of refusal.Write)) → IsAnswer kinds order before (state mid.files new_out) old_err new_err status
+    by : ((status ≡ 0) × (new_out.flushed ≡ true) × (new_err ≡ old_err)) ⊎ ((status ≡ 1) × TakesLine old_err new_err (line_of refusal.Write)) → IsAnswer kinds order asked before (state mid.files new_out) old_err new_err status
     by (inl (zero, flushed, quiet)) = record {
       range = omega (arith, zero);
-      done = λ z. ((flushed, inr (asks why, untouched.0)), quiet);
+      done = λ z. ((flushed, inr (wants why, untouched.0)), quiet);
       refused = λ one. absurd (omega (arith, zero, one));
       usage = λ two. absurd (omega (arith, zero, two));
     }
     by (inr (one, line)) = record {
       range = omega (arith, one);
       done = λ zero. absurd (omega (arith, zero, one));
-      refused = λ o. (refusal.Write, inr (refl, asks why, untouched.0), line);
+      refused = λ o. (refusal.Write, inr (refl, wants why, untouched.0), (false, Unwanted, (λ no. refl), line));
       usage = λ two. absurd (omega (arith, one, two));
     }
 
-pub answered : (kinds : Kinds) (order : Order) (before mid : State) (new_out old_err new_err : Seen) (status : ℕ) (outcome : Result (Unit {0}) Failure)
+pub answered : (kinds : Kinds) (order : Order) (asked explained : Bool) (note : Note) (before mid : State) (new_out old_err new_err : Seen) (status : ℕ) (outcome : Result (Unit {0}) Failure)
+    → (asked ≡ false → explained ≡ false)
     → OnOk outcome (kinds ≡ []) → OnOk outcome (IsDone order before mid) → OnOk outcome (mid.out.flushed ≡ true) → IfErr outcome (λ f. IsFailureOfWords kinds order before mid f)
-    → IsTold outcome mid.out new_out old_err new_err status → IsAnswer kinds order before (state mid.files new_out) old_err new_err status
-answered kinds order before mid new_out old_err new_err status (Ok x) none done flushed failed (zero, same, quiet) =
+    → IsTold outcome explained note mid.out new_out old_err new_err status → IsAnswer kinds order asked before (state mid.files new_out) old_err new_err status
+answered kinds order asked explained note before mid new_out old_err new_err status (Ok x) quiet_if none done flushed failed (zero, same, quiet) =
     let same_state : mid ≡ state mid.files new_out = ap (state mid.files) (sym same) in
     record {
       range = omega (arith, zero);
@@ -156,13 +159,13 @@ answered kinds order before mid new_out old_err new_err status (Ok x) none done 
       refused = λ one. absurd (omega (arith, zero, one));
       usage = λ two. absurd (omega (arith, zero, two));
     }
-answered kinds order before mid new_out old_err new_err status (Err (Refused r)) none done flushed failed (one, same, line) =
+answered kinds order asked explained note before mid new_out old_err new_err status (Err (Refused r)) quiet_if none done flushed failed (one, same, line) =
     let same_state : mid ≡ state mid.files new_out = ap (state mid.files) (sym same) in
     record {
       range = omega (arith, one);
       done = λ zero. absurd (omega (arith, zero, one));
-      refused = λ o. (r, inl (subst (λ s. IsFailureOfWords kinds order before s (Refused r)) same_state failed), line);
+      refused = λ o. (r, inl (subst (λ s. IsFailureOfWords kinds order before s (Refused r)) same_state failed), (explained, note, quiet_if, line));
       usage = λ two. absurd (omega (arith, one, two));
     }
-answered kinds order before mid new_out old_err new_err status (Err (Usage e)) none done flushed failed told =
-    of_usage kinds order before mid new_out old_err new_err status e failed told (help_or (kind_of e))
+answered kinds order asked explained note before mid new_out old_err new_err status (Err (Usage e)) quiet_if none done flushed failed told =
+    of_usage kinds order asked before mid new_out old_err new_err status e failed told (help_or (kind_of e))

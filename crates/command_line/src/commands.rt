@@ -53,7 +53,7 @@ fn asks(matches: &ArgMatches<'_>) -> bool
     ensures { result ≡ asks (subcommand_rows_of matches.now) }
 {
     match matches.subcommand() {
-        Some((_, found)) => word(found, "explain").as_bytes() == b"true",
+        Some((_, found)) => word(found, "explain").as_bytes() == b"true".as_slice(),
         None => false,
     }
 }

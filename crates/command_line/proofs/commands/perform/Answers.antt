@@ -1,7 +1,7 @@
 use Rattle.std.proofs.Common.{map, ap, sym, ◌∙◌}
 use Rattle.clap.specs.Faults.{fault_of, is_simple_and_free}
 use Rattle.clap.specs.Simple.{subcommand_of, subcommand_rows_of}
-use Rattle.command_line.specs.Orders.{order_of}
+use Rattle.command_line.specs.Orders.{asks, order_of}
 use Rattle.command_line.specs.States.{seen, state}
 use Rattle.command_line.specs.Words.{mb_app}
 use Rattle.command_line.proofs.Answered.{mb_is_free, words_failed, order_failed, on_ok}
@@ -37,3 +37,10 @@ returns-clause-failed g c =
     let entered = entered_is mb_app words c.in_ok-grammar.field-0 c.in_ok-matches.matches reads mb_is_simple c.in_ok-matches.ensures.matches in
     order_failed (fault_of mb_app words) (order_of (subcommand_rows_of c.in_ok-matches.matches)) (order_of (subcommand_of mb_app words)) before after c.obey.result
     (sym kinds_are ∙ c.in_ok-matches.ensures.kinds free) (ap order_of entered) c.obey.ensures.failed
+
+pub returns-clause-asked : goal.returns-clause-asked
+returns-clause-asked g c = λ before none.
+    let words = map g.S.AsStr.text c.args.words.now in
+    let reads = c.in_ok-grammar.ensures.reads in
+    let entered = entered_is mb_app words c.in_ok-grammar.field-0 c.in_ok-matches.matches reads mb_is_simple c.in_ok-matches.ensures.matches in
+    c.asks.ensures ∙ ap asks entered ∙ none
