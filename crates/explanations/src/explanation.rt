@@ -48,7 +48,10 @@ fn place_line(
 ) -> Result<String, AllocError>
     ensures { IfOk result (λ text. string_bytes text ≡ place_line source.now number sought) }
 {
-    let line = shown(alloc, refused_line(source, number))?;
-    let phrase = sought.phrase();
-    format!(in alloc; "line {number}: \"{line}\", looked for {phrase}\n")
+    let mut text = format!(in alloc; "line {number}: \"")?;
+    text.push_str(&shown(alloc, refused_line(source, number))?)?;
+    text.push_str("\", looked for ")?;
+    text.push_str(sought.phrase())?;
+    text.push_str("\n")?;
+    Ok(text)
 }
