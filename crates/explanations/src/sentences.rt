@@ -63,16 +63,15 @@ pub fn source_sentence(refusal: Refusal) -> &'static str
     ensures { result.now ≡ source_sentence refusal }
 {
     match refusal {
-        Refusal::Text => "A byte is above 127, in a comment too, or the text has more than 1,048,576 bytes.",
+        Refusal::Text =>
+            "A byte is above 127, in a comment too, or the text has more than 1,048,576 bytes.",
         Refusal::Grammar => "The text is not in the grammar.",
         Refusal::Name => "A name is not declared, or is declared again.",
         Refusal::Kind => {
             "A name is of the wrong kind, the number of arguments or targets is wrong, or a `return` is outside a procedure."
         }
         Refusal::Limit => "A name, a number, a count or a frame is outside a limit.",
-        Refusal::Period => {
-            "A process's period is neither -1 nor a multiple of the partition's."
-        }
+        Refusal::Period => { "A process's period is neither -1 nor a multiple of the partition's." }
         Refusal::Memory => "Memory ran out; this says nothing about the files.",
     }
 }
