@@ -1,11 +1,12 @@
 //! The explanation of a refused source.
 
-ghost use Rattle.std.specs.Prelude.{IfOk, string_bytes};
-ghost use Rattle.explanations.specs.Explanation.{IsExplanationOf};
+ghost use Rattle.std.specs.Prelude.{◌≡◌, IfOk, string_bytes};
+ghost use Rattle.explanations.specs.Explanation.{IsExplanationOf, place_line, sentence_line};
 
 use crate::lines::{refused_line, shown};
 use crate::looking::looked_for;
 use crate::sentences::source_sentence;
+use crate::sought::Sought;
 use pal_base::fault::{PalFault, Refusal};
 use std::alloc::{AllocError, Global};
 
@@ -19,14 +20,38 @@ use std::alloc::{AllocError, Global};
 pub fn explain_source(alloc: Global, source: &[u8], fault: PalFault) -> Result<String, AllocError>
     ensures { IfOk result (λ text. IsExplanationOf source.now fault (string_bytes text)) }
 {
-    let sentence = source_sentence(fault.refusal);
-    if let Refusal::Memory = fault.refusal {
-        return format!(in alloc; "{sentence}\n");
+    let mut text = sentence_line(alloc, fault.refusal)?;
+    match fault.refusal {
+        Refusal::Memory => Ok(text),
+        _ => {
+            let sought = looked_for(alloc, source, fault)?;
+            text.push_str(&place_line(alloc, source, fault.line, sought)?)?;
+            Ok(text)
+        }
     }
-    let line = shown(alloc, refused_line(source, fault.line))?;
-    let phrase = looked_for(alloc, source, fault)?.phrase();
-    format!(in alloc;
-        "{sentence}\nline {}: \"{line}\", looked for {phrase}\n",
-        fault.line
-    )
+}
+
+/// The sentence of the rule, on a line of its own.
+fn sentence_line(alloc: Global, refusal: Refusal) -> Result<String, AllocError>
+    ensures { IfOk result (λ text. string_bytes text ≡ sentence_line refusal) }
+{
+    let sentence = source_sentence(refusal);
+    format!(in alloc; "{sentence}\n")
+}
+
+/// The number and the text of the refused line, and what was looked for there.
+fn place_line(
+    alloc: Global,
+    source: &[u8],
+    number: u32,
+    sought: Sought,
+) -> Result<String, AllocError>
+    ensures { IfOk result (λ text. string_bytes text ≡ place_line source.now number sought) }
+{
+    let mut text = format!(in alloc; "line {number}: \"")?;
+    text.push_str(&shown(alloc, refused_line(source, number))?)?;
+    text.push_str("\", looked for ")?;
+    text.push_str(sought.phrase())?;
+    text.push_str("\n")?;
+    Ok(text)
 }

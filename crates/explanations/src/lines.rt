@@ -1,6 +1,6 @@
 //! The line of a refusal, as it is shown.
 
-ghost use Rattle.std.specs.Prelude.{◌≡◌, IfOk, map, string_bytes};
+ghost use Rattle.std.specs.Prelude.{◌≡◌, IfOk, map, string_bytes, take};
 ghost use Rattle.explanations.specs.Places.{behind_feed, behind_lines, first_line, line_at, shown, shown_byte};
 
 use std::alloc::{AllocError, Global};
@@ -69,8 +69,16 @@ fn first_line(text: &[u8]) -> &[u8]
 pub fn shown(alloc: Global, line: &[u8]) -> Result<String, AllocError>
     ensures { IfOk result (λ text. string_bytes text ≡ shown line.now) }
 {
-    let (front, _) = line.split_at(line.len().min(MOST_SHOWN));
-    shown_bytes(alloc, front)
+    shown_bytes(alloc, first_bytes(line))
+}
+
+#[tactic(auto, using(std::proofs::lemmas::List::take_min))]
+/// The first 80 bytes of a line.
+fn first_bytes(line: &[u8]) -> &[u8]
+    ensures { result.now ≡ take 80 line.now }
+{
+    let (front, _) = line.split_at(MOST_SHOWN.min(line.len()));
+    front
 }
 
 /// Bytes as they are shown.

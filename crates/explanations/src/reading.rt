@@ -43,7 +43,7 @@ impl Reading {
             match part {
                 Part::Symbol(wanted) => return Ok(self.misfit(wanted, symbol)),
                 Part::Production(production) => match self.unfold(production, symbol)? {
-                    Some(choice) => return Ok(Some(Sought::Choice(choice))),
+                    Some(choice) => return Ok(Some(Sought::Choice(self.widened(choice)))),
                     None => {}
                 },
                 Part::Closes => self.levels = self.levels.saturating_sub(1),
@@ -76,6 +76,20 @@ impl Reading {
                 Ok(None)
             }
             Err(choice) => Ok(Some(choice)),
+        }
+    }
+
+    /// What was looked for, with an operator where one could stand too.
+    fn widened(&self, choice: Choice) -> Choice {
+        match choice {
+            Choice::Brace => {
+                if self.is_behind_operand {
+                    Choice::OperatorOrBrace
+                } else {
+                    choice
+                }
+            }
+            _ => choice,
         }
     }
 

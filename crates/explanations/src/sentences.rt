@@ -31,14 +31,14 @@ pub fn table_sentence(fault: TableFault) -> &'static str
 {
     match fault {
         TableFault::Document => {
-            "The table is not a TOML document: it is not UTF-8 or not TOML, a key stands twice, or an integer does not fit 64 bits."
+            "The bytes are not a TOML document: they are not UTF-8 or not TOML, a key stands twice, or an integer does not fit 64 bits."
         }
         TableFault::Shape => {
-            "A key is missing, is unknown, or has a value of another type, or a kind, direction or discipline is not one of its words."
+            "A key is missing, is unknown, or has a value of another type; or a `kind`, `direction` or `discipline` is not one of its words."
         }
         TableFault::Limit => "A number, a count or a name is outside its limits.",
         TableFault::Name => {
-            "Two partitions, two channels or two ports of a partition have the same name, or a window's partition or a channel's end names something that is not in the table."
+            "Two partitions, two channels or two ports of a partition have the same name; or a window's partition or a channel's end names something that is not in the table."
         }
         TableFault::Overlap => {
             "A window begins before the end of the one before it in the text, or ends past the frame."
@@ -47,12 +47,12 @@ pub fn table_sentence(fault: TableFault) -> &'static str
         TableFault::Duration => {
             "In one of its periods a partition's windows offer fewer ticks than its duration."
         }
-        TableFault::Release => "A partition has no window with release = true.",
+        TableFault::Release => "A partition has no window with `release = true`.",
         TableFault::Ends => {
-            "A channel's ends do not fit together: it breaks one of the rules on their number, partitions, directions, kinds and words."
+            "The ends of a channel do not fit together: their number, partitions, directions, kinds or words break a rule."
         }
         TableFault::Health => {
-            "A table hm does not have exactly the seven keys, or an action in an hm or in fault is not one of its words."
+            "An `hm` does not have exactly the seven keys, or an action in an `hm` or in `fault` is not one of its words."
         }
         TableFault::Memory => "Memory ran out; this says nothing about the files.",
     }
@@ -63,16 +63,15 @@ pub fn source_sentence(refusal: Refusal) -> &'static str
     ensures { result.now ≡ source_sentence refusal }
 {
     match refusal {
-        Refusal::Text => "A source has no byte above 127, and at most 1,048,576 bytes.",
+        Refusal::Text =>
+            "A byte is above 127, in a comment too, or the text has more than 1,048,576 bytes.",
         Refusal::Grammar => "The text is not in the grammar.",
         Refusal::Name => "A name is not declared, or is declared again.",
         Refusal::Kind => {
-            "A name is of the wrong kind, the number of arguments or targets is wrong, or a return is outside a procedure."
+            "A name is of the wrong kind, the number of arguments or targets is wrong, or a `return` is outside a procedure."
         }
-        Refusal::Limit => "A name, a number, a count or a frame is outside its limit.",
-        Refusal::Period => {
-            "A process's period is neither -1 nor a multiple of the partition's period."
-        }
+        Refusal::Limit => "A name, a number, a count or a frame is outside a limit.",
+        Refusal::Period => { "A process's period is neither -1 nor a multiple of the partition's." }
         Refusal::Memory => "Memory ran out; this says nothing about the files.",
     }
 }
@@ -82,9 +81,9 @@ pub fn image_sentence(fault: ImageFault) -> &'static str
     ensures { result.now ≡ image_sentence fault }
 {
     match fault {
-        ImageFault::Truncated => "The image is cut off: a field is not all there.",
+        ImageFault::Truncated => "A field of the image is not all there.",
         ImageFault::Foreign => {
-            "This is not an image of version 1: the first eight bytes or the version are different."
+            "The file is not an image of version 1: the first eight bytes or the version are different."
         }
         ImageFault::Limit => {
             "A value in the image is outside its limit, or breaks a rule of the module table."
@@ -103,14 +102,14 @@ pub fn device_sentence(fault: DeviceFault) -> &'static str
 {
     match fault {
         DeviceFault::Form => {
-            "A line has none of the forms, or it is the last one and has no line feed."
+            "The line has none of the forms, or it is the last one and has no line feed."
         }
-        DeviceFault::Order => "The tick of a line is below that of the line before.",
+        DeviceFault::Order => "The tick of the line is below that of the line before.",
         DeviceFault::Name => {
-            "No channel or no partition has the name in a line, or the source of the channel is a port."
+            "No channel or no partition has this name, or the source of the channel is a port."
         }
         DeviceFault::Size => {
-            "A message has more words than the ports of the channel take, or 65,536 lines stand before it."
+            "The message has more words than the ports of the channel take, or 65,536 lines stand before this one."
         }
     }
 }
