@@ -20,6 +20,7 @@ pub fn grammar<'a>(alloc: Global) -> Result<Command<'a>, AllocError>
         .about(
             "Builds ARINC 653 modules and runs them; without a command, runs a stored first module",
         )
+        .after_help("Example: mb build table.toml module.image a.pal b.pal")
         .subcommand(check(alloc)?)?
         .subcommand(build(alloc)?)?
         .subcommand(run(alloc)?)?
@@ -32,7 +33,8 @@ fn check<'a>(alloc: Global) -> Result<Command<'a>, AllocError>
 {
     explained(alloc, "check")?
         .about("Builds a module table and one source a partition, and writes no image")
-        .arg(file(alloc, "TABLE"))?
+        .after_help("Example: mb check table.toml a.pal b.pal")
+        .arg(file(alloc, "TABLE", "The file of the module table"))?
         .arg(sources(alloc))
 }
 
@@ -41,8 +43,9 @@ fn build<'a>(alloc: Global) -> Result<Command<'a>, AllocError>
 {
     explained(alloc, "build")?
         .about("Builds an image of a module table and one source a partition, in their order")
-        .arg(file(alloc, "TABLE"))?
-        .arg(file(alloc, "IMAGE"))?
+        .after_help("Example: mb build table.toml module.image a.pal b.pal")
+        .arg(file(alloc, "TABLE", "The file of the module table"))?
+        .arg(file(alloc, "IMAGE", "The file that the image is written to"))?
         .arg(sources(alloc))
 }
 
@@ -51,9 +54,18 @@ fn run<'a>(alloc: Global) -> Result<Command<'a>, AllocError>
 {
     explained(alloc, "run")?
         .about("Runs an image for so many ticks and writes its trace")
-        .arg(file(alloc, "IMAGE"))?
-        .arg(file(alloc, "DEVICES"))?
-        .arg(file(alloc, "TICKS"))
+        .after_help("Example: mb run module.image devices.txt 1000")
+        .arg(file(alloc, "IMAGE", "The file of an image"))?
+        .arg(file(
+            alloc,
+            "DEVICES",
+            "The file of the device text, which may be empty",
+        ))?
+        .arg(file(
+            alloc,
+            "TICKS",
+            "How many ticks the image runs, at most 1099511627776",
+        ))
 }
 
 fn cost<'a>(alloc: Global) -> Result<Command<'a>, AllocError>
@@ -61,7 +73,8 @@ fn cost<'a>(alloc: Global) -> Result<Command<'a>, AllocError>
 {
     explained(alloc, "cost")?
         .about("Writes the instructions, the frame and the cost of each body of the sources")
-        .arg(file(alloc, "TABLE"))?
+        .after_help("Example: mb cost table.toml a.pal b.pal")
+        .arg(file(alloc, "TABLE", "The file of the module table"))?
         .arg(sources(alloc))
 }
 
@@ -70,7 +83,8 @@ fn dis<'a>(alloc: Global) -> Result<Command<'a>, AllocError>
 {
     explained(alloc, "dis")?
         .about("Writes the instructions of an image")
-        .arg(file(alloc, "IMAGE"))
+        .after_help("Example: mb dis module.image")
+        .arg(file(alloc, "IMAGE", "The file of an image"))
 }
 
 /// A command that takes the flag for explanations.
@@ -90,11 +104,14 @@ fn explain<'a>(alloc: Global) -> Arg<'a>
         .help("Explains a refusal in plain words")
 }
 
-fn file<'a>(alloc: Global, name: &'a str) -> Arg<'a>
+fn file<'a>(alloc: Global, name: &'a str, help: &'a str) -> Arg<'a>
     ensures rule { rule_of result ≡ word_rule name.entry.now }
     ensures local { result.global ≡ false }
 {
-    Arg::new(alloc, name).required(true).action(ArgAction::Set)
+    Arg::new(alloc, name)
+        .required(true)
+        .action(ArgAction::Set)
+        .help(help)
 }
 
 fn sources<'a>(alloc: Global) -> Arg<'a>
@@ -105,6 +122,7 @@ fn sources<'a>(alloc: Global) -> Arg<'a>
         .required(true)
         .num_args(1..)
         .action(ArgAction::Append)
+        .help("The file of each partition's source, in the order of the table")
 }
 
 /// The number that a word of one or more digits writes. One that 64 bits do not hold is taken
