@@ -1,4 +1,4 @@
-use Rattle.std.proofs.Common.{◌≡◌, ℕ, List, ◌++◌, [], ◌∷◌, ap, ◌∙◌, codes, string_bytes}
+use Rattle.std.proofs.Common.{ℕ, List, ◌++◌, [], ◌∷◌, ap, ◌∙◌, codes, string_bytes}
 use Rattle.std.specs.Fmt.{decimal}
 use Rattle.explanations.specs.Phrases.{phrase}
 use Rattle.explanations.specs.Places.{line_at, shown}
