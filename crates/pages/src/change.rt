@@ -84,6 +84,11 @@ pub fn changed(alloc: Global, first: usize, lines: &[&str], text: &str) -> Resul
 fn apply(alloc: Global, number: usize, part: &Part, text: &str) -> Result<String, Stop> {
     match part.applied(alloc, text)? {
         Some(text) => Ok(text),
-        None => Stop::differs(alloc, number, "lines that stand in one place", part.old.as_str()),
+        None => Stop::differs(
+            alloc,
+            number,
+            "lines that stand in one place",
+            part.old.as_str(),
+        ),
     }
 }

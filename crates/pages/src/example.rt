@@ -9,7 +9,7 @@ use crate::difference::{Stop, expect_text};
 use crate::folder::Folder;
 use crate::order::{Action, Order};
 use crate::reader::{Piece, Role, pieces};
-use std::alloc::{AllocError, AllocGlobal, Global};
+use std::alloc::{AllocGlobal, Global};
 use std::rt::Files;
 use std::{fmt, fs, mem};
 
@@ -34,21 +34,21 @@ impl fmt::Display for Seen {
 pub fn visit<R: Files + AllocGlobal>(rt: &R, page: &str) -> Result<Seen, Stop> {
     let text = fs::read_to_string(rt, page)?;
     let pieces = pieces(rt.alloc(), text.as_str())?;
-    let mut visit = Visit::new(rt.alloc());
+    let mut reading = Reading::new(rt.alloc());
     for piece in &pieces {
         match piece.role {
-            Role::Indented(line) => visit.obey(rt, piece.line, line)?,
-            Role::Block => visit.compare(piece)?,
+            Role::Indented(line) => reading.obey(rt, piece.line, line)?,
+            Role::Block => reading.compare(piece)?,
             _ => {}
         }
     }
-    visit.expect_shown(text.lines().count())?;
-    Ok(visit.seen)
+    reading.expect_shown(text.lines().count())?;
+    Ok(reading.seen)
 }
 
 /// How far the page was followed.
 #[derive(Drop)]
-struct Visit<'a> {
+struct Reading<'a> {
     alloc: Global,
     /// The files of the repository that commands have named, and those that commands have written.
     folder: Folder,
@@ -59,9 +59,9 @@ struct Visit<'a> {
     seen: Seen,
 }
 
-impl<'a> Visit<'a> {
+impl<'a> Reading<'a> {
     fn new(alloc: Global) -> Self {
-        Visit {
+        Reading {
             alloc,
             folder: Folder::new(alloc),
             traces: Vec::new(alloc),
@@ -114,7 +114,12 @@ impl<'a> Visit<'a> {
     fn expect_same(&self, number: usize, one: &str, other: &str) -> Result<(), Stop> {
         match (self.folder.get(one), self.folder.get(other)) {
             (Some(had), Some(wanted)) if had == wanted => Ok(()),
-            _ => differ(self.alloc, number, self.folder.text(other), self.folder.text(one)),
+            _ => differ(
+                self.alloc,
+                number,
+                self.folder.text(other),
+                self.folder.text(one),
+            ),
         }
     }
 
@@ -161,7 +166,12 @@ impl<'a> Visit<'a> {
         for line in printed.lines() {
             push_line(&mut shown, without_zeros(line))?;
         }
-        expect_text(self.alloc, piece.line, piece.lines.as_slice(), shown.as_str())
+        expect_text(
+            self.alloc,
+            piece.line,
+            piece.lines.as_slice(),
+            shown.as_str(),
+        )
     }
 
     /// Expects that the lines of a block stand in their order in one of the traces.
@@ -172,7 +182,12 @@ impl<'a> Visit<'a> {
             most = most.max(found(lines, self.folder.text(trace)));
         }
         match lines.get(most) {
-            Some(line) => Stop::differs(self.alloc, piece.line.saturating_add(most), line, "no such line"),
+            Some(line) => Stop::differs(
+                self.alloc,
+                piece.line.saturating_add(most),
+                line,
+                "no such line",
+            ),
             None => Ok(()),
         }
     }
@@ -195,7 +210,9 @@ impl<'a> Visit<'a> {
 
     /// Takes a file of the examples from the repository. One that is not there is met by the command.
     fn fetch<R: Files + AllocGlobal>(&mut self, rt: &R, name: &str) -> Result<(), Stop> {
-        if name.starts_with("examples/") && let Ok(bytes) = fs::read(rt, name) {
+        if name.starts_with("examples/")
+            && let Ok(bytes) = fs::read(rt, name)
+        {
             self.folder.put(name, bytes)?;
         }
         Ok(())
@@ -218,7 +235,10 @@ fn differ(alloc: Global, number: usize, wanted: &str, had: &str) -> Result<(), S
 /// Whether these lines are of a trace.
 fn is_quotation(lines: &[&str]) -> bool {
     match lines.first() {
-        Some(line) => line.as_bytes().first().is_some_and(|byte| byte.is_ascii_digit()),
+        Some(line) => line
+            .as_bytes()
+            .first()
+            .is_some_and(|byte| byte.is_ascii_digit()),
         None => false,
     }
 }

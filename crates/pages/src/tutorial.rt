@@ -6,7 +6,7 @@ use crate::difference::Stop;
 use crate::folder::Folder;
 use crate::order::words_of;
 use crate::reader::{Piece, Role, pieces};
-use std::alloc::{AllocError, AllocGlobal, Global};
+use std::alloc::{AllocGlobal, Global};
 use std::rt::Files;
 use std::{fmt, fs};
 
@@ -32,24 +32,24 @@ impl fmt::Display for Seen {
 pub fn visit<R: Files + AllocGlobal>(rt: &R, page: &str) -> Result<Seen, Stop> {
     let text = fs::read_to_string(rt, page)?;
     let pieces = pieces(rt.alloc(), text.as_str())?;
-    let mut visit = Visit::new(rt.alloc());
+    let mut reading = Reading::new(rt.alloc());
     for piece in &pieces {
-        visit.follow(piece)?;
+        reading.follow(piece)?;
     }
-    Ok(visit.seen)
+    Ok(reading.seen)
 }
 
 /// How far the page was followed.
 #[derive(Drop)]
-struct Visit {
+struct Reading {
     alloc: Global,
     folder: Folder,
     seen: Seen,
 }
 
-impl Visit {
+impl Reading {
     fn new(alloc: Global) -> Self {
-        Visit {
+        Reading {
             alloc,
             folder: Folder::new(alloc),
             seen: Seen {
@@ -102,10 +102,46 @@ impl Visit {
         if !lines.first().is_some_and(|line| line.starts_with("$ mb ")) {
             return Ok(());
         }
-        let mut number = first;
-        for call in calls(self.alloc, first, lines)? {
-            self.seen.commands = self.seen.commands.saturating_add(1);
+        for call in &calls(self.alloc, first, lines)? {
+            self.run(call)?;
         }
         Ok(())
     }
+
+    /// Runs a command, and expects what the page shows.
+    fn run(&mut self, call: &Call<'_>) -> Result<(), Stop> {
+        self.seen.commands = self.seen.commands.saturating_add(1);
+        let words = words_of(self.alloc, call.words)?;
+        let answer = Answer::to(self.alloc, words.as_slice(), &mut self.folder);
+        answer.expect(self.alloc, call.first, call.printed.as_slice())
+    }
+}
+
+/// A command with all that it prints.
+#[derive(Drop)]
+struct Call<'a> {
+    words: &'a str,
+    /// The line of the page behind the command.
+    first: usize,
+    printed: Vec<&'a str>,
+}
+
+/// The commands of a block, the first line of which has that number.
+fn calls<'a>(alloc: Global, first: usize, lines: &[&'a str]) -> Result<Vec<Call<'a>>, Stop> {
+    let mut calls = Vec::<Call<'a>>::new(alloc);
+    let mut number = first;
+    for line in lines {
+        number = number.saturating_add(1);
+        if let Some(words) = line.strip_prefix("$ ") {
+            let printed = Vec::new(alloc);
+            calls.push(Call {
+                words,
+                first: number,
+                printed,
+            })?;
+        } else if let Some(call) = calls.last_mut() {
+            call.printed.push(*line)?;
+        }
+    }
+    Ok(calls)
 }
