@@ -16,15 +16,15 @@ use std::{fmt, fs, mem};
 /// What was done.
 #[derive(Clone, Copy)]
 pub struct Seen {
-    commands: u64,
-    quoted: u64,
+    commands: usize,
+    quoted: usize,
 }
 
 impl fmt::Display for Seen {
     fn fmt<W: fmt::Write>(&self, f: &mut fmt::Formatter<W>) -> fmt::Result {
         write!(
             f,
-            "{} commands, {} quoted lines",
+            "{} commands and {} quoted lines",
             self.commands, self.quoted
         )
     }
@@ -151,9 +151,7 @@ impl<'a> Reading<'a> {
         if !is_quotation(piece.lines.as_slice()) {
             return Ok(());
         }
-        for _line in &piece.lines {
-            self.seen.quoted = self.seen.quoted.saturating_add(1);
-        }
+        self.seen.quoted = self.seen.quoted.saturating_add(piece.lines.len());
         match mem::replace(&mut self.printed, None) {
             Some(printed) => self.expect_printed(piece, printed.as_str()),
             None => self.expect_quoted(piece),

@@ -13,16 +13,16 @@ use std::{fmt, fs};
 /// What was done.
 #[derive(Clone, Copy)]
 pub struct Seen {
-    steps: u64,
-    commands: u64,
-    files: u64,
+    steps: usize,
+    commands: usize,
+    files: usize,
 }
 
 impl fmt::Display for Seen {
     fn fmt<W: fmt::Write>(&self, f: &mut fmt::Formatter<W>) -> fmt::Result {
         write!(
             f,
-            "{} steps, {} commands, {} files",
+            "{} steps, {} commands and {} files",
             self.steps, self.commands, self.files
         )
     }
@@ -111,6 +111,9 @@ impl Reading {
     /// Runs a command, and expects what the page shows.
     fn run(&mut self, call: &Call<'_>) -> Result<(), Stop> {
         self.seen.commands = self.seen.commands.saturating_add(1);
+        if !call.words.starts_with("mb ") {
+            return Stop::differs(self.alloc, call.first, "a command of mb", call.words);
+        }
         let words = words_of(self.alloc, call.words)?;
         let answer = Answer::to(self.alloc, words.as_slice(), &mut self.folder);
         answer.expect(self.alloc, call.first, call.printed.as_slice())
