@@ -88,7 +88,7 @@ fn apply(alloc: Global, number: usize, part: &Part, text: &str) -> Result<String
             alloc,
             number,
             "lines that stand in one place",
-            part.old.as_str(),
+            part.old.as_str().lines().next().unwrap_or(""),
         ),
     }
 }
