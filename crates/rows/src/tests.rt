@@ -1,7 +1,7 @@
 mod commands;
 mod device_lines;
 mod errors;
-mod explanations;
+mod explained;
 mod files;
 mod first_run;
 mod flushes;
