@@ -1,0 +1,61 @@
+//! A trace, line by line.
+
+use crate::line::event_of;
+use crate::piece::split_at;
+use apex_types::{Event, Ticks};
+
+/// The first line of a text that is no line of a trace there: it has none of the forms, its tick is
+/// below that of the line before, or it has no line feed.
+#[derive(Clone, Copy, Debug, PartialEq, Eq)]
+pub struct TraceFault {
+    /// The number of the line, from 1.
+    pub line: u64,
+}
+
+/// A trace that is read from its front on. It goes over the text once, and holds nothing but the
+/// place, the tick and the number of the last line.
+#[derive(Drop)]
+pub struct TraceReader<'a> {
+    rest: &'a [u8],
+    before: Ticks,
+    lines: u64,
+}
+
+impl<'a> TraceReader<'a> {
+    /// A reader at the front of a text.
+    pub fn new(text: &'a [u8]) -> Self {
+        TraceReader {
+            rest: text,
+            before: Ticks(0),
+            lines: 0,
+        }
+    }
+
+    /// The event of the next line; none at the end of the text.
+    ///
+    /// # Errors
+    ///
+    /// The next line is no line of a trace here. The reader stays where it is, so that it answers
+    /// the same again.
+    pub fn next_event(&mut self) -> Result<Option<Event>, TraceFault> {
+        if self.rest.is_empty() {
+            return Ok(None);
+        }
+        let fault = TraceFault {
+            line: self.lines.saturating_add(1),
+        };
+        let (body, Some(behind)) = split_at(b'\n', self.rest) else {
+            return Err(fault);
+        };
+        let Some(event) = event_of(body) else {
+            return Err(fault);
+        };
+        if event.tick < self.before {
+            return Err(fault);
+        }
+        self.rest = behind;
+        self.before = event.tick;
+        self.lines += 1;
+        Ok(Some(event))
+    }
+}
