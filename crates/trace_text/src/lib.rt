@@ -5,6 +5,7 @@
 #![tactic(auto)]
 
 mod field;
+mod keyword;
 mod kind;
 mod line;
 mod number;

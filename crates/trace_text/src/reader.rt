@@ -1,5 +1,7 @@
 //! A trace, line by line.
 
+ghost use Rattle.std.specs.Prelude.{◌≡◌, ℕ, ◌+◌, ◌^◌, ◌<◌, ◌≤◌, ◌++◌, List, [], length, IfOk, IfErr, IfSome, IfNone, Ok, Some, None};
+
 use crate::line::event_of;
 use crate::piece::split_at;
 use apex_types::{Event, Ticks};
@@ -19,11 +21,19 @@ pub struct TraceReader<'a> {
     rest: &'a [u8],
     before: Ticks,
     lines: u64,
+    ghost counted: { lines + length rest < 2 ^ 64 },
 }
 
 impl<'a> TraceReader<'a> {
+    ghost use Rattle.apex_types.specs.declared.event.Event.{Event};
+    ghost use Rattle.trace_text.specs.Trace.{IsNext};
+
     /// A reader at the front of a text.
-    pub fn new(text: &'a [u8]) -> Self {
+    pub fn new(text: &'a [u8]) -> Self
+        ensures rest { result.rest.now ≡ text.now }
+        ensures before { result.before.0 ≡ 0 }
+        ensures lines { result.lines ≡ 0 }
+    {
         TraceReader {
             rest: text,
             before: Ticks(0),
@@ -37,12 +47,18 @@ impl<'a> TraceReader<'a> {
     ///
     /// The next line is no line of a trace here. The reader stays where it is, so that it answers
     /// the same again.
-    pub fn next_event(&mut self) -> Result<Option<Event>, TraceFault> {
+    pub fn next_event(&mut self) -> Result<Option<Event>, TraceFault>
+        ensures read { IfOk result (λ o. IfSome o (λ e. IsNext self.old.before.0 self.old.rest.now e self.new.rest.now)) }
+        ensures moved { IfOk result (λ o. IfSome o (λ e. (self.new.before ≡ e.tick) × (self.new.lines ≡ self.old.lines + 1))) }
+        ensures ended { result ≡ Ok None → (self.old.rest.now ≡ []) × (self.new ≡ self.old) }
+        ensures refused { IfErr result (λ fault. (fault.line ≡ self.old.lines + 1) × (0 < length self.old.rest.now) × (self.new ≡ self.old)) }
+        ensures read_back { (e : Event) (rest : List ℕ) → IsNext self.old.before.0 self.old.rest.now e rest → result ≡ Ok (Some e) }
+    {
         if self.rest.is_empty() {
             return Ok(None);
         }
         let fault = TraceFault {
-            line: self.lines.saturating_add(1),
+            line: self.lines + 1,
         };
         let (body, Some(behind)) = split_at(b'\n', self.rest) else {
             return Err(fault);
