@@ -1,2 +1,5 @@
 pub mod Decimals
 pub mod MessageWords
+pub mod Pieces
+pub mod Spells
+pub mod Tables

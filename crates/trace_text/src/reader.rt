@@ -21,7 +21,7 @@ pub struct TraceReader<'a> {
     rest: &'a [u8],
     before: Ticks,
     lines: u64,
-    ghost counted: { lines + length rest < 2 ^ 64 },
+    ghost counted: { lines + length rest.now < 2 ^ 64 },
 }
 
 impl<'a> TraceReader<'a> {
