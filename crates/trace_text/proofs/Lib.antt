@@ -3,3 +3,5 @@ pub mod MessageWords
 pub mod Pieces
 pub mod Spells
 pub mod Tables
+pub mod Ticks
+pub mod Words
