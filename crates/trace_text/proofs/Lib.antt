@@ -5,3 +5,4 @@ pub mod Spells
 pub mod Tables
 pub mod Ticks
 pub mod Words
+pub mod Fields
