@@ -6,3 +6,5 @@ pub mod Tables
 pub mod Ticks
 pub mod Words
 pub mod Fields
+pub mod Happened
+pub mod Lines
