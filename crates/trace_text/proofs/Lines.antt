@@ -1,6 +1,6 @@
 -- A line and its event: what is read from a line has this line, and the line of an event that can be
 -- written is read as it, whatever follows.
-use Rattle.std.proofs.Common.{◌≡◌, ℕ, ◌^◌, ◌<◌, ◌≤◌, Bool, true, false, cond, List, [], ◌∷◌, ◌++◌, length, Option, Some, None, codes, refl, sym, ap, subst, ◌∙◌, arith, append_assoc, lit<}
+use Rattle.std.proofs.Common.{◌≡◌, ℕ, ◌^◌, ◌<◌, ◌≤◌, Bool, true, false, cond, List, [], ◌∷◌, ◌++◌, length, Option, Some, None, codes, refl, sym, ap, subst, ◌∙◌, arith, append_assoc, append-nil, lit<}
 use Rattle.std.specs.Prelude.{not, ◌==◌, ◌&&◌, IsTrue}
 use Rattle.std.specs.List.{list_all, join_with_byte}
 use Rattle.std.proofs.lemmas.Bool.{and_from, and_parts, cond-true}
@@ -146,3 +146,35 @@ read_front text front behind e f b h =
     let g = body_back front e h in
     let whole : text ≡ front ++ 10 ∷ behind = sym (join_pieces 10 text) ∙ ap (λ (ps : List (List ℕ)). join_with_byte 10 (piece 10 text ∷ ps)) b ∙ ap (λ (p : List ℕ). join_with_byte 10 (p ∷ pieces 10 behind)) (sym f) ∙ ap (λ (xs : List ℕ). front ++ 10 ∷ xs) (join_pieces 10 behind) in
     (g.1, whole ∙ ap (λ (p : List ℕ). p ++ 10 ∷ behind) (sym g.0) ∙ sym (append_assoc (body_of e) (10 ∷ []) behind) ∙ ap (λ (xs : List ℕ). xs ++ behind) (body_is e))
+
+-- ---- why a line is refused
+
+-- a text without a line feed has no line at its front
+pub no_feed : (text : List ℕ) (e : Event) (rest : List ℕ) → CanBeWritten e → text ≡ line_of e ++ rest → pieces_behind_marks 10 text ≡ [] → ⊥
+no_feed text e rest can is none = let f = at_front text e rest can is in let clash : pieces 10 rest ≡ [] = sym f.behind ∙ none in cc
+
+-- behind the line at the front stands what stands behind the first line feed
+pub same_rest : (text : List ℕ) (e : Event) (rest behind : List ℕ) → CanBeWritten e → text ≡ line_of e ++ rest → pieces_behind_marks 10 text ≡ pieces 10 behind → rest ≡ behind
+same_rest text e rest behind can is b = same_pieces rest behind (sym (at_front text e rest can is).behind ∙ b)
+
+-- the line at the front is read as its event
+pub read_again : (text front : List ℕ) (e : Event) (rest : List ℕ) → CanBeWritten e → text ≡ line_of e ++ rest → front ≡ piece 10 text → event_in front ≡ Some e
+read_again text front e rest can is f = ap event_in f ∙ (at_front text e rest can is).read
+
+-- ---- a line alone
+
+alone : (line : List ℕ) (e : Event) → line_of e ≡ line → line ≡ line_of e ++ []
+alone line e is = sym is ∙ sym (append-nil (line_of e))
+
+pub no_feed_alone : (line : List ℕ) (e : Event) → CanBeWritten e → line_of e ≡ line → pieces_behind_marks 10 line ≡ [] → ⊥
+no_feed_alone line e can is none = no_feed line e [] can (alone line e is) none
+
+pub nothing_behind : (line behind : List ℕ) (e : Event) → CanBeWritten e → line_of e ≡ line → pieces_behind_marks 10 line ≡ pieces 10 behind → behind ≡ []
+nothing_behind line behind e can is b = sym (same_rest line e [] behind can (alone line e is) b)
+
+pub read_alone : (line front : List ℕ) (e : Event) → CanBeWritten e → line_of e ≡ line → front ≡ piece 10 line → event_in front ≡ Some e
+read_alone line front e can is f = read_again line front e [] can (alone line e is) f
+
+pub written_alone : (line front behind : List ℕ) (e : Event) → front ≡ piece 10 line → pieces_behind_marks 10 line ≡ pieces 10 behind → length behind ≡ 0 → event_in front ≡ Some e → CanBeWritten e × (line_of e ≡ line)
+written_alone line front [] e f b len h = let g = read_front line front [] e f b h in (g.0, sym (g.1 ∙ append-nil (line_of e)))
+written_alone line front (x ∷ behind) e f b len h = absurd (omega (arith, len))

@@ -24,7 +24,8 @@ pub fn read_line(line: &[u8]) -> Result<Event, LineFault>
     ensures written { IfOk result (λ e. CanBeWritten e × (line_of e ≡ line.now)) }
     ensures read_back { (e : Event) → CanBeWritten e → line_of e ≡ line.now → result ≡ Ok e }
 {
-    let (body, Some(rest)) = split_at(b'\n', line) else {
+    let (body, behind) = split_at(b'\n', line);
+    let Some(rest) = behind else {
         return Err(LineFault);
     };
     if !rest.is_empty() {

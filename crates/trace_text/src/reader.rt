@@ -60,7 +60,8 @@ impl<'a> TraceReader<'a> {
         let fault = TraceFault {
             line: self.lines + 1,
         };
-        let (body, Some(behind)) = split_at(b'\n', self.rest) else {
+        let (body, behind) = split_at(b'\n', self.rest);
+        let Some(rest) = behind else {
             return Err(fault);
         };
         let Some(event) = event_of(body) else {
@@ -69,7 +70,7 @@ impl<'a> TraceReader<'a> {
         if event.tick < self.before {
             return Err(fault);
         }
-        self.rest = behind;
+        self.rest = rest;
         self.before = event.tick;
         self.lines += 1;
         Ok(Some(event))
