@@ -67,7 +67,7 @@ impl<'a> TraceReader<'a> {
         let Some(event) = event_of(body) else {
             return Err(fault);
         };
-        if event.tick < self.before {
+        if event.tick.0 < self.before.0 {
             return Err(fault);
         }
         self.rest = rest;

@@ -1,4 +1,7 @@
-use Rattle.std.proofs.Common.{◌≡◌, ◌<◌, ◌≤◌, ℕ, List, [], length, option_copied, Some, None, arith, rules, sym, ap, ◌∙◌}
+use Rattle.std.proofs.Common.{◌≡◌, ◌<◌, ◌≤◌, ℕ, List, [], length, option_copied, Some, None, true, false, arith, rules, sym, ap, ◌∙◌}
+use Rattle.std.specs.Prelude.{nat_lt}
+use Rattle.std.proofs.lemmas.Bool.{ltb-true, ltb-false}
+use Rattle.apex_types.specs.declared.event.Event.{Event}
 use Rattle.trace_text.specs.Reading.{pieces_of, event_in}
 use Rattle.trace_text.proofs.Lines.{no_feed, read_again, read_front}
 use Rattle.trace_text.proofs.Spells.{same_some}
@@ -13,12 +16,6 @@ returns-in_default-event_of-clause-read_back c = λ e rest next.
     let none : None ≡ event_in c.split_at.result.0.now = search rules in
     let clash = none ∙ read_again c.args.self.now.rest.now c.split_at.result.0.now e rest next.can next.parts c.split_at.ensures.front in cc
 
-pub returns-then-lt-clause-read_back : goal.returns-then-lt-clause-read_back
-returns-then-lt-clause-read_back c = λ e rest next.
-    let same : c.in-Some-event_of.event ≡ e = same_some c.in-Some-event_of.event e (c.in-Some-event_of.ensures ∙ read_again c.args.self.now.rest.now c.split_at.result.0.now e rest next.can next.parts c.split_at.ensures.front) in
-    let late : c.in-Some-event_of.event.tick.0 < c.args.self.now.before.0 = search rules in
-    absurd (omega (arith, late, ap (λ x. x.tick.0) same, next.in_order))
-
 pub returns-clause-read : goal.returns-clause-read
 returns-clause-read c =
     let g = read_front c.args.self.now.rest.now c.split_at.result.0.now c.in-Some.rest.now c.in-Some-event_of.event c.split_at.ensures.front
@@ -30,3 +27,9 @@ pub returns-clause-read_back : goal.returns-clause-read_back
 returns-clause-read_back c = λ e rest next.
     let same : c.in-Some-event_of.event ≡ e = same_some c.in-Some-event_of.event e (c.in-Some-event_of.ensures ∙ read_again c.args.self.now.rest.now c.split_at.result.0.now e rest next.can next.parts c.split_at.ensures.front) in
     cc
+
+pub returns-then-event-self-clause-read_back : goal.returns-then-event-self-clause-read_back
+returns-then-event-self-clause-read_back c = λ e rest next.
+    let same : c.in-Some-event_of.event ≡ e = same_some c.in-Some-event_of.event e (c.in-Some-event_of.ensures ∙ read_again c.args.self.now.rest.now c.split_at.result.0.now e rest next.can next.parts c.split_at.ensures.front) in
+    let tick : c.in-Some-event_of.event.tick.0 ≡ e.tick.0 = ap (λ (x : Event). x.tick.0) same in
+    absurd (omega (arith, c.if-event-self.true, tick, next.in_order))
