@@ -8,3 +8,4 @@ pub mod Words
 pub mod Fields
 pub mod Happened
 pub mod Lines
+pub mod Traces

@@ -91,3 +91,12 @@ pub record IsNext (before : ℕ) (text : List ℕ) (e : Event) (rest : List ℕ)
   pub can : CanBeWritten e
   pub in_order : before ≤ e.tick.0
   pub parts : text ≡ line_of e ++ rest
+
+-- The events that a text is read as, behind a line of that tick: each line is that of the next one.
+abbrev pub IsReadFrom : ℕ → List ℕ → List Event → Type 0
+IsReadFrom before text [] = text ≡ []
+IsReadFrom before text (e ∷ es) = (rest : List ℕ) × IsNext before text e rest × IsReadFrom e.tick.0 rest es
+
+-- the events that a text is read as
+abbrev pub IsReadAs : List ℕ → List Event → Type 0
+IsReadAs text events = IsReadFrom 0 text events

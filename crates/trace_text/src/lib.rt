@@ -6,6 +6,7 @@
 
 mod field;
 mod keyword;
+pub mod laws;
 mod kind;
 mod line;
 mod number;
