@@ -166,10 +166,12 @@ return_back (who ∷ service ∷ code ∷ []) k e =
     let w = subject_spells.takes who g.0 g.3 in
     let s = service_spells.takes service g.1 g.4 in
     let c = code_spells.takes code g.2 g.5 in
-    subst (IsRead (codes "RET" ∷ who ∷ service ∷ code ∷ [])) g.6
-    (ap (λ (x : List ℕ). codes "RET" ∷ x ∷ service_word g.1 ∷ code_text g.2 ∷ []) w.0
-    ∙ ap (λ (x : List ℕ). codes "RET" ∷ who ∷ x ∷ code_text g.2 ∷ []) s.0
-    ∙ ap (λ (x : List ℕ). codes "RET" ∷ who ∷ service ∷ x ∷ []) c.0, w.1)
+    subst (IsRead (codes "RET" ∷ who ∷ service ∷ code ∷ [])) g.6 (
+      ap (λ (x : List ℕ). codes "RET" ∷ x ∷ service_word g.1 ∷ code_text g.2 ∷ []) w.0
+          ∙ ap (λ (x : List ℕ). codes "RET" ∷ who ∷ x ∷ code_text g.2 ∷ []) s.0
+          ∙ ap (λ (x : List ℕ). codes "RET" ∷ who ∷ service ∷ x ∷ []) c.0,
+      w.1,
+    )
 
 map_is : {A C : Type 0} (f : A → C) (a : Option A) (y : C) → option_map f a ≡ Some y → (x : A) × (a ≡ Some x) × (f x ≡ y)
 map_is f None y e = cc
@@ -202,11 +204,13 @@ error_back (error ∷ who ∷ level ∷ action ∷ []) k e =
     let r = error_spells.takes error g.0 g.3 in
     let w = culprit_spells.takes who g.1 g.4 in
     let s = response_back level action g.2 g.5 in
-    subst (IsRead (codes "HM" ∷ error ∷ who ∷ level ∷ action ∷ [])) g.6
-    (ap (λ (x : List ℕ). codes "HM" ∷ x ∷ culprit_text g.1 ∷ level_word (level_of_response g.2) ∷ action_word g.2 ∷ []) r.0
-    ∙ ap (λ (x : List ℕ). codes "HM" ∷ error ∷ x ∷ level_word (level_of_response g.2) ∷ action_word g.2 ∷ []) w.0
-    ∙ ap (λ (x : List ℕ). codes "HM" ∷ error ∷ who ∷ x ∷ action_word g.2 ∷ []) s.0
-    ∙ ap (λ (x : List ℕ). codes "HM" ∷ error ∷ who ∷ level ∷ x ∷ []) s.1, w.1)
+    subst (IsRead (codes "HM" ∷ error ∷ who ∷ level ∷ action ∷ [])) g.6 (
+      ap (λ (x : List ℕ). codes "HM" ∷ x ∷ culprit_text g.1 ∷ level_word (level_of_response g.2) ∷ action_word g.2 ∷ []) r.0
+          ∙ ap (λ (x : List ℕ). codes "HM" ∷ error ∷ x ∷ level_word (level_of_response g.2) ∷ action_word g.2 ∷ []) w.0
+          ∙ ap (λ (x : List ℕ). codes "HM" ∷ error ∷ who ∷ x ∷ action_word g.2 ∷ []) s.0
+          ∙ ap (λ (x : List ℕ). codes "HM" ∷ error ∷ who ∷ level ∷ x ∷ []) s.1,
+      w.1,
+    )
 
 report_back : (fields : List (List ℕ)) (k : EventKind) → report_line fields ≡ Some k → IsRead (codes "REPORT" ∷ fields) k
 unfolding IsRead

@@ -6,8 +6,8 @@
 
 mod field;
 mod keyword;
-pub mod laws;
 mod kind;
+pub mod laws;
 mod line;
 mod number;
 mod piece;

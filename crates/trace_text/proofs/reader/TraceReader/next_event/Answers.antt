@@ -19,7 +19,7 @@ returns-in_default-event_of-clause-read_back c = λ e rest next.
 pub returns-clause-read : goal.returns-clause-read
 returns-clause-read c =
     let g = read_front c.args.self.now.rest.now c.split_at.result.0.now c.in-Some.rest.now c.in-Some-event_of.event c.split_at.ensures.front
-      (c.split_at.ensures.behind ∙ ap (λ o. pieces_of 10 (option_copied o)) c.in-Some.is) (sym c.in-Some-event_of.ensures) in
+    (c.split_at.ensures.behind ∙ ap (λ o. pieces_of 10 (option_copied o)) c.in-Some.is) (sym c.in-Some-event_of.ensures) in
     let ordered : c.args.self.now.before.0 ≤ c.in-Some-event_of.event.tick.0 = search rules in
     record { can = g.0; in_order = ordered; parts = g.1 }
 
