@@ -9,3 +9,4 @@ pub mod Fields
 pub mod Happened
 pub mod Lines
 pub mod Traces
+pub mod SoFar

@@ -7,7 +7,7 @@ use Rattle.trace_text.specs.Trace.{CanBeWritten, IsNext, IsTraceFrom, IsTrace, I
 use Rattle.trace_text.proofs.Lines.{at_front, same_pieces}
 use Rattle.trace_text.proofs.Spells.{same_some}
 
-one_at_front : (text : List ℕ) (one other : Event) (rest more : List ℕ) → CanBeWritten one → CanBeWritten other → text ≡ line_of one ++ rest → text ≡ line_of other ++ more → (one ≡ other) × (rest ≡ more)
+pub one_at_front : (text : List ℕ) (one other : Event) (rest more : List ℕ) → CanBeWritten one → CanBeWritten other → text ≡ line_of one ++ rest → text ≡ line_of other ++ more → (one ≡ other) × (rest ≡ more)
 one_at_front text one other rest more can could e f =
     let a = at_front text one rest can e in
     let b = at_front text other more could f in
@@ -33,7 +33,7 @@ pub back : (text : List ℕ) (events : List Event) → IsReadAs text events → 
 back text events read = back_from 0 text events read
 
 -- a line is some bytes
-no_text : (text : List ℕ) (e : Event) (rest : List ℕ) → text ≡ [] → text ≡ line_of e ++ rest → ⊥
+pub no_text : (text : List ℕ) (e : Event) (rest : List ℕ) → text ≡ [] → text ≡ line_of e ++ rest → ⊥
 no_text text e rest none is = let clash : [] ≡ line_of e ++ rest = sym none ∙ is in cc
 
 one_from : (before : ℕ) (text : List ℕ) (events others : List Event) → IsReadFrom before text events → IsReadFrom before text others → events ≡ others

@@ -1,7 +1,7 @@
 -- Which events a run can write, and which lists of events are a trace.
 use Rattle.std.specs.Prelude.{◌≡◌, ℕ, ◌+◌, ◌^◌, ◌<◌, ◌≤◌, ℤ, Bool, false, true, ◌&&◌, List, [], ◌∷◌, ◌++◌, length, Option, Some, None, is_some, is_none, IsTrue, FitsSigned}
 use Rattle.std.specs.Int.{w64}
-use Rattle.apex_types.specs.Line.{line_of}
+use Rattle.apex_types.specs.Line.{line_of, text_of}
 use Rattle.apex_types.specs.NameText.{is_name}
 use Rattle.apex_types.specs.declared.codes.Response.{Response}
 use Rattle.apex_types.specs.declared.codes.Response.TheVariants as response
@@ -100,3 +100,14 @@ IsReadFrom before text (e ∷ es) = (rest : List ℕ) × IsNext before text e re
 -- the events that a text is read as
 abbrev pub IsReadAs : List ℕ → List Event → Type 0
 IsReadAs text events = IsReadFrom 0 text events
+
+-- The lines of a text before the one of this number are those of a trace, and something follows; but no
+-- event can follow there and have its line there.
+pub record IsRefusedAt (text : List ℕ) (line : ℕ) : Type 0 where
+  pub read : List Event
+  pub rest : List ℕ
+  pub parts : text ≡ text_of read ++ rest
+  pub trace : IsTrace read
+  pub number : length read + 1 ≡ line
+  pub some : 0 < length rest
+  pub none : (e : Event) (more : List ℕ) → IsTrace (read ++ e ∷ []) → rest ≡ line_of e ++ more → ⊥

@@ -14,6 +14,8 @@ mod piece;
 mod reader;
 #[cfg(test)]
 mod tests;
+mod whole;
 
 pub use line::{LineFault, read_line};
 pub use reader::{TraceFault, TraceReader};
+pub use whole::check_trace;

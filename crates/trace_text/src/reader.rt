@@ -41,6 +41,13 @@ impl<'a> TraceReader<'a> {
         }
     }
 
+    /// How many lines were read.
+    pub fn lines(&self) -> u64
+        ensures { result ≡ self.now.lines }
+    {
+        self.lines
+    }
+
     /// The event of the next line; none at the end of the text.
     ///
     /// # Errors

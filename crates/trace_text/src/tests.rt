@@ -2,7 +2,7 @@
 
 ghost use Rattle.std.specs.Prelude.{◌≡◌, ◌<◌, ◌^◌, ◌-◌, length};
 
-use crate::{TraceFault, TraceReader, read_line};
+use crate::{TraceFault, TraceReader, check_trace, read_line};
 use apex_types::{
     ErrorKind, Event, EventKind, Mode, ModuleAction, ProcessState, Response, ReturnCode, Service,
     Subject, Ticks, WriterSink, write_event,
@@ -173,36 +173,23 @@ fn no_wrong_line_is_read(rt: HostRuntime) {
     }
 }
 
-/// Reads a text to its end: how many events it has, or where it is refused.
-fn read_all(text: &[u8]) -> Result<u64, TraceFault> {
-    let mut reader = TraceReader::new(text);
-    let mut count = 0u64;
-    for _ in 0..=text.len() {
-        match reader.next_event()? {
-            Some(_) => count = count.saturating_add(1),
-            None => break,
-        }
-    }
-    Ok(count)
-}
-
 #[test]
 fn a_text_is_read_to_its_end(rt: HostRuntime) {
-    assert_eq!(rt; read_all(TRACE.as_bytes()), Ok(9));
-    assert_eq!(rt; read_all(b""), Ok(0));
+    assert_eq!(rt; check_trace(TRACE.as_bytes()), Ok(9));
+    assert_eq!(rt; check_trace(b""), Ok(0));
 }
 
 #[test]
 fn the_first_wrong_line_is_named(rt: HostRuntime) {
     let bytes = TRACE.as_bytes();
     let without_end = &bytes[..bytes.len() - 1];
-    assert_eq!(rt; read_all(without_end), Err(TraceFault { line: 9 }));
+    assert_eq!(rt; check_trace(without_end), Err(TraceFault { line: 9 }));
     let without_front = &bytes[1..];
-    assert_eq!(rt; read_all(without_front), Err(TraceFault { line: 1 }));
+    assert_eq!(rt; check_trace(without_front), Err(TraceFault { line: 1 }));
     let earlier = b"0000000000005 a MODE IDLE\n0000000000004 a MODE IDLE\n";
-    assert_eq!(rt; read_all(earlier), Err(TraceFault { line: 2 }));
+    assert_eq!(rt; check_trace(earlier), Err(TraceFault { line: 2 }));
     let empty_line = b"0000000000005 a MODE IDLE\n\n0000000000005 a MODE IDLE\n";
-    assert_eq!(rt; read_all(empty_line), Err(TraceFault { line: 2 }));
+    assert_eq!(rt; check_trace(empty_line), Err(TraceFault { line: 2 }));
 }
 
 #[test]
@@ -210,6 +197,7 @@ fn a_refusal_stays(rt: HostRuntime) {
     let text = b"0000000000005 a MODE IDLE\n0000000000006 a MODE IDLE \n";
     let mut reader = TraceReader::new(text);
     assert!(rt; matches!(reader.next_event(), Ok(Some(_))));
+    assert_eq!(rt; reader.lines(), 1);
     assert!(rt; matches!(reader.next_event(), Err(TraceFault { line: 2 })));
     assert!(rt; matches!(reader.next_event(), Err(TraceFault { line: 2 })));
 }
