@@ -1,8 +1,7 @@
 -- What happened and its parts: what is read from parts has these parts, and is read again from them.
-use Rattle.std.proofs.Common.{◌≡◌, ℕ, ℤ, zero, suc, ◌<◌, ◌≤◌, Bool, true, false, cond, List, [], ◌∷◌, ◌++◌, length, map, option_map, Option, Some, None, codes, refl, sym, ap, subst, ◌∙◌, arith, append_assoc, append-nil}
-use Rattle.std.specs.Prelude.{nat_le, ◌&&◌, IsTrue, FitsSigned}
+use Rattle.std.proofs.Common.{◌≡◌, ℕ, ℤ, ◌≤◌, Bool, true, false, cond, List, [], ◌∷◌, ◌++◌, length, map, option_map, Option, Some, None, codes, refl, sym, ap, subst, ◌∙◌, arith, append_assoc, append-nil}
+use Rattle.std.specs.Prelude.{nat_le, IsTrue}
 use Rattle.std.specs.Fmt.{signed_decimal}
-use Rattle.std.specs.Int.{w64}
 use Rattle.std.specs.List.{list_all, join_with_byte}
 use Rattle.std.proofs.lemmas.Bool.{and_from, leb-true, le-leb, cond-true}
 use Rattle.arrayvec.specs.ArrayVec.{ArrayVec}
@@ -22,7 +21,7 @@ use Rattle.apex_meaning.specs.Step.{message}
 use Rattle.trace_text.specs.declared.keyword.Keyword.{Keyword}
 use Rattle.trace_text.specs.declared.keyword.Keyword.TheVariants as keyword
 use Rattle.trace_text.specs.Reading.{both, few, words_of, keyword_text, keyword_of, state_of, service_of, code_of, error_of, response_of, subject_of, culprit_of, mode_of, name_of, state_line, return_with, return_line, mode_line, error_with, error_line, report_line, message_of, message_line, kind_by, kind_of}
-use Rattle.trace_text.specs.Trace.{AreWords, IsMessage, IsSubject, IsCulprit, HasParts}
+use Rattle.trace_text.specs.Trace.{AreWords, IsMessage, HasParts}
 use Rattle.trace_text.proofs.Fields.{name_spells, subject_spells, culprit_spells, code_text, code_spells, response_back, response_again, level_ink, action_ink}
 use Rattle.trace_text.proofs.Pieces.{is_ink}
 use Rattle.trace_text.proofs.Spells.{same_some}

@@ -1,18 +1,18 @@
 -- A line and its event: what is read from a line has this line, and the line of an event that can be
 -- written is read as it, whatever follows.
-use Rattle.std.proofs.Common.{◌≡◌, ℕ, ◌^◌, ◌<◌, ◌≤◌, Bool, true, false, cond, List, [], ◌∷◌, ◌++◌, length, Option, Some, None, codes, refl, sym, ap, subst, ◌∙◌, arith, append_assoc, append-nil, lit<}
-use Rattle.std.specs.Prelude.{not, ◌==◌, ◌&&◌, IsTrue}
+use Rattle.std.proofs.Common.{◌≡◌, ℕ, ◌<◌, ◌≤◌, Bool, true, false, cond, List, [], ◌∷◌, ◌++◌, length, Option, Some, None, refl, sym, ap, subst, ◌∙◌, arith, append_assoc, append-nil}
+use Rattle.std.specs.Prelude.{not, ◌==◌, IsTrue}
 use Rattle.std.specs.List.{list_all, join_with_byte}
 use Rattle.std.proofs.lemmas.Bool.{and_from, and_parts, cond-true}
 use Rattle.std.proofs.lemmas.List.Folds.{list_all-append}
-use Rattle.apex_types.specs.Line.{thirteen_digits, partition_text, kind_text, line_of, text_of}
+use Rattle.apex_types.specs.Line.{thirteen_digits, partition_text, kind_text, line_of}
 use Rattle.apex_types.specs.declared.event.Event.{Event}
 use Rattle.apex_types.specs.declared.event.EventKind.{EventKind}
 use Rattle.apex_types.specs.declared.event.EventKind.TheVariants as event
 use Rattle.apex_types.specs.declared.identity.Ticks.{Ticks}
 use Rattle.apex_meaning.specs.DeviceText.{piece, pieces, pieces_behind_marks}
-use Rattle.trace_text.specs.Reading.{pieces_of, tick_of, partition_of, kind_of, event_with, event_of, event_in}
-use Rattle.trace_text.specs.Trace.{HasParts, IsPartition, happens_in, CanBeWritten, IsNext, IsTraceFrom, IsTrace}
+use Rattle.trace_text.specs.Reading.{tick_of, partition_of, kind_of, event_with, event_of, event_in}
+use Rattle.trace_text.specs.Trace.{happens_in, CanBeWritten}
 use Rattle.trace_text.proofs.Fields.{partition_spells}
 use Rattle.trace_text.proofs.Happened.{parts_of, kind_joined, kind_back, kind_again, kind_ink}
 use Rattle.trace_text.proofs.Pieces.{is_free, is_ink, ink_is_free, join_pieces, first_piece, pieces_join}

@@ -1,10 +1,10 @@
 -- A text and its pieces between marks: the pieces with the mark between them are the text, and pieces
 -- without the mark are found again.
 use Rattle.std.proofs.Common.{◌≡◌, ℕ, ◌+◌, ◌≤◌, Bool, true, false, cond, List, [], ◌∷◌, ◌++◌, take, refl, sym, ap, ◌∙◌, arith, rules}
-use Rattle.std.specs.Prelude.{not, ◌==◌, ◌&&◌, nat_lt}
+use Rattle.std.specs.Prelude.{not, ◌==◌, nat_lt}
 use Rattle.std.specs.List.{prefix_len, join_with_byte, list_all}
 use Rattle.std.proofs.lemmas.Bool.{and_parts, and_from, eqb-true, eq-eqb, not_from_false, ne_eqb, ltb-true}
-use Rattle.apex_meaning.specs.DeviceText.{piece, pieces, pieces_behind_marks}
+use Rattle.apex_meaning.specs.DeviceText.{pieces, pieces_behind_marks}
 
 -- no byte is the mark
 abbrev pub is_free : ℕ → List ℕ → Bool

@@ -1,7 +1,7 @@
 -- The words of modes, states, services, errors, responses and kinds of events: each is found again.
-use Rattle.std.proofs.Common.{◌≡◌, ℕ, true, List, Some, refl}
+use Rattle.std.proofs.Common.{◌≡◌, true, Some, refl}
 use Rattle.std.specs.List.{list_all}
-use Rattle.apex_types.specs.CodeWords.{mode_word, state_word, error_word, level_word, level_of_response, action_word}
+use Rattle.apex_types.specs.CodeWords.{mode_word, state_word, error_word}
 use Rattle.apex_types.specs.ServiceNumbers.{services}
 use Rattle.apex_types.specs.ServiceShape.{service_word}
 use Rattle.apex_types.specs.declared.codes.ErrorKind.{ErrorKind}

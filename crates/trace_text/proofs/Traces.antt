@@ -1,9 +1,8 @@
 -- Texts and the events that they are read as.
-use Rattle.std.proofs.Common.{◌≡◌, ℕ, List, [], ◌∷◌, ◌++◌, Some, refl, sym, ap, subst, ◌∙◌}
+use Rattle.std.proofs.Common.{◌≡◌, ℕ, List, [], ◌∷◌, ◌++◌, refl, sym, ap, subst, ◌∙◌}
 use Rattle.apex_types.specs.Line.{line_of, text_of}
 use Rattle.apex_types.specs.declared.event.Event.{Event}
-use Rattle.trace_text.specs.Reading.{event_in}
-use Rattle.trace_text.specs.Trace.{CanBeWritten, IsNext, IsTraceFrom, IsTrace, IsReadFrom, IsReadAs}
+use Rattle.trace_text.specs.Trace.{CanBeWritten, IsTraceFrom, IsTrace, IsReadFrom, IsReadAs}
 use Rattle.trace_text.proofs.Lines.{at_front, same_pieces}
 use Rattle.trace_text.proofs.Spells.{same_some}
 

@@ -1,7 +1,7 @@
-use Rattle.std.proofs.Common.{◌≡◌, ◌<◌, ◌+◌, ℕ, List, [], length, rules, sym, ap, ◌∙◌}
+use Rattle.std.proofs.Common.{◌≡◌, ℕ, List, [], rules, sym, ◌∙◌}
 use Rattle.apex_types.specs.declared.event.Event.{Event}
 use Rattle.trace_text.specs.declared.reader.TraceFault.{TraceFault}
-use Rattle.trace_text.specs.Trace.{IsNext, IsReadAs, IsRefusedAt}
+use Rattle.trace_text.specs.Trace.{IsReadAs, IsRefusedAt}
 use Rattle.trace_text.proofs.SoFar.{next_read, all_read, refused_at, no_trace, passed_on}
 use Rattle.trace_text.proofs.whole.check_trace.Goals as goal
 

@@ -1,6 +1,4 @@
-use Rattle.std.proofs.Common.{◌≡◌, ◌<◌, ◌≤◌, ℕ, List, [], length, option_copied, Some, None, true, false, arith, rules, sym, ap, ◌∙◌}
-use Rattle.std.specs.Prelude.{nat_lt}
-use Rattle.std.proofs.lemmas.Bool.{ltb-true, ltb-false}
+use Rattle.std.proofs.Common.{◌≡◌, ◌≤◌, option_copied, None, arith, rules, sym, ap, ◌∙◌}
 use Rattle.apex_types.specs.declared.event.Event.{Event}
 use Rattle.trace_text.specs.Reading.{pieces_of, event_in}
 use Rattle.trace_text.proofs.Lines.{no_feed, read_again, read_front}
