@@ -19,7 +19,7 @@ pub struct LineFault;
 ///
 /// # Errors
 ///
-/// No event of a run has this line.
+/// It is the line of no event that can be written.
 pub fn read_line(line: &[u8]) -> Result<Event, LineFault>
     ensures written { IfOk result (λ e. CanBeWritten e × (line_of e ≡ line.now)) }
     ensures read_back { (e : Event) → CanBeWritten e → line_of e ≡ line.now → result ≡ Ok e }
@@ -56,7 +56,7 @@ pub fn event_of(body: &[u8]) -> Option<Event>
     })
 }
 
-/// Whether a run can write that this happened in this partition, or in none.
+/// Whether this can happen in this partition, or in none.
 fn happens_in(kind: &EventKind, partition: &Option<Name>) -> bool
     ensures { result ≡ happens_in kind.now partition.now }
 {

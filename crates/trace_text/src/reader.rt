@@ -1,6 +1,6 @@
 //! A trace, line by line.
 
-ghost use Rattle.std.specs.Prelude.{◌≡◌, ℕ, ◌+◌, ◌^◌, ◌<◌, ◌≤◌, ◌++◌, List, [], length, IfOk, IfErr, IfSome, IfNone, Ok, Some, None};
+ghost use Rattle.std.specs.Prelude.{◌≡◌, ℕ, ◌+◌, ◌^◌, ◌<◌, List, [], length, IfOk, IfErr, IfSome, Ok, Some, None};
 
 use crate::line::event_of;
 use crate::piece::split_at;
