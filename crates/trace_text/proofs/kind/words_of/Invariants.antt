@@ -1,0 +1,14 @@
+use Rattle.std.proofs.Common.{◌≡◌, ◌≤◌, option_copied, length}
+use Rattle.apex_meaning.specs.DeviceText.{words}
+use Rattle.trace_text.specs.Reading.{pieces_of, words_of}
+use Rattle.trace_text.proofs.MessageWords.{few_behind, rest_length}
+use Rattle.trace_text.proofs.kind.words_of.Given as goal
+
+abbrev pub invariant-loop-rest : goal.invariant-loop-rest
+invariant-loop-rest l = record {
+  read : words_of (pieces_of 32 (option_copied l.initial.rest)) ≡ few_behind l.words.items (words (pieces_of 32 (option_copied l.rest)));
+  short : length l.words.items ≤ 16;
+}
+
+abbrev pub decreases-loop-rest : goal.decreases-loop-rest
+decreases-loop-rest l = rest_length (option_copied l.rest)
