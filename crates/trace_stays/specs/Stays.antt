@@ -1,0 +1,78 @@
+-- How long a process stays in a state, and a partition in a mode.
+use Rattle.std.specs.Prelude.{ℕ, ◌+◌, ◌-◌, ◌^◌, max, min, List, [], ◌∷◌, Option, Some, None}
+use Rattle.apex_types.specs.declared.codes.Mode.{Mode}
+use Rattle.apex_types.specs.declared.codes.ProcessState.{ProcessState}
+use Rattle.apex_types.specs.declared.codes.ProcessState.TheVariants as state
+use Rattle.apex_types.specs.declared.identity.Ticks.{Ticks}
+use Rattle.trace_stays.specs.declared.span.Span.{Span}
+use Rattle.trace_stays.specs.declared.stay.Stay.{Stay}
+use Rattle.trace_stays.specs.declared.stay.ModeStay.{ModeStay}
+use Rattle.trace_stays.specs.declared.stay.Held.{Held}
+use Rattle.trace_stays.specs.declared.stay.HeldMode.{HeldMode}
+
+-- ---- ticks
+
+abbrev pub tick : ℕ → Ticks
+tick t = record { 0 = t }
+
+abbrev pub span : ℕ → ℕ → Span
+span from until = record { from = tick from; until = tick until }
+
+abbrev pub ticks_of : Span → ℕ
+ticks_of s = s.until.0 - s.from.0
+
+-- the ticks of both
+abbrev pub common : Span → Span → Span
+common s o = span (max s.from.0 o.from.0) (min s.until.0 o.until.0)
+
+-- the tick behind this one; the greatest number of 64 bits stays
+abbrev pub behind : ℕ → ℕ
+behind t = min (t + 1) (2 ^ 64 - 1)
+
+-- ---- states
+
+-- The first tick that no longer counts for a state, if a line of tick t says that the process comes to the
+-- next one, or that it is gone. A process that leaves RUNNING has done its last work in this tick, unless it
+-- becomes READY: then another one was chosen before the tick's work.
+abbrev pub left_at : ProcessState → Option ProcessState → ℕ → ℕ
+left_at state.Running (Some state.Ready) t = t
+left_at state.Running next t = behind t
+left_at s next t = t
+
+-- A tick counts once: a stay ends where it began, at the earliest.
+abbrev pub stay_until : Held → Option ProcessState → ℕ → ℕ
+stay_until held next t = max held.since.0 (left_at held.state next t)
+
+-- the first tick that counts for the state that a line of tick t says
+abbrev pub begins_at : Option Held → Option ProcessState → ℕ → ℕ
+begins_at None next t = t
+begins_at (Some held) next t = stay_until held next t
+
+-- what a process holds behind such a line
+abbrev pub held_behind : Option Held → Option ProcessState → ℕ → Option Held
+held_behind before None t = None
+held_behind before (Some s) t = Some (record { state = s; since = tick (begins_at before (Some s) t) })
+
+abbrev pub stay_of : Held → ℕ → Stay
+stay_of held until = record { state = held.state; span = span held.since.0 until }
+
+-- the stay that such a line ends
+abbrev pub stay_ended : Option Held → Option ProcessState → ℕ → Option Stay
+stay_ended None next t = None
+stay_ended (Some held) next t = Some (stay_of held (stay_until held next t))
+
+-- the stay that is not over where a trace ends
+abbrev pub stay_left : Option Held → ℕ → Option Stay
+stay_left None until = None
+stay_left (Some held) until = Some (stay_of held (max held.since.0 until))
+
+-- ---- modes
+
+-- the mode that a line of tick t ends, until that tick
+abbrev pub mode_ended : Option HeldMode → ℕ → Option ModeStay
+mode_ended None t = None
+mode_ended (Some held) t = Some (record { mode = held.mode; span = span held.since.0 (max held.since.0 t) })
+
+abbrev pub mode_behind : Option HeldMode → Mode → ℕ → Option HeldMode
+mode_behind None m t = Some (record { mode = m; since = tick t })
+mode_behind (Some held) m t = Some (record { mode = m; since = tick (max held.since.0 t) })

@@ -1,0 +1,19 @@
+//! Want of memory.
+
+use std::alloc::{AllocError, AllocFailed};
+
+/// Memory ran out.
+#[derive(Clone, Copy, Debug, PartialEq, Eq)]
+pub struct MemoryFull;
+
+impl From<AllocError> for MemoryFull {
+    fn from(_: AllocError) -> MemoryFull {
+        MemoryFull
+    }
+}
+
+impl<T> From<AllocFailed<T>> for MemoryFull {
+    fn from(_: AllocFailed<T>) -> MemoryFull {
+        MemoryFull
+    }
+}

@@ -1,0 +1,16 @@
+//! How long processes stay in their states, and partitions in their modes.
+//!
+//! A line of a trace says when a state or a mode begins. `Lanes` follows the events of a trace, and
+//! answers each stay when it is over. Each tick of a process counts for one state: `Stay` says
+//! which.
+#![tactic(auto)]
+
+mod fault;
+mod lanes;
+mod span;
+mod stay;
+
+pub use fault::MemoryFull;
+pub use lanes::{Ended, Lanes, PartitionLane, ProcessLane};
+pub use span::Span;
+pub use stay::{ModeStay, ModeWatch, Stay, StateWatch};

@@ -1,0 +1,177 @@
+//! Stays in a state, and in a mode.
+
+ghost use Rattle.std.specs.Prelude.{◌≡◌, None};
+
+use crate::span::Span;
+use apex_types::{Mode, ProcessState, Ticks};
+
+/// A process stays in a state for these ticks.
+#[derive(Clone, Copy, Debug, PartialEq, Eq)]
+pub struct Stay {
+    pub state: ProcessState,
+    pub span: Span,
+}
+
+/// A partition stays in a mode for these ticks.
+#[derive(Clone, Copy, Debug, PartialEq, Eq)]
+pub struct ModeStay {
+    pub mode: Mode,
+    pub span: Span,
+}
+
+/// The state of a process, and the first tick that counts for it.
+#[derive(Clone, Copy, Debug, PartialEq, Eq)]
+struct Held {
+    state: ProcessState,
+    since: Ticks,
+}
+
+impl Held {
+    ghost use Rattle.trace_stays.specs.Stays.{stay_of, stay_until};
+
+    /// The first tick that no longer counts for the state, if a line of this tick ends it. A tick
+    /// counts once, so a stay ends where it began, at the earliest.
+    fn until(self, next: Option<ProcessState>, tick: Ticks) -> Ticks
+        ensures { result.0 ≡ stay_until self next tick.0 }
+    {
+        Ticks(self.since.0.max(left_at(self.state, next, tick).0))
+    }
+
+    fn stay(self, until: Ticks) -> Stay
+        ensures { result ≡ stay_of self until.0 }
+    {
+        Stay {
+            state: self.state,
+            span: Span {
+                from: self.since,
+                until,
+            },
+        }
+    }
+}
+
+/// The first tick that no longer counts for a state, if a line of this tick says that the process
+/// comes to the next one, or that it is gone.
+///
+/// A process that leaves RUNNING has done its last work in this tick, unless it becomes READY:
+/// then another one was chosen before the tick's work.
+fn left_at(state: ProcessState, next: Option<ProcessState>, tick: Ticks) -> Ticks
+    ensures { result.0 ≡ left_at state next tick.0 }
+{
+    match (state, next) {
+        (ProcessState::Running, Some(ProcessState::Ready)) => tick,
+        (ProcessState::Running, _) => Ticks(tick.0.saturating_add(1)),
+        _ => tick,
+    }
+}
+
+/// The state of one process as the lines so far tell it. A process that has no line yet, or whose
+/// partition has started again, is in none.
+#[derive(Clone, Copy, Debug, PartialEq, Eq)]
+pub struct StateWatch {
+    held: Option<Held>,
+}
+
+impl StateWatch {
+    ghost use Rattle.trace_stays.specs.Stays.{held_behind, stay_ended, stay_left};
+
+    /// A process without a line.
+    pub fn new() -> StateWatch
+        ensures { result.held ≡ None }
+    {
+        StateWatch { held: None }
+    }
+
+    /// The state that the last line told.
+    pub fn state(&self) -> Option<ProcessState>
+    {
+        match self.held {
+            Some(held) => Some(held.state),
+            None => None,
+        }
+    }
+
+    /// A line of this tick says that the process comes to the next state, or, with none, that it is
+    /// gone. Answers the stay that is over.
+    pub fn turn(&mut self, next: Option<ProcessState>, tick: Ticks) -> Option<Stay>
+        ensures ended { result ≡ stay_ended self.old.held next tick.0 }
+        ensures held { self.new.held ≡ held_behind self.old.held next tick.0 }
+    {
+        let (since, ended) = match self.held {
+            Some(held) => {
+                let until = held.until(next, tick);
+                (until, Some(held.stay(until)))
+            }
+            None => (tick, None),
+        };
+        self.held = match next {
+            Some(state) => Some(Held { state, since }),
+            None => None,
+        };
+        ended
+    }
+
+    /// The stay that is not over where the trace ends.
+    pub fn last_stay(&self, until: Ticks) -> Option<Stay>
+        ensures { result ≡ stay_left self.now.held until.0 }
+    {
+        match self.held {
+            Some(held) => Some(held.stay(Ticks(held.since.0.max(until.0)))),
+            None => None,
+        }
+    }
+}
+
+/// The mode of a partition, and the first tick that counts for it.
+#[derive(Clone, Copy, Debug, PartialEq, Eq)]
+struct HeldMode {
+    mode: Mode,
+    since: Ticks,
+}
+
+/// The mode of one partition as the lines so far tell it.
+#[derive(Clone, Copy, Debug, PartialEq, Eq)]
+pub struct ModeWatch {
+    held: Option<HeldMode>,
+}
+
+impl ModeWatch {
+    ghost use Rattle.trace_stays.specs.Stays.{mode_behind, mode_ended};
+
+    /// A partition without a mode.
+    pub fn new() -> ModeWatch
+        ensures { result.held ≡ None }
+    {
+        ModeWatch { held: None }
+    }
+
+    /// A line of this tick says that the partition enters a mode. Answers the stay that is over.
+    pub fn enter(&mut self, mode: Mode, tick: Ticks) -> Option<ModeStay>
+        ensures ended { result ≡ mode_ended self.old.held tick.0 }
+        ensures held { self.new.held ≡ mode_behind self.old.held mode tick.0 }
+    {
+        let ended = self.last_stay(tick);
+        let since = match ended {
+            Some(stay) => stay.span.until,
+            None => tick,
+        };
+        self.held = Some(HeldMode { mode, since });
+        ended
+    }
+
+    /// The stay that is not over where the trace ends.
+    pub fn last_stay(&self, until: Ticks) -> Option<ModeStay>
+        ensures { result ≡ mode_ended self.now.held until.0 }
+    {
+        match self.held {
+            Some(held) => Some(ModeStay {
+                mode: held.mode,
+                span: Span {
+                    from: held.since,
+                    until: Ticks(held.since.0.max(until.0)),
+                },
+            }),
+            None => None,
+        }
+    }
+}
