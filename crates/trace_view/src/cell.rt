@@ -1,0 +1,120 @@
+//! The cells of tables.
+
+use crate::extremes::Extremes;
+use crate::messages::Messages;
+use crate::modes::ModeTicks;
+use crate::refusals::Refusals;
+use crate::report::Extent;
+use crate::share::Share;
+use crate::states::StateTicks;
+use crate::tally::Tally;
+use apex_types::{Subject, Ticks};
+
+/// What stands in a cell beside names.
+#[derive(Clone, Copy, Debug, PartialEq, Eq)]
+pub enum Cell {
+    Number(u64),
+    Share(Share),
+    /// There is no such number.
+    Absent,
+}
+
+/// The name of a process, `INIT` or `HANDLER`.
+pub fn subject_text(who: &Subject) -> &str {
+    match who {
+        Subject::Init => "INIT",
+        Subject::Handler => "HANDLER",
+        Subject::Process(name) => name.as_str(),
+    }
+}
+
+fn tick_cell(tick: Option<Ticks>) -> Cell {
+    match tick {
+        Some(tick) => Cell::Number(tick.0),
+        None => Cell::Absent,
+    }
+}
+
+fn least_cell(times: Option<Extremes>) -> Cell {
+    match times {
+        Some(times) => Cell::Number(times.least),
+        None => Cell::Absent,
+    }
+}
+
+fn greatest_cell(times: Option<Extremes>) -> Cell {
+    match times {
+        Some(times) => Cell::Number(times.greatest),
+        None => Cell::Absent,
+    }
+}
+
+/// Lines; the first and the last tick of a line; the first tick that counts, the first that does
+/// not, and how many count.
+pub fn extent_cells(extent: &Extent) -> [Cell; 6] {
+    [
+        Cell::Number(extent.lines),
+        tick_cell(extent.first),
+        tick_cell(extent.last),
+        Cell::Number(extent.window.from.0),
+        Cell::Number(extent.window.until.0),
+        Cell::Number(extent.window.ticks()),
+    ]
+}
+
+/// The ticks in each state, and behind each its share of all.
+pub fn state_cells(ticks: StateTicks, all: u64) -> [Cell; 8] {
+    [
+        Cell::Number(ticks.running),
+        Cell::Share(Share::of(ticks.running, all)),
+        Cell::Number(ticks.ready),
+        Cell::Share(Share::of(ticks.ready, all)),
+        Cell::Number(ticks.waiting),
+        Cell::Share(Share::of(ticks.waiting, all)),
+        Cell::Number(ticks.dormant),
+        Cell::Share(Share::of(ticks.dormant, all)),
+    ]
+}
+
+/// Activations; the least and the greatest time to RUNNING, and to the end; missed deadlines.
+pub fn time_cells(tally: &Tally) -> [Cell; 6] {
+    [
+        Cell::Number(tally.activations),
+        least_cell(tally.to_running),
+        greatest_cell(tally.to_running),
+        least_cell(tally.to_end),
+        greatest_cell(tally.to_end),
+        Cell::Number(tally.deadlines_missed),
+    ]
+}
+
+/// Refused services by their codes, from 1 to 6.
+pub fn refusal_cells(refusals: Refusals) -> [Cell; 6] {
+    [
+        Cell::Number(refusals.no_action),
+        Cell::Number(refusals.not_available),
+        Cell::Number(refusals.invalid_param),
+        Cell::Number(refusals.invalid_config),
+        Cell::Number(refusals.invalid_mode),
+        Cell::Number(refusals.timed_out),
+    ]
+}
+
+/// The ticks in each mode.
+pub fn mode_cells(modes: ModeTicks) -> [Cell; 4] {
+    [
+        Cell::Number(modes.normal),
+        Cell::Number(modes.cold_start),
+        Cell::Number(modes.warm_start),
+        Cell::Number(modes.idle),
+    ]
+}
+
+/// The messages of a port: moved, arrived, lost.
+pub fn port_cells(messages: Messages) -> [Cell; 3] {
+    [
+        Cell::Number(messages.moved),
+        Cell::Number(messages.arrived),
+        Cell::Number(messages.lost),
+    ]
+}

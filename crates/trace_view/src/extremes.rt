@@ -1,0 +1,24 @@
+//! The least and the greatest of some times.
+
+/// The least and the greatest of some numbers of ticks, one at least.
+#[derive(Clone, Copy, Debug, PartialEq, Eq)]
+pub struct Extremes {
+    pub least: u64,
+    pub greatest: u64,
+}
+
+impl Extremes {
+    /// Those of the numbers so far and one more.
+    pub fn with(before: Option<Extremes>, ticks: u64) -> Extremes {
+        match before {
+            Some(known) => Extremes {
+                least: known.least.min(ticks),
+                greatest: known.greatest.max(ticks),
+            },
+            None => Extremes {
+                least: ticks,
+                greatest: ticks,
+            },
+        }
+    }
+}

@@ -1,0 +1,33 @@
+//! The summary of a trace.
+//!
+//! `Summary` counts the events of a trace one by one: how long each process was in each state, how
+//! soon it ran and how soon it was done, which services were refused to it, and how many messages
+//! came and went. `Report` holds the numbers, and writes them as tables or as comma-separated
+//! values.
+#![tactic(auto)]
+
+mod cell;
+mod extremes;
+mod fault;
+mod messages;
+mod modes;
+mod refusals;
+mod report;
+mod share;
+mod sheet;
+mod states;
+mod summary;
+mod table;
+mod tally;
+mod writing;
+
+pub use extremes::Extremes;
+pub use fault::ReportFault;
+pub use messages::{Messages, Route};
+pub use modes::ModeTicks;
+pub use refusals::Refusals;
+pub use report::{Extent, PartitionTotal, ProcessTotal, Report, RouteTotal};
+pub use share::Share;
+pub use states::StateTicks;
+pub use summary::Summary;
+pub use tally::{Tally, Turn};

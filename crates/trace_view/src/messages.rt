@@ -1,0 +1,59 @@
+//! How many messages came and went.
+
+use apex_types::{EventKind, Name};
+
+/// Where messages pass.
+#[derive(Clone, Copy, Debug, PartialEq, Eq)]
+pub enum Route {
+    /// A port of the partition.
+    Port(Name),
+    /// A channel by which messages of the partition leave the module.
+    Channel(Name),
+}
+
+/// How many messages passed.
+#[derive(Clone, Copy, Debug, PartialEq, Eq)]
+pub struct Messages {
+    /// Those that left the port.
+    pub moved: u64,
+    /// Those that reached the port.
+    pub arrived: u64,
+    /// Those that found the port full.
+    pub lost: u64,
+    /// Those that left the module.
+    pub out: u64,
+}
+
+impl Messages {
+    /// No messages.
+    pub fn new() -> Messages {
+        Messages {
+            moved: 0,
+            arrived: 0,
+            lost: 0,
+            out: 0,
+        }
+    }
+
+    /// Counts the message of such a line; other lines are of no message.
+    pub fn count(&mut self, kind: &EventKind) {
+        match kind {
+            EventKind::Move(_, _) => self.moved = self.moved.saturating_add(1),
+            EventKind::Arrive(_, _) => self.arrived = self.arrived.saturating_add(1),
+            EventKind::Lost(_, _) => self.lost = self.lost.saturating_add(1),
+            EventKind::Out(_, _) => self.out = self.out.saturating_add(1),
+            _ => {}
+        }
+    }
+}
+
+/// Where the message of such a line passes; none if the line is of no message.
+pub fn route_of(kind: &EventKind) -> Option<Route> {
+    match kind {
+        EventKind::Move(port, _) | EventKind::Arrive(port, _) | EventKind::Lost(port, _) => {
+            Some(Route::Port(*port))
+        }
+        EventKind::Out(channel, _) => Some(Route::Channel(*channel)),
+        _ => None,
+    }
+}

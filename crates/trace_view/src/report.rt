@@ -1,0 +1,77 @@
+//! The numbers of a trace.
+
+use crate::fault::ReportFault;
+use crate::messages::{Messages, Route};
+use crate::modes::ModeTicks;
+use crate::tally::Tally;
+use crate::{sheet, writing};
+use apex_types::{Name, Subject, Ticks};
+use std::alloc::Global;
+use std::io::Write;
+use trace_stays::Span;
+
+/// Which lines and ticks were counted.
+#[derive(Clone, Copy, Debug, PartialEq, Eq)]
+pub struct Extent {
+    pub lines: u64,
+    /// The tick of the first line that was counted.
+    pub first: Option<Ticks>,
+    /// The tick of the last line that was counted.
+    pub last: Option<Ticks>,
+    /// The ticks that the numbers are of.
+    pub window: Span,
+}
+
+/// The numbers of a partition.
+#[derive(Clone, Copy, Debug)]
+pub struct PartitionTotal {
+    pub name: Name,
+    pub modes: ModeTicks,
+}
+
+/// The numbers of a process, of INIT or of an error handler.
+#[derive(Clone, Copy, Debug)]
+pub struct ProcessTotal {
+    pub partition: Name,
+    pub who: Subject,
+    pub tally: Tally,
+}
+
+/// The messages of a port or a channel.
+#[derive(Clone, Copy, Debug)]
+pub struct RouteTotal {
+    pub partition: Name,
+    pub route: Route,
+    pub messages: Messages,
+}
+
+/// The summary of a trace. Partitions stand in the order of their first lines; the processes, ports
+/// and channels of each stand together, in the order of their first lines.
+#[derive(Drop)]
+pub struct Report {
+    pub extent: Extent,
+    pub partitions: Vec<PartitionTotal>,
+    pub processes: Vec<ProcessTotal>,
+    pub routes: Vec<RouteTotal>,
+}
+
+impl Report {
+    /// Writes the numbers as tables, each with a line that says what it shows, and a line of
+    /// headings.
+    ///
+    /// # Errors
+    ///
+    /// Memory ran out, or the writer failed; then a beginning of the text is out.
+    pub fn write_table<W: Write>(&self, alloc: Global, out: &mut W) -> Result<(), ReportFault> {
+        writing::write_tables(alloc, self, out)
+    }
+
+    /// Writes the numbers as one table of comma-separated values, with a line of headings.
+    ///
+    /// # Errors
+    ///
+    /// Memory ran out, or the writer failed; then a beginning of the text is out.
+    pub fn write_csv<W: Write>(&self, alloc: Global, out: &mut W) -> Result<(), ReportFault> {
+        sheet::write_sheet(alloc, self, out)
+    }
+}

@@ -1,0 +1,125 @@
+//! The tables of a report.
+
+use crate::cell::{
+    Cell, extent_cells, mode_cells, port_cells, refusal_cells, state_cells, subject_text,
+    time_cells,
+};
+use crate::fault::ReportFault;
+use crate::messages::Route;
+use crate::report::Report;
+use crate::table::Table;
+use std::alloc::Global;
+use std::io::Write;
+
+/// Writes the tables, with an empty line between two of them. A table without rows is left out.
+pub fn write_tables<W: Write>(
+    alloc: Global,
+    report: &Report,
+    out: &mut W,
+) -> Result<(), ReportFault> {
+    write_extent(alloc, report, out)?;
+    write_states(alloc, report, out)?;
+    write_times(alloc, report, out)?;
+    write_refusals(alloc, report, out)?;
+    write_modes(alloc, report, out)?;
+    write_ports(alloc, report, out)?;
+    write_channels(alloc, report, out)
+}
+
+fn write_extent<W: Write>(alloc: Global, report: &Report, out: &mut W) -> Result<(), ReportFault> {
+    let numbers = ["lines", "first tick", "last tick", "from", "to", "ticks"];
+    let mut table = Table::new(alloc, &[], &numbers)?;
+    table.add(&[], &extent_cells(&report.extent))?;
+    table.write("The trace: its lines, and the ticks that count", out)
+}
+
+fn write_states<W: Write>(alloc: Global, report: &Report, out: &mut W) -> Result<(), ReportFault> {
+    let numbers = ["RUNNING", "%", "READY", "%", "WAITING", "%", "DORMANT", "%"];
+    let mut table = Table::new(alloc, &["partition", "process"], &numbers)?;
+    let all = report.extent.window.ticks();
+    for process in &report.processes {
+        let names = [process.partition.as_str(), subject_text(&process.who)];
+        table.add(&names, &state_cells(process.tally.ticks, all))?;
+    }
+    table.write(
+        "\nProcesses: ticks in each state, and their share of all ticks",
+        out,
+    )
+}
+
+fn write_times<W: Write>(alloc: Global, report: &Report, out: &mut W) -> Result<(), ReportFault> {
+    let numbers = [
+        "activations",
+        "least to RUNNING",
+        "greatest",
+        "least to end",
+        "greatest",
+        "deadlines missed",
+    ];
+    let mut table = Table::new(alloc, &["partition", "process"], &numbers)?;
+    for process in &report.processes {
+        let names = [process.partition.as_str(), subject_text(&process.who)];
+        table.add(&names, &time_cells(&process.tally))?;
+    }
+    table.write(
+        "\nProcesses: activations, and ticks from READY to RUNNING and to the end",
+        out,
+    )
+}
+
+fn write_refusals<W: Write>(
+    alloc: Global,
+    report: &Report,
+    out: &mut W,
+) -> Result<(), ReportFault> {
+    let numbers = [
+        "NO_ACTION",
+        "NOT_AVAILABLE",
+        "INVALID_PARAM",
+        "INVALID_CONFIG",
+        "INVALID_MODE",
+        "TIMED_OUT",
+    ];
+    let mut table = Table::new(alloc, &["partition", "process"], &numbers)?;
+    for process in &report.processes {
+        let names = [process.partition.as_str(), subject_text(&process.who)];
+        table.add(&names, &refusal_cells(process.tally.refusals))?;
+    }
+    table.write("\nProcesses: services refused, by their codes", out)
+}
+
+fn write_modes<W: Write>(alloc: Global, report: &Report, out: &mut W) -> Result<(), ReportFault> {
+    let numbers = ["NORMAL", "COLD_START", "WARM_START", "IDLE"];
+    let mut table = Table::new(alloc, &["partition"], &numbers)?;
+    for partition in &report.partitions {
+        table.add(&[partition.name.as_str()], &mode_cells(partition.modes))?;
+    }
+    table.write("\nPartitions: ticks in each mode", out)
+}
+
+fn write_ports<W: Write>(alloc: Global, report: &Report, out: &mut W) -> Result<(), ReportFault> {
+    let numbers = ["moved", "arrived", "lost"];
+    let mut table = Table::new(alloc, &["partition", "port"], &numbers)?;
+    for total in &report.routes {
+        if let Route::Port(port) = &total.route {
+            let names = [total.partition.as_str(), port.as_str()];
+            table.add(&names, &port_cells(total.messages))?;
+        }
+    }
+    table.write("\nPorts: messages", out)
+}
+
+fn write_channels<W: Write>(
+    alloc: Global,
+    report: &Report,
+    out: &mut W,
+) -> Result<(), ReportFault> {
+    let mut table = Table::new(alloc, &["partition", "channel"], &["out"])?;
+    for total in &report.routes {
+        if let Route::Channel(channel) = &total.route {
+            let names = [total.partition.as_str(), channel.as_str()];
+            table.add(&names, &[Cell::Number(total.messages.out)])?;
+        }
+    }
+    table.write("\nChannels: messages that left the module", out)
+}
