@@ -1,5 +1,5 @@
 -- How long a process stays in a state, and a partition in a mode.
-use Rattle.std.specs.Prelude.{ℕ, ◌+◌, ◌-◌, ◌^◌, max, min, List, [], ◌∷◌, Option, Some, None}
+use Rattle.std.specs.Prelude.{ℕ, ◌+◌, ◌-◌, ◌^◌, max, min, Option, Some, None}
 use Rattle.apex_types.specs.declared.codes.Mode.{Mode}
 use Rattle.apex_types.specs.declared.codes.ProcessState.{ProcessState}
 use Rattle.apex_types.specs.declared.codes.ProcessState.TheVariants as state
@@ -31,13 +31,22 @@ behind t = min (t + 1) (2 ^ 64 - 1)
 
 -- ---- states
 
--- The first tick that no longer counts for a state, if a line of tick t says that the process comes to the
--- next one, or that it is gone. A process that leaves RUNNING has done its last work in this tick, unless it
--- becomes READY: then another one was chosen before the tick's work.
+-- The first tick that no longer counts for RUNNING, if a line of tick t says that the process comes to the
+-- next state, or that it is gone. It has done its last work in this tick, unless it becomes READY: then
+-- another one was chosen before the tick's work.
+abbrev pub running_left_at : Option ProcessState → ℕ → ℕ
+running_left_at None t = behind t
+running_left_at (Some state.Ready) t = t
+running_left_at (Some state.Dormant) t = behind t
+running_left_at (Some state.Running) t = behind t
+running_left_at (Some state.Waiting) t = behind t
+
+-- The first tick that no longer counts for a state that such a line ends.
 abbrev pub left_at : ProcessState → Option ProcessState → ℕ → ℕ
-left_at state.Running (Some state.Ready) t = t
-left_at state.Running next t = behind t
-left_at s next t = t
+left_at state.Running next t = running_left_at next t
+left_at state.Dormant next t = t
+left_at state.Ready next t = t
+left_at state.Waiting next t = t
 
 -- A tick counts once: a stay ends where it began, at the earliest.
 abbrev pub stay_until : Held → Option ProcessState → ℕ → ℕ

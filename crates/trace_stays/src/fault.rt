@@ -12,7 +12,7 @@ impl From<AllocError> for MemoryFull {
     }
 }
 
-impl<T> From<AllocFailed<T>> for MemoryFull {
+impl<T: Drop> From<AllocFailed<T>> for MemoryFull {
     fn from(_: AllocFailed<T>) -> MemoryFull {
         MemoryFull
     }

@@ -13,4 +13,4 @@ mod stay;
 pub use fault::MemoryFull;
 pub use lanes::{Ended, Lanes, PartitionLane, ProcessLane};
 pub use span::Span;
-pub use stay::{ModeStay, ModeWatch, Stay, StateWatch};
+pub use stay::{ModeStay, ModeWatch, StateWatch, Stay};

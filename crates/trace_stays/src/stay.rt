@@ -1,6 +1,7 @@
 //! Stays in a state, and in a mode.
 
 ghost use Rattle.std.specs.Prelude.{◌≡◌, None};
+ghost use Rattle.trace_stays.specs.Stays.{left_at, running_left_at};
 
 use crate::span::Span;
 use apex_types::{Mode, ProcessState, Ticks};
@@ -50,18 +51,28 @@ impl Held {
     }
 }
 
+/// The first tick that no longer counts for RUNNING, if a line of this tick says that the process
+/// comes to the next state, or that it is gone.
+///
+/// The process has done its last work in this tick, unless it becomes READY: then another one was
+/// chosen before the tick's work.
+fn running_left_at(next: Option<ProcessState>, tick: Ticks) -> Ticks
+    ensures { result.0 ≡ running_left_at next tick.0 }
+{
+    match next {
+        Some(ProcessState::Ready) => tick,
+        _ => Ticks(tick.0.saturating_add(1)),
+    }
+}
+
 /// The first tick that no longer counts for a state, if a line of this tick says that the process
 /// comes to the next one, or that it is gone.
-///
-/// A process that leaves RUNNING has done its last work in this tick, unless it becomes READY:
-/// then another one was chosen before the tick's work.
 fn left_at(state: ProcessState, next: Option<ProcessState>, tick: Ticks) -> Ticks
     ensures { result.0 ≡ left_at state next tick.0 }
 {
-    match (state, next) {
-        (ProcessState::Running, Some(ProcessState::Ready)) => tick,
-        (ProcessState::Running, _) => Ticks(tick.0.saturating_add(1)),
-        _ => tick,
+    match state {
+        ProcessState::Running => running_left_at(next, tick),
+        ProcessState::Dormant | ProcessState::Ready | ProcessState::Waiting => tick,
     }
 }
 
@@ -83,8 +94,7 @@ impl StateWatch {
     }
 
     /// The state that the last line told.
-    pub fn state(&self) -> Option<ProcessState>
-    {
+    pub fn state(&self) -> Option<ProcessState> {
         match self.held {
             Some(held) => Some(held.state),
             None => None,
