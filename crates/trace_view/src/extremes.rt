@@ -1,5 +1,7 @@
 //! The least and the greatest of some times.
 
+ghost use Rattle.std.specs.Prelude.{◌≡◌};
+
 /// The least and the greatest of some numbers of ticks, one at least.
 #[derive(Clone, Copy, Debug, PartialEq, Eq)]
 pub struct Extremes {
@@ -8,8 +10,12 @@ pub struct Extremes {
 }
 
 impl Extremes {
+    ghost use Rattle.trace_view.specs.Counting.{with_time};
+
     /// Those of the numbers so far and one more.
-    pub fn with(before: Option<Extremes>, ticks: u64) -> Extremes {
+    pub fn with(before: Option<Extremes>, ticks: u64) -> Extremes
+        ensures { result ≡ with_time before ticks }
+    {
         match before {
             Some(known) => Extremes {
                 least: known.least.min(ticks),

@@ -1,5 +1,8 @@
 //! How many messages came and went.
 
+ghost use Rattle.std.specs.Prelude.{◌≡◌};
+ghost use Rattle.trace_view.specs.Counting.{route_of};
+
 use apex_types::{EventKind, Name};
 
 /// Where messages pass.
@@ -25,8 +28,12 @@ pub struct Messages {
 }
 
 impl Messages {
+    ghost use Rattle.trace_view.specs.Counting.{with_message};
+
     /// No messages.
-    pub fn new() -> Messages {
+    pub fn new() -> Messages
+        ensures { result ≡ record { moved = 0; arrived = 0; lost = 0; out = 0 } }
+    {
         Messages {
             moved: 0,
             arrived: 0,
@@ -36,7 +43,9 @@ impl Messages {
     }
 
     /// Counts the message of such a line; other lines are of no message.
-    pub fn count(&mut self, kind: &EventKind) {
+    pub fn count(&mut self, kind: &EventKind)
+        ensures { self.new ≡ with_message kind.now self.old }
+    {
         match kind {
             EventKind::Move(_, _) => self.moved = self.moved.saturating_add(1),
             EventKind::Arrive(_, _) => self.arrived = self.arrived.saturating_add(1),
@@ -48,7 +57,9 @@ impl Messages {
 }
 
 /// Where the message of such a line passes; none if the line is of no message.
-pub fn route_of(kind: &EventKind) -> Option<Route> {
+pub fn route_of(kind: &EventKind) -> Option<Route>
+    ensures { result ≡ route_of kind.now }
+{
     match kind {
         EventKind::Move(port, _) | EventKind::Arrive(port, _) | EventKind::Lost(port, _) => {
             Some(Route::Port(*port))

@@ -1,5 +1,7 @@
 //! How many ticks a partition was in each mode.
 
+ghost use Rattle.std.specs.Prelude.{◌≡◌};
+
 use apex_types::Mode;
 use trace_stays::{ModeStay, Span};
 
@@ -13,8 +15,12 @@ pub struct ModeTicks {
 }
 
 impl ModeTicks {
+    ghost use Rattle.trace_view.specs.Counting.{with_mode_stay};
+
     /// No ticks in any mode.
-    pub fn new() -> ModeTicks {
+    pub fn new() -> ModeTicks
+        ensures { result ≡ record { normal = 0; cold_start = 0; warm_start = 0; idle = 0 } }
+    {
         ModeTicks {
             normal: 0,
             cold_start: 0,
@@ -24,7 +30,9 @@ impl ModeTicks {
     }
 
     /// Adds those ticks of a stay that lie in the window.
-    pub fn add(&mut self, stay: ModeStay, window: Span) {
+    pub fn add(&mut self, stay: ModeStay, window: Span)
+        ensures { self.new ≡ with_mode_stay window stay self.old }
+    {
         let ticks = stay.span.within(window).ticks();
         match stay.mode {
             Mode::Normal => self.normal = self.normal.saturating_add(ticks),

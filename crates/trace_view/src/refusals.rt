@@ -1,5 +1,7 @@
 //! How many services were refused, by their codes.
 
+ghost use Rattle.std.specs.Prelude.{◌≡◌};
+
 use apex_types::ReturnCode;
 
 /// How many services answered each code but `NO_ERROR`.
@@ -14,8 +16,12 @@ pub struct Refusals {
 }
 
 impl Refusals {
+    ghost use Rattle.trace_view.specs.Counting.{with_answer};
+
     /// No service was refused.
-    pub fn new() -> Refusals {
+    pub fn new() -> Refusals
+        ensures { result ≡ record { no_action = 0; not_available = 0; invalid_param = 0; invalid_config = 0; invalid_mode = 0; timed_out = 0 } }
+    {
         Refusals {
             no_action: 0,
             not_available: 0,
@@ -27,7 +33,9 @@ impl Refusals {
     }
 
     /// Counts a service that ended with this code. `NO_ERROR` is no refusal.
-    pub fn count(&mut self, code: ReturnCode) {
+    pub fn count(&mut self, code: ReturnCode)
+        ensures { self.new ≡ with_answer code self.old }
+    {
         match code {
             ReturnCode::NoError => {}
             ReturnCode::NoAction => self.no_action = self.no_action.saturating_add(1),

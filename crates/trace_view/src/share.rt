@@ -1,5 +1,7 @@
 //! Shares of all ticks.
 
+ghost use Rattle.std.specs.Prelude.{◌≡◌, ◌<◌};
+
 use std::fmt;
 
 /// A share of all ticks, in tenths of a percent: 0 to 1,000.
@@ -9,9 +11,14 @@ pub struct Share {
 }
 
 impl Share {
+    ghost use Rattle.trace_view.specs.Counting.{share_of};
+
     /// The share of these ticks among all: the nearest tenth of a percent, and of two that are as
     /// near the greater one. Of no ticks each share is 0.
-    pub fn of(ticks: u64, all: u64) -> Share {
+    pub fn of(ticks: u64, all: u64) -> Share
+        ensures none { all ≡ 0 → result.tenths ≡ 0 }
+        ensures nearest { 0 < all → result.tenths ≡ share_of ticks all }
+    {
         if all == 0 {
             return Share { tenths: 0 };
         }

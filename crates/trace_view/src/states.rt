@@ -1,5 +1,7 @@
 //! How many ticks a process was in each state.
 
+ghost use Rattle.std.specs.Prelude.{◌≡◌};
+
 use apex_types::ProcessState;
 use trace_stays::{Span, Stay};
 
@@ -13,8 +15,12 @@ pub struct StateTicks {
 }
 
 impl StateTicks {
+    ghost use Rattle.trace_view.specs.Counting.{with_stay};
+
     /// No ticks in any state.
-    pub fn new() -> StateTicks {
+    pub fn new() -> StateTicks
+        ensures { result ≡ record { running = 0; ready = 0; waiting = 0; dormant = 0 } }
+    {
         StateTicks {
             running: 0,
             ready: 0,
@@ -24,7 +30,9 @@ impl StateTicks {
     }
 
     /// Adds those ticks of a stay that lie in the window.
-    pub fn add(&mut self, stay: Stay, window: Span) {
+    pub fn add(&mut self, stay: Stay, window: Span)
+        ensures { self.new ≡ with_stay window stay self.old }
+    {
         let ticks = stay.span.within(window).ticks();
         match stay.state {
             ProcessState::Running => self.running = self.running.saturating_add(ticks),

@@ -1,5 +1,8 @@
 //! The numbers of one process.
 
+ghost use Rattle.std.specs.Prelude.{◌≡◌, ◌+◌, Some};
+ghost use Rattle.trace_view.specs.Tallies.{has_tick};
+
 use crate::extremes::Extremes;
 use crate::refusals::Refusals;
 use crate::states::StateTicks;
@@ -43,8 +46,13 @@ pub struct Tally {
 }
 
 impl Tally {
+    ghost use Rattle.trace_view.specs.Counting.{capped, with_answer};
+    ghost use Rattle.trace_view.specs.Tallies.{begun, ended_running, nothing_counted, over, run, turned, with_ended};
+
     /// A process of which nothing was counted.
-    pub fn new() -> Tally {
+    pub fn new() -> Tally
+        ensures { result ≡ nothing_counted }
+    {
         Tally {
             ticks: StateTicks::new(),
             activations: 0,
@@ -57,7 +65,9 @@ impl Tally {
     }
 
     /// Counts a turn of the process. Only the ticks and the activations of the window count.
-    pub fn turn(&mut self, turn: Turn, window: Span) {
+    pub fn turn(&mut self, turn: Turn, window: Span)
+        ensures { self.new ≡ turned window turn self.old }
+    {
         if let Some(stay) = turn.ended {
             self.ticks.add(stay, window);
         }
@@ -70,37 +80,48 @@ impl Tally {
     }
 
     /// Counts a stay that is not over where the trace ends.
-    pub fn stay(&mut self, stay: Stay, window: Span) {
+    pub fn stay(&mut self, stay: Stay, window: Span)
+        ensures { self.new ≡ with_ended window (Some stay) self.old }
+    {
         self.ticks.add(stay, window);
     }
 
     /// Counts a service that ended with this code.
-    pub fn answer(&mut self, code: ReturnCode) {
+    pub fn answer(&mut self, code: ReturnCode)
+        ensures { self.new ≡ record self.old { refusals = with_answer code self.old.refusals } }
+    {
         self.refusals.count(code);
     }
 
     /// Counts a missed deadline.
-    pub fn miss(&mut self) {
+    pub fn miss(&mut self)
+        ensures { self.new ≡ record self.old { deadlines_missed = capped (self.old.deadlines_missed + 1) } }
+    {
         self.deadlines_missed = self.deadlines_missed.saturating_add(1);
     }
 
     /// The process becomes READY. It begins an activation, unless it is preempted.
-    fn become_ready(&mut self, turn: Turn, window: Span) {
+    fn become_ready(&mut self, turn: Turn, window: Span)
+        ensures { self.new ≡ begun (ended_running turn.ended) window turn self.old }
+    {
         if turn.was_running() {
             return;
         }
-        self.activation = None;
-        if window.has(turn.tick) {
+        if has_tick(window, turn.tick) {
             self.activations = self.activations.saturating_add(1);
             self.activation = Some(Activation {
                 ready: turn.tick,
                 has_run: false,
             });
+        } else {
+            self.activation = None;
         }
     }
 
     /// The process becomes RUNNING.
-    fn run(&mut self, tick: Ticks) {
+    fn run(&mut self, tick: Ticks)
+        ensures { self.new ≡ run self.old.activation tick.0 self.old }
+    {
         if let Some(activation) = self.activation {
             if !activation.has_run {
                 let ticks = tick.0.saturating_sub(activation.ready.0);
@@ -114,7 +135,9 @@ impl Tally {
     }
 
     /// The activation ends before this tick.
-    fn end(&mut self, end: Ticks) {
+    fn end(&mut self, end: Ticks)
+        ensures { self.new ≡ over self.old.activation end.0 self.old }
+    {
         if let Some(activation) = self.activation {
             let ticks = end.0.saturating_sub(activation.ready.0);
             self.to_end = Some(Extremes::with(self.to_end, ticks));
@@ -123,9 +146,20 @@ impl Tally {
     }
 }
 
+/// Whether the window has this tick.
+fn has_tick(window: Span, tick: Ticks) -> bool
+    ensures { result ≡ has_tick window tick.0 }
+{
+    window.from.0 <= tick.0 && tick.0 < window.until.0
+}
+
 impl Turn {
+    ghost use Rattle.trace_view.specs.Tallies.{ended_at, ended_running};
+
     /// Whether the process was RUNNING.
-    fn was_running(self) -> bool {
+    fn was_running(self) -> bool
+        ensures { result ≡ ended_running self.ended }
+    {
         match self.ended {
             Some(stay) => stay.state == ProcessState::Running,
             None => false,
@@ -133,7 +167,9 @@ impl Turn {
     }
 
     /// The tick where the stay ended; that of the line if the process was in no state.
-    fn end(self) -> Ticks {
+    fn end(self) -> Ticks
+        ensures { result.0 ≡ ended_at self.ended self.tick.0 }
+    {
         match self.ended {
             Some(stay) => stay.span.until,
             None => self.tick,
