@@ -1,1 +1,3 @@
+mod summaries;
 mod summary;
+mod traces;
