@@ -6,6 +6,7 @@ use Rattle.trace_stays.specs.declared.span.Span.{Span}
 use Rattle.trace_stays.specs.declared.stay.Stay.{Stay}
 use Rattle.trace_view.specs.Counting.{capped, ticks_in, with_times}
 use Rattle.trace_view.specs.Tallies.{ended_at, ended_running, has_tick, is_running, turned}
+use Rattle.trace_view.specs.declared.states.StateTicks.{StateTicks}
 use Rattle.trace_view.specs.declared.tally.Tally.{Tally}
 use Rattle.trace_view.specs.declared.tally.Turn.{Turn}
 
@@ -95,12 +96,28 @@ abbrev pub tally_after : Span → Tally → List Turn → Tally
 tally_after window t [] = t
 tally_after window t (turn ∷ turns) = tally_after window (turned window turn t) turns
 
+-- the ticks in this state
+abbrev pub ticks_for : ProcessState → StateTicks → ℕ
+ticks_for state.Running t = t.running
+ticks_for state.Ready t = t.ready
+ticks_for state.Waiting t = t.waiting
+ticks_for state.Dormant t = t.dormant
+
 -- the numbers of these turns
 pub record AreNumbersOf (window : Span) (turns : List Turn) (t : Tally) : Type 0 where
-  pub running : t.ticks.running ≡ capped (ticks_in_state state.Running window (ended_by turns))
-  pub ready : t.ticks.ready ≡ capped (ticks_in_state state.Ready window (ended_by turns))
-  pub waiting : t.ticks.waiting ≡ capped (ticks_in_state state.Waiting window (ended_by turns))
-  pub dormant : t.ticks.dormant ≡ capped (ticks_in_state state.Dormant window (ended_by turns))
+  pub ticks : (s : ProcessState) → ticks_for s t.ticks ≡ capped (ticks_in_state s window (ended_by turns))
   pub activations : t.activations ≡ capped (activations window turns)
   pub to_running : t.to_running ≡ with_times None (times_to_running window turns)
   pub to_end : t.to_end ≡ with_times None (times_to_end window turns)
+
+-- ---- stays that follow one another
+
+-- the first of these stays begins at this tick, each other one where the one before ends, and the last ends there
+abbrev pub AreContiguous : ℕ → List Stay → ℕ → Type 0
+AreContiguous from [] until = from ≡ until
+AreContiguous from (stay ∷ stays) until = (stay.span.from.0 ≡ from) × (from ≤ stay.span.until.0) × AreContiguous stay.span.until.0 stays until
+
+-- the ticks of the window in which these stays are in any state
+abbrev pub ticks_in_all : Span → List Stay → ℕ
+ticks_in_all window stays =
+    ticks_in_state state.Running window stays + ticks_in_state state.Ready window stays + ticks_in_state state.Waiting window stays + ticks_in_state state.Dormant window stays

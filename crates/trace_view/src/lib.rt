@@ -9,6 +9,7 @@
 mod cell;
 mod extremes;
 mod fault;
+pub mod laws;
 mod messages;
 mod modes;
 mod refusals;

@@ -1,0 +1,3 @@
+pub mod Contiguous
+pub mod Sums
+pub mod Times
