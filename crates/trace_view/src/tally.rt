@@ -69,7 +69,7 @@ impl Tally {
         ensures { self.new ≡ turned window turn self.old }
     {
         if let Some(stay) = turn.ended {
-            self.ticks.add(stay, window);
+            self.stay(stay, window);
         }
         match turn.next {
             Some(ProcessState::Ready) => self.become_ready(turn, window),
@@ -79,7 +79,7 @@ impl Tally {
         }
     }
 
-    /// Counts a stay that is not over where the trace ends.
+    /// Counts a stay. Only its ticks in the window count.
     pub fn stay(&mut self, stay: Stay, window: Span)
         ensures { self.new ≡ with_ended window (Some stay) self.old }
     {
