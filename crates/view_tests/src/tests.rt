@@ -1,0 +1,2 @@
+mod value_changes;
+mod waves;
