@@ -1,3 +1,5 @@
 mod summaries;
 mod summary;
 mod traces;
+mod value_changes;
+mod waves;
