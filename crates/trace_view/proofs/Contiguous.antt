@@ -35,8 +35,8 @@ each_once window from until [] same = sym (nothing until window.from.0 window.un
 each_once window from until (stay ∷ stays) (begins, below, rest) =
     let n = ticks_in window stay.span in
     let both = regrouped
-      (ticks_if state.Running stay.state n) (ticks_in_state state.Running window stays) (ticks_if state.Ready stay.state n) (ticks_in_state state.Ready window stays)
-      (ticks_if state.Waiting stay.state n) (ticks_in_state state.Waiting window stays) (ticks_if state.Dormant stay.state n) (ticks_in_state state.Dormant window stays)
-      n (ticks_in window (span stay.span.until.0 until)) (one_state stay.state n) (each_once window stay.span.until.0 until stays rest) in
+    (ticks_if state.Running stay.state n) (ticks_in_state state.Running window stays) (ticks_if state.Ready stay.state n) (ticks_in_state state.Ready window stays)
+    (ticks_if state.Waiting stay.state n) (ticks_in_state state.Waiting window stays) (ticks_if state.Dormant stay.state n) (ticks_in_state state.Dormant window stays)
+    n (ticks_in window (span stay.span.until.0 until)) (one_state stay.state n) (each_once window stay.span.until.0 until stays rest) in
     both ∙ ap (λ a. (min stay.span.until.0 window.until.0 - max a window.from.0) + ticks_in window (span stay.span.until.0 until)) begins
     ∙ two_parts from stay.span.until.0 until window.from.0 window.until.0 below (in_order stay.span.until.0 until stays rest)

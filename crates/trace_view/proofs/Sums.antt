@@ -59,7 +59,7 @@ ended_bounded : (window : Span) (ended : Option Stay) (t : Tally) → AreBounded
 ended_bounded window None t b = b
 ended_bounded window (Some stay) t b = record {
   all = λ s. let same = with_ticks-ticks_for s stay.state (ticks_in window stay.span) t.ticks b in
-    omega (arith, same, capped_le (ticks_for s t.ticks + ticks_if s stay.state (ticks_in window stay.span)))
+      omega (arith, same, capped_le (ticks_for s t.ticks + ticks_if s stay.state (ticks_in window stay.span)));
 }
 
 -- the state that begins leaves the ticks alone

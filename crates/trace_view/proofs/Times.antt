@@ -126,7 +126,7 @@ over_run (Some a) end t turns later same = refl
 entered_run : (next : Option ProcessState) (window : Span) (turn : Turn) (t : Tally) (turns : List Turn) (later : List ℕ)
     → left_run (entered next window turn t) turns later
     ≡ with_times t.to_running (next_run t.activation next (ended_running turn.ended) turn.tick.0 turns
-      ++ ((if is_ready next && not (ended_running turn.ended) && has_tick window turn.tick.0 then first_running turn.tick.0 turns else []) ++ later))
+    ++ ((if is_ready next && not (ended_running turn.ended) && has_tick window turn.tick.0 then first_running turn.tick.0 turns else []) ++ later))
 entered_run None window turn t turns later = ap (λ (x : List ℕ). with_times t.to_running (x ++ later)) (sym (none_next t.activation (ended_running turn.ended) turn.tick.0 turns))
 entered_run (Some state.Ready) window turn t turns later = begun_run (ended_running turn.ended) window turn t turns later
 entered_run (Some state.Running) window turn t turns later = run_run t.activation (ended_running turn.ended) turn.tick.0 t turns later refl
@@ -238,7 +238,7 @@ dormant_end (Some a) p end t turns later same = refl
 entered_end : (next : Option ProcessState) (window : Span) (turn : Turn) (t : Tally) (turns : List Turn) (later : List ℕ)
     → left_end (entered next window turn t) turns later
     ≡ with_times t.to_end (next_end t.activation next (ended_running turn.ended) (ended_at turn.ended turn.tick.0) turns
-      ++ ((if is_ready next && not (ended_running turn.ended) && has_tick window turn.tick.0 then first_end turn.tick.0 turns else []) ++ later))
+    ++ ((if is_ready next && not (ended_running turn.ended) && has_tick window turn.tick.0 then first_end turn.tick.0 turns else []) ++ later))
 entered_end None window turn t turns later =
     ap (λ (x : List ℕ). with_times t.to_end (x ++ later)) (sym (gone_end t.activation (ended_running turn.ended) (ended_at turn.ended turn.tick.0) turns))
 entered_end (Some state.Ready) window turn t turns later = begun_end (ended_running turn.ended) window (ended_at turn.ended turn.tick.0) turn t turns later

@@ -1,10 +1,10 @@
 //! The cells of tables.
 
+use crate::extent::Extent;
 use crate::extremes::Extremes;
 use crate::messages::Messages;
 use crate::modes::ModeTicks;
 use crate::refusals::Refusals;
-use crate::report::Extent;
 use crate::share::Share;
 use crate::states::StateTicks;
 use crate::tally::Tally;

@@ -7,6 +7,8 @@
 #![tactic(auto)]
 
 mod cell;
+mod counts;
+mod extent;
 mod extremes;
 mod fault;
 pub mod laws;
@@ -22,12 +24,13 @@ mod table;
 mod tally;
 mod writing;
 
+pub use extent::Extent;
 pub use extremes::Extremes;
 pub use fault::ReportFault;
 pub use messages::{Messages, Route};
 pub use modes::ModeTicks;
 pub use refusals::Refusals;
-pub use report::{Extent, PartitionTotal, ProcessTotal, Report, RouteTotal};
+pub use report::{PartitionTotal, ProcessTotal, Report, RouteTotal};
 pub use share::Share;
 pub use states::StateTicks;
 pub use summary::Summary;

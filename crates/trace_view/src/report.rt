@@ -1,26 +1,14 @@
 //! The numbers of a trace.
 
+use crate::extent::Extent;
 use crate::fault::ReportFault;
 use crate::messages::{Messages, Route};
 use crate::modes::ModeTicks;
 use crate::tally::Tally;
 use crate::{sheet, writing};
-use apex_types::{Name, Subject, Ticks};
+use apex_types::{Name, Subject};
 use std::alloc::Global;
 use std::io::Write;
-use trace_stays::Span;
-
-/// Which lines and ticks were counted.
-#[derive(Clone, Copy, Debug, PartialEq, Eq)]
-pub struct Extent {
-    pub lines: u64,
-    /// The tick of the first line that was counted.
-    pub first: Option<Ticks>,
-    /// The tick of the last line that was counted.
-    pub last: Option<Ticks>,
-    /// The ticks that the numbers are of.
-    pub window: Span,
-}
 
 /// The numbers of a partition.
 #[derive(Clone, Copy, Debug)]

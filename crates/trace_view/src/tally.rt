@@ -1,8 +1,8 @@
 //! The numbers of one process.
 
 ghost use Rattle.std.specs.Prelude.{◌≡◌, ◌+◌, Some};
-ghost use Rattle.trace_view.specs.Tallies.{has_tick};
 
+use crate::extent::has_tick;
 use crate::extremes::Extremes;
 use crate::refusals::Refusals;
 use crate::states::StateTicks;
@@ -144,13 +144,6 @@ impl Tally {
             self.activation = None;
         }
     }
-}
-
-/// Whether the window has this tick.
-fn has_tick(window: Span, tick: Ticks) -> bool
-    ensures { result ≡ has_tick window tick.0 }
-{
-    window.from.0 <= tick.0 && tick.0 < window.until.0
 }
 
 impl Turn {

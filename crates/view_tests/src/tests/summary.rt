@@ -45,8 +45,11 @@ impl From<ReportFault> for Missing {
 fn report_of(alloc: Global, text: &str, from: u64, to: Option<u64>) -> Result<Report, Missing> {
     let mut summary = Summary::new(alloc, Ticks(from), to.map(Ticks));
     let mut reader = TraceReader::new(text.as_bytes());
-    while let Some(event) = reader.next_event()? {
-        summary.count(&event)?;
+    for _ in 0..u64::MAX {
+        match reader.next_event()? {
+            Some(event) => summary.count(&event)?,
+            None => break,
+        }
     }
     Ok(summary.finish()?)
 }

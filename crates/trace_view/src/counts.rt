@@ -1,0 +1,284 @@
+//! What was counted, by partitions, processes, ports and channels.
+
+ghost use Rattle.std.specs.Prelude.{◌≡◌, IfOk};
+
+use crate::extent::{Extent, has_tick};
+use crate::messages::{Messages, Route, route_of};
+use crate::modes::ModeTicks;
+use crate::report::{PartitionTotal, ProcessTotal, Report, RouteTotal};
+use crate::tally::{Tally, Turn};
+use apex_types::{ErrorKind, Event, EventKind, Name, ProcessState, ReturnCode, Subject, Ticks};
+use std::alloc::Global;
+use trace_stays::{Ended, Lanes, MemoryFull, Span};
+
+/// The messages of a port or a channel so far.
+#[derive(Clone, Copy)]
+struct Traffic {
+    /// The place of the partition.
+    partition: usize,
+    route: Route,
+    messages: Messages,
+}
+
+/// What was counted so far.
+#[derive(Drop)]
+pub struct Counts {
+    alloc: Global,
+    lanes: Lanes,
+    /// By the places of the partitions.
+    modes: Vec<ModeTicks>,
+    /// By the places of the processes.
+    tallies: Vec<Tally>,
+    traffic: Vec<Traffic>,
+    /// The stays that the last event ended.
+    ended: Vec<Ended>,
+}
+
+impl Counts {
+    /// Nothing was counted.
+    pub fn new(alloc: Global) -> Counts {
+        Counts {
+            alloc,
+            lanes: Lanes::new(alloc),
+            modes: Vec::new(alloc),
+            tallies: Vec::new(alloc),
+            traffic: Vec::new(alloc),
+            ended: Vec::new(alloc),
+        }
+    }
+
+    /// Counts the next event. An event before the window only tells how the window begins.
+    ///
+    /// # Errors
+    ///
+    /// Memory ran out.
+    pub fn count(&mut self, event: &Event, window: Span) -> Result<(), MemoryFull> {
+        self.ended.clear();
+        self.lanes.follow(event, &mut self.ended)?;
+        self.make_room()?;
+        match &event.kind {
+            EventKind::State(who, state) => self.turn(event, who, *state, window)?,
+            EventKind::Mode(_) => self.start_again(event.tick, window),
+            _ => {}
+        }
+        if has_tick(window, event.tick) {
+            self.count_kind(event)?;
+        }
+        Ok(())
+    }
+
+    /// The numbers, those of each partition together.
+    ///
+    /// # Errors
+    ///
+    /// Memory ran out.
+    pub fn finish(mut self, extent: Extent) -> Result<Report, MemoryFull>
+        ensures { IfOk result (λ report. report.extent ≡ extent) }
+    {
+        self.finish_stays(extent.window)?;
+        let partitions = self.partition_totals()?;
+        let processes = self.process_totals(&partitions)?;
+        let routes = self.route_totals(&partitions)?;
+        Ok(Report {
+            extent,
+            partitions,
+            processes,
+            routes,
+        })
+    }
+
+    /// Counts the stays that are not over.
+    fn finish_stays(&mut self, window: Span) -> Result<(), MemoryFull> {
+        self.ended.clear();
+        self.lanes.finish(window.until, &mut self.ended)?;
+        self.make_room()?;
+        for ended in &self.ended {
+            match ended {
+                Ended::State(place, stay) => {
+                    if let Some(tally) = self.tallies.get_mut(*place) {
+                        tally.stay(*stay, window);
+                    }
+                }
+                Ended::Mode(place, stay) => {
+                    if let Some(modes) = self.modes.get_mut(*place) {
+                        modes.add(*stay, window);
+                    }
+                }
+            }
+        }
+        Ok(())
+    }
+
+    /// Makes a place for each partition and each process that has a line.
+    fn make_room(&mut self) -> Result<(), MemoryFull> {
+        self.modes
+            .resize(self.lanes.partitions().len(), ModeTicks::new())?;
+        self.tallies
+            .resize(self.lanes.processes().len(), Tally::new())?;
+        Ok(())
+    }
+
+    /// The place of a process, which gets one if it has none.
+    fn process_place(&mut self, partition: &Name, who: &Subject) -> Result<usize, MemoryFull> {
+        let partition = self.lanes.partition_place(partition)?;
+        let place = self.lanes.process_place(partition, who)?;
+        self.make_room()?;
+        Ok(place)
+    }
+
+    /// A process comes to a state. The stay that is over is the only one that the line ended.
+    fn turn(
+        &mut self,
+        event: &Event,
+        who: &Subject,
+        state: ProcessState,
+        window: Span,
+    ) -> Result<(), MemoryFull> {
+        let Some(name) = &event.partition else {
+            return Ok(());
+        };
+        let place = self.process_place(name, who)?;
+        let ended = match self.ended.first() {
+            Some(Ended::State(_, stay)) => Some(*stay),
+            _ => None,
+        };
+        if let Some(tally) = self.tallies.get_mut(place) {
+            let turn = Turn {
+                tick: event.tick,
+                ended,
+                next: Some(state),
+            };
+            tally.turn(turn, window);
+        }
+        Ok(())
+    }
+
+    /// A partition enters a mode. The processes whose stays are over are gone.
+    fn start_again(&mut self, tick: Ticks, window: Span) {
+        for ended in &self.ended {
+            match ended {
+                Ended::State(place, stay) => {
+                    if let Some(tally) = self.tallies.get_mut(*place) {
+                        let turn = Turn {
+                            tick,
+                            ended: Some(*stay),
+                            next: None,
+                        };
+                        tally.turn(turn, window);
+                    }
+                }
+                Ended::Mode(place, stay) => {
+                    if let Some(modes) = self.modes.get_mut(*place) {
+                        modes.add(*stay, window);
+                    }
+                }
+            }
+        }
+    }
+
+    /// Counts what a line tells besides states and modes.
+    fn count_kind(&mut self, event: &Event) -> Result<(), MemoryFull> {
+        let Some(name) = &event.partition else {
+            return Ok(());
+        };
+        match &event.kind {
+            EventKind::Return(who, _, code) => self.answer(name, who, *code),
+            EventKind::Error(ErrorKind::DeadlineMissed, Some(who), _) => self.miss(name, who),
+            kind => match route_of(kind) {
+                Some(route) => self.pass(name, route, kind),
+                None => Ok(()),
+            },
+        }
+    }
+
+    fn answer(
+        &mut self,
+        partition: &Name,
+        who: &Subject,
+        code: ReturnCode,
+    ) -> Result<(), MemoryFull> {
+        let place = self.process_place(partition, who)?;
+        if let Some(tally) = self.tallies.get_mut(place) {
+            tally.answer(code);
+        }
+        Ok(())
+    }
+
+    fn miss(&mut self, partition: &Name, who: &Subject) -> Result<(), MemoryFull> {
+        let place = self.process_place(partition, who)?;
+        if let Some(tally) = self.tallies.get_mut(place) {
+            tally.miss();
+        }
+        Ok(())
+    }
+
+    /// Counts a message that passes.
+    fn pass(&mut self, partition: &Name, route: Route, kind: &EventKind) -> Result<(), MemoryFull> {
+        let partition = self.lanes.partition_place(partition)?;
+        let known = self
+            .traffic
+            .iter_mut()
+            .find(|one| one.partition == partition && one.route == route);
+        match known {
+            Some(traffic) => traffic.messages.count(kind),
+            None => {
+                let mut messages = Messages::new();
+                messages.count(kind);
+                self.traffic.push(Traffic {
+                    partition,
+                    route,
+                    messages,
+                })?;
+            }
+        }
+        Ok(())
+    }
+
+    fn partition_totals(&self) -> Result<Vec<PartitionTotal>, MemoryFull> {
+        let mut totals = Vec::new(self.alloc);
+        for (lane, modes) in self.lanes.partitions().iter().zip(&self.modes) {
+            totals.push(PartitionTotal {
+                name: lane.name,
+                modes: *modes,
+            })?;
+        }
+        Ok(totals)
+    }
+
+    /// Those of the first partition, then those of the next one, and so on.
+    fn process_totals(
+        &self,
+        partitions: &[PartitionTotal],
+    ) -> Result<Vec<ProcessTotal>, MemoryFull> {
+        let mut totals = Vec::new(self.alloc);
+        for (place, partition) in partitions.iter().enumerate() {
+            for (lane, tally) in self.lanes.processes().iter().zip(&self.tallies) {
+                if lane.partition == place {
+                    totals.push(ProcessTotal {
+                        partition: partition.name,
+                        who: lane.who,
+                        tally: *tally,
+                    })?;
+                }
+            }
+        }
+        Ok(totals)
+    }
+
+    /// Those of the first partition, then those of the next one, and so on.
+    fn route_totals(&self, partitions: &[PartitionTotal]) -> Result<Vec<RouteTotal>, MemoryFull> {
+        let mut totals = Vec::new(self.alloc);
+        for (place, partition) in partitions.iter().enumerate() {
+            for traffic in &self.traffic {
+                if traffic.partition == place {
+                    totals.push(RouteTotal {
+                        partition: partition.name,
+                        route: traffic.route,
+                        messages: traffic.messages,
+                    })?;
+                }
+            }
+        }
+        Ok(totals)
+    }
+}
