@@ -1,12 +1,13 @@
 -- Each tick of stays that follow one another counts for one state.
-use Rattle.std.proofs.Common.{◌≡◌, ◌≤◌, ℕ, ◌+◌, ◌-◌, max, min, List, [], ◌∷◌, refl, sym, ap, ◌∙◌, arith}
+use Rattle.std.proofs.Common.{◌≡◌, ◌≤◌, ℕ, ◌+◌, ◌-◌, max, min, List, [], ◌∷◌, Some, refl, sym, ap, ◌∙◌, arith}
 use Rattle.apex_types.specs.declared.codes.ProcessState.{ProcessState}
 use Rattle.apex_types.specs.declared.codes.ProcessState.TheVariants as state
-use Rattle.trace_stays.specs.Stays.{span}
+use Rattle.trace_stays.specs.Stays.{left_at, span, stay_until, tick}
 use Rattle.trace_stays.specs.declared.span.Span.{Span}
+use Rattle.trace_stays.specs.declared.stay.Held.{Held}
 use Rattle.trace_stays.specs.declared.stay.Stay.{Stay}
 use Rattle.trace_view.specs.Counting.{ticks_in}
-use Rattle.trace_view.specs.Turns.{AreContiguous, ticks_if, ticks_in_all, ticks_in_state}
+use Rattle.trace_view.specs.Turns.{AreContiguous, StateLine, stays_in, stays_until, ticks_if, ticks_in_all, ticks_in_state}
 
 -- a stay that is not behind its end begins before it
 pub in_order : (from until : ℕ) (stays : List Stay) → AreContiguous from stays until → from ≤ until
@@ -40,3 +41,12 @@ each_once window from until (stay ∷ stays) (begins, below, rest) =
     n (ticks_in window (span stay.span.until.0 until)) (one_state stay.state n) (each_once window stay.span.until.0 until stays rest) in
     both ∙ ap (λ a. (min stay.span.until.0 window.until.0 - max a window.from.0) + ticks_in window (span stay.span.until.0 until)) begins
     ∙ two_parts from stay.span.until.0 until window.from.0 window.until.0 below (in_order stay.span.until.0 until stays rest)
+
+max_ge : (a b : ℕ) → a ≤ max a b
+max_ge a b = omega arith
+
+-- the stays of a process follow one another
+pub follow : (held : Held) (lines : List StateLine) (until : ℕ) → AreContiguous held.since.0 (stays_in (Some held) lines until) (stays_until held lines until)
+follow held [] until = (refl, max_ge held.since.0 until, refl)
+follow held (line ∷ lines) until =
+    (refl, max_ge held.since.0 (left_at held.state (Some line.state) line.tick), follow (record { state = line.state; since = tick (stay_until held (Some line.state) line.tick) }) lines until)

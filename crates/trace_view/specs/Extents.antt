@@ -1,7 +1,8 @@
 -- Which lines and ticks are counted.
-use Rattle.std.specs.Prelude.{ℕ, ◌+◌, ◌-◌, ◌^◌, Bool, true, false, List, [], ◌∷◌, length, filter, Option, Some, None}
+use Rattle.std.specs.Prelude.{◌≡◌, ℕ, ◌+◌, ◌-◌, ◌^◌, Bool, true, false, if◌then◌else◌, List, [], ◌∷◌, length, Option, Some, None}
 use Rattle.apex_types.specs.declared.identity.Ticks.{Ticks}
 use Rattle.trace_stays.specs.Stays.{behind, tick}
+use Rattle.trace_stays.specs.declared.span.Span.{Span}
 use Rattle.trace_view.specs.Counting.{capped}
 use Rattle.trace_view.specs.Tallies.{has_tick}
 use Rattle.trace_view.specs.declared.extent.Extent.{Extent}
@@ -35,3 +36,30 @@ closed_at None None from = from
 
 abbrev pub closed : Option Ticks → Extent → Extent
 closed to e = record e { window = record { from = e.window.from; until = closed_at to e.last e.window.from } }
+
+-- ---- all lines at once
+
+-- the ticks of the lines that count
+abbrev pub counted_lines : Span → List Ticks → List Ticks
+counted_lines window [] = []
+counted_lines window (t ∷ ts) = if has_tick window t.0 then t ∷ counted_lines window ts else counted_lines window ts
+
+abbrev pub first_in : List Ticks → Option Ticks
+first_in [] = None
+first_in (t ∷ ts) = Some t
+
+abbrev pub last_behind : Option Ticks → List Ticks → Option Ticks
+last_behind before [] = before
+last_behind before (t ∷ ts) = last_behind (Some t) ts
+
+-- behind lines of these ticks
+abbrev pub extent_after : Extent → List Ticks → Extent
+extent_after e [] = e
+extent_after e (t ∷ ts) = extent_after (with_line t e) ts
+
+-- the lines of these ticks that are in the window
+pub record AreLinesOf (lines : List Ticks) (window : Span) (e : Extent) : Type 0 where
+  pub number : e.lines ≡ capped (length (counted_lines window lines))
+  pub first : e.first ≡ first_in (counted_lines window lines)
+  pub last : e.last ≡ last_behind None (counted_lines window lines)
+  pub same : e.window ≡ window

@@ -1,8 +1,10 @@
 -- The numbers of a process, from its turns.
-use Rattle.std.specs.Prelude.{◌≡◌, ◌≤◌, ℕ, ◌+◌, ◌-◌, Bool, true, false, not, ◌&&◌, cond, if◌then◌else◌, List, [], ◌∷◌, ◌++◌, length, filter, Option, Some, None}
+use Rattle.std.specs.Prelude.{◌≡◌, ◌≤◌, ℕ, ◌+◌, ◌-◌, max, Bool, true, false, not, ◌&&◌, cond, if◌then◌else◌, List, [], ◌∷◌, ◌++◌, length, filter, Option, Some, None}
 use Rattle.apex_types.specs.declared.codes.ProcessState.{ProcessState}
 use Rattle.apex_types.specs.declared.codes.ProcessState.TheVariants as state
+use Rattle.trace_stays.specs.Stays.{held_behind, stay_ended, stay_left, stay_until, tick}
 use Rattle.trace_stays.specs.declared.span.Span.{Span}
+use Rattle.trace_stays.specs.declared.stay.Held.{Held}
 use Rattle.trace_stays.specs.declared.stay.Stay.{Stay}
 use Rattle.trace_view.specs.Counting.{capped, ticks_in, with_times}
 use Rattle.trace_view.specs.Tallies.{ended_at, ended_running, has_tick, is_running, turned}
@@ -111,6 +113,21 @@ pub record AreNumbersOf (window : Span) (turns : List Turn) (t : Tally) : Type 0
   pub to_end : t.to_end ≡ with_times None (times_to_end window turns)
 
 -- ---- stays that follow one another
+
+-- a line that says that the process comes to this state
+pub record StateLine : Type 0 where
+  pub state : ProcessState
+  pub tick : ℕ
+
+-- the stays of a process in such lines, and the one that is not over where the trace ends
+abbrev pub stays_in : Option Held → List StateLine → ℕ → List Stay
+stays_in held [] until = and_stay (stay_left held until) []
+stays_in held (line ∷ lines) until = and_stay (stay_ended held (Some line.state) line.tick) (stays_in (held_behind held (Some line.state) line.tick) lines until)
+
+-- where the last of them ends
+abbrev pub stays_until : Held → List StateLine → ℕ → ℕ
+stays_until held [] until = max held.since.0 until
+stays_until held (line ∷ lines) until = stays_until (record { state = line.state; since = tick (stay_until held (Some line.state) line.tick) }) lines until
 
 -- the first of these stays begins at this tick, each other one where the one before ends, and the last ends there
 abbrev pub AreContiguous : ℕ → List Stay → ℕ → Type 0
