@@ -1,5 +1,5 @@
 -- Counts and sums, times, and shares.
-use Rattle.std.specs.Prelude.{ℕ, ◌+◌, ◌-◌, ◌*◌, ◌/◌, ◌^◌, max, min, List, [], ◌∷◌, Option, Some, None}
+use Rattle.std.specs.Prelude.{ℕ, ◌+◌, ◌-◌, ◌*◌, ◌/◌, ◌^◌, max, min, ◌==◌, if◌then◌else◌, List, [], ◌∷◌, Option, Some, None}
 use Rattle.apex_types.specs.declared.codes.Mode.{Mode}
 use Rattle.apex_types.specs.declared.codes.Mode.TheVariants as mode
 use Rattle.apex_types.specs.declared.codes.ProcessState.{ProcessState}
@@ -29,7 +29,7 @@ capped n = min n (2 ^ 64 - 1)
 -- The share of these ticks among all, in tenths of a percent: the nearest one, and of two that are as near the
 -- greater. Of no ticks each share is 0.
 abbrev pub share_of : ℕ → ℕ → ℕ
-share_of ticks all = (2000 * min ticks all + all) / (2 * all)
+share_of ticks all = if all == 0 then 0 else (2000 * min ticks all + all) / (2 * all)
 
 -- ---- ticks
 

@@ -1,3 +1,4 @@
+pub mod Cells
 pub mod Counting
 pub mod Extents
 pub mod Tallies

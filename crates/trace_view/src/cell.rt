@@ -1,5 +1,8 @@
 //! The cells of tables.
 
+ghost use Rattle.std.specs.Prelude.{◌≡◌, IfOk, string_bytes};
+ghost use Rattle.trace_view.specs.Cells.{cell_text, extent_cells, greatest_cell, least_cell, mode_cells, port_cells, refusal_cells, state_cells, subject_text, tick_cell, time_cells};
+
 use crate::extent::Extent;
 use crate::extremes::Extremes;
 use crate::messages::Messages;
@@ -9,6 +12,7 @@ use crate::share::Share;
 use crate::states::StateTicks;
 use crate::tally::Tally;
 use apex_types::{Subject, Ticks};
+use std::alloc::{AllocError, Global};
 
 /// What stands in a cell beside names.
 #[derive(Clone, Copy, Debug, PartialEq, Eq)]
@@ -19,8 +23,25 @@ pub enum Cell {
     Absent,
 }
 
+/// The text of a cell, with the given one for a number that is not there.
+///
+/// # Errors
+///
+/// Memory ran out.
+pub fn cell_text(alloc: Global, cell: Cell, absent: &str) -> Result<String, AllocError>
+    ensures { IfOk result (λ text. string_bytes text ≡ cell_text absent.now cell) }
+{
+    match cell {
+        Cell::Number(number) => format!(in alloc; "{number}"),
+        Cell::Share(share) => format!(in alloc; "{share}"),
+        Cell::Absent => String::from_str(alloc, absent),
+    }
+}
+
 /// The name of a process, `INIT` or `HANDLER`.
-pub fn subject_text(who: &Subject) -> &str {
+pub fn subject_text(who: &Subject) -> &str
+    ensures { result.now ≡ subject_text who.now }
+{
     match who {
         Subject::Init => "INIT",
         Subject::Handler => "HANDLER",
@@ -28,21 +49,27 @@ pub fn subject_text(who: &Subject) -> &str {
     }
 }
 
-fn tick_cell(tick: Option<Ticks>) -> Cell {
+fn tick_cell(tick: Option<Ticks>) -> Cell
+    ensures { result ≡ tick_cell tick }
+{
     match tick {
         Some(tick) => Cell::Number(tick.0),
         None => Cell::Absent,
     }
 }
 
-fn least_cell(times: Option<Extremes>) -> Cell {
+fn least_cell(times: Option<Extremes>) -> Cell
+    ensures { result ≡ least_cell times }
+{
     match times {
         Some(times) => Cell::Number(times.least),
         None => Cell::Absent,
     }
 }
 
-fn greatest_cell(times: Option<Extremes>) -> Cell {
+fn greatest_cell(times: Option<Extremes>) -> Cell
+    ensures { result ≡ greatest_cell times }
+{
     match times {
         Some(times) => Cell::Number(times.greatest),
         None => Cell::Absent,
@@ -51,7 +78,9 @@ fn greatest_cell(times: Option<Extremes>) -> Cell {
 
 /// Lines; the first and the last tick of a line; the first tick that counts, the first that does
 /// not, and how many count.
-pub fn extent_cells(extent: &Extent) -> [Cell; 6] {
+pub fn extent_cells(extent: &Extent) -> [Cell; 6]
+    ensures { result ≡ extent_cells extent.now }
+{
     [
         Cell::Number(extent.lines),
         tick_cell(extent.first),
@@ -63,7 +92,9 @@ pub fn extent_cells(extent: &Extent) -> [Cell; 6] {
 }
 
 /// The ticks in each state, and behind each its share of all.
-pub fn state_cells(ticks: StateTicks, all: u64) -> [Cell; 8] {
+pub fn state_cells(ticks: StateTicks, all: u64) -> [Cell; 8]
+    ensures { result ≡ state_cells ticks all }
+{
     [
         Cell::Number(ticks.running),
         Cell::Share(Share::of(ticks.running, all)),
@@ -77,7 +108,9 @@ pub fn state_cells(ticks: StateTicks, all: u64) -> [Cell; 8] {
 }
 
 /// Activations; the least and the greatest time to RUNNING, and to the end; missed deadlines.
-pub fn time_cells(tally: &Tally) -> [Cell; 6] {
+pub fn time_cells(tally: &Tally) -> [Cell; 6]
+    ensures { result ≡ time_cells tally.now }
+{
     [
         Cell::Number(tally.activations),
         least_cell(tally.to_running),
@@ -89,7 +122,9 @@ pub fn time_cells(tally: &Tally) -> [Cell; 6] {
 }
 
 /// Refused services by their codes, from 1 to 6.
-pub fn refusal_cells(refusals: Refusals) -> [Cell; 6] {
+pub fn refusal_cells(refusals: Refusals) -> [Cell; 6]
+    ensures { result ≡ refusal_cells refusals }
+{
     [
         Cell::Number(refusals.no_action),
         Cell::Number(refusals.not_available),
@@ -101,7 +136,9 @@ pub fn refusal_cells(refusals: Refusals) -> [Cell; 6] {
 }
 
 /// The ticks in each mode.
-pub fn mode_cells(modes: ModeTicks) -> [Cell; 4] {
+pub fn mode_cells(modes: ModeTicks) -> [Cell; 4]
+    ensures { result ≡ mode_cells modes }
+{
     [
         Cell::Number(modes.normal),
         Cell::Number(modes.cold_start),
@@ -111,7 +148,9 @@ pub fn mode_cells(modes: ModeTicks) -> [Cell; 4] {
 }
 
 /// The messages of a port: moved, arrived, lost.
-pub fn port_cells(messages: Messages) -> [Cell; 3] {
+pub fn port_cells(messages: Messages) -> [Cell; 3]
+    ensures { result ≡ port_cells messages }
+{
     [
         Cell::Number(messages.moved),
         Cell::Number(messages.arrived),

@@ -1,6 +1,6 @@
 //! Shares of all ticks.
 
-ghost use Rattle.std.specs.Prelude.{◌≡◌, ◌<◌};
+ghost use Rattle.std.specs.Prelude.{◌≡◌};
 
 use std::fmt;
 
@@ -16,8 +16,7 @@ impl Share {
     /// The share of these ticks among all: the nearest tenth of a percent, and of two that are as
     /// near the greater one. Of no ticks each share is 0.
     pub fn of(ticks: u64, all: u64) -> Share
-        ensures none { all ≡ 0 → result.tenths ≡ 0 }
-        ensures nearest { 0 < all → result.tenths ≡ share_of ticks all }
+        ensures { result.tenths ≡ share_of ticks all }
     {
         if all == 0 {
             return Share { tenths: 0 };
@@ -31,6 +30,11 @@ impl Share {
 }
 
 impl fmt::Display for Share {
+    ghost use Rattle.std.specs.Prelude.{Some};
+    ghost use Rattle.trace_view.specs.Cells.{share_text};
+
+    ghost output = { λ share. Some (share_text share) };
+
     fn fmt<W: fmt::Write>(&self, f: &mut fmt::Formatter<W>) -> fmt::Result {
         let whole = self.tenths / 10;
         let rest = self.tenths % 10;

@@ -1,8 +1,8 @@
 //! A report as comma-separated values.
 
 use crate::cell::{
-    Cell, extent_cells, mode_cells, port_cells, refusal_cells, state_cells, subject_text,
-    time_cells,
+    Cell, cell_text, extent_cells, mode_cells, port_cells, refusal_cells, state_cells,
+    subject_text, time_cells,
 };
 use crate::fault::ReportFault;
 use crate::messages::Route;
@@ -140,17 +140,8 @@ impl<'a, W: Write> Sheet<'a, W> {
 
     fn cells(&mut self, cells: &[Cell]) -> Result<(), ReportFault> {
         for cell in cells {
-            match cell {
-                Cell::Number(number) => {
-                    let text = format!(in self.alloc; "{number}")?;
-                    self.text(text.as_str())?;
-                }
-                Cell::Share(share) => {
-                    let text = format!(in self.alloc; "{share}")?;
-                    self.text(text.as_str())?;
-                }
-                Cell::Absent => self.text("")?,
-            }
+            let text = cell_text(self.alloc, *cell, "")?;
+            self.text(text.as_str())?;
         }
         Ok(())
     }

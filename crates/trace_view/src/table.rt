@@ -1,6 +1,6 @@
 //! Tables with aligned columns.
 
-use crate::cell::Cell;
+use crate::cell::{Cell, cell_text};
 use crate::fault::ReportFault;
 use std::alloc::{AllocError, Global};
 use std::io::Write;
@@ -52,7 +52,7 @@ impl Table {
             cells.push(String::from_str(self.alloc, name)?)?;
         }
         for number in numbers {
-            cells.push(cell_text(self.alloc, *number)?)?;
+            cells.push(cell_text(self.alloc, *number, "-")?)?;
         }
         self.rows.push(Row { cells })?;
         Ok(())
@@ -113,13 +113,4 @@ fn push_blanks(line: &mut String, count: usize) -> Result<(), AllocError> {
         line.push_str(" ")?;
     }
     Ok(())
-}
-
-/// A cell as a table shows it.
-fn cell_text(alloc: Global, cell: Cell) -> Result<String, AllocError> {
-    match cell {
-        Cell::Number(number) => format!(in alloc; "{number}"),
-        Cell::Share(share) => format!(in alloc; "{share}"),
-        Cell::Absent => String::from_str(alloc, "-"),
-    }
 }

@@ -1,0 +1,82 @@
+-- What stands in the cells of tables.
+use Rattle.std.specs.Prelude.{ℕ, ◌+◌, ◌/◌, ◌%◌, List, [], ◌∷◌, ◌++◌, codes, Option, Some, None}
+use Rattle.std.specs.Fmt.{decimal}
+use Rattle.apex_types.specs.declared.event.Subject.{Subject}
+use Rattle.apex_types.specs.declared.event.Subject.TheVariants as subject
+use Rattle.apex_types.specs.declared.identity.Ticks.{Ticks}
+use Rattle.trace_stays.specs.Stays.{ticks_of}
+use Rattle.trace_view.specs.Counting.{share_of}
+use Rattle.trace_view.specs.declared.cell.Cell.{Cell}
+use Rattle.trace_view.specs.declared.cell.Cell.TheVariants as cell
+use Rattle.trace_view.specs.declared.extent.Extent.{Extent}
+use Rattle.trace_view.specs.declared.extremes.Extremes.{Extremes}
+use Rattle.trace_view.specs.declared.messages.Messages.{Messages}
+use Rattle.trace_view.specs.declared.modes.ModeTicks.{ModeTicks}
+use Rattle.trace_view.specs.declared.refusals.Refusals.{Refusals}
+use Rattle.trace_view.specs.declared.share.Share.{Share}
+use Rattle.trace_view.specs.declared.states.StateTicks.{StateTicks}
+use Rattle.trace_view.specs.declared.tally.Tally.{Tally}
+
+-- ---- texts
+
+-- INIT, HANDLER, or the name
+abbrev pub subject_text : Subject → List ℕ
+subject_text subject.Init = codes "INIT"
+subject_text subject.Handler = codes "HANDLER"
+subject_text (subject.Process name) = name
+
+-- percents with one decimal
+abbrev pub share_text : Share → List ℕ
+share_text share = decimal (share.tenths / 10) ++ codes "." ++ decimal (share.tenths % 10)
+
+-- the text of a cell, with this one for a number that is not there
+abbrev pub cell_text : List ℕ → Cell → List ℕ
+cell_text absent (cell.Number n) = decimal n
+cell_text absent (cell.Share share) = share_text share
+cell_text absent cell.Absent = absent
+
+-- ---- cells
+
+abbrev pub share_cell : ℕ → ℕ → Cell
+share_cell ticks all = cell.Share (record { tenths = share_of ticks all })
+
+abbrev pub tick_cell : Option Ticks → Cell
+tick_cell None = cell.Absent
+tick_cell (Some t) = cell.Number t.0
+
+abbrev pub least_cell : Option Extremes → Cell
+least_cell None = cell.Absent
+least_cell (Some times) = cell.Number times.least
+
+abbrev pub greatest_cell : Option Extremes → Cell
+greatest_cell None = cell.Absent
+greatest_cell (Some times) = cell.Number times.greatest
+
+-- lines; the ticks of the first and the last; the window, and its ticks
+abbrev pub extent_cells : Extent → List Cell
+extent_cells e =
+    cell.Number e.lines ∷ tick_cell e.first ∷ tick_cell e.last ∷ cell.Number e.window.from.0 ∷ cell.Number e.window.until.0 ∷ cell.Number (ticks_of e.window) ∷ []
+
+-- the ticks in each state, and behind each its share
+abbrev pub state_cells : StateTicks → ℕ → List Cell
+state_cells t all =
+    cell.Number t.running ∷ share_cell t.running all ∷ cell.Number t.ready ∷ share_cell t.ready all
+    ∷ cell.Number t.waiting ∷ share_cell t.waiting all ∷ cell.Number t.dormant ∷ share_cell t.dormant all ∷ []
+
+-- activations, their times, and missed deadlines
+abbrev pub time_cells : Tally → List Cell
+time_cells t =
+    cell.Number t.activations ∷ least_cell t.to_running ∷ greatest_cell t.to_running ∷ least_cell t.to_end ∷ greatest_cell t.to_end ∷ cell.Number t.deadlines_missed ∷ []
+
+-- refused services, by their codes from 1 to 6
+abbrev pub refusal_cells : Refusals → List Cell
+refusal_cells r =
+    cell.Number r.no_action ∷ cell.Number r.not_available ∷ cell.Number r.invalid_param ∷ cell.Number r.invalid_config ∷ cell.Number r.invalid_mode ∷ cell.Number r.timed_out ∷ []
+
+-- the ticks in each mode
+abbrev pub mode_cells : ModeTicks → List Cell
+mode_cells m = cell.Number m.normal ∷ cell.Number m.cold_start ∷ cell.Number m.warm_start ∷ cell.Number m.idle ∷ []
+
+-- the messages of a port
+abbrev pub port_cells : Messages → List Cell
+port_cells m = cell.Number m.moved ∷ cell.Number m.arrived ∷ cell.Number m.lost ∷ []
