@@ -6,7 +6,7 @@ use Rattle.trace_stays.specs.declared.span.Span.{Span}
 use Rattle.trace_stays.specs.declared.stay.Stay.{Stay}
 use Rattle.trace_view.specs.Counting.{with_times}
 use Rattle.trace_view.specs.Tallies.{begun, begun_if, ended_at, ended_running, entered, has_tick, nothing_counted, over, run, run_if, turned, with_ended}
-use Rattle.trace_view.specs.Turns.{first_end, first_end_if, first_running, first_running_if, is_activation, is_ready, tally_after, times_to_end, times_to_running}
+use Rattle.trace_view.specs.Turns.{first_end, first_end_if, first_running, first_running_if, is_ready, tally_after, times_to_end, times_to_running}
 use Rattle.trace_view.specs.declared.extremes.Extremes.{Extremes}
 use Rattle.trace_view.specs.declared.tally.Activation.{Activation}
 use Rattle.trace_view.specs.declared.tally.Tally.{Tally}

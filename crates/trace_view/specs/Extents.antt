@@ -1,5 +1,5 @@
 -- Which lines and ticks are counted.
-use Rattle.std.specs.Prelude.{◌≡◌, ℕ, ◌+◌, ◌-◌, ◌^◌, Bool, true, false, if◌then◌else◌, List, [], ◌∷◌, length, Option, Some, None}
+use Rattle.std.specs.Prelude.{◌≡◌, ◌+◌, ◌-◌, ◌^◌, Bool, true, false, if◌then◌else◌, List, [], ◌∷◌, length, Option, Some, None}
 use Rattle.apex_types.specs.declared.identity.Ticks.{Ticks}
 use Rattle.trace_stays.specs.Stays.{behind, tick}
 use Rattle.trace_stays.specs.declared.span.Span.{Span}

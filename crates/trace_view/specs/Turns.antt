@@ -1,5 +1,5 @@
 -- The numbers of a process, from its turns.
-use Rattle.std.specs.Prelude.{◌≡◌, ◌≤◌, ℕ, ◌+◌, ◌-◌, max, Bool, true, false, not, ◌&&◌, cond, if◌then◌else◌, List, [], ◌∷◌, ◌++◌, length, filter, Option, Some, None}
+use Rattle.std.specs.Prelude.{◌≡◌, ◌≤◌, ℕ, ◌+◌, ◌-◌, max, Bool, true, false, not, ◌&&◌, if◌then◌else◌, List, [], ◌∷◌, ◌++◌, Option, Some, None}
 use Rattle.apex_types.specs.declared.codes.ProcessState.{ProcessState}
 use Rattle.apex_types.specs.declared.codes.ProcessState.TheVariants as state
 use Rattle.trace_stays.specs.Stays.{held_behind, stay_ended, stay_left, stay_until, tick}
@@ -7,7 +7,7 @@ use Rattle.trace_stays.specs.declared.span.Span.{Span}
 use Rattle.trace_stays.specs.declared.stay.Held.{Held}
 use Rattle.trace_stays.specs.declared.stay.Stay.{Stay}
 use Rattle.trace_view.specs.Counting.{capped, ticks_in, with_times}
-use Rattle.trace_view.specs.Tallies.{ended_at, ended_running, has_tick, is_running, turned}
+use Rattle.trace_view.specs.Tallies.{ended_at, ended_running, has_tick, turned}
 use Rattle.trace_view.specs.declared.states.StateTicks.{StateTicks}
 use Rattle.trace_view.specs.declared.tally.Tally.{Tally}
 use Rattle.trace_view.specs.declared.tally.Turn.{Turn}
