@@ -86,12 +86,15 @@ impl Dump {
         }
     }
 
-    /// Takes the next event.
+    /// Takes the next event; one behind the ticks of the dump changes nothing.
     ///
     /// # Errors
     ///
     /// Memory ran out.
     pub fn add(&mut self, event: &Event) -> Result<(), MemoryFull> {
+        if self.open_span().until.0 <= event.tick.0 {
+            return Ok(());
+        }
         self.behind = Ticks(self.behind.0.max(event.tick.0.saturating_add(1)));
         self.lanes.follow(event, &mut self.ended)?;
         self.take_ended()?;
