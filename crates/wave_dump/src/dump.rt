@@ -1,5 +1,9 @@
 //! The changes of a trace, gathered event by event.
 
+ghost use Rattle.std.specs.Prelude.{◌≡◌, ◌++◌, OnOk};
+ghost use Rattle.std.specs.List.Sorted.{IsNonDecreasingBy};
+ghost use Rattle.wave_dump.specs.Dumps.{changes_of, pulse_at};
+
 use crate::change::{Change, Value};
 use crate::header::write_header;
 use crate::pulse::{Pulse, PulseLane};
@@ -8,6 +12,50 @@ use apex_types::{Event, Ticks};
 use std::alloc::Global;
 use std::io::{self, Write};
 use trace_stays::{Ended, Lanes, MemoryFull, Span};
+
+/// Brings changes into the order of their ticks. Those of one tick stay in their order.
+fn in_order(changes: &mut Vec<Change>) -> Result<(), MemoryFull>
+    ensures { OnOk result (IsNonDecreasingBy (λ change. change.tick.0) changes.new.items) }
+{
+    changes.sort_by_key(
+        |change| -> u64
+            ensures { result ≡ change.now.tick.0 }
+        { change.tick.0 },
+    )?;
+    Ok(())
+}
+
+/// Adds the changes of a wire that is 1 in these ticks.
+fn push_stay(changes: &mut Vec<Change>, variable: Variable, span: Span) -> Result<(), MemoryFull>
+    ensures { OnOk result (changes.new.items ≡ changes.old.items ++ changes_of variable span) }
+{
+    if span.until.0 <= span.from.0 {
+        return Ok(());
+    }
+    changes.push(Change {
+        tick: span.from,
+        variable,
+        value: Value::High,
+    })?;
+    changes.push(Change {
+        tick: span.until,
+        variable,
+        value: Value::Low,
+    })?;
+    Ok(())
+}
+
+/// Adds the change of an event in this tick.
+fn push_pulse(changes: &mut Vec<Change>, variable: Variable, tick: Ticks) -> Result<(), MemoryFull>
+    ensures { OnOk result (changes.new.items ≡ changes.old.items ++ pulse_at variable tick) }
+{
+    changes.push(Change {
+        tick,
+        variable,
+        value: Value::High,
+    })?;
+    Ok(())
+}
 
 /// A value change dump of some ticks of a trace. It takes the events in their order, is finished
 /// behind the last one, and can be written then.
@@ -38,12 +86,15 @@ impl Dump {
         }
     }
 
-    /// Takes the next event.
+    /// Takes the next event; one behind the ticks of the dump changes nothing.
     ///
     /// # Errors
     ///
     /// Memory ran out.
     pub fn add(&mut self, event: &Event) -> Result<(), MemoryFull> {
+        if self.open_span().until.0 <= event.tick.0 {
+            return Ok(());
+        }
         self.behind = Ticks(self.behind.0.max(event.tick.0.saturating_add(1)));
         self.lanes.follow(event, &mut self.ended)?;
         self.take_ended()?;
@@ -55,12 +106,13 @@ impl Dump {
     /// # Errors
     ///
     /// Memory ran out.
-    pub fn finish(&mut self) -> Result<(), MemoryFull> {
+    pub fn finish(&mut self) -> Result<(), MemoryFull>
+        ensures { OnOk result (IsNonDecreasingBy (λ change. change.tick.0) self.new.changes.items) }
+    {
         let until = self.span().until;
         self.lanes.finish(until, &mut self.ended)?;
         self.take_ended()?;
-        self.changes.sort_by_key(|change| change.tick.0)?;
-        Ok(())
+        in_order(&mut self.changes)
     }
 
     /// Writes the dump.
@@ -109,19 +161,7 @@ impl Dump {
                 Ended::State(place, stay) => (Variable::State(*place, stay.state), stay.span),
                 Ended::Mode(place, stay) => (Variable::Mode(*place, stay.mode), stay.span),
             };
-            let span = span.within(shown);
-            if span.ticks() > 0 {
-                self.changes.push(Change {
-                    tick: span.from,
-                    variable,
-                    value: Value::High,
-                })?;
-                self.changes.push(Change {
-                    tick: span.until,
-                    variable,
-                    value: Value::Low,
-                })?;
-            }
+            push_stay(&mut self.changes, variable, span.within(shown))?;
         }
         self.ended.clear();
         Ok(())
@@ -139,12 +179,7 @@ impl Dump {
             None => None,
         };
         let place = self.pulse_place(PulseLane { partition, pulse })?;
-        self.changes.push(Change {
-            tick: event.tick,
-            variable: Variable::Pulse(place),
-            value: Value::High,
-        })?;
-        Ok(())
+        push_pulse(&mut self.changes, Variable::Pulse(place), event.tick)
     }
 
     /// The place of these pulses, which get one if they have none.
