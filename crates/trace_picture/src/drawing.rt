@@ -1,5 +1,9 @@
 //! A picture as it is drawn.
 
+ghost use Rattle.std.specs.Prelude.{◌≡◌, ◌≤◌, ℕ, List, string_bytes, vec_len, IfOk, OnOk};
+ghost use Rattle.std.specs.Io.KnownBytes.{Appends};
+ghost use Rattle.trace_picture.specs.Page.{IsPicture};
+
 use crate::axis::Axis;
 use crate::bars::{draw_mode, draw_state};
 use crate::element::{Tag, at, set};
@@ -30,11 +34,15 @@ pub struct Drawing {
     pub(crate) rows: Rows,
     pub(crate) lanes: Lanes,
     pub(crate) shapes: Vec<Shape>,
+    ghost few: { vec_len shapes ≤ 5000 },
 }
 
 impl Drawing {
     /// How many bars, arrows, flags and marks the picture has.
-    pub fn shapes(&self) -> usize {
+    pub fn shapes(&self) -> usize
+        ensures value { result ≡ vec_len self.now.shapes }
+        ensures few { result ≤ 5000 }
+    {
         self.shapes.len()
     }
 
@@ -43,7 +51,9 @@ impl Drawing {
     /// # Errors
     ///
     /// Memory ran out, or the writer failed.
-    pub fn write<W: Write>(&self, out: &mut W) -> io::Result<()> {
+    pub fn write<W: Write>(&self, out: &mut W) -> io::Result<()>
+        ensures { OnOk result ((text : List ℕ) × (∥ IsPicture text ∥₁ × Appends (W.contents out.old) (W.contents out.new) text)) }
+    {
         let text = self.text()?;
         out.write_all(text.as_bytes())
     }
@@ -53,11 +63,12 @@ impl Drawing {
     /// # Errors
     ///
     /// Memory ran out.
-    pub fn text(&self) -> Result<String, AllocError> {
+    pub fn text(&self) -> Result<String, AllocError>
+        ensures { IfOk result (λ text. ∥ IsPicture (string_bytes text) ∥₁) }
+    {
         let high = self.rows.bottom + LEGEND;
         let mut page = Page::new(
             self.alloc,
-            Tag::Svg,
             &[
                 set(Key::Xmlns, "http://www.w3.org/2000/svg"),
                 at(Key::Width, WIDE),

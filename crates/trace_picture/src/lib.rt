@@ -9,6 +9,7 @@ mod element;
 mod escaped;
 mod fault;
 mod frame;
+pub mod laws;
 mod length;
 mod marks;
 mod page;

@@ -1,5 +1,7 @@
 //! What happened in the ticks of a picture.
 
+ghost use Rattle.std.specs.Prelude.{◌≡◌, ◌+◌, ◌<◌, ◌≤◌, ◌↔◌, ◌++◌, ◌∷◌, [], vec_len, IsErrOf, OnErr, OnOk};
+
 use crate::axis::Axis;
 use crate::drawing::Drawing;
 use crate::fault::PictureFault;
@@ -36,12 +38,15 @@ pub struct Picture {
     sending: Option<Sending>,
     /// The place of the last message beside the others of its tick.
     beside: Option<Beside>,
+    ghost few: { vec_len shapes ≤ 5000 },
 }
 
 impl Picture {
     /// A picture of the ticks from the first one on and before the second; with none, up to the tick
     /// of the last line.
-    pub fn new(alloc: Global, from: Ticks, to: Option<Ticks>) -> Picture {
+    pub fn new(alloc: Global, from: Ticks, to: Option<Ticks>) -> Picture
+        ensures { result.shapes.items ≡ [] }
+    {
         Picture {
             alloc,
             from,
@@ -59,7 +64,9 @@ impl Picture {
     /// # Errors
     ///
     /// Memory ran out, or the picture would have too many shapes.
-    pub fn add(&mut self, event: &Event) -> Result<(), PictureFault> {
+    pub fn add(&mut self, event: &Event) -> Result<(), PictureFault>
+        ensures { IsErrOf result PictureFault.TooMany → vec_len self.new.shapes ≡ 5000 }
+    {
         if !self.is_before_end(event.tick) {
             return Ok(());
         }
@@ -120,7 +127,12 @@ impl Picture {
         }
     }
 
-    fn keep(&mut self, shape: Shape) -> Result<(), PictureFault> {
+    /// Keeps a shape, if there are not too many.
+    fn keep(&mut self, shape: Shape) -> Result<(), PictureFault>
+        ensures many { IsErrOf result PictureFault.TooMany ↔ (5000 ≤ vec_len self.old.shapes) }
+        ensures kept { OnOk result (self.new.shapes.items ≡ self.old.shapes.items ++ shape ∷ []) }
+        ensures refused { OnErr result (self.new.shapes.items ≡ self.old.shapes.items) }
+    {
         if self.shapes.len() >= MOST_SHAPES {
             return Err(PictureFault::TooMany);
         }
@@ -128,7 +140,9 @@ impl Picture {
         Ok(())
     }
 
-    fn keep_stays(&mut self, ended: Vec<Ended>) -> Result<(), PictureFault> {
+    fn keep_stays(&mut self, ended: Vec<Ended>) -> Result<(), PictureFault>
+        ensures { IsErrOf result PictureFault.TooMany → vec_len self.new.shapes ≡ 5000 }
+    {
         for one in ended {
             match one {
                 Ended::State(process, stay) => self.keep_state(process, stay)?,
@@ -138,7 +152,9 @@ impl Picture {
         Ok(())
     }
 
-    fn keep_state(&mut self, process: usize, stay: Stay) -> Result<(), PictureFault> {
+    fn keep_state(&mut self, process: usize, stay: Stay) -> Result<(), PictureFault>
+        ensures { IsErrOf result PictureFault.TooMany → vec_len self.new.shapes ≡ 5000 }
+    {
         let span = stay.span.within(self.shown());
         if span.ticks() == 0 {
             return Ok(());
@@ -146,7 +162,9 @@ impl Picture {
         self.keep(Shape::State(process, Stay { span, ..stay }))
     }
 
-    fn keep_mode(&mut self, partition: usize, stay: ModeStay) -> Result<(), PictureFault> {
+    fn keep_mode(&mut self, partition: usize, stay: ModeStay) -> Result<(), PictureFault>
+        ensures { IsErrOf result PictureFault.TooMany → vec_len self.new.shapes ≡ 5000 }
+    {
         let span = stay.span.within(self.shown());
         if span.ticks() == 0 {
             return Ok(());
@@ -155,7 +173,9 @@ impl Picture {
     }
 
     /// Keeps what an event of these ticks shows beside states and modes.
-    fn mark(&mut self, event: &Event) -> Result<(), PictureFault> {
+    fn mark(&mut self, event: &Event) -> Result<(), PictureFault>
+        ensures { IsErrOf result PictureFault.TooMany → vec_len self.new.shapes ≡ 5000 }
+    {
         let tick = event.tick;
         let Some(name) = &event.partition else {
             return self.mark_module(event);
@@ -193,7 +213,9 @@ impl Picture {
     }
 
     /// Keeps what an event of the module itself shows.
-    fn mark_module(&mut self, event: &Event) -> Result<(), PictureFault> {
+    fn mark_module(&mut self, event: &Event) -> Result<(), PictureFault>
+        ensures { IsErrOf result PictureFault.TooMany → vec_len self.new.shapes ≡ 5000 }
+    {
         match &event.kind {
             EventKind::Error(error, who, response) => {
                 self.flag(event.tick, Owner::Module, *error, who, *response)
@@ -202,7 +224,9 @@ impl Picture {
         }
     }
 
-    fn owner(&mut self, partition: usize, who: &Option<Subject>) -> Result<Owner, PictureFault> {
+    fn owner(&mut self, partition: usize, who: &Option<Subject>) -> Result<Owner, PictureFault>
+        ensures { IsErrOf result PictureFault.TooMany → ⊥ }
+    {
         match who {
             Some(who) => Ok(Owner::Process(self.lanes.process_place(partition, who)?)),
             None => Ok(Owner::Partition(partition)),
@@ -216,7 +240,9 @@ impl Picture {
         error: ErrorKind,
         who: &Option<Subject>,
         response: Response,
-    ) -> Result<(), PictureFault> {
+    ) -> Result<(), PictureFault>
+        ensures { IsErrOf result PictureFault.TooMany → vec_len self.new.shapes ≡ 5000 }
+    {
         self.keep(Shape::Flag(Flag {
             tick,
             owner,
@@ -261,7 +287,9 @@ impl Picture {
         to: Stop,
         lost: bool,
         words: &Words,
-    ) -> Result<(), PictureFault> {
+    ) -> Result<(), PictureFault>
+        ensures { IsErrOf result PictureFault.TooMany → vec_len self.new.shapes ≡ 5000 }
+    {
         let words = words.clone()?;
         let from = self.source(tick);
         let beside = match self.beside {
