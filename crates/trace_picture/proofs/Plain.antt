@@ -5,7 +5,6 @@ use Rattle.std.proofs.lemmas.Bool.Decides.{nat_tests}
 use Rattle.std.proofs.Math.Utf8.{encode, next}
 use Rattle.trace_picture.specs.Escaped.{is_allowed, shown, character_text, escaped, is_plain}
 
-
 -- a byte that is none of the five
 goes_on : (b : ℕ) (rest : List ℕ) → (b == 38) ≡ false → (b == 60) ≡ false → (b == 62) ≡ false → (b == 34) ≡ false → (b == 39) ≡ false → is_plain rest ≡ true → is_plain (b ∷ rest) ≡ true
 goes_on b rest and lt gt quote apostrophe h = rw (and, lt, gt, quote, apostrophe) h

@@ -51,7 +51,10 @@ impl Axis {
     pub fn place(self, tick: Ticks) -> Length
         ensures { result.0 ≡ place self.span tick.0 }
     {
-        let passed = tick.0.min(self.span.until.0).saturating_sub(self.span.from.0);
+        let passed = tick
+            .0
+            .min(self.span.until.0)
+            .saturating_sub(self.span.from.0);
         let all = u128::from(self.span.ticks().max(1));
         Length(LEFT + (u128::from(passed) * u128::from(LONG) / all) as u64)
     }

@@ -6,8 +6,7 @@ ghost use Rattle.trace_picture.specs.Page.{IsPicture};
 
 use crate::axis::Axis;
 use crate::bars::{draw_mode, draw_state};
-use crate::element::{Tag, at, set};
-use crate::element::{Key, view};
+use crate::element::{Key, Tag, at, set, view};
 use crate::frame::{draw_axis, draw_legend, draw_names};
 use crate::length::Length;
 use crate::marks::{draw_flag, draw_message, draw_report};
@@ -55,7 +54,8 @@ impl Drawing {
         ensures { OnOk result ((text : List ℕ) × (∥ IsPicture text ∥₁ × Appends (W.contents out.old) (W.contents out.new) text)) }
     {
         let text = self.text()?;
-        out.write_all(text.as_bytes())
+        out.write_all(text.as_bytes())?;
+        Ok(())
     }
 
     /// The picture as SVG.

@@ -7,6 +7,10 @@ use std::alloc::AllocError;
 
 /// Appends a text as it stands in XML: the five characters that XML gives a meaning are written as
 /// its entities, and a character that XML does not allow as the replacement character.
+///
+/// # Errors
+///
+/// Memory ran out. Then a beginning of the text may be there.
 pub fn push_escaped(out: &mut String, text: &str) -> Result<(), AllocError>
     ensures { OnOk result (string_bytes out.new ≡ string_bytes out.old ++ escaped text.now) }
 {

@@ -19,6 +19,7 @@ mod shape;
 mod style;
 
 pub use drawing::Drawing;
+pub use escaped::push_escaped;
 pub use fault::PictureFault;
 pub use picture::Picture;
 pub use shape::MOST_SHAPES;

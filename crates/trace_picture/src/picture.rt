@@ -44,9 +44,7 @@ pub struct Picture {
 impl Picture {
     /// A picture of the ticks from the first one on and before the second; with none, up to the tick
     /// of the last line.
-    pub fn new(alloc: Global, from: Ticks, to: Option<Ticks>) -> Picture
-        ensures { result.shapes.items ≡ [] }
-    {
+    pub fn new(alloc: Global, from: Ticks, to: Option<Ticks>) -> Picture {
         Picture {
             alloc,
             from,

@@ -42,10 +42,38 @@ pub fn draw_style(page: &mut Page) -> Result<(), AllocError> {
     page.text(STYLE)?;
     page.close()?;
     page.open(Tag::Defs, &[])?;
-    draw_pattern(page, "ready", "ready-ink", Length(40), "M2 0V4", "rotate(45)")?;
-    draw_pattern(page, "cold", "cold-ink", Length(50), "M2.5 0V5", "rotate(45)")?;
-    draw_pattern(page, "warm", "warm-ink", Length(50), "M2.5 0V5", "rotate(-45)")?;
-    draw_pattern(page, "dormant", "dormant-ink", Length(50), "M0 2.5H2", "rotate(0)")?;
+    draw_pattern(
+        page,
+        "ready",
+        "ready-ink",
+        Length(40),
+        "M2 0V4",
+        "rotate(45)",
+    )?;
+    draw_pattern(
+        page,
+        "cold",
+        "cold-ink",
+        Length(50),
+        "M2.5 0V5",
+        "rotate(45)",
+    )?;
+    draw_pattern(
+        page,
+        "warm",
+        "warm-ink",
+        Length(50),
+        "M2.5 0V5",
+        "rotate(-45)",
+    )?;
+    draw_pattern(
+        page,
+        "dormant",
+        "dormant-ink",
+        Length(50),
+        "M0 2.5H2",
+        "rotate(0)",
+    )?;
     draw_marker(page, "head", "head-ink", "M0 0L7 3L0 6Z")?;
     draw_marker(page, "cross", "cross-ink", "M3 0L9 6M3 6L9 0")?;
     page.close()
