@@ -1,5 +1,7 @@
 //! The partitions and processes of a trace, in the order of their first lines.
 
+ghost use Rattle.std.specs.Prelude.{◌≡◌, []};
+
 use crate::fault::MemoryFull;
 use crate::stay::{ModeStay, ModeWatch, StateWatch, Stay};
 use apex_types::{Event, EventKind, Mode, Name, ProcessState, Subject, Ticks};
@@ -39,7 +41,10 @@ pub struct Lanes {
 
 impl Lanes {
     /// Nobody has a line yet.
-    pub fn new(alloc: Global) -> Lanes {
+    pub fn new(alloc: Global) -> Lanes
+        ensures partitions { result.partitions.items ≡ [] }
+        ensures processes { result.processes.items ≡ [] }
+    {
         Lanes {
             partitions: Vec::new(alloc),
             processes: Vec::new(alloc),
@@ -47,12 +52,16 @@ impl Lanes {
     }
 
     /// The partitions, in the order of their first lines.
-    pub fn partitions(&self) -> &[PartitionLane] {
+    pub fn partitions(&self) -> &[PartitionLane]
+        ensures { result.now ≡ self.now.partitions.items }
+    {
         self.partitions.as_slice()
     }
 
     /// The processes of all partitions, in the order of their first lines.
-    pub fn processes(&self) -> &[ProcessLane] {
+    pub fn processes(&self) -> &[ProcessLane]
+        ensures { result.now ≡ self.now.processes.items }
+    {
         self.processes.as_slice()
     }
 

@@ -1,6 +1,6 @@
 //! Stays in a state, and in a mode.
 
-ghost use Rattle.std.specs.Prelude.{◌≡◌, None};
+ghost use Rattle.std.specs.Prelude.{◌≡◌, None, option_map};
 ghost use Rattle.trace_stays.specs.Stays.{left_at, running_left_at};
 
 use crate::span::Span;
@@ -94,7 +94,9 @@ impl StateWatch {
     }
 
     /// The state that the last line told.
-    pub fn state(&self) -> Option<ProcessState> {
+    pub fn state(&self) -> Option<ProcessState>
+        ensures { result ≡ option_map (λ held. held.state) self.now.held }
+    {
         match self.held {
             Some(held) => Some(held.state),
             None => None,

@@ -1,0 +1,4 @@
+mod picture;
+mod value_changes;
+mod waves;
+mod xml;

@@ -1,0 +1,31 @@
+//! Changes of variables.
+
+use crate::variable::Variable;
+use apex_types::Ticks;
+
+/// What becomes of a variable.
+#[derive(Clone, Copy, Debug, PartialEq, Eq)]
+pub enum Value {
+    /// The wire becomes 0.
+    Low,
+    /// The wire becomes 1, or the event happens.
+    High,
+}
+
+impl Value {
+    /// The digit of this value in a dump.
+    pub fn digit(self) -> char {
+        match self {
+            Value::Low => '0',
+            Value::High => '1',
+        }
+    }
+}
+
+/// A variable changes in a tick.
+#[derive(Clone, Copy, Debug, PartialEq, Eq)]
+pub struct Change {
+    pub tick: Ticks,
+    pub variable: Variable,
+    pub value: Value,
+}

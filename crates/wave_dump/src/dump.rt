@@ -1,0 +1,192 @@
+//! The changes of a trace, gathered event by event.
+
+ghost use Rattle.std.specs.Prelude.{◌≡◌, ◌++◌, OnOk};
+ghost use Rattle.std.specs.List.Sorted.{IsNonDecreasingBy};
+ghost use Rattle.wave_dump.specs.Dumps.{changes_of, pulse_at};
+
+use crate::change::{Change, Value};
+use crate::header::write_header;
+use crate::pulse::{Pulse, PulseLane};
+use crate::variable::Variable;
+use apex_types::{Event, Ticks};
+use std::alloc::Global;
+use std::io::{self, Write};
+use trace_stays::{Ended, Lanes, MemoryFull, Span};
+
+/// Brings changes into the order of their ticks. Those of one tick stay in their order.
+fn in_order(changes: &mut Vec<Change>) -> Result<(), MemoryFull>
+    ensures { OnOk result (IsNonDecreasingBy (λ change. change.tick.0) changes.new.items) }
+{
+    changes.sort_by_key(
+        |change| -> u64
+            ensures { result ≡ change.now.tick.0 }
+        { change.tick.0 },
+    )?;
+    Ok(())
+}
+
+/// Adds the changes of a wire that is 1 in these ticks.
+fn push_stay(changes: &mut Vec<Change>, variable: Variable, span: Span) -> Result<(), MemoryFull>
+    ensures { OnOk result (changes.new.items ≡ changes.old.items ++ changes_of variable span) }
+{
+    if span.until.0 <= span.from.0 {
+        return Ok(());
+    }
+    changes.push(Change {
+        tick: span.from,
+        variable,
+        value: Value::High,
+    })?;
+    changes.push(Change {
+        tick: span.until,
+        variable,
+        value: Value::Low,
+    })?;
+    Ok(())
+}
+
+/// Adds the change of an event in this tick.
+fn push_pulse(changes: &mut Vec<Change>, variable: Variable, tick: Ticks) -> Result<(), MemoryFull>
+    ensures { OnOk result (changes.new.items ≡ changes.old.items ++ pulse_at variable tick) }
+{
+    changes.push(Change {
+        tick,
+        variable,
+        value: Value::High,
+    })?;
+    Ok(())
+}
+
+/// A value change dump of some ticks of a trace. It takes the events in their order, is finished
+/// behind the last one, and can be written then.
+#[derive(Drop)]
+pub struct Dump {
+    from: Ticks,
+    to: Option<Ticks>,
+    /// The tick behind the last line's.
+    behind: Ticks,
+    lanes: Lanes,
+    pulses: Vec<PulseLane>,
+    changes: Vec<Change>,
+    /// Room for the stays that one event ends.
+    ended: Vec<Ended>,
+}
+
+impl Dump {
+    /// A dump of the ticks from `from` on and before `to`; without it, all to the end of the trace.
+    pub fn new(alloc: Global, from: Ticks, to: Option<Ticks>) -> Dump {
+        Dump {
+            from,
+            to,
+            behind: from,
+            lanes: Lanes::new(alloc),
+            pulses: Vec::new(alloc),
+            changes: Vec::new(alloc),
+            ended: Vec::new(alloc),
+        }
+    }
+
+    /// Takes the next event.
+    ///
+    /// # Errors
+    ///
+    /// Memory ran out.
+    pub fn add(&mut self, event: &Event) -> Result<(), MemoryFull> {
+        self.behind = Ticks(self.behind.0.max(event.tick.0.saturating_add(1)));
+        self.lanes.follow(event, &mut self.ended)?;
+        self.take_ended()?;
+        self.add_pulse(event)
+    }
+
+    /// Ends the stays that are not over, and brings the changes into the order of their ticks.
+    ///
+    /// # Errors
+    ///
+    /// Memory ran out.
+    pub fn finish(&mut self) -> Result<(), MemoryFull>
+        ensures { OnOk result (IsNonDecreasingBy (λ change. change.tick.0) self.new.changes.items) }
+    {
+        let until = self.span().until;
+        self.lanes.finish(until, &mut self.ended)?;
+        self.take_ended()?;
+        in_order(&mut self.changes)
+    }
+
+    /// Writes the dump.
+    ///
+    /// # Errors
+    ///
+    /// The writer failed; then a beginning of the dump is out.
+    pub fn write<W: Write>(&self, out: &mut W) -> io::Result<()> {
+        let span = self.span();
+        write_header(span, &self.lanes, &self.pulses, out)?;
+        let mut now = span.from;
+        for change in &self.changes {
+            if change.tick != now {
+                writeln!(out, "#{}", change.tick.0)?;
+                now = change.tick;
+            }
+            writeln!(out, "{}{}", change.value.digit(), change.variable)?;
+        }
+        if now != span.until {
+            writeln!(out, "#{}", span.until.0)?;
+        }
+        Ok(())
+    }
+
+    /// The ticks that the dump has.
+    fn span(&self) -> Span {
+        Span {
+            from: self.from,
+            until: self.to.unwrap_or(self.behind),
+        }
+    }
+
+    /// The ticks that are shown whatever follows.
+    fn open_span(&self) -> Span {
+        Span {
+            from: self.from,
+            until: self.to.unwrap_or(Ticks(u64::MAX)),
+        }
+    }
+
+    /// Makes changes of the stays that are over.
+    fn take_ended(&mut self) -> Result<(), MemoryFull> {
+        let shown = self.open_span();
+        for ended in &self.ended {
+            let (variable, span) = match ended {
+                Ended::State(place, stay) => (Variable::State(*place, stay.state), stay.span),
+                Ended::Mode(place, stay) => (Variable::Mode(*place, stay.mode), stay.span),
+            };
+            push_stay(&mut self.changes, variable, span.within(shown))?;
+        }
+        self.ended.clear();
+        Ok(())
+    }
+
+    fn add_pulse(&mut self, event: &Event) -> Result<(), MemoryFull> {
+        let Some(pulse) = Pulse::of(&event.kind) else {
+            return Ok(());
+        };
+        if !self.open_span().has(event.tick) {
+            return Ok(());
+        }
+        let partition = match &event.partition {
+            Some(name) => Some(self.lanes.partition_place(name)?),
+            None => None,
+        };
+        let place = self.pulse_place(PulseLane { partition, pulse })?;
+        push_pulse(&mut self.changes, Variable::Pulse(place), event.tick)
+    }
+
+    /// The place of these pulses, which get one if they have none.
+    fn pulse_place(&mut self, lane: PulseLane) -> Result<usize, MemoryFull> {
+        match self.pulses.iter().position(|known| *known == lane) {
+            Some(place) => Ok(place),
+            None => {
+                self.pulses.push(lane)?;
+                Ok(self.pulses.len() - 1)
+            }
+        }
+    }
+}

@@ -1,0 +1,122 @@
+//! The beginning of a dump: what its variables are, and their first values.
+
+use crate::pulse::{GROUPS, Group, PulseLane, subject_text};
+use crate::variable::{MODES, STATES, Variable};
+use std::io::{self, Write};
+use trace_stays::{Lanes, Span};
+
+/// Writes what stands before the changes.
+pub fn write_header<W: Write>(
+    span: Span,
+    lanes: &Lanes,
+    pulses: &[PulseLane],
+    out: &mut W,
+) -> io::Result<()> {
+    writeln!(out, "$version mbview $end")?;
+    writeln!(
+        out,
+        "$comment One time unit stands for a tick of the processor. $end"
+    )?;
+    writeln!(out, "$timescale 1 ns $end")?;
+    for place in 0..lanes.partitions().len() {
+        write_partition(place, lanes, pulses, out)?;
+    }
+    write_module(pulses, out)?;
+    writeln!(out, "$enddefinitions $end")?;
+    writeln!(out, "#{}", span.from.0)?;
+    write_first_values(lanes, out)
+}
+
+/// The scope of a partition: its modes, its processes, its pulses.
+fn write_partition<W: Write>(
+    place: usize,
+    lanes: &Lanes,
+    pulses: &[PulseLane],
+    out: &mut W,
+) -> io::Result<()> {
+    let Some(partition) = lanes.partitions().get(place) else {
+        return Ok(());
+    };
+    begin_scope(partition.name.as_str(), out)?;
+    begin_scope("MODE", out)?;
+    for mode in MODES {
+        write_wire(Variable::Mode(place, mode), mode.word(), out)?;
+    }
+    end_scope(out)?;
+    for (process, lane) in lanes.processes().iter().enumerate() {
+        if lane.partition == place {
+            begin_scope(subject_text(&lane.who), out)?;
+            for state in STATES {
+                write_wire(Variable::State(process, state), state.word(), out)?;
+            }
+            end_scope(out)?;
+        }
+    }
+    for group in GROUPS {
+        write_group(group, Some(place), pulses, out)?;
+    }
+    end_scope(out)
+}
+
+/// The scope of the module's own errors, if it has any.
+fn write_module<W: Write>(pulses: &[PulseLane], out: &mut W) -> io::Result<()> {
+    if pulses.iter().any(|lane| lane.partition.is_none()) {
+        begin_scope("MODULE", out)?;
+        write_group(Group::Errors, None, pulses, out)?;
+        end_scope(out)?;
+    }
+    Ok(())
+}
+
+/// The scope of one group of pulses, if there are any.
+fn write_group<W: Write>(
+    group: Group,
+    partition: Option<usize>,
+    pulses: &[PulseLane],
+    out: &mut W,
+) -> io::Result<()> {
+    let mut is_begun = false;
+    for (place, lane) in pulses.iter().enumerate() {
+        if lane.partition == partition && lane.pulse.group() == group {
+            if !is_begun {
+                begin_scope(group.word(), out)?;
+                is_begun = true;
+            }
+            writeln!(
+                out,
+                "$var event 1 {} {} $end",
+                Variable::Pulse(place),
+                lane.pulse
+            )?;
+        }
+    }
+    if is_begun { end_scope(out) } else { Ok(()) }
+}
+
+fn begin_scope<W: Write>(name: &str, out: &mut W) -> io::Result<()> {
+    writeln!(out, "$scope module {} $end", name)
+}
+
+fn end_scope<W: Write>(out: &mut W) -> io::Result<()> {
+    writeln!(out, "$upscope $end")
+}
+
+fn write_wire<W: Write>(variable: Variable, name: &str, out: &mut W) -> io::Result<()> {
+    writeln!(out, "$var wire 1 {} {} $end", variable, name)
+}
+
+/// All wires are 0 before the first changes.
+fn write_first_values<W: Write>(lanes: &Lanes, out: &mut W) -> io::Result<()> {
+    writeln!(out, "$dumpvars")?;
+    for place in 0..lanes.partitions().len() {
+        for mode in MODES {
+            writeln!(out, "0{}", Variable::Mode(place, mode))?;
+        }
+    }
+    for place in 0..lanes.processes().len() {
+        for state in STATES {
+            writeln!(out, "0{}", Variable::State(place, state))?;
+        }
+    }
+    writeln!(out, "$end")
+}

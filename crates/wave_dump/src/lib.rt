@@ -1,0 +1,14 @@
+//! A trace as a value change dump (IEEE 1364), which waveform viewers show.
+//!
+//! Each state of a process and each mode of a partition is a wire that is 1 while it lasts. Messages,
+//! reports and errors are events, which viewers show as pulses. One time unit of the dump is a tick.
+#![tactic(auto)]
+
+mod change;
+mod dump;
+mod header;
+mod pulse;
+mod variable;
+
+pub use dump::Dump;
+pub use trace_stays::MemoryFull;

@@ -1,0 +1,36 @@
+//! The variables of a dump.
+
+use apex_types::{Mode, ProcessState};
+use std::fmt::{self, Display, Formatter, Write};
+
+/// A variable of a dump. Shown, it is its code in the dump: no two variables have the same.
+#[derive(Clone, Copy, Debug, PartialEq, Eq)]
+pub enum Variable {
+    /// Whether the process at this place is in this state.
+    State(usize, ProcessState),
+    /// Whether the partition at this place is in this mode.
+    Mode(usize, Mode),
+    /// The pulse at this place.
+    Pulse(usize),
+}
+
+/// The states of a process, in the order of their numbers.
+pub static STATES: [ProcessState; 4] = [
+    ProcessState::Dormant,
+    ProcessState::Ready,
+    ProcessState::Running,
+    ProcessState::Waiting,
+];
+
+/// The modes of a partition, in the order of their numbers.
+pub static MODES: [Mode; 4] = [Mode::Idle, Mode::ColdStart, Mode::WarmStart, Mode::Normal];
+
+impl Display for Variable {
+    fn fmt<W: Write>(&self, f: &mut Formatter<W>) -> fmt::Result {
+        match self {
+            Variable::State(place, state) => write!(f, "s{}.{}", place, *state as u8),
+            Variable::Mode(place, mode) => write!(f, "m{}.{}", place, *mode as u8),
+            Variable::Pulse(place) => write!(f, "e{}", place),
+        }
+    }
+}
