@@ -211,8 +211,18 @@ fn edges(rt: HostRuntime) -> Result<(), Fail> {
     let drawing = drawn(rt.alloc(), RATE_GROUPS, 2200, None)?;
     let text = drawing.text()?;
     let titles_of_end = titles(&rt, rt.alloc(), text.as_str())?;
-    check_title(&rt, titles_of_end.as_slice(), "running", "fast RUNNING, ticks 2500 to 2500 (1)");
-    check_title(&rt, titles_of_end.as_slice(), "waiting", "fast WAITING, ticks 2200 to 2499 (300)");
+    check_title(
+        &rt,
+        titles_of_end.as_slice(),
+        "running",
+        "fast RUNNING, ticks 2500 to 2500 (1)",
+    );
+    check_title(
+        &rt,
+        titles_of_end.as_slice(),
+        "waiting",
+        "fast WAITING, ticks 2200 to 2499 (300)",
+    );
     Ok(())
 }
 
@@ -225,8 +235,14 @@ fn messages(rt: HostRuntime) -> Result<(), Fail> {
     let wanted = [
         ("message", "outside to sensors.commands: 6, tick 800"),
         ("message", "sensors.taken to radio.queue: 6 982, tick 1500"),
-        ("lost", "sensors.taken to radio.queue, lost: 7 979, tick 1500"),
-        ("message", "radio.sent to outside by downlink: -3 991 1, tick 1800"),
+        (
+            "lost",
+            "sensors.taken to radio.queue, lost: 7 979, tick 1500",
+        ),
+        (
+            "message",
+            "radio.sent to outside by downlink: -3 991 1, tick 1800",
+        ),
     ];
     for (class, text) in &wanted {
         check_title(&rt, titles.as_slice(), class, text);
@@ -278,8 +294,14 @@ fn escapes(rt: HostRuntime) -> Result<(), Fail> {
         ("a<b>&\"c'd;", "a&lt;b&gt;&amp;&quot;c&apos;d;"),
         ("&amp;", "&amp;amp;"),
         ("\t\n\r \u{7F}", "\t\n\r \u{7F}"),
-        ("\u{0}\u{1}\u{8}\u{B}\u{C}\u{E}\u{1F}", "\u{FFFD}\u{FFFD}\u{FFFD}\u{FFFD}\u{FFFD}\u{FFFD}\u{FFFD}"),
-        ("\u{E9}\u{20AC}\u{1F600}\u{FFFD}", "\u{E9}\u{20AC}\u{1F600}\u{FFFD}"),
+        (
+            "\u{0}\u{1}\u{8}\u{B}\u{C}\u{E}\u{1F}",
+            "\u{FFFD}\u{FFFD}\u{FFFD}\u{FFFD}\u{FFFD}\u{FFFD}\u{FFFD}",
+        ),
+        (
+            "\u{E9}\u{20AC}\u{1F600}\u{FFFD}",
+            "\u{E9}\u{20AC}\u{1F600}\u{FFFD}",
+        ),
         ("\u{FFFE}\u{FFFF}\u{10FFFF}", "\u{FFFD}\u{FFFD}\u{10FFFF}"),
     ];
     for (text, wanted) in &rows {
@@ -294,7 +316,11 @@ fn escapes(rt: HostRuntime) -> Result<(), Fail> {
 fn restless(alloc: Global, name: Name, changes: u64) -> Result<Drawing, PictureFault> {
     let mut picture = Picture::new(alloc, Ticks(0), None);
     for change in 0..changes {
-        let state = if change % 2 == 0 { ProcessState::Ready } else { ProcessState::Running };
+        let state = if change % 2 == 0 {
+            ProcessState::Ready
+        } else {
+            ProcessState::Running
+        };
         picture.add(&Event {
             tick: Ticks(change.saturating_mul(2)),
             partition: Some(name),

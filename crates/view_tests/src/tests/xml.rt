@@ -49,7 +49,11 @@ pub fn read_xml<'a>(
         rest = others;
     }
     assert!(rt; !rest.contains('<'), "all tags were read");
-    assert_eq!(rt; rest.trim(), "", "nothing stands behind the outermost element");
+    assert_eq!(rt;
+        rest.trim(),
+        "",
+        "nothing stands behind the outermost element"
+    );
     assert!(rt; reading.open.is_empty(), "each element has its end");
     assert!(rt; !reading.elements.is_empty(), "there is an element");
     Ok(reading.elements)
@@ -101,7 +105,10 @@ impl<'a> Reading<'a> {
             Some(parent) => parent,
             None => place,
         };
-        assert!(rt; innermost.is_some() || place == 0, "there is one outermost element");
+        assert!(rt;
+            innermost.is_some() || place == 0,
+            "there is one outermost element"
+        );
         let (name, attributes) = match tag.split_once(' ') {
             Some((name, attributes)) => (name, attributes),
             None => (tag, ""),
@@ -149,7 +156,10 @@ fn class_of<'a>(rt: &impl Abort, alloc: Global, attributes: &'a str) -> Result<&
 
 /// A name has letters and digits alone, and a letter first.
 fn check_name(rt: &impl Abort, name: &str) {
-    assert!(rt; name.bytes().all(|byte| byte.is_ascii_alphanumeric()), "a name: {name}");
+    assert!(rt;
+        name.bytes().all(|byte| byte.is_ascii_alphanumeric()),
+        "a name: {name}"
+    );
     let first = name.bytes().next();
     match first {
         Some(byte) => assert!(rt; byte.is_ascii_alphabetic(), "a name: {name}"),
@@ -168,6 +178,8 @@ fn check_text(rt: &impl Abort, text: &str) {
             || piece.starts_with("apos;");
         assert!(rt; place == 0 || entity, "in {text}");
     }
-    let allowed = text.chars().all(|c| c >= ' ' || c == '\n' || c == '\t' || c == '\r');
+    let allowed = text
+        .chars()
+        .all(|c| c >= ' ' || c == '\n' || c == '\t' || c == '\r');
     assert!(rt; allowed, "XML allows all characters of {text}");
 }
