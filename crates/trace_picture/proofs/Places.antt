@@ -1,5 +1,5 @@
 -- Places of ticks on the axis.
-use Rattle.std.proofs.Common.{◌≡◌, ℕ, ◌+◌, ◌-◌, ◌*◌, ◌/◌, ◌<◌, ◌≤◌, max, min, arith, ap}
+use Rattle.std.proofs.Common.{◌≡◌, ℕ, ◌-◌, ◌*◌, ◌/◌, ◌<◌, ◌≤◌, max, min, arith}
 use Rattle.std.proofs.Math.Nat.{div-le_of_le-mul, le-div_iff_mul-le, div-mul-le_self, div-le_self, mul-div_cancel_left}
 use Rattle.trace_picture.specs.Axis.{place}
 use Rattle.trace_stays.specs.declared.span.Span.{Span}

@@ -1,5 +1,5 @@
 -- Text as XML writes it.
-use Rattle.std.specs.Prelude.{ℕ, List, [], ◌∷◌, true, false, ◌++◌, flat_map, codes, chars, Bool, ◌||◌, ◌&&◌, ◌==◌, nat_le, not, cond, encode_utf8}
+use Rattle.std.specs.Prelude.{ℕ, List, [], ◌∷◌, true, false, flat_map, codes, chars, Bool, ◌||◌, ◌&&◌, ◌==◌, nat_le, not, cond, encode_utf8}
 
 -- XML allows the characters from the space on but two, and the tab, the line feed and the carriage return
 abbrev pub is_allowed : ℕ → Bool

@@ -1,6 +1,5 @@
 use Rattle.std.proofs.Common.{rules, ◌≡◌, ◌++◌, ap, string_bytes, is_ok}
-use Rattle.trace_picture.specs.Escaped.{escaped}
-use Rattle.trace_picture.specs.Element.{start_text, empty_text}
+use Rattle.trace_picture.specs.Element.{empty_text}
 use Rattle.trace_picture.proofs.Pages.{empties, either}
 use Rattle.trace_picture.proofs.page.Page.empty.Goals as goal
 

@@ -1,4 +1,4 @@
-use Rattle.std.proofs.Common.{rules, ◌≡◌, List, [], length, arith, string_bytes}
+use Rattle.std.proofs.Common.{rules, ◌≡◌, length, arith, string_bytes}
 use Rattle.std.proofs.lemmas.Bool.Decides.{nat_tests}
 use Rattle.std.proofs.lemmas.List.{nil_from_length}
 use Rattle.trace_picture.proofs.Pages.{finishes}

@@ -1,6 +1,4 @@
-use Rattle.std.proofs.Common.{rules, ◌≡◌, ◌++◌, ap, string_bytes, is_ok}
-use Rattle.trace_picture.specs.Escaped.{escaped}
-use Rattle.trace_picture.specs.Element.{start_text, empty_text}
+use Rattle.std.proofs.Common.{rules, string_bytes}
 use Rattle.trace_picture.proofs.Pages.{opens}
 use Rattle.trace_picture.proofs.page.Page.open.Goals as goal
 
