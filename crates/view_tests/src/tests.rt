@@ -1,5 +1,7 @@
+mod picture;
 mod summaries;
 mod summary;
 mod traces;
 mod value_changes;
 mod waves;
+mod xml;

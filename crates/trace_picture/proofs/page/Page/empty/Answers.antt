@@ -1,0 +1,15 @@
+use Rattle.std.proofs.Common.{rules, ◌≡◌, ◌++◌, ap, string_bytes, is_ok}
+use Rattle.trace_picture.specs.Element.{empty_text}
+use Rattle.trace_picture.proofs.Pages.{empties, either}
+use Rattle.trace_picture.proofs.page.Page.empty.Goals as goal
+
+pub invariant_of-self : goal.invariant_of-self
+invariant_of-self c =
+    let tags = c.args.self.now.unended.items in
+    let text = string_bytes c.args.self.now.text in
+    let piece = c.as_str.result.now in
+    let same : piece ≡ empty_text c.args.tag c.args.attributes.now = search rules in
+    record {
+      begun = either tags text (string_bytes c.push_str.new.self) piece (is_ok c.push_str.result) c.push_str.ensures.bytes
+          (empties tags text (text ++ piece) c.args.tag c.args.attributes.now (ap (λ p. text ++ p) same)) c.args.self.now.begun;
+    }

@@ -1,0 +1,4 @@
+pub mod Axis
+pub mod Escaped
+pub mod Element
+pub mod Page

@@ -1,0 +1,76 @@
+//! The time axis.
+
+ghost use Rattle.std.specs.Prelude.{◌≡◌};
+ghost use Rattle.trace_picture.specs.Axis.{place};
+
+use crate::length::Length;
+use apex_types::Ticks;
+use trace_stays::Span;
+
+/// Where the axis begins, in tenths of a pixel from the left.
+pub const LEFT: u64 = 1_500;
+
+/// How long it is, in tenths of a pixel.
+pub const LONG: u64 = 10_200;
+
+/// The most marks with numbers.
+const MOST_MARKS: u64 = 10;
+
+/// The powers of ten that marks are apart, with 2 and 5 times these.
+static POWERS: [u64; 19] = [
+    1,
+    10,
+    100,
+    1_000,
+    10_000,
+    100_000,
+    1_000_000,
+    10_000_000,
+    100_000_000,
+    1_000_000_000,
+    10_000_000_000,
+    100_000_000_000,
+    1_000_000_000_000,
+    10_000_000_000_000,
+    100_000_000_000_000,
+    1_000_000_000_000_000,
+    10_000_000_000_000_000,
+    100_000_000_000_000_000,
+    1_000_000_000_000_000_000,
+];
+
+/// The ticks of a picture, from the left to the right.
+#[derive(Clone, Copy, Debug, PartialEq, Eq)]
+pub struct Axis {
+    pub span: Span,
+}
+
+impl Axis {
+    /// Where a tick begins. A tick before the first stands at the left end, and one behind the last
+    /// at the right end.
+    pub fn place(self, tick: Ticks) -> Length
+        ensures { result.0 ≡ place self.span tick.0 }
+    {
+        let passed = tick
+            .0
+            .min(self.span.until.0)
+            .saturating_sub(self.span.from.0);
+        let all = u128::from(self.span.ticks().max(1));
+        Length(LEFT + (u128::from(passed) * u128::from(LONG) / all) as u64)
+    }
+
+    /// How many ticks two marks are apart: 1, 2 or 5 times a power of ten, the smallest with which
+    /// there are few marks.
+    pub fn step(self) -> u64 {
+        let ticks = self.span.ticks();
+        for power in &POWERS {
+            for factor in [1, 2, 5] {
+                let step = *power * factor;
+                if ticks / step <= MOST_MARKS {
+                    return step;
+                }
+            }
+        }
+        5_000_000_000_000_000_000
+    }
+}

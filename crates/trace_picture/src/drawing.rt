@@ -1,0 +1,136 @@
+//! A picture as it is drawn.
+
+ghost use Rattle.std.specs.Prelude.{◌≡◌, ◌≤◌, ℕ, List, string_bytes, vec_len, IfOk, OnOk};
+ghost use Rattle.std.specs.Io.KnownBytes.{Appends};
+ghost use Rattle.trace_picture.specs.Page.{IsPicture};
+
+use crate::axis::Axis;
+use crate::bars::{draw_mode, draw_state};
+use crate::element::{Key, Tag, at, set, view};
+use crate::frame::{draw_axis, draw_legend, draw_names};
+use crate::length::Length;
+use crate::marks::{draw_flag, draw_message, draw_report};
+use crate::page::Page;
+use crate::rows::Rows;
+use crate::shape::Shape;
+use crate::style::draw_style;
+use std::alloc::{AllocError, Global};
+use std::io;
+use std::io::Write;
+use trace_stays::Lanes;
+
+/// The width of a picture.
+pub const WIDE: Length = Length(12_000);
+
+/// The height of the legend.
+const LEGEND: Length = Length(720);
+
+/// A picture that is ready to be drawn.
+#[derive(Drop)]
+pub struct Drawing {
+    pub(crate) alloc: Global,
+    pub(crate) axis: Axis,
+    pub(crate) rows: Rows,
+    pub(crate) lanes: Lanes,
+    pub(crate) shapes: Vec<Shape>,
+    ghost few: { vec_len shapes ≤ 5000 },
+}
+
+impl Drawing {
+    /// How many bars, arrows, flags and marks the picture has.
+    pub fn shapes(&self) -> usize
+        ensures value { result ≡ vec_len self.now.shapes }
+        ensures few { result ≤ 5000 }
+    {
+        self.shapes.len()
+    }
+
+    /// Writes the picture as SVG.
+    ///
+    /// # Errors
+    ///
+    /// Memory ran out, or the writer failed.
+    pub fn write<W: Write>(&self, out: &mut W) -> io::Result<()>
+        ensures { OnOk result ((text : List ℕ) × (∥ IsPicture text ∥₁ × Appends (W.contents out.old) (W.contents out.new) text)) }
+    {
+        let text = self.text()?;
+        out.write_all(text.as_bytes())?;
+        Ok(())
+    }
+
+    /// The picture as SVG.
+    ///
+    /// # Errors
+    ///
+    /// Memory ran out.
+    pub fn text(&self) -> Result<String, AllocError>
+        ensures { IfOk result (λ text. ∥ IsPicture (string_bytes text) ∥₁) }
+    {
+        let high = self.rows.bottom + LEGEND;
+        let mut page = Page::new(
+            self.alloc,
+            &[
+                set(Key::Xmlns, "http://www.w3.org/2000/svg"),
+                at(Key::Width, WIDE),
+                at(Key::Height, high),
+                view(WIDE, high),
+            ],
+        )?;
+        self.draw_title(&mut page)?;
+        draw_style(&mut page)?;
+        page.empty(
+            Tag::Rect,
+            &[
+                set(Key::Class, "paper"),
+                at(Key::Width, WIDE),
+                at(Key::Height, high),
+            ],
+        )?;
+        draw_names(&mut page, &self.lanes, &self.rows)?;
+        draw_axis(&mut page, self.axis, self.rows.bottom)?;
+        self.draw_bars(&mut page)?;
+        self.draw_marks(&mut page)?;
+        draw_legend(&mut page, self.rows.bottom)?;
+        page.finish()
+    }
+
+    fn draw_title(&self, page: &mut Page) -> Result<(), AllocError> {
+        page.open(Tag::Title, &[])?;
+        page.text("A trace, from tick ")?;
+        page.number(self.axis.span.from.0)?;
+        page.text(" to tick ")?;
+        page.number(self.axis.span.until.0)?;
+        page.close()
+    }
+
+    fn draw_bars(&self, page: &mut Page) -> Result<(), AllocError> {
+        for shape in &self.shapes {
+            match shape {
+                Shape::Mode(partition, stay) => {
+                    draw_mode(page, self.axis, &self.lanes, &self.rows, *partition, *stay)?
+                }
+                Shape::State(process, stay) => {
+                    draw_state(page, self.axis, &self.lanes, &self.rows, *process, *stay)?
+                }
+                _ => (),
+            }
+        }
+        Ok(())
+    }
+
+    fn draw_marks(&self, page: &mut Page) -> Result<(), AllocError> {
+        for shape in &self.shapes {
+            match shape {
+                Shape::Message(message) => {
+                    draw_message(page, self.axis, &self.lanes, &self.rows, message)?
+                }
+                Shape::Flag(flag) => draw_flag(page, self.axis, &self.rows, flag)?,
+                Shape::Report(report) => {
+                    draw_report(page, self.axis, &self.lanes, &self.rows, report)?
+                }
+                _ => (),
+            }
+        }
+        Ok(())
+    }
+}

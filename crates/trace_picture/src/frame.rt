@@ -1,0 +1,217 @@
+//! What stands around the bars: names, the time axis and the legend.
+
+use crate::axis::{Axis, LEFT, LONG};
+use crate::bars::{Bar, bar_attributes, bar_of_mode, bar_of_state, draw_text, subject_name};
+use crate::drawing::WIDE;
+use crate::element::{Key, Tag, at, moved, set};
+use crate::length::Length;
+use crate::marks::{FLAG, FLAG_DOWN, REPORT, REPORT_DOWN};
+use crate::page::Page;
+use crate::rows::{ROW, Rows};
+use apex_types::{Mode, ProcessState, Ticks};
+use std::alloc::AllocError;
+use trace_stays::Lanes;
+
+/// How far the ground of a partition stands from the edges, and how far it goes on below its rows.
+const MARGIN: Length = Length(40);
+
+/// Where names begin.
+const NAMES: Length = Length(160);
+
+/// How far names of processes stand further to the right.
+const INDENT: Length = Length(120);
+
+/// Where the line of a text stands in its row.
+const LINE: Length = Length(160);
+
+/// Where the axis stands.
+const AXIS: Length = Length(300);
+
+/// The columns of the legend.
+const COLUMN: Length = Length(1_700);
+
+/// Draws the names of the rows, and the ground of each partition.
+pub fn draw_names(page: &mut Page, lanes: &Lanes, rows: &Rows) -> Result<(), AllocError> {
+    if let Some(top) = rows.outside {
+        draw_base(page, top + ROW.half())?;
+        draw_text(page, "partition", NAMES, top + LINE, "outside")?;
+    }
+    if let Some(top) = rows.module {
+        draw_base(page, top + ROW.half())?;
+        draw_text(page, "partition", NAMES, top + LINE, "module")?;
+    }
+    for (partition, lane) in lanes.partitions().iter().enumerate() {
+        if let Some(top) = rows.partition(partition) {
+            draw_ground(page, top, rows.end_of(lanes, partition))?;
+            draw_text(page, "partition", NAMES, top + LINE, lane.name.as_str())?;
+        }
+    }
+    for (process, lane) in lanes.processes().iter().enumerate() {
+        if let Some(top) = rows.process(process) {
+            let name = subject_name(&lane.who);
+            draw_text(page, "process", NAMES + INDENT, top + LINE, name)?;
+        }
+    }
+    Ok(())
+}
+
+/// Draws a line through the row of what is outside, or of the module itself.
+fn draw_base(page: &mut Page, height: Length) -> Result<(), AllocError> {
+    page.empty(
+        Tag::Line,
+        &[
+            set(Key::Class, "base"),
+            at(Key::X1, Length(LEFT)),
+            at(Key::Y1, height),
+            at(Key::X2, Length(LEFT + LONG)),
+            at(Key::Y2, height),
+        ],
+    )
+}
+
+/// Draws the ground of a partition.
+fn draw_ground(page: &mut Page, top: Length, bottom: Length) -> Result<(), AllocError> {
+    page.empty(
+        Tag::Rect,
+        &[
+            set(Key::Class, "ground"),
+            at(Key::X, MARGIN),
+            at(Key::Y, top),
+            at(Key::Width, WIDE - MARGIN - MARGIN),
+            at(Key::Height, bottom - top + MARGIN),
+        ],
+    )
+}
+
+/// Draws the axis with its numbers, and a line down at each of these.
+pub fn draw_axis(page: &mut Page, axis: Axis, bottom: Length) -> Result<(), AllocError> {
+    page.empty(
+        Tag::Line,
+        &[
+            set(Key::Class, "axis"),
+            at(Key::X1, Length(LEFT)),
+            at(Key::Y1, AXIS),
+            at(Key::X2, Length(LEFT + LONG)),
+            at(Key::Y2, AXIS),
+        ],
+    )?;
+    draw_text(page, "process", NAMES, AXIS - Length(90), "tick")?;
+    let step = axis.step();
+    let first = axis.span.from.0.div_ceil(step.max(1));
+    for count in 0..12 {
+        let tick = first.saturating_add(count).saturating_mul(step);
+        if tick <= axis.span.until.0 {
+            draw_mark(page, axis, Ticks(tick), bottom)?;
+        }
+    }
+    Ok(())
+}
+
+/// Draws a number of the axis, and a line down from it.
+fn draw_mark(page: &mut Page, axis: Axis, tick: Ticks, bottom: Length) -> Result<(), AllocError> {
+    let x = axis.place(tick);
+    page.empty(
+        Tag::Line,
+        &[
+            set(Key::Class, "grid"),
+            at(Key::X1, x),
+            at(Key::Y1, AXIS - Length(40)),
+            at(Key::X2, x),
+            at(Key::Y2, bottom + Length(40)),
+        ],
+    )?;
+    page.open(
+        Tag::Text,
+        &[
+            set(Key::Class, "tick"),
+            at(Key::X, x),
+            at(Key::Y, AXIS - Length(90)),
+        ],
+    )?;
+    page.number(tick.0)?;
+    page.close()
+}
+
+/// Draws what the bars and marks mean.
+pub fn draw_legend(page: &mut Page, bottom: Length) -> Result<(), AllocError> {
+    let first = bottom + Length(160);
+    let second = first + Length(260);
+    let states = [
+        ProcessState::Running,
+        ProcessState::Ready,
+        ProcessState::Waiting,
+        ProcessState::Dormant,
+    ];
+    for (column, state) in states.iter().enumerate() {
+        draw_sample(page, column, first, bar_of_state(*state), state.word())?;
+    }
+    let modes = [Mode::Normal, Mode::ColdStart, Mode::WarmStart, Mode::Idle];
+    for (column, mode) in modes.iter().enumerate() {
+        draw_sample(page, column, second, bar_of_mode(*mode), mode.word())?;
+    }
+    draw_arrow_sample(page, first, "message", "message")?;
+    draw_arrow_sample(page, second, "lost", "lost message")?;
+    draw_mark_sample(page, first, FLAG_DOWN, "flag", FLAG, "error")?;
+    draw_mark_sample(page, second, REPORT_DOWN, "report", REPORT, "report")
+}
+
+/// Where a column of the legend begins.
+fn column_left(column: usize) -> Length {
+    Length(LEFT) + COLUMN.times(column as u64)
+}
+
+/// Draws a bar and its word in a column of the legend.
+fn draw_sample(
+    page: &mut Page,
+    column: usize,
+    top: Length,
+    bar: Bar,
+    word: &str,
+) -> Result<(), AllocError> {
+    let left = column_left(column);
+    page.empty(Tag::Rect, &bar_attributes(bar, left, top, Length(320)))?;
+    draw_text(page, "process", left + Length(400), top + LINE, word)
+}
+
+/// Draws an arrow and its word in a column of the legend.
+fn draw_arrow_sample(
+    page: &mut Page,
+    top: Length,
+    class: &str,
+    word: &str,
+) -> Result<(), AllocError> {
+    let left = column_left(4);
+    let middle = top + ROW.half();
+    page.empty(
+        Tag::Line,
+        &[
+            set(Key::Class, class),
+            at(Key::X1, left),
+            at(Key::Y1, middle),
+            at(Key::X2, left + Length(300)),
+            at(Key::Y2, middle),
+        ],
+    )?;
+    draw_text(page, "process", left + Length(400), top + LINE, word)
+}
+
+/// Draws a flag or a mark, so far down in its row, and its word in a column of the legend.
+fn draw_mark_sample(
+    page: &mut Page,
+    top: Length,
+    down: Length,
+    class: &str,
+    path: &str,
+    word: &str,
+) -> Result<(), AllocError> {
+    let left = column_left(5);
+    page.empty(
+        Tag::Path,
+        &[
+            set(Key::Class, class),
+            set(Key::Path, path),
+            moved(left + Length(150), top + down),
+        ],
+    )?;
+    draw_text(page, "process", left + Length(400), top + LINE, word)
+}

@@ -1,0 +1,188 @@
+//! Arrows, flags and marks.
+
+use crate::axis::Axis;
+use crate::bars::subject_name;
+use crate::drawing::WIDE;
+use crate::element::{Key, Tag, at, moved, set};
+use crate::length::Length;
+use crate::page::Page;
+use crate::rows::{ROW, Rows};
+use crate::shape::{Flag, Message, Owner, Report, Stop};
+use apex_types::{Subject, Ticks, Words};
+use std::alloc::AllocError;
+use trace_stays::Lanes;
+
+/// How far messages of one tick stand from each other.
+const ASIDE: Length = Length(60);
+
+/// How far an arrow reaches into the row where it ends, and how far into that where it begins.
+const INTO: Length = Length(45);
+
+/// How far down in the row of a process the foot of a flag stands.
+pub const FLAG_DOWN: Length = Length(200);
+
+/// How far down in the row of a partition the foot of a flag stands: on the bars of its modes.
+const FLAG_ON_BAR: Length = Length(50);
+
+/// How far down in its row the middle of a report's mark stands.
+pub const REPORT_DOWN: Length = Length(110);
+
+/// The outline of a flag, whose foot stands at 0, 0.
+pub const FLAG: &str = "M0 0V-19L10 -14.5L0 -10";
+
+/// The outline of a report's mark, around 0, 0.
+pub const REPORT: &str = "M0 -4.5L4.5 0L0 4.5L-4.5 0Z";
+
+/// Draws a message as an arrow.
+pub fn draw_message(
+    page: &mut Page,
+    axis: Axis,
+    lanes: &Lanes,
+    rows: &Rows,
+    message: &Message,
+) -> Result<(), AllocError> {
+    let Some(from) = rows.stop(message.from) else {
+        return Ok(());
+    };
+    let Some(to) = rows.stop(message.to) else {
+        return Ok(());
+    };
+    let x = axis.place(message.tick) + ASIDE.times(message.beside);
+    draw_arrow(page, x.min(WIDE - ASIDE), from, to, message.lost)?;
+    page.open(Tag::Title, &[])?;
+    title_stop(page, lanes, message.from)?;
+    page.text(" to ")?;
+    title_stop(page, lanes, message.to)?;
+    page.text(if message.lost { ", lost:" } else { ":" })?;
+    title_words(page, &message.words)?;
+    title_tick(page, message.tick)?;
+    page.close()?;
+    page.close()
+}
+
+/// Begins an arrow from a row to a row; its title and its end follow.
+fn draw_arrow(
+    page: &mut Page,
+    x: Length,
+    from: Length,
+    to: Length,
+    lost: bool,
+) -> Result<(), AllocError> {
+    let (start, end) = if to < from {
+        (from + INTO, to + ROW - INTO)
+    } else {
+        (from + ROW - INTO, to + INTO)
+    };
+    page.open(
+        Tag::Line,
+        &[
+            set(Key::Class, if lost { "lost" } else { "message" }),
+            at(Key::X1, x),
+            at(Key::Y1, start),
+            at(Key::X2, x),
+            at(Key::Y2, end),
+        ],
+    )
+}
+
+fn title_stop(page: &mut Page, lanes: &Lanes, stop: Stop) -> Result<(), AllocError> {
+    match stop {
+        Stop::Device => page.text("outside"),
+        Stop::Channel(name) => {
+            page.text("outside by ")?;
+            page.text(name.as_str())
+        }
+        Stop::Port(partition, port) => {
+            if let Some(lane) = lanes.partitions().get(partition) {
+                page.text(lane.name.as_str())?;
+                page.text(".")?;
+            }
+            page.text(port.as_str())
+        }
+    }
+}
+
+fn title_words(page: &mut Page, words: &Words) -> Result<(), AllocError> {
+    for word in words.as_slice() {
+        let mut buffer = itoa::Buffer::new();
+        page.text(" ")?;
+        page.text(buffer.format(*word))?;
+    }
+    Ok(())
+}
+
+fn title_tick(page: &mut Page, tick: Ticks) -> Result<(), AllocError> {
+    page.text(", tick ")?;
+    page.number(tick.0)
+}
+
+/// Draws an error as a flag.
+pub fn draw_flag(page: &mut Page, axis: Axis, rows: &Rows, flag: &Flag) -> Result<(), AllocError> {
+    let Some(top) = rows.owner(flag.owner) else {
+        return Ok(());
+    };
+    let down = match flag.owner {
+        Owner::Process(_) => FLAG_DOWN,
+        Owner::Partition(_) => FLAG_ON_BAR,
+        Owner::Module => ROW.half(),
+    };
+    page.open(
+        Tag::Path,
+        &[
+            set(Key::Class, "flag"),
+            set(Key::Path, FLAG),
+            moved(axis.place(flag.tick), top + down),
+        ],
+    )?;
+    page.open(Tag::Title, &[])?;
+    page.text("HM ")?;
+    page.text(flag.error.word())?;
+    page.text(" ")?;
+    page.text(culprit_name(&flag.who))?;
+    page.text(" ")?;
+    page.text(flag.response.level().word())?;
+    page.text(" ")?;
+    page.text(flag.response.action_word())?;
+    title_tick(page, flag.tick)?;
+    page.close()?;
+    page.close()
+}
+
+/// The name of the process that an error belongs to, or `-`.
+fn culprit_name(who: &Option<Subject>) -> &str {
+    match who {
+        Some(who) => subject_name(who),
+        None => "-",
+    }
+}
+
+/// Draws an application message as a mark.
+pub fn draw_report(
+    page: &mut Page,
+    axis: Axis,
+    lanes: &Lanes,
+    rows: &Rows,
+    report: &Report,
+) -> Result<(), AllocError> {
+    let Some(top) = rows.process(report.process) else {
+        return Ok(());
+    };
+    let Some(lane) = lanes.processes().get(report.process) else {
+        return Ok(());
+    };
+    page.open(
+        Tag::Path,
+        &[
+            set(Key::Class, "report"),
+            set(Key::Path, REPORT),
+            moved(axis.place(report.tick), top + REPORT_DOWN),
+        ],
+    )?;
+    page.open(Tag::Title, &[])?;
+    page.text("REPORT ")?;
+    page.text(subject_name(&lane.who))?;
+    title_words(page, &report.words)?;
+    title_tick(page, report.tick)?;
+    page.close()?;
+    page.close()
+}

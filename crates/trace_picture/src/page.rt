@@ -1,0 +1,144 @@
+//! The text of a picture while it is being written.
+
+ghost use Rattle.std.specs.Prelude.{◌≡◌, ◌-◌, ◌++◌, ◌∷◌, [], reverse, string_bytes, vec_len, IfOk, OnErr, OnOk};
+ghost use Rattle.std.specs.Fmt.{decimal};
+ghost use Rattle.trace_picture.specs.Element.{empty_text, end_text, start_text};
+ghost use Rattle.trace_picture.specs.Escaped.{escaped};
+ghost use Rattle.trace_picture.specs.Page.{IsBegun, IsPicture};
+
+use crate::element::{Attribute, Tag, push_end, push_start};
+use crate::escaped::push_escaped;
+use std::alloc::{AllocError, Global};
+
+/// An element `svg` that has begun, and in it elements that have not ended yet. Whatever is written
+/// into it, its tags nest and match, and its texts and values are escaped.
+#[derive(Drop)]
+pub struct Page {
+    alloc: Global,
+    text: String,
+    /// The elements that have not ended, the innermost last.
+    unended: Vec<Tag>,
+    ghost begun: { ∥ IsBegun (reverse unended.items) (string_bytes text) ∥₁ },
+}
+
+impl Page {
+    /// A page with the start of its outermost element.
+    ///
+    /// # Errors
+    ///
+    /// Memory ran out.
+    pub fn new(alloc: Global, attributes: &[Attribute<'_>]) -> Result<Page, AllocError>
+        ensures text { IfOk result (λ page. string_bytes page.text ≡ start_text Tag.Svg attributes.now) }
+        ensures unended { IfOk result (λ page. page.unended.items ≡ []) }
+    {
+        let mut text = String::new(alloc);
+        push_start(&mut text, Tag::Svg, attributes, ">")?;
+        Ok(Page {
+            alloc,
+            text,
+            unended: Vec::new(alloc),
+        })
+    }
+
+    /// Begins an element.
+    ///
+    /// # Errors
+    ///
+    /// Memory ran out. Then the page is as it was.
+    pub fn open(&mut self, tag: Tag, attributes: &[Attribute<'_>]) -> Result<(), AllocError>
+        ensures text { OnOk result (string_bytes self.new.text ≡ string_bytes self.old.text ++ start_text tag attributes.now) }
+        ensures unended { OnOk result (self.new.unended.items ≡ self.old.unended.items ++ tag ∷ []) }
+        ensures kept { OnErr result (string_bytes self.new.text ≡ string_bytes self.old.text) }
+        ensures kept_unended { OnErr result (self.new.unended.items ≡ self.old.unended.items) }
+    {
+        let mut start = String::new(self.alloc);
+        push_start(&mut start, tag, attributes, ">")?;
+        self.unended.reserve(1)?;
+        self.text.push_str(start.as_str())?;
+        self.unended.push(tag).unwrap();
+        Ok(())
+    }
+
+    /// Writes an element with nothing in it.
+    ///
+    /// # Errors
+    ///
+    /// Memory ran out. Then the page is as it was.
+    pub fn empty(&mut self, tag: Tag, attributes: &[Attribute<'_>]) -> Result<(), AllocError>
+        ensures text { OnOk result (string_bytes self.new.text ≡ string_bytes self.old.text ++ empty_text tag attributes.now) }
+        ensures unended { self.new.unended ≡ self.old.unended }
+        ensures kept { OnErr result (string_bytes self.new.text ≡ string_bytes self.old.text) }
+    {
+        let mut whole = String::new(self.alloc);
+        push_start(&mut whole, tag, attributes, "/>\n")?;
+        self.text.push_str(whole.as_str())?;
+        Ok(())
+    }
+
+    /// Writes a text into the innermost element.
+    ///
+    /// # Errors
+    ///
+    /// Memory ran out. Then the page is as it was.
+    pub fn text(&mut self, text: &str) -> Result<(), AllocError>
+        ensures text { OnOk result (string_bytes self.new.text ≡ string_bytes self.old.text ++ escaped text.now) }
+        ensures unended { self.new.unended ≡ self.old.unended }
+        ensures kept { OnErr result (string_bytes self.new.text ≡ string_bytes self.old.text) }
+    {
+        let mut piece = String::new(self.alloc);
+        push_escaped(&mut piece, text)?;
+        self.text.push_str(piece.as_str())?;
+        Ok(())
+    }
+
+    /// Writes a number into the innermost element.
+    ///
+    /// # Errors
+    ///
+    /// Memory ran out. Then the page is as it was.
+    pub fn number(&mut self, number: u64) -> Result<(), AllocError>
+        ensures text { OnOk result (string_bytes self.new.text ≡ string_bytes self.old.text ++ escaped (decimal number)) }
+        ensures unended { self.new.unended ≡ self.old.unended }
+        ensures kept { OnErr result (string_bytes self.new.text ≡ string_bytes self.old.text) }
+    {
+        let mut buffer = itoa::Buffer::new();
+        self.text(buffer.format(number))
+    }
+
+    /// Ends the innermost element; the outermost one goes on.
+    ///
+    /// # Errors
+    ///
+    /// Memory ran out. Then the page is as it was.
+    pub fn close(&mut self) -> Result<(), AllocError>
+        ensures unended { OnOk result (vec_len self.new.unended ≡ vec_len self.old.unended - 1) }
+        ensures kept { OnErr result (string_bytes self.new.text ≡ string_bytes self.old.text) }
+        ensures kept_unended { OnErr result (self.new.unended.items ≡ self.old.unended.items) }
+    {
+        let Some(last) = self.unended.last() else {
+            return Ok(());
+        };
+        let tag = *last;
+        let mut end = String::new(self.alloc);
+        push_end(&mut end, tag)?;
+        self.text.push_str(end.as_str())?;
+        let _ = self.unended.pop();
+        Ok(())
+    }
+
+    /// Ends all elements. Answers the text.
+    ///
+    /// # Errors
+    ///
+    /// Memory ran out.
+    pub fn finish(mut self) -> Result<String, AllocError>
+        ensures { IfOk result (λ text. ∥ IsPicture (string_bytes text) ∥₁) }
+    {
+        while !self.unended.as_slice().is_empty() {
+            self.close()?;
+        }
+        let Page { mut text, .. } = self;
+        push_end(&mut text, Tag::Svg)?;
+        Ok(text)
+    }
+}

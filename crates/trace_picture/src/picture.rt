@@ -1,0 +1,306 @@
+//! What happened in the ticks of a picture.
+
+ghost use Rattle.std.specs.Prelude.{◌≡◌, ◌+◌, ◌<◌, ◌≤◌, ◌↔◌, ◌++◌, ◌∷◌, [], vec_len, IsErrOf, OnErr, OnOk};
+
+use crate::axis::Axis;
+use crate::drawing::Drawing;
+use crate::fault::PictureFault;
+use crate::rows::Rows;
+use crate::shape::{Flag, MOST_SHAPES, Message, Owner, Report, Shape, Stop};
+use apex_types::{ErrorKind, Event, EventKind, Name, Response, Subject, Ticks, Words};
+use std::alloc::Global;
+use trace_stays::{Ended, Lanes, ModeStay, Span, Stay};
+
+/// The message that left a port last, until the next tick.
+#[derive(Clone, Copy, Debug, PartialEq, Eq)]
+struct Sending {
+    tick: Ticks,
+    from: Stop,
+}
+
+/// The place of a message beside the others of its tick, from 0.
+#[derive(Clone, Copy, Debug, PartialEq, Eq)]
+struct Beside {
+    tick: Ticks,
+    place: u64,
+}
+
+/// A picture of some ticks of a trace. It keeps what these ticks show, and nothing else.
+#[derive(Drop)]
+pub struct Picture {
+    alloc: Global,
+    from: Ticks,
+    to: Option<Ticks>,
+    /// The tick behind the last line.
+    end: Ticks,
+    lanes: Lanes,
+    shapes: Vec<Shape>,
+    sending: Option<Sending>,
+    /// The place of the last message beside the others of its tick.
+    beside: Option<Beside>,
+    ghost few: { vec_len shapes ≤ 5000 },
+}
+
+impl Picture {
+    /// A picture of the ticks from the first one on and before the second; with none, up to the tick
+    /// of the last line.
+    pub fn new(alloc: Global, from: Ticks, to: Option<Ticks>) -> Picture {
+        Picture {
+            alloc,
+            from,
+            to,
+            end: from,
+            lanes: Lanes::new(alloc),
+            shapes: Vec::new(alloc),
+            sending: None,
+            beside: None,
+        }
+    }
+
+    /// Adds an event. The events come in the order of their lines.
+    ///
+    /// # Errors
+    ///
+    /// Memory ran out, or the picture would have too many shapes.
+    pub fn add(&mut self, event: &Event) -> Result<(), PictureFault>
+        ensures { IsErrOf result PictureFault.TooMany → vec_len self.new.shapes ≡ 5000 }
+    {
+        if !self.is_before_end(event.tick) {
+            return Ok(());
+        }
+        self.end = Ticks(self.end.0.max(event.tick.0.saturating_add(1)));
+        let mut ended = Vec::new(self.alloc);
+        self.lanes.follow(event, &mut ended)?;
+        self.keep_stays(ended)?;
+        if event.tick.0 < self.from.0 {
+            return Ok(());
+        }
+        self.mark(event)
+    }
+
+    /// The picture as it is drawn. No event comes any more.
+    ///
+    /// # Errors
+    ///
+    /// Memory ran out, or the picture would have too many shapes.
+    pub fn finish(mut self) -> Result<Drawing, PictureFault> {
+        let until = match self.to {
+            Some(to) => to,
+            None => self.end,
+        };
+        let mut ended = Vec::new(self.alloc);
+        self.lanes.finish(until, &mut ended)?;
+        self.keep_stays(ended)?;
+        let axis = Axis {
+            span: Span {
+                from: self.from,
+                until,
+            },
+        };
+        let rows = Rows::new(self.alloc, &self.lanes, &self.shapes)?;
+        Ok(Drawing {
+            alloc: self.alloc,
+            axis,
+            rows,
+            lanes: self.lanes,
+            shapes: self.shapes,
+        })
+    }
+
+    fn is_before_end(&self, tick: Ticks) -> bool {
+        match self.to {
+            Some(to) => tick.0 < to.0,
+            None => true,
+        }
+    }
+
+    /// The ticks that are shown, as far as that is known.
+    fn shown(&self) -> Span {
+        Span {
+            from: self.from,
+            until: match self.to {
+                Some(to) => to,
+                None => Ticks(u64::MAX),
+            },
+        }
+    }
+
+    /// Keeps a shape, if there are not too many.
+    fn keep(&mut self, shape: Shape) -> Result<(), PictureFault>
+        ensures many { IsErrOf result PictureFault.TooMany ↔ (5000 ≤ vec_len self.old.shapes) }
+        ensures kept { OnOk result (self.new.shapes.items ≡ self.old.shapes.items ++ shape ∷ []) }
+        ensures refused { OnErr result (self.new.shapes.items ≡ self.old.shapes.items) }
+    {
+        if self.shapes.len() >= MOST_SHAPES {
+            return Err(PictureFault::TooMany);
+        }
+        self.shapes.push(shape)?;
+        Ok(())
+    }
+
+    fn keep_stays(&mut self, ended: Vec<Ended>) -> Result<(), PictureFault>
+        ensures { IsErrOf result PictureFault.TooMany → vec_len self.new.shapes ≡ 5000 }
+    {
+        for one in ended {
+            match one {
+                Ended::State(process, stay) => self.keep_state(process, stay)?,
+                Ended::Mode(partition, stay) => self.keep_mode(partition, stay)?,
+            }
+        }
+        Ok(())
+    }
+
+    fn keep_state(&mut self, process: usize, stay: Stay) -> Result<(), PictureFault>
+        ensures { IsErrOf result PictureFault.TooMany → vec_len self.new.shapes ≡ 5000 }
+    {
+        let span = stay.span.within(self.shown());
+        if span.ticks() == 0 {
+            return Ok(());
+        }
+        self.keep(Shape::State(process, Stay { span, ..stay }))
+    }
+
+    fn keep_mode(&mut self, partition: usize, stay: ModeStay) -> Result<(), PictureFault>
+        ensures { IsErrOf result PictureFault.TooMany → vec_len self.new.shapes ≡ 5000 }
+    {
+        let span = stay.span.within(self.shown());
+        if span.ticks() == 0 {
+            return Ok(());
+        }
+        self.keep(Shape::Mode(partition, ModeStay { span, ..stay }))
+    }
+
+    /// Keeps what an event of these ticks shows beside states and modes.
+    fn mark(&mut self, event: &Event) -> Result<(), PictureFault>
+        ensures { IsErrOf result PictureFault.TooMany → vec_len self.new.shapes ≡ 5000 }
+    {
+        let tick = event.tick;
+        let Some(name) = &event.partition else {
+            return self.mark_module(event);
+        };
+        let partition = self.lanes.partition_place(name)?;
+        match &event.kind {
+            EventKind::State(_, _) | EventKind::Return(_, _, _) | EventKind::Mode(_) => Ok(()),
+            EventKind::Error(error, who, response) => {
+                let owner = self.owner(partition, who)?;
+                self.flag(tick, owner, *error, who, *response)
+            }
+            EventKind::Report(who, words) => {
+                let process = self.lanes.process_place(partition, who)?;
+                let words = words.clone()?;
+                self.keep(Shape::Report(Report {
+                    tick,
+                    process,
+                    words,
+                }))
+            }
+            EventKind::Move(port, _) => {
+                self.depart(tick, Stop::Port(partition, *port));
+                Ok(())
+            }
+            EventKind::Arrive(port, words) => {
+                self.message(tick, Stop::Port(partition, *port), false, words)
+            }
+            EventKind::Lost(port, words) => {
+                self.message(tick, Stop::Port(partition, *port), true, words)
+            }
+            EventKind::Out(channel, words) => {
+                self.message(tick, Stop::Channel(*channel), false, words)
+            }
+        }
+    }
+
+    /// Keeps what an event of the module itself shows.
+    fn mark_module(&mut self, event: &Event) -> Result<(), PictureFault>
+        ensures { IsErrOf result PictureFault.TooMany → vec_len self.new.shapes ≡ 5000 }
+    {
+        match &event.kind {
+            EventKind::Error(error, who, response) => {
+                self.flag(event.tick, Owner::Module, *error, who, *response)
+            }
+            _ => Ok(()),
+        }
+    }
+
+    fn owner(&mut self, partition: usize, who: &Option<Subject>) -> Result<Owner, PictureFault>
+        ensures { IsErrOf result PictureFault.TooMany → ⊥ }
+    {
+        match who {
+            Some(who) => Ok(Owner::Process(self.lanes.process_place(partition, who)?)),
+            None => Ok(Owner::Partition(partition)),
+        }
+    }
+
+    fn flag(
+        &mut self,
+        tick: Ticks,
+        owner: Owner,
+        error: ErrorKind,
+        who: &Option<Subject>,
+        response: Response,
+    ) -> Result<(), PictureFault>
+        ensures { IsErrOf result PictureFault.TooMany → vec_len self.new.shapes ≡ 5000 }
+    {
+        self.keep(Shape::Flag(Flag {
+            tick,
+            owner,
+            error,
+            who: *who,
+            response,
+        }))
+    }
+
+    /// A message leaves a port. What arrives in this tick behind this line is this message.
+    fn depart(&mut self, tick: Ticks, from: Stop) {
+        self.step_aside(tick);
+        self.sending = Some(Sending { tick, from });
+    }
+
+    /// The next message of this tick stands beside the others.
+    fn step_aside(&mut self, tick: Ticks) {
+        let before = self.beside;
+        let place = match before {
+            Some(beside) if beside.tick == tick => beside.place.saturating_add(1),
+            _ => 0,
+        };
+        self.beside = Some(Beside { tick, place });
+    }
+
+    /// Where the message of a line of this tick comes from: from the port that a message left last
+    /// in this tick, or from outside.
+    fn source(&mut self, tick: Ticks) -> Stop {
+        let sending = self.sending;
+        match sending {
+            Some(sending) if sending.tick == tick => sending.from,
+            _ => {
+                self.step_aside(tick);
+                Stop::Device
+            }
+        }
+    }
+
+    fn message(
+        &mut self,
+        tick: Ticks,
+        to: Stop,
+        lost: bool,
+        words: &Words,
+    ) -> Result<(), PictureFault>
+        ensures { IsErrOf result PictureFault.TooMany → vec_len self.new.shapes ≡ 5000 }
+    {
+        let words = words.clone()?;
+        let from = self.source(tick);
+        let beside = match self.beside {
+            Some(beside) => beside.place,
+            None => 0,
+        };
+        self.keep(Shape::Message(Message {
+            tick,
+            beside,
+            from,
+            to,
+            lost,
+            words,
+        }))
+    }
+}

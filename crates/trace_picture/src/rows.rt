@@ -1,0 +1,212 @@
+//! Where the rows of a picture stand.
+
+use crate::length::Length;
+use crate::shape::{Owner, Shape, Stop};
+use std::alloc::{AllocError, Global};
+use trace_stays::Lanes;
+
+/// Where the first row begins, under the axis.
+pub const FIRST_ROW: Length = Length(400);
+
+/// The height of a row.
+pub const ROW: Length = Length(220);
+
+/// The room between two partitions.
+pub const GAP: Length = Length(180);
+
+/// The tops of the rows. Who has nothing to show has no row.
+#[derive(Drop)]
+pub struct Rows {
+    pub outside: Option<Length>,
+    pub module: Option<Length>,
+    partitions: Vec<Option<Length>>,
+    processes: Vec<Option<Length>>,
+    /// Where the last row ends.
+    pub bottom: Length,
+}
+
+/// Who has something to show.
+#[derive(Drop)]
+struct Shown {
+    outside: bool,
+    module: bool,
+    partitions: Vec<bool>,
+    processes: Vec<bool>,
+}
+
+impl Shown {
+    fn nobody(alloc: Global, lanes: &Lanes) -> Result<Shown, AllocError> {
+        let mut partitions = Vec::new(alloc);
+        for _ in lanes.partitions() {
+            partitions.push(false)?;
+        }
+        let mut processes = Vec::new(alloc);
+        for _ in lanes.processes() {
+            processes.push(false)?;
+        }
+        Ok(Shown {
+            outside: false,
+            module: false,
+            partitions,
+            processes,
+        })
+    }
+
+    fn show_partition(&mut self, partition: usize) {
+        if let Some(shown) = self.partitions.get_mut(partition) {
+            *shown = true;
+        }
+    }
+
+    fn show_process(&mut self, lanes: &Lanes, process: usize) {
+        if let Some(shown) = self.processes.get_mut(process) {
+            *shown = true;
+        }
+        if let Some(lane) = lanes.processes().get(process) {
+            self.show_partition(lane.partition);
+        }
+    }
+
+    fn show_stop(&mut self, stop: Stop) {
+        match stop {
+            Stop::Device | Stop::Channel(_) => self.outside = true,
+            Stop::Port(partition, _) => self.show_partition(partition),
+        }
+    }
+
+    fn show_owner(&mut self, lanes: &Lanes, owner: Owner) {
+        match owner {
+            Owner::Module => self.module = true,
+            Owner::Partition(partition) => self.show_partition(partition),
+            Owner::Process(process) => self.show_process(lanes, process),
+        }
+    }
+
+    fn show(&mut self, lanes: &Lanes, shape: &Shape) {
+        match shape {
+            Shape::Mode(partition, _) => self.show_partition(*partition),
+            Shape::State(process, _) => self.show_process(lanes, *process),
+            Shape::Message(message) => {
+                self.show_stop(message.from);
+                self.show_stop(message.to);
+            }
+            Shape::Flag(flag) => self.show_owner(lanes, flag.owner),
+            Shape::Report(report) => self.show_process(lanes, report.process),
+        }
+    }
+}
+
+impl Rows {
+    /// The rows for these shapes: outside and the module first, then each partition with its
+    /// processes, in the order of their first lines.
+    ///
+    /// # Errors
+    ///
+    /// Memory ran out.
+    pub fn new(alloc: Global, lanes: &Lanes, shapes: &[Shape]) -> Result<Rows, AllocError> {
+        let mut shown = Shown::nobody(alloc, lanes)?;
+        for shape in shapes {
+            shown.show(lanes, shape);
+        }
+        let mut rows = Rows {
+            outside: None,
+            module: None,
+            partitions: Vec::new(alloc),
+            processes: Vec::new(alloc),
+            bottom: FIRST_ROW,
+        };
+        if shown.outside {
+            rows.outside = Some(rows.take_row());
+        }
+        if shown.module {
+            rows.bottom = rows.bottom + GAP.half();
+            rows.module = Some(rows.take_row());
+        }
+        for _ in lanes.processes() {
+            rows.processes.push(None)?;
+        }
+        for (partition, _) in lanes.partitions().iter().enumerate() {
+            rows.add_partition(lanes, &shown, partition)?;
+        }
+        Ok(rows)
+    }
+
+    fn take_row(&mut self) -> Length {
+        let top = self.bottom;
+        self.bottom = top + ROW;
+        top
+    }
+
+    fn add_partition(
+        &mut self,
+        lanes: &Lanes,
+        shown: &Shown,
+        partition: usize,
+    ) -> Result<(), AllocError> {
+        if shown.partitions.get(partition) != Some(&true) {
+            self.partitions.push(None)?;
+            return Ok(());
+        }
+        self.bottom = self.bottom + GAP;
+        let top = self.take_row();
+        self.partitions.push(Some(top))?;
+        for (process, lane) in lanes.processes().iter().enumerate() {
+            if lane.partition == partition && shown.processes.get(process) == Some(&true) {
+                let top = self.take_row();
+                if let Some(place) = self.processes.get_mut(process) {
+                    *place = Some(top);
+                }
+            }
+        }
+        Ok(())
+    }
+
+    /// The top of a partition's row of modes.
+    pub fn partition(&self, partition: usize) -> Option<Length> {
+        match self.partitions.get(partition) {
+            Some(top) => *top,
+            None => None,
+        }
+    }
+
+    /// Where the last row of a partition ends.
+    pub fn end_of(&self, lanes: &Lanes, partition: usize) -> Length {
+        let mut end = match self.partition(partition) {
+            Some(top) => top + ROW,
+            None => FIRST_ROW,
+        };
+        for (process, lane) in lanes.processes().iter().enumerate() {
+            if lane.partition == partition {
+                if let Some(top) = self.process(process) {
+                    end = end.max(top + ROW);
+                }
+            }
+        }
+        end
+    }
+
+    /// The top of a process's row.
+    pub fn process(&self, process: usize) -> Option<Length> {
+        match self.processes.get(process) {
+            Some(top) => *top,
+            None => None,
+        }
+    }
+
+    /// The top of the row of a flag.
+    pub fn owner(&self, owner: Owner) -> Option<Length> {
+        match owner {
+            Owner::Module => self.module,
+            Owner::Partition(partition) => self.partition(partition),
+            Owner::Process(process) => self.process(process),
+        }
+    }
+
+    /// The top of the row where a message begins or ends its way.
+    pub fn stop(&self, stop: Stop) -> Option<Length> {
+        match stop {
+            Stop::Device | Stop::Channel(_) => self.outside,
+            Stop::Port(partition, _) => self.partition(partition),
+        }
+    }
+}

@@ -1,0 +1,71 @@
+//! What a picture shows.
+
+use apex_types::{ErrorKind, Name, Response, Subject, Ticks, Words};
+use trace_stays::{ModeStay, Stay};
+
+/// The most bars, arrows, flags and marks of a picture.
+pub const MOST_SHAPES: usize = 5_000;
+
+/// Where a message begins or ends its way.
+#[derive(Clone, Copy, Debug, PartialEq, Eq)]
+pub enum Stop {
+    /// Outside the module, which it comes from.
+    Device,
+    /// Outside the module, which it leaves by this channel.
+    Channel(Name),
+    /// A port of the partition at this place.
+    Port(usize, Name),
+}
+
+/// A message that moved.
+#[derive(Drop)]
+pub struct Message {
+    pub tick: Ticks,
+    /// How many messages of this tick stand left of it.
+    pub beside: u64,
+    pub from: Stop,
+    pub to: Stop,
+    pub lost: bool,
+    pub words: Words,
+}
+
+/// Which row a flag or a mark stands in.
+#[derive(Clone, Copy, Debug, PartialEq, Eq)]
+pub enum Owner {
+    /// The module itself.
+    Module,
+    /// The partition at this place.
+    Partition(usize),
+    /// The process at this place.
+    Process(usize),
+}
+
+/// An error, and how it is handled.
+#[derive(Drop)]
+pub struct Flag {
+    pub tick: Ticks,
+    pub owner: Owner,
+    pub error: ErrorKind,
+    pub who: Option<Subject>,
+    pub response: Response,
+}
+
+/// An application message.
+#[derive(Drop)]
+pub struct Report {
+    pub tick: Ticks,
+    pub process: usize,
+    pub words: Words,
+}
+
+/// A bar, an arrow, a flag or a mark.
+#[derive(Drop)]
+pub enum Shape {
+    /// The partition at this place is in a mode.
+    Mode(usize, ModeStay),
+    /// The process at this place is in a state.
+    State(usize, Stay),
+    Message(Message),
+    Flag(Flag),
+    Report(Report),
+}
