@@ -41,6 +41,26 @@ impl<'a> TraceReader<'a> {
         }
     }
 
+    /// A reader of what stands behind a line of that tick.
+    pub(crate) fn behind(text: &'a [u8], before: Ticks) -> Self
+        ensures rest { result.rest.now ≡ text.now }
+        ensures before { result.before ≡ before }
+        ensures lines { result.lines ≡ 0 }
+    {
+        TraceReader {
+            rest: text,
+            before,
+            lines: 0,
+        }
+    }
+
+    /// What was not read yet.
+    pub(crate) fn rest(&self) -> &'a [u8]
+        ensures { result.now ≡ self.now.rest.now }
+    {
+        self.rest
+    }
+
     /// How many lines were read.
     pub fn lines(&self) -> u64
         ensures { result ≡ self.now.lines }
