@@ -3,7 +3,6 @@
 ghost use Rattle.std.specs.Prelude.{◌≡◌, ℕ, ◌+◌, ◌-◌, ◌<◌, ◌≤◌, [], length, take, drop, slice_range, IfOk, OnErr, OnOk, vec_len};
 ghost use Rattle.std.specs.Io.{ReadsAtMost};
 ghost use Rattle.std.specs.Io.KnownBytes.{Consumes, IsAtEnd, Keeps, prepend_known};
-ghost use Rattle.trace_text.specs.Stream.{ahead_bytes};
 
 use std::alloc::{AllocError, Global};
 use std::io::{Error, ErrorKind, Read, Result};
@@ -26,6 +25,8 @@ pub struct Ahead {
 }
 
 impl Ahead {
+    ghost use Rattle.trace_text.specs.Stream.{ahead_bytes};
+
     pub fn new(alloc: Global) -> std::result::Result<Self, AllocError>
         ensures { IfOk result (λ a. ahead_bytes a ≡ []) }
     {
@@ -63,7 +64,7 @@ impl Ahead {
         ensures same { OnErr result (ahead_bytes self.new ≡ ahead_bytes self.old) }
     {
         self.move_to_front();
-        let count = read_at(reader, self.buffer.as_mut_slice(), self.end)?;
+        let count = read_behind(reader, &mut self.buffer, self.end)?;
         self.end += count;
         Ok(count)
     }
@@ -76,6 +77,19 @@ impl Ahead {
         self.end -= self.start;
         self.start = 0;
     }
+}
+
+/// One read into what stands from a place of the buffer on.
+fn read_behind<R: Read>(reader: &mut R, buffer: &mut Vec<u8>, at: usize) -> Result<usize>
+    requires { at < vec_len buffer.old }
+    ensures front { take at buffer.new.items ≡ take at buffer.old.items }
+    ensures len { vec_len buffer.new ≡ vec_len buffer.old }
+    ensures fits { IfOk result (λ n. at + n ≤ vec_len buffer.new) }
+    ensures read { IfOk result (λ n. Consumes (R.remaining reader.old) (R.remaining reader.new) (take n (drop at buffer.new.items))) }
+    ensures end { IfOk result (λ n. n ≡ 0 → IsAtEnd (R.remaining reader.new)) }
+    ensures kept { OnErr result (Keeps (R.remaining reader.old) (R.remaining reader.new)) }
+{
+    read_at(reader, buffer.as_mut_slice(), at)
 }
 
 /// One read into what stands from a place on.

@@ -34,11 +34,7 @@ impl<'a> TraceReader<'a> {
         ensures before { result.before.0 ≡ 0 }
         ensures lines { result.lines ≡ 0 }
     {
-        TraceReader {
-            rest: text,
-            before: Ticks(0),
-            lines: 0,
-        }
+        Self::behind(text, Ticks(0))
     }
 
     /// A reader of what stands behind a line of that tick.

@@ -1,7 +1,8 @@
 //! A trace that comes from a reader.
 
-ghost use Rattle.std.specs.Prelude.{◌≡◌, ℕ, ◌+◌, ◌<◌, ◌≤◌, [], length, IfOk, IfErr, IfSome, OnErr, OnOk, Ok, Some, None};
+ghost use Rattle.std.specs.Prelude.{◌≡◌, ◌≢◌, ◌⊎◌, ◌<◌, ◌≤◌, [], length, true, false, IfOk, IfErr, IfSome, OnErr, OnOk, Ok, Some, None};
 ghost use Rattle.std.specs.Io.KnownBytes.{IsAtEnd, Keeps};
+ghost use Rattle.apex_meaning.specs.DeviceText.{pieces_behind_marks};
 ghost use Rattle.trace_text.specs.Trace.{CanBeWritten};
 ghost use Rattle.trace_text.specs.Stream.{IsStreamFault, NextIn, SeesLine, ahead_bytes, left, next_number};
 ghost use Rattle.trace_text.specs.declared.stream.StreamFault.TheVariants as faults;
@@ -136,6 +137,8 @@ impl<R: Read> TraceStream<R> {
 
 /// Whether the first line, if it is one of a trace, stands here to its end.
 fn has_line(bytes: &[u8]) -> bool
+    ensures found { result ≡ true → (pieces_behind_marks 10 bytes.now ≢ []) ⊎ (512 ≤ length bytes.now) }
+    ensures short { result ≡ false → length bytes.now < 512 }
 {
     let (_, behind) = split_at(b'\n', bytes);
     behind.is_some() || bytes.len() >= LONGEST_LINE

@@ -86,7 +86,9 @@ fn compare(rt: &impl Abort, alloc: Global, text: &[u8], most: usize) {
     let mut reader = TraceReader::new(text);
     for _ in 0..text.len() + 1 {
         match (stream.next_event(), reader.next_event()) {
-            (Ok(Some(one)), Ok(Some(other))) => assert!(rt; line_of(alloc, &one) == line_of(alloc, &other)),
+            (Ok(Some(one)), Ok(Some(other))) => assert!(rt;
+                line_of(alloc, &one) == line_of(alloc, &other)
+            ),
             (Ok(None), Ok(None)) => return,
             (Err(StreamFault::Line(one)), Err(other)) => {
                 assert_eq!(rt; one, other);
@@ -107,8 +109,18 @@ fn compare_all(rt: &impl Abort, alloc: Global, most: usize) {
     compare(rt, alloc, b"\n", most);
     compare(rt, alloc, &bytes[..bytes.len() - 1], most);
     compare(rt, alloc, &bytes[1..], most);
-    compare(rt, alloc, b"0000000000005 a MODE IDLE\n0000000000004 a MODE IDLE\n", most);
-    compare(rt, alloc, b"0000000000005 a MODE IDLE\n\n0000000000005 a MODE IDLE\n", most);
+    compare(
+        rt,
+        alloc,
+        b"0000000000005 a MODE IDLE\n0000000000004 a MODE IDLE\n",
+        most,
+    );
+    compare(
+        rt,
+        alloc,
+        b"0000000000005 a MODE IDLE\n\n0000000000005 a MODE IDLE\n",
+        most,
+    );
 }
 
 #[test]
@@ -122,12 +134,14 @@ fn a_stream_gives_what_the_text_has(rt: HostRuntime) {
 fn a_long_trace(rt: HostRuntime) {
     let mut text = Vec::new(rt.alloc());
     for _ in 0..300 {
-        text.extend_from_slice(b"0000000000005 a ARRIVE q 1 2 3 4 5 6\n").expect(&rt, "memory");
+        text.extend_from_slice(b"0000000000005 a ARRIVE q 1 2 3 4 5 6\n")
+            .expect(&rt, "memory");
     }
     for most in [8191, 8192, 8193, 100] {
         compare(&rt, rt.alloc(), text.as_slice(), most);
     }
-    text.extend_from_slice(b"0000000000004 a ARRIVE q 1 2 3 4 5 6\n").expect(&rt, "memory");
+    text.extend_from_slice(b"0000000000004 a ARRIVE q 1 2 3 4 5 6\n")
+        .expect(&rt, "memory");
     compare(&rt, rt.alloc(), text.as_slice(), 5000);
 }
 
@@ -140,7 +154,10 @@ fn a_text_without_lines_is_refused_at_once(rt: HostRuntime) {
     };
     let mut zeros = stream(&rt, rt.alloc(), endless);
     for _ in 0..2 {
-        let is_refused = matches!(zeros.next_event(), Err(StreamFault::Line(TraceFault { line: 1 })));
+        let is_refused = matches!(
+            zeros.next_event(),
+            Err(StreamFault::Line(TraceFault { line: 1 }))
+        );
         assert!(rt; is_refused);
     }
     drop(zeros);
