@@ -1,0 +1,5 @@
+//! Tests of the command line of `mbview`.
+#![tactic(auto)]
+
+#[cfg(test)]
+mod tests;
