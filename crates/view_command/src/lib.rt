@@ -1,22 +1,34 @@
 //! The command line of `mbview`.
 #![tactic(auto)]
 
+ghost use Rattle.std.specs.Prelude.{◌≡◌, [], map, true, IfErr, OnOk};
+ghost use Rattle.clap.specs.Faults.{fault_of};
+ghost use Rattle.clap.specs.Simple.{subcommand_of};
+ghost use Rattle.view_command.specs.Answers.{IsAnswer, IsFailure};
+ghost use Rattle.view_command.specs.Orders.{trace_of};
+ghost use Rattle.view_command.specs.States.{seen};
+ghost use Rattle.view_command.specs.Texts.{IsTraceIn};
+ghost use Rattle.view_command.specs.Words.{view_app};
+
 mod grammar;
 mod refusal;
 mod request;
 mod showing;
 mod sources;
 mod stand_ins;
+mod stream;
 mod telling;
 mod views;
 
 pub use refusal::Refusal;
+use refusal::Failure;
 use request::request_of;
 use showing::show;
 pub use sources::{SourceFault, Sources};
 use std::alloc::Global;
 use std::convert::AsStr;
 use std::io::Write;
+pub use stream::Stream;
 use telling::tell;
 
 /// Shows the trace that the words of a command line name, the program's name first, and answers the
@@ -28,12 +40,26 @@ pub fn view<S: AsStr, F: Sources, O: Write, E: Write>(
     alloc: Global,
     words: &[S],
     sources: &mut F,
-    out: &mut O,
-    err: &mut E,
-) -> u8 {
-    let outcome = match request_of(alloc, words) {
-        Ok(request) => show(alloc, &request, sources, out),
-        Err(failure) => Err(failure),
-    };
+    out: &mut Stream<O>,
+    err: &mut Stream<E>,
+) -> u8
+    ensures { IsAnswer (fault_of view_app (map S.text words.now)) (subcommand_of view_app (map S.text words.now)) (F.texts sources.old)
+        (seen O.contents out.old) (seen O.contents out.new) (seen E.contents err.old) (seen E.contents err.new) result }
+{
+    let outcome = perform(alloc, words, sources, out);
     tell(outcome, out, err)
+}
+
+/// Does what the words say.
+fn perform<S: AsStr, F: Sources, O: Write>(
+    alloc: Global,
+    words: &[S],
+    sources: &mut F,
+    out: &mut Stream<O>,
+) -> Result<(), Failure>
+    ensures done { OnOk result ((out.new.flushed ≡ true) × (fault_of view_app (map S.text words.now) ≡ []) × IsTraceIn (F.texts sources.old) (trace_of (subcommand_of view_app (map S.text words.now)))) }
+    ensures failed { IfErr result (λ f. IsFailure (fault_of view_app (map S.text words.now)) (subcommand_of view_app (map S.text words.now)) (F.texts sources.old) (seen O.contents out.old) (seen O.contents out.new) f) }
+{
+    let request = request_of(alloc, words)?;
+    Ok(show(alloc, &request, sources, out)?)
 }

@@ -1,5 +1,13 @@
 //! Why nothing is shown.
 
+ghost use Rattle.std.specs.Prelude.{◌≡◌, ◌≢◌, Some};
+ghost use Rattle.clap.specs.Values.{kind_of};
+ghost use Rattle.clap.specs.declared.error.kind.ErrorKind.TheVariants.{OutOfMemory};
+ghost use Rattle.view_command.specs.Lines.{line_of};
+ghost use Rattle.view_command.specs.declared.refusal.Refusal.TheVariants as refusal;
+ghost use Rattle.view_command.specs.declared.refusal.Failure.TheVariants as failure;
+
+use apex_types::SinkFault;
 use clap::error::ErrorKind;
 use std::alloc::{AllocError, AllocFailed};
 use std::fmt;
@@ -21,6 +29,8 @@ pub enum Refusal {
 }
 
 impl fmt::Display for Refusal {
+    ghost output = { λ refusal. Some (line_of refusal) };
+
     fn fmt<W: fmt::Write>(&self, f: &mut fmt::Formatter<W>) -> fmt::Result {
         match self {
             Refusal::Open(trace) => write!(f, "mbview: {trace} cannot be opened"),
@@ -39,8 +49,18 @@ impl fmt::Display for Refusal {
 }
 
 impl From<AllocError> for Refusal {
+    ghost from_gives = { λ _ r. r ≡ refusal.Memory };
+
     fn from(_: AllocError) -> Self {
         Refusal::Memory
+    }
+}
+
+impl From<SinkFault> for Refusal {
+    ghost from_gives = { λ _ r. r ≡ refusal.Write };
+
+    fn from(_: SinkFault) -> Self {
+        Refusal::Write
     }
 }
 
@@ -53,18 +73,25 @@ pub enum Failure {
 }
 
 impl From<Refusal> for Failure {
+    ghost from_gives = { λ r f. f ≡ failure.Refused r };
+
     fn from(refusal: Refusal) -> Self {
         Failure::Refused(refusal)
     }
 }
 
 impl From<AllocError> for Failure {
+    ghost from_gives = { λ _ f. f ≡ failure.Refused refusal.Memory };
+
     fn from(_: AllocError) -> Self {
         Failure::Refused(Refusal::Memory)
     }
 }
 
 impl From<clap::Error> for Failure {
+    ghost from_gives = { λ error f. (kind_of error ≡ OutOfMemory → f ≡ failure.Refused refusal.Memory)
+        × (kind_of error ≢ OutOfMemory → f ≡ failure.Usage error) };
+
     fn from(error: clap::Error) -> Self {
         match error.kind() {
             ErrorKind::OutOfMemory => Failure::Refused(Refusal::Memory),

@@ -1,10 +1,17 @@
 //! A trace is read to its end, and then shown.
 
-use crate::refusal::{Failure, Refusal};
+ghost use Rattle.std.specs.Prelude.{◌≡◌, true, IfErr, OnErr, OnOk, string_bytes};
+ghost use Rattle.view_command.specs.Answers.{IsOfStream, IsOfView, IsRefused, IsTorn, IsUnopened, IsUnread};
+ghost use Rattle.view_command.specs.Lines.{called};
+ghost use Rattle.view_command.specs.States.{seen};
+ghost use Rattle.view_command.specs.Texts.{IsTraceIn, IsTraceOf};
+
+use crate::refusal::Refusal;
 use crate::request::Request;
 use crate::sources::{SourceFault, Sources};
+use crate::stream::Stream;
 use crate::views::{Shown, ViewFault};
-use std::alloc::{AllocError, Global};
+use std::alloc::Global;
 use std::io::{Read, Write};
 use trace_text::{StreamFault, TraceStream};
 
@@ -13,24 +20,32 @@ pub fn show<F: Sources, O: Write>(
     alloc: Global,
     request: &Request,
     sources: &mut F,
-    out: &mut O,
-) -> Result<(), Failure> {
-    let reader = match sources.open(request.trace.as_str()) {
+    out: &mut Stream<O>,
+) -> Result<(), Refusal>
+    ensures trace { OnOk result (IsTraceIn (F.texts sources.old) (string_bytes request.now.trace)) }
+    ensures flushed { OnOk result (out.new.flushed ≡ true) }
+    ensures refused { IfErr result (λ r. IsRefused (F.texts sources.old) (string_bytes request.now.trace) (seen O.contents out.old) (seen O.contents out.new) r) }
+{
+    let trace = request.trace.as_str();
+    let reader = match sources.open(trace) {
         Ok(reader) => reader,
-        Err(fault) => return Err(Failure::Refused(unopened(alloc, &request.trace, fault)?)),
+        Err(fault) => return Err(unopened(alloc, trace, fault)),
     };
     let mut shown = Shown::new(alloc, request.view, request.from, request.to);
-    read_all(alloc, &request.trace, reader, &mut shown)?;
-    Ok(write_out(&mut shown, out)?)
+    read_all(alloc, trace, reader, &mut shown)?;
+    Ok(out.view(&mut shown)?)
 }
 
 /// Reads every line of a trace.
 fn read_all<R: Read + Drop>(
     alloc: Global,
-    trace: &String,
+    trace: &str,
     reader: R,
     shown: &mut Shown,
-) -> Result<(), Refusal> {
+) -> Result<(), Refusal>
+    ensures trace { OnOk result (IsTraceOf (R.remaining reader)) }
+    ensures refused { IfErr result (λ r. IsUnread (R.remaining reader) trace.now r) }
+{
     let mut stream = match TraceStream::new(alloc, reader) {
         Ok(stream) => stream,
         Err(_) => return Err(Refusal::Memory),
@@ -43,41 +58,55 @@ fn read_all<R: Read + Drop>(
                 }
             }
             Ok(None) => return Ok(()),
-            Err(fault) => return Err(unread(alloc, trace, fault)?),
+            Err(fault) => return Err(unread(alloc, trace, fault)),
         }
     }
-    Err(Refusal::Read(name_of(alloc, trace)?))
-}
-
-/// Writes what was read.
-fn write_out<O: Write>(shown: &mut Shown, out: &mut O) -> Result<(), Refusal> {
-    if shown.write(out).is_err() || out.flush().is_err() {
-        return Err(Refusal::Write);
-    }
-    Ok(())
+    Err(torn(alloc, trace))
 }
 
 /// The refusal of a text that was not opened.
-fn unopened(alloc: Global, trace: &String, fault: SourceFault) -> Result<Refusal, AllocError> {
+fn unopened(alloc: Global, trace: &str, fault: SourceFault) -> Refusal
+    ensures { IsUnopened trace.now result }
+{
     match fault {
-        SourceFault::Unavailable => Ok(Refusal::Open(name_of(alloc, trace)?)),
-        SourceFault::Memory => Ok(Refusal::Memory),
+        SourceFault::Unavailable => match String::from_str(alloc, called(trace)) {
+            Ok(name) => Refusal::Open(name),
+            Err(_) => Refusal::Memory,
+        },
+        SourceFault::Memory => Refusal::Memory,
     }
 }
 
 /// The refusal of a text that is no trace, or was not read.
-fn unread(alloc: Global, trace: &String, fault: StreamFault) -> Result<Refusal, AllocError> {
+fn unread(alloc: Global, trace: &str, fault: StreamFault) -> Refusal
+    ensures { IsOfStream trace.now fault result }
+{
     match fault {
-        StreamFault::Line(fault) => Ok(Refusal::Line {
-            number: fault.line,
-            trace: name_of(alloc, trace)?,
-        }),
-        StreamFault::Read(_) => Ok(Refusal::Read(name_of(alloc, trace)?)),
-        StreamFault::Memory => Ok(Refusal::Memory),
+        StreamFault::Line(fault) => match String::from_str(alloc, called(trace)) {
+            Ok(name) => Refusal::Line {
+                number: fault.line,
+                trace: name,
+            },
+            Err(_) => Refusal::Memory,
+        },
+        StreamFault::Read(_) => torn(alloc, trace),
+        StreamFault::Memory => Refusal::Memory,
     }
 }
 
-fn of_view(fault: ViewFault) -> Refusal {
+/// The refusal of a text that was not read to its end.
+fn torn(alloc: Global, trace: &str) -> Refusal
+    ensures { IsTorn trace.now result }
+{
+    match String::from_str(alloc, called(trace)) {
+        Ok(name) => Refusal::Read(name),
+        Err(_) => Refusal::Memory,
+    }
+}
+
+fn of_view(fault: ViewFault) -> Refusal
+    ensures { IsOfView result }
+{
     match fault {
         ViewFault::Memory => Refusal::Memory,
         ViewFault::TooMany => Refusal::TooMany,
@@ -85,10 +114,12 @@ fn of_view(fault: ViewFault) -> Refusal {
 }
 
 /// What a text is called in a line for a reader.
-fn name_of(alloc: Global, trace: &String) -> Result<String, AllocError> {
-    if trace.as_str() == "-" {
-        String::from_str(alloc, "the standard input")
+fn called(trace: &str) -> &str
+    ensures { result.now ≡ called trace.now }
+{
+    if trace == "-" {
+        "the standard input"
     } else {
-        String::from_str(alloc, trace.as_str())
+        trace
     }
 }
