@@ -35,9 +35,12 @@ impl fmt::Display for Refusal {
         match self {
             Refusal::Open(trace) => write!(f, "mbview: {trace} cannot be opened"),
             Refusal::Read(trace) => write!(f, "mbview: {trace} cannot be read to its end"),
-            Refusal::Line { number, trace } => {
-                write!(f, "mbview: line {number} of {trace} is no line of a trace")
-            }
+            Refusal::Line { number, trace } => write!(
+                f,
+                "mbview: line {} of {} is no line of a trace",
+                *number,
+                trace.as_str()
+            ),
             Refusal::TooMany => write!(
                 f,
                 "mbview: the picture would have too many elements; choose fewer ticks with --from and --to"
