@@ -10,3 +10,6 @@ pub mod Happened
 pub mod Lines
 pub mod Traces
 pub mod SoFar
+pub mod Lengths
+pub mod Streams
+pub mod Ranges

@@ -38,7 +38,7 @@ joined_kind : (k : EventKind) (p : List ℕ) → join_with_byte 32 (p ∷ parts_
 joined_kind k p = join_front p (parts_of k) (some_parts k) ∙ ap (λ (xs : List ℕ). p ++ 32 ∷ xs) (kind_joined k)
 
 -- the text of a line groups its parts to the left
-body_is : (e : Event) → body_of e ++ 10 ∷ [] ≡ line_of e
+pub body_is : (e : Event) → body_of e ++ 10 ∷ [] ≡ line_of e
 body_is e =
     ap (λ (xs : List ℕ). thirteen_digits e.tick.0 ++ 32 ∷ (xs ++ 10 ∷ []))
     (joined_kind e.kind (partition_text e.partition) ∙ sym (append_assoc (partition_text e.partition) (32 ∷ []) (kind_text e.kind)))
@@ -104,7 +104,7 @@ join_free (p ∷ q ∷ ps) h =
     list_all-append (λ b. not (b == 10)) p (32 ∷ join_with_byte 32 (q ∷ ps))
     ∙ and_from (is_free 10 p) (is_free 10 (32 ∷ join_with_byte 32 (q ∷ ps))) (ink_is_free 10 p (omega arith) g.0) (join_free (q ∷ ps) g.1)
 
-body_free : (e : Event) → CanBeWritten e → is_free 10 (body_of e) ≡ true
+pub body_free : (e : Event) → CanBeWritten e → is_free 10 (body_of e) ≡ true
 body_free e can =
     join_free (thirteen_digits e.tick.0 ∷ behind_tick e)
     (and_from (list_all is_ink (thirteen_digits e.tick.0)) (list_all (list_all is_ink) (behind_tick e)) (tick_ink e can) (behind_ink e can))

@@ -1,9 +1,11 @@
 //! Reads the text of a trace back into its events.
 //!
 //! `apex_types::write_events` writes a trace; this crate is the way back. `read_line` reads one
-//! line, and a `TraceReader` goes over a text line by line.
+//! line, a `TraceReader` goes over a text line by line, and a `TraceStream` does the same over the
+//! bytes of a reader, however many they are.
 #![tactic(auto)]
 
+mod ahead;
 mod field;
 mod keyword;
 mod kind;
@@ -12,10 +14,14 @@ mod line;
 mod number;
 mod piece;
 mod reader;
+mod stream;
+#[cfg(test)]
+mod stream_tests;
 #[cfg(test)]
 mod tests;
 mod whole;
 
 pub use line::{LineFault, read_line};
 pub use reader::{TraceFault, TraceReader};
+pub use stream::{StreamFault, TraceStream};
 pub use whole::check_trace;

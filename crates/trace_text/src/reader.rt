@@ -34,11 +34,27 @@ impl<'a> TraceReader<'a> {
         ensures before { result.before.0 ≡ 0 }
         ensures lines { result.lines ≡ 0 }
     {
+        Self::behind(text, Ticks(0))
+    }
+
+    /// A reader of what stands behind a line of that tick.
+    pub(crate) fn behind(text: &'a [u8], before: Ticks) -> Self
+        ensures rest { result.rest.now ≡ text.now }
+        ensures before { result.before ≡ before }
+        ensures lines { result.lines ≡ 0 }
+    {
         TraceReader {
             rest: text,
-            before: Ticks(0),
+            before,
             lines: 0,
         }
+    }
+
+    /// What was not read yet.
+    pub(crate) fn rest(&self) -> &'a [u8]
+        ensures { result.now ≡ self.now.rest.now }
+    {
+        self.rest
     }
 
     /// How many lines were read.

@@ -1,3 +1,4 @@
+mod commands;
 mod picture;
 mod summaries;
 mod summary;

@@ -1,0 +1,6 @@
+pub mod Answers
+pub mod Lines
+pub mod Orders
+pub mod States
+pub mod Texts
+pub mod Words

@@ -1,0 +1,18 @@
+-- The line of each refusal, without its line feed.
+use Rattle.std.specs.Prelude.{ℕ, List, ◌++◌, codes, string_bytes, if◌then◌else◌}
+use Rattle.std.specs.Fmt.{decimal}
+use Rattle.std.specs.Str.{bytes_eq}
+use Rattle.view_command.specs.declared.refusal.Refusal.{Refusal}
+use Rattle.view_command.specs.declared.refusal.Refusal.TheVariants.{Open, Read, Line, TooMany, Memory, Write}
+
+-- what a text is called: `-` stands for the standard input
+abbrev pub called : List ℕ → List ℕ
+called name = if bytes_eq name (codes "-") then codes "the standard input" else name
+
+abbrev pub line_of : Refusal → List ℕ
+line_of (Open trace) = codes "mbview: " ++ string_bytes trace ++ codes " cannot be opened"
+line_of (Read trace) = codes "mbview: " ++ string_bytes trace ++ codes " cannot be read to its end"
+line_of (Line number trace) = codes "mbview: line " ++ decimal number ++ codes " of " ++ string_bytes trace ++ codes " is no line of a trace"
+line_of TooMany = codes "mbview: the picture would have too many elements; choose fewer ticks with --from and --to"
+line_of Memory = codes "mbview: there is too little memory"
+line_of Write = codes "mbview: the output cannot be written"

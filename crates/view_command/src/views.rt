@@ -1,0 +1,105 @@
+//! The views of a trace: the one file that names the crates which make them.
+
+use apex_types::{Event, Ticks};
+use std::alloc::Global;
+use std::io;
+use trace_picture::{Picture, PictureFault};
+use trace_view::{ReportFault, Summary};
+use wave_dump::{Dump, MemoryFull};
+
+/// How a trace is shown.
+#[derive(Clone, Copy, Debug, PartialEq, Eq)]
+pub enum View {
+    /// A table for people.
+    Table,
+    /// The same as comma-separated values.
+    Rows,
+    Picture,
+    Waves,
+}
+
+/// Why an event is not taken.
+#[derive(Clone, Copy, Debug, PartialEq, Eq)]
+pub enum ViewFault {
+    Memory,
+    /// The picture would have too many elements.
+    TooMany,
+}
+
+/// What is shown of the events so far.
+#[derive(Drop)]
+pub enum Shown {
+    Table(Summary),
+    Rows(Summary),
+    Picture(Picture),
+    Waves(Dump),
+}
+
+impl Shown {
+    /// Nothing is shown so far.
+    pub fn new(alloc: Global, view: View, from: Ticks, to: Option<Ticks>) -> Self {
+        match view {
+            View::Table => Shown::Table(Summary::new(alloc, from, to)),
+            View::Rows => Shown::Rows(Summary::new(alloc, from, to)),
+            View::Picture => Shown::Picture(Picture::new(alloc, from, to)),
+            View::Waves => Shown::Waves(Dump::new(alloc, from, to)),
+        }
+    }
+
+    /// Takes the next event.
+    pub fn add(&mut self, event: &Event) -> Result<(), ViewFault> {
+        match self {
+            Shown::Table(summary) | Shown::Rows(summary) => summary.count(event)?,
+            Shown::Picture(picture) => picture.add(event)?,
+            Shown::Waves(dump) => dump.add(event)?,
+        }
+        Ok(())
+    }
+
+    /// What is shown of all events, as the bytes that are written.
+    pub fn into_bytes(self, alloc: Global) -> Result<Vec<u8>, ViewFault> {
+        let mut bytes = Vec::new(alloc);
+        match self {
+            Shown::Table(summary) => summary.finish()?.write_table(alloc, &mut bytes)?,
+            Shown::Rows(summary) => summary.finish()?.write_csv(alloc, &mut bytes)?,
+            Shown::Picture(picture) => picture.finish()?.write(&mut bytes)?,
+            Shown::Waves(dump) => write_waves(dump, &mut bytes)?,
+        }
+        Ok(bytes)
+    }
+}
+
+/// Writes the waves that were gathered.
+fn write_waves(mut dump: Dump, bytes: &mut Vec<u8>) -> Result<(), ViewFault> {
+    dump.finish()?;
+    dump.write(bytes)?;
+    Ok(())
+}
+
+impl From<MemoryFull> for ViewFault {
+    fn from(_: MemoryFull) -> Self {
+        ViewFault::Memory
+    }
+}
+
+/// Bytes in memory take all that is written, unless memory runs out.
+impl From<io::Error> for ViewFault {
+    fn from(_: io::Error) -> Self {
+        ViewFault::Memory
+    }
+}
+
+impl From<ReportFault> for ViewFault {
+    fn from(_: ReportFault) -> Self {
+        ViewFault::Memory
+    }
+}
+
+impl From<PictureFault> for ViewFault {
+    fn from(fault: PictureFault) -> Self {
+        match fault {
+            PictureFault::Memory => ViewFault::Memory,
+            PictureFault::TooMany => ViewFault::TooMany,
+        }
+    }
+}

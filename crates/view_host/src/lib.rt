@@ -1,0 +1,6 @@
+//! The texts of the host, as `mbview` reads them.
+#![tactic(auto)]
+
+mod sources;
+
+pub use sources::HostSources;
