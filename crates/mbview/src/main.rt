@@ -9,7 +9,7 @@ use std::env;
 use std::io::{self, BufWriter, ErrorKind, Write};
 use std::process::ExitCode;
 use std::rt::Env;
-use view_command::view;
+use view_command::{Stream, view};
 
 fn main(rt: HostRuntime) -> ExitCode {
     ExitCode::from(status(&rt))
@@ -17,16 +17,17 @@ fn main(rt: HostRuntime) -> ExitCode {
 
 /// Does what the words of the process say, and answers the exit status.
 fn status(rt: &HostRuntime) -> u8 {
-    let mut err = rt.stderr();
+    let mut err = Stream::new(rt.stderr());
     let words = match words(rt) {
         Ok(words) => words,
-        Err(error) => return wordless(error.kind(), &mut err),
+        Err(error) => return wordless(error.kind(), &mut err.into_writer()),
     };
     // Tables, pictures and dumps go out by blocks.
-    let Ok(mut out) = BufWriter::new(rt.alloc(), rt.stdout()) else {
-        return wordless(ErrorKind::OutOfMemory, &mut err);
+    let Ok(writer) = BufWriter::new(rt.alloc(), rt.stdout()) else {
+        return wordless(ErrorKind::OutOfMemory, &mut err.into_writer());
     };
     let mut sources = HostSources::new(rt);
+    let mut out = Stream::new(writer);
     let status = view(
         rt.alloc(),
         words.as_slice(),
@@ -35,7 +36,7 @@ fn status(rt: &HostRuntime) -> u8 {
         &mut err,
     );
     // What was not flushed was not taken, and is not written again.
-    let _ = out.into_parts();
+    let _ = out.into_writer().into_parts();
     status
 }
 

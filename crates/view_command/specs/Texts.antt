@@ -1,5 +1,5 @@
 -- The texts that can be opened, where these are told, and what is promised of one.
-use Rattle.std.specs.Prelude.{◌≡◌, ℕ, List, Option, Some, None, length}
+use Rattle.std.specs.Prelude.{◌≡◌, ℕ, List, Option, Some, None}
 use Rattle.apex_types.specs.declared.event.Event.{Event}
 use Rattle.trace_text.specs.Trace.{IsReadAs, IsRefusedAt}
 

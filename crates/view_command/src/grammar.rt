@@ -13,8 +13,7 @@ use clap::{Arg, ArgAction, Command, Error};
 use std::alloc::{AllocError, Global};
 
 /// The commands and their arguments.
-pub fn grammar<'a>(alloc: Global) -> Result<Command<'a>, AllocError>
-{
+pub fn grammar<'a>(alloc: Global) -> Result<Command<'a>, AllocError> {
     Command::new(alloc, "mbview")
         .about("Shows the trace of a run: what the partitions and their processes did, and when")
         .after_help("Example: mbview summary trace.txt")

@@ -15,8 +15,8 @@ mod stream;
 mod telling;
 mod views;
 
-pub use refusal::Refusal;
 use refusal::Failure;
+pub use refusal::Refusal;
 use request::request_of;
 use showing::show;
 pub use sources::{SourceFault, Sources};

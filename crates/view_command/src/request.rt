@@ -21,15 +21,13 @@ pub struct Request {
 }
 
 /// What the words ask for.
-pub fn request_of<S: AsStr>(alloc: Global, words: &[S]) -> Result<Request, Failure>
-{
+pub fn request_of<S: AsStr>(alloc: Global, words: &[S]) -> Result<Request, Failure> {
     let matches = grammar(alloc)?.try_get_matches_from(words)?;
     requested(alloc, &matches)
 }
 
 /// What was found in the words.
-fn requested(alloc: Global, matches: &ArgMatches<'_>) -> Result<Request, Failure>
-{
+fn requested(alloc: Global, matches: &ArgMatches<'_>) -> Result<Request, Failure> {
     match matches.subcommand() {
         Some(("summary", found)) => shown(alloc, table_or_rows(found), found),
         Some(("svg", found)) => shown(alloc, View::Picture, found),
@@ -48,8 +46,7 @@ fn table_or_rows(found: &ArgMatches<'_>) -> View {
 }
 
 /// The trace and the ticks that were found.
-fn shown(alloc: Global, view: View, found: &ArgMatches<'_>) -> Result<Request, Failure>
-{
+fn shown(alloc: Global, view: View, found: &ArgMatches<'_>) -> Result<Request, Failure> {
     let trace = String::from_str(alloc, word(found, "TRACE"))?;
     let from = tick(alloc, found, "from")?.unwrap_or(0);
     let to = tick(alloc, found, "to")?;
@@ -67,8 +64,7 @@ fn shown(alloc: Global, view: View, found: &ArgMatches<'_>) -> Result<Request, F
 }
 
 /// The tick of an option, if it is there.
-fn tick(alloc: Global, found: &ArgMatches<'_>, option: &str) -> Result<Option<u64>, Failure>
-{
+fn tick(alloc: Global, found: &ArgMatches<'_>, option: &str) -> Result<Option<u64>, Failure> {
     let Some(word) = found.get_str(option) else {
         return Ok(None);
     };
@@ -79,7 +75,6 @@ fn tick(alloc: Global, found: &ArgMatches<'_>, option: &str) -> Result<Option<u6
 }
 
 /// A required argument. The parse has found it.
-fn word<'a>(found: &ArgMatches<'a>, name: &str) -> &'a str
-{
+fn word<'a>(found: &ArgMatches<'a>, name: &str) -> &'a str {
     found.get_str(name).unwrap_or("")
 }

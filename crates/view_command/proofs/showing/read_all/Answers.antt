@@ -1,5 +1,4 @@
 use Rattle.std.proofs.Common.{rules, ◌≡◌, ◌+◌, ◌-◌, ◌^◌, ◌<◌, ℕ, ap, ◌∙◌, arith}
-use Rattle.apex_types.specs.declared.event.Event.{Event}
 use Rattle.trace_text.specs.Stream.{NextIn, left, next_number}
 use Rattle.view_command.proofs.SoFar.{next_is, so_far_end, so_far_more, unread_of}
 use Rattle.view_command.proofs.showing.read_all.Goals as goal
@@ -24,8 +23,7 @@ loop-preserved g c =
     let low : s.lines < 2 ^ 64 - 1 = omega (arith, below, c.loop.invariant.1) in
     let next : NextIn s.before.0 (left g.R.Read.remaining s) e (left g.R.Read.remaining new) = search rules in
     let tick : new.before ≡ e.tick = search rules in
-    let count : new.lines ≡ next_number s.lines = search rules in
-    (
+    let count : new.lines ≡ next_number s.lines = search rules in (
       so_far_more (g.R.Read.remaining c.args.reader) (left g.R.Read.remaining s) (left g.R.Read.remaining new) s.before.0 s.lines e new.before new.lines low c.loop.invariant.0 next (tick, count),
       count ∙ next_is s.lines low ∙ ap (λ (n : ℕ). n + 1) c.loop.invariant.1,
     )
