@@ -1,8 +1,6 @@
 //! Shows the traces of modules.
 #![tactic(auto)]
 
-
-
 use std::alloc::AllocGlobal;
 use std::env;
 use std::io::{self, BufWriter, ErrorKind, Write};

@@ -3,7 +3,7 @@
 use std::alloc::Global;
 use std::io::{self, ErrorKind, Read, Write};
 use std::process::Abort;
-use view_command::{SourceFault, Sources, view};
+use view_command::{SourceFault, Sources, Stream, view};
 
 const TRACE: &str = "0000000000000 a MODE COLD_START
 0000000000000 a STATE INIT READY
@@ -67,6 +67,7 @@ impl Write for Full {
 struct Row {
     words: &'static [&'static str],
     status: u8,
+    /// With status 0 the output has this text; otherwise there is none.
     out: &'static str,
     err: &'static str,
 }
@@ -75,31 +76,31 @@ static ROWS: [Row; 12] = [
     Row {
         words: &["mbview", "summary", "trace.txt"],
         status: 0,
-        out: "events 5\n",
+        out: "    5           0          6     0   7      7\n",
         err: "",
     },
     Row {
         words: &["mbview", "summary", "-", "--csv"],
         status: 0,
-        out: "events,5\n",
+        out: "\nport,a,q,",
         err: "",
     },
     Row {
         words: &["mbview", "summary", "--from", "4", "trace.txt", "--to", "6"],
         status: 0,
-        out: "events 2\n",
+        out: "    2           4          5     4   6      2\n",
         err: "",
     },
     Row {
         words: &["mbview", "svg", "trace.txt", "--to=99999999999999999999999"],
         status: 0,
-        out: "<svg><!-- 5 --></svg>\n",
+        out: "<svg xmlns=\"http://www.w3.org/2000/svg\"",
         err: "",
     },
     Row {
         words: &["mbview", "vcd", "empty.txt", "--from", "004"],
         status: 0,
-        out: "$comment 0 $end\n",
+        out: "$enddefinitions $end\n#4\n$dumpvars\n$end\n",
         err: "",
     },
     Row {
@@ -151,11 +152,17 @@ fn shown<'a>(rt: &impl Abort, bytes: &'a [u8]) -> &'a str {
 }
 
 fn check(rt: &impl Abort, alloc: Global, row: &Row) {
-    let mut out = Vec::new(alloc);
-    let mut err = Vec::new(alloc);
+    let mut out = Stream::new(Vec::new(alloc));
+    let mut err = Stream::new(Vec::new(alloc));
     let status = view(alloc, row.words, &mut Texts, &mut out, &mut err);
-    assert_eq!(rt; shown(rt, out.as_slice()), row.out);
-    assert_eq!(rt; shown(rt, err.as_slice()), row.err);
+    let bytes = out.into_writer();
+    let text = shown(rt, bytes.as_slice());
+    if row.status == 0 {
+        assert!(rt; text.contains(row.out), "{text}");
+    } else {
+        assert_eq!(rt; text, "");
+    }
+    assert_eq!(rt; shown(rt, err.into_writer().as_slice()), row.err);
     assert_eq!(rt; status, row.status);
 }
 
@@ -173,32 +180,38 @@ fn help_and_usage(rt: HostRuntime) {
         &["mbview", "help", "summary"].as_slice(),
         &["mbview", "svg", "--help"].as_slice(),
     ] {
-        let mut out = Vec::new(rt.alloc());
-        let mut err = Vec::new(rt.alloc());
+        let mut out = Stream::new(Vec::new(rt.alloc()));
+        let mut err = Stream::new(Vec::new(rt.alloc()));
         assert_eq!(&rt; view(rt.alloc(), words, &mut Texts, &mut out, &mut err), 0);
-        assert!(&rt; shown(&rt, out.as_slice()).contains("Example: mbview"));
-        assert!(&rt; err.is_empty());
+        assert!(&rt; shown(&rt, out.into_writer().as_slice()).contains("Example: mbview"));
+        assert!(&rt; err.into_writer().is_empty());
     }
-    let mut out = Vec::new(rt.alloc());
-    let mut err = Vec::new(rt.alloc());
+    let mut out = Stream::new(Vec::new(rt.alloc()));
+    let mut err = Stream::new(Vec::new(rt.alloc()));
     assert_eq!(&rt;
         view(rt.alloc(), &["mbview"], &mut Texts, &mut out, &mut err),
         2
     );
-    assert!(&rt; out.is_empty());
-    assert!(&rt; shown(&rt, err.as_slice()).contains("Usage: mbview"));
+    assert!(&rt; out.into_writer().is_empty());
+    assert!(&rt; shown(&rt, err.into_writer().as_slice()).contains("Usage: mbview"));
 }
 
 #[test]
 fn output_that_takes_nothing(rt: HostRuntime) {
-    let mut err = Vec::new(rt.alloc());
+    let mut err = Stream::new(Vec::new(rt.alloc()));
     let words = ["mbview", "summary", "trace.txt"];
     assert_eq!(&rt;
-        view(rt.alloc(), &words, &mut Texts, &mut Full, &mut err),
+        view(
+            rt.alloc(),
+            &words,
+            &mut Texts,
+            &mut Stream::new(Full),
+            &mut err
+        ),
         1
     );
     assert_eq!(&rt;
-        shown(&rt, err.as_slice()),
+        shown(&rt, err.into_writer().as_slice()),
         "mbview: the output cannot be written\n"
     );
 }
