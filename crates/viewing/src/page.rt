@@ -56,16 +56,19 @@ impl Display for Outcome {
 pub fn orders<'a>(alloc: Global, text: &'a str) -> Result<Vec<Order<'a>>, AllocError> {
     let mut orders = Vec::new(alloc);
     let mut rest = text;
-    while let Some((line, behind)) = rest.split_once("\n") {
+    for _ in 0..text.len() {
+        let Some((line, behind)) = rest.split_once("\n") else {
+            break;
+        };
         if let Some(call) = line.strip_prefix("    crates/mbview/out/") {
-            orders.push(order(alloc, call, behind)?)?;
+            orders.push(order_of(alloc, call, behind)?)?;
         }
         rest = behind;
     }
     Ok(orders)
 }
 
-fn order<'a>(alloc: Global, call: &'a str, behind: &'a str) -> Result<Order<'a>, AllocError> {
+fn order_of<'a>(alloc: Global, call: &'a str, behind: &'a str) -> Result<Order<'a>, AllocError> {
     let (words, target) = match call.split_once(" > ") {
         Some((words, target)) => (words, Some(target)),
         None => (call, None),

@@ -151,17 +151,24 @@ fn shown<'a>(rt: &impl Abort, bytes: &'a [u8]) -> &'a str {
     std::str::from_utf8(bytes).expect(rt, "UTF-8")
 }
 
+/// Whether the output is the one of this row.
+fn is_shown(row: &Row, text: &str) -> bool {
+    if row.status == 0 {
+        text.contains(row.out)
+    } else {
+        text.is_empty()
+    }
+}
+
 fn check(rt: &impl Abort, alloc: Global, row: &Row) {
     let mut out = Stream::new(Vec::new(alloc));
     let mut err = Stream::new(Vec::new(alloc));
     let status = view(alloc, row.words, &mut Texts, &mut out, &mut err);
-    let bytes = out.into_writer();
-    let text = shown(rt, bytes.as_slice());
-    if row.status == 0 {
-        assert!(rt; text.contains(row.out), "{text}");
-    } else {
-        assert_eq!(rt; text, "");
-    }
+    assert!(rt;
+        is_shown(row, shown(rt, out.into_writer().as_slice())),
+        "{}",
+        row.out
+    );
     assert_eq!(rt; shown(rt, err.into_writer().as_slice()), row.err);
     assert_eq!(rt; status, row.status);
 }

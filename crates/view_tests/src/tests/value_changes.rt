@@ -177,21 +177,22 @@ fn change<'a>(
     part: Part,
     waves: &mut Waves<'a>,
 ) -> Result<(), Fail> {
-    let (value, code) = word.split_at(1);
-    assert!(rt; value == "0" || value == "1", "{word}");
+    let (value, code) = match word.strip_prefix("0") {
+        Some(code) => (0, code),
+        None => match word.strip_prefix("1") {
+            Some(code) => (1, code),
+            None => panic!(rt; "no value: {word}"),
+        },
+    };
     let Some(wave) = waves.variables.iter().find(|wave| wave.code == code) else {
         panic!(rt; "no variable: {word}");
     };
-    assert!(rt; !wave.is_event || (value == "1" && part == Part::Changes));
+    assert!(rt; !wave.is_event || (value == 1 && part == Part::Changes));
     let Some(time) = waves.last else {
         panic!(rt; "a change without a time");
     };
     if part == Part::Changes {
-        waves.changes.push(WaveChange {
-            time,
-            code,
-            value: if value == "1" { 1 } else { 0 },
-        })?;
+        waves.changes.push(WaveChange { time, code, value })?;
     }
     Ok(())
 }
