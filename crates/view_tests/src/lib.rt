@@ -1,5 +1,0 @@
-//! Tests of what `mbview` shows of traces.
-#![tactic(auto)]
-
-#[cfg(test)]
-mod tests;
