@@ -1,0 +1,224 @@
+//! Command lines over texts in memory.
+
+use std::alloc::Global;
+use std::io::{self, ErrorKind, Read, Write};
+use std::process::Abort;
+use view_command::{SourceFault, Sources, Stream, view};
+
+const TRACE: &str = "0000000000000 a MODE COLD_START
+0000000000000 a STATE INIT READY
+0000000000004 a MODE NORMAL
+0000000000005 a ARRIVE q 1
+0000000000006 a LOST q 4
+";
+
+/// A text, which may fail at its end.
+#[derive(Drop)]
+struct Text {
+    rest: &'static [u8],
+    fails: bool,
+}
+
+impl Read for Text {
+    fn read(&mut self, buf: &mut [u8]) -> io::Result<usize> {
+        let count = self.rest.read(buf)?;
+        if count == 0 && self.fails {
+            return Err(ErrorKind::PermissionDenied.into());
+        }
+        Ok(count)
+    }
+}
+
+/// Texts by name.
+#[derive(Drop)]
+struct Texts;
+
+impl Sources for Texts {
+    type Reader = Text;
+
+    fn open(&mut self, name: &str) -> Result<Text, SourceFault> {
+        let (rest, fails): (&'static [u8], bool) = match name {
+            "trace.txt" | "-" => (TRACE.as_bytes(), false),
+            "empty.txt" => (b"", false),
+            "torn.txt" => (TRACE.as_bytes(), true),
+            "other.txt" => (b"0000000000000 a MODE COLD_START\nx\n", false),
+            "memory.txt" => return Err(SourceFault::Memory),
+            _ => return Err(SourceFault::Unavailable),
+        };
+        Ok(Text { rest, fails })
+    }
+}
+
+/// Takes no byte.
+#[derive(Drop)]
+struct Full;
+
+impl Write for Full {
+    fn write(&mut self, _buf: &[u8]) -> io::Result<usize> {
+        Err(ErrorKind::StorageFull.into())
+    }
+
+    fn flush(&mut self) -> io::Result<()> {
+        Ok(())
+    }
+}
+
+/// The words, and what they come to.
+struct Row {
+    words: &'static [&'static str],
+    status: u8,
+    /// With status 0 the output has this text; otherwise there is none.
+    out: &'static str,
+    err: &'static str,
+}
+
+static ROWS: [Row; 12] = [
+    Row {
+        words: &["mbview", "summary", "trace.txt"],
+        status: 0,
+        out: "    5           0          6     0   7      7\n",
+        err: "",
+    },
+    Row {
+        words: &["mbview", "summary", "-", "--csv"],
+        status: 0,
+        out: "\nport,a,q,",
+        err: "",
+    },
+    Row {
+        words: &["mbview", "summary", "--from", "4", "trace.txt", "--to", "6"],
+        status: 0,
+        out: "    2           4          5     4   6      2\n",
+        err: "",
+    },
+    Row {
+        words: &["mbview", "svg", "trace.txt", "--to=99999999999999999999999"],
+        status: 0,
+        out: "<svg xmlns=\"http://www.w3.org/2000/svg\"",
+        err: "",
+    },
+    Row {
+        words: &["mbview", "vcd", "empty.txt", "--from", "004"],
+        status: 0,
+        out: "$enddefinitions $end\n#4\n$dumpvars\n$end\n",
+        err: "",
+    },
+    Row {
+        words: &["mbview", "vcd", "other.txt"],
+        status: 1,
+        out: "",
+        err: "mbview: line 2 of other.txt is no line of a trace\n",
+    },
+    Row {
+        words: &["mbview", "summary", "torn.txt"],
+        status: 1,
+        out: "",
+        err: "mbview: torn.txt cannot be read to its end\n",
+    },
+    Row {
+        words: &["mbview", "svg", "none.txt"],
+        status: 1,
+        out: "",
+        err: "mbview: none.txt cannot be opened\n",
+    },
+    Row {
+        words: &["mbview", "svg", "memory.txt"],
+        status: 1,
+        out: "",
+        err: "mbview: there is too little memory\n",
+    },
+    Row {
+        words: &["mbview", "svg", "trace.txt", "--from", "-1"],
+        status: 2,
+        out: "",
+        err: "error: unexpected argument '-1' found\n\n  tip: to pass '-1' as a value, use '-- -1'\n\nUsage: mbview svg [OPTIONS] <TRACE>\n\nFor more information, try '--help'.\n",
+    },
+    Row {
+        words: &["mbview", "svg", "trace.txt", "--from", "1x"],
+        status: 2,
+        out: "",
+        err: "error: invalid value '1x' for '--from <TICK>'\n\nUsage: mbview <COMMAND>\n\nFor more information, try '--help'.\n",
+    },
+    Row {
+        words: &["mbview", "vcd", "trace.txt", "--from", "5", "--to", "5"],
+        status: 2,
+        out: "",
+        err: "error: there is no tick from 5 on before 5: '--from' has to be below '--to'\n\nUsage: mbview <COMMAND>\n\nFor more information, try '--help'.\n",
+    },
+];
+
+fn shown<'a>(rt: &impl Abort, bytes: &'a [u8]) -> &'a str {
+    std::str::from_utf8(bytes).expect(rt, "UTF-8")
+}
+
+/// Whether the output is the one of this row.
+fn is_shown(row: &Row, text: &str) -> bool {
+    if row.status == 0 {
+        text.contains(row.out)
+    } else {
+        text.is_empty()
+    }
+}
+
+fn check(rt: &impl Abort, alloc: Global, row: &Row) {
+    let mut out = Stream::new(Vec::new(alloc));
+    let mut err = Stream::new(Vec::new(alloc));
+    let status = view(alloc, row.words, &mut Texts, &mut out, &mut err);
+    assert!(rt;
+        is_shown(row, shown(rt, out.into_writer().as_slice())),
+        "{}",
+        row.out
+    );
+    assert_eq!(rt; shown(rt, err.into_writer().as_slice()), row.err);
+    assert_eq!(rt; status, row.status);
+}
+
+#[test]
+fn each_row(rt: HostRuntime) {
+    for row in &ROWS {
+        check(&rt, rt.alloc(), row);
+    }
+}
+
+#[test]
+fn help_and_usage(rt: HostRuntime) {
+    for words in [
+        &["mbview", "--help"].as_slice(),
+        &["mbview", "help", "summary"].as_slice(),
+        &["mbview", "svg", "--help"].as_slice(),
+    ] {
+        let mut out = Stream::new(Vec::new(rt.alloc()));
+        let mut err = Stream::new(Vec::new(rt.alloc()));
+        assert_eq!(&rt; view(rt.alloc(), words, &mut Texts, &mut out, &mut err), 0);
+        assert!(&rt; shown(&rt, out.into_writer().as_slice()).contains("Example: mbview"));
+        assert!(&rt; err.into_writer().is_empty());
+    }
+    let mut out = Stream::new(Vec::new(rt.alloc()));
+    let mut err = Stream::new(Vec::new(rt.alloc()));
+    assert_eq!(&rt;
+        view(rt.alloc(), &["mbview"], &mut Texts, &mut out, &mut err),
+        2
+    );
+    assert!(&rt; out.into_writer().is_empty());
+    assert!(&rt; shown(&rt, err.into_writer().as_slice()).contains("Usage: mbview"));
+}
+
+#[test]
+fn output_that_takes_nothing(rt: HostRuntime) {
+    let mut err = Stream::new(Vec::new(rt.alloc()));
+    let words = ["mbview", "summary", "trace.txt"];
+    assert_eq!(&rt;
+        view(
+            rt.alloc(),
+            &words,
+            &mut Texts,
+            &mut Stream::new(Full),
+            &mut err
+        ),
+        1
+    );
+    assert_eq!(&rt;
+        shown(&rt, err.into_writer().as_slice()),
+        "mbview: the output cannot be written\n"
+    );
+}

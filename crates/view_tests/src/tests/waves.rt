@@ -1,0 +1,205 @@
+//! Value change dumps of traces.
+
+use crate::tests::value_changes::{WaveChange, Waves, read_waves};
+use apex_types::Ticks;
+use std::alloc::Global;
+use std::process::Abort;
+use std::str;
+use std::test::Fail;
+use trace_text::TraceReader;
+use wave_dump::Dump;
+
+/// A partition that a fault starts again, with messages between it, another one and the outside.
+const TRACE: &str = "0000000000000 a MODE COLD_START
+0000000000000 a STATE INIT READY
+0000000000000 a STATE INIT RUNNING
+0000000000004 a RET INIT SET_PARTITION_MODE 0
+0000000000004 a STATE INIT DORMANT
+0000000000004 a MODE NORMAL
+0000000000004 a STATE p READY
+0000000000005 a ARRIVE q 1
+0000000000005 a STATE p RUNNING
+0000000000009 a REPORT p 7
+0000000000009 a STATE p WAITING
+0000000000012 a MOVE out 5
+0000000000012 b ARRIVE in 5
+0000000000012 a OUT echo 5
+0000000000014 a HM HARDWARE_FAULT - PARTITION COLD_START
+0000000000014 a MODE COLD_START
+0000000000014 a STATE INIT READY
+0000000000020 - HM HARDWARE_FAULT - MODULE IGNORE
+";
+
+/// The times at which each variable of this trace becomes 1, and 0, counted by hand. A state counts
+/// from the tick of its line on. RUNNING counts through the tick in which it ends.
+static WIRES: [(&str, &[u64], &[u64]); 12] = [
+    ("a.MODE.IDLE", &[], &[]),
+    ("a.MODE.COLD_START", &[0, 14], &[4, 21]),
+    ("a.MODE.NORMAL", &[4], &[14]),
+    ("a.INIT.READY", &[14], &[21]),
+    ("a.INIT.RUNNING", &[0], &[5]),
+    ("a.INIT.DORMANT", &[5], &[14]),
+    ("a.INIT.WAITING", &[], &[]),
+    ("a.p.READY", &[4], &[5]),
+    ("a.p.RUNNING", &[5], &[10]),
+    ("a.p.WAITING", &[10], &[14]),
+    ("a.p.DORMANT", &[], &[]),
+    ("b.MODE.NORMAL", &[], &[]),
+];
+
+/// The times of the pulses of this trace.
+static EVENTS: [(&str, u64); 7] = [
+    ("a.MESSAGES.q_ARRIVE", 5),
+    ("a.REPORTS.p", 9),
+    ("a.MESSAGES.out_MOVE", 12),
+    ("b.MESSAGES.in_ARRIVE", 12),
+    ("a.MESSAGES.echo_OUT", 12),
+    ("a.ERRORS.HARDWARE_FAULT", 14),
+    ("MODULE.ERRORS.HARDWARE_FAULT", 20),
+];
+
+/// The dump of some ticks of a trace.
+fn dump_of(alloc: Global, trace: &str, from: u64, to: Option<u64>) -> Result<Vec<u8>, Fail> {
+    let to = match to {
+        Some(tick) => Some(Ticks(tick)),
+        None => None,
+    };
+    let mut dump = Dump::new(alloc, Ticks(from), to);
+    let mut reader = TraceReader::new(trace.as_bytes());
+    while let Some(event) = reader.next_event()? {
+        dump.add(&event)?;
+    }
+    dump.finish()?;
+    let mut out = Vec::new(alloc);
+    dump.write(&mut out)?;
+    Ok(out)
+}
+
+/// Asserts that the variable takes this value at these times, and at no others.
+fn assert_times(rt: &impl Abort, waves: &Waves<'_>, path: &str, value: u8, times: &[u64]) {
+    let Some(wave) = waves
+        .variables
+        .iter()
+        .find(|wave| wave.path.as_str() == path)
+    else {
+        panic!(rt; "no variable {path}");
+    };
+    let mut rest = times;
+    for change in &waves.changes {
+        if change.code == wave.code && change.value == value {
+            let Some((time, others)) = rest.split_first() else {
+                panic!(rt; "{path} is {value} at {}", change.time);
+            };
+            assert_eq!(rt; change.time, *time, "{path}");
+            rest = others;
+        }
+    }
+    assert!(rt; rest.is_empty(), "{path} is {value} too seldom");
+}
+
+#[test]
+fn the_whole_trace(rt: HostRuntime) -> Result<(), Fail> {
+    let dump = dump_of(rt.alloc(), TRACE, 0, None)?;
+    let waves = read_waves(&rt, rt.alloc(), str::from_utf8(dump.as_slice())?)?;
+    for (path, high, low) in WIRES {
+        assert_times(&rt, &waves, path, 1, high);
+        assert_times(&rt, &waves, path, 0, low);
+    }
+    for (path, time) in EVENTS {
+        assert_times(&rt, &waves, path, 1, &[time]);
+    }
+    // 2 partitions with 4 modes, INIT and p with 4 states, 7 pulses; 9 stays and 7 pulses.
+    assert_eq!(rt; waves.variables.len(), 2 * 4 + 2 * 4 + 7);
+    assert_eq!(rt; waves.changes.len(), 2 * 9 + 7);
+    assert_eq!(rt; waves.first, Some(0));
+    assert_eq!(rt; waves.last, Some(21));
+    Ok(())
+}
+
+#[test]
+fn some_ticks_of_it(rt: HostRuntime) -> Result<(), Fail> {
+    let dump = dump_of(rt.alloc(), TRACE, 7, Some(12))?;
+    let waves = read_waves(&rt, rt.alloc(), str::from_utf8(dump.as_slice())?)?;
+    assert_times(&rt, &waves, "a.MODE.NORMAL", 1, &[7]);
+    assert_times(&rt, &waves, "a.MODE.NORMAL", 0, &[12]);
+    assert_times(&rt, &waves, "a.MODE.COLD_START", 1, &[]);
+    assert_times(&rt, &waves, "a.p.RUNNING", 1, &[7]);
+    assert_times(&rt, &waves, "a.p.RUNNING", 0, &[10]);
+    assert_times(&rt, &waves, "a.p.WAITING", 1, &[10]);
+    assert_times(&rt, &waves, "a.p.WAITING", 0, &[12]);
+    assert_times(&rt, &waves, "a.REPORTS.p", 1, &[9]);
+    assert!(rt;
+        waves
+            .variables
+            .iter()
+            .all(|wave| wave.path.as_str() != "a.MESSAGES.out_MOVE")
+    );
+    assert_eq!(rt; waves.first, Some(7));
+    assert_eq!(rt; waves.last, Some(12));
+    Ok(())
+}
+
+/// A dump byte for byte, written by hand.
+const SMALL: &str = "$version mbview $end
+$comment One time unit stands for a tick of the processor. $end
+$timescale 1 ns $end
+$scope module a $end
+$scope module MODE $end
+$var wire 1 m0.0 IDLE $end
+$var wire 1 m0.1 COLD_START $end
+$var wire 1 m0.2 WARM_START $end
+$var wire 1 m0.3 NORMAL $end
+$upscope $end
+$scope module p $end
+$var wire 1 s0.0 DORMANT $end
+$var wire 1 s0.1 READY $end
+$var wire 1 s0.2 RUNNING $end
+$var wire 1 s0.3 WAITING $end
+$upscope $end
+$scope module REPORTS $end
+$var event 1 e0 p $end
+$upscope $end
+$upscope $end
+$enddefinitions $end
+#3
+$dumpvars
+0m0.0
+0m0.1
+0m0.2
+0m0.3
+0s0.0
+0s0.1
+0s0.2
+0s0.3
+$end
+1s0.2
+#5
+1e0
+#6
+0s0.2
+1s0.0
+#7
+0s0.0
+";
+
+#[test]
+fn a_small_dump(rt: HostRuntime) -> Result<(), Fail> {
+    let trace = "0000000000003 a STATE p RUNNING
+0000000000005 a REPORT p 1
+0000000000005 a STATE p DORMANT
+0000000000006 a RET p STOP 0
+";
+    let dump = dump_of(rt.alloc(), trace, 3, None)?;
+    assert_eq!(rt; str::from_utf8(dump.as_slice())?, SMALL);
+    Ok(())
+}
+
+#[test]
+fn no_lines(rt: HostRuntime) -> Result<(), Fail> {
+    let dump = dump_of(rt.alloc(), "", 0, None)?;
+    let waves = read_waves(&rt, rt.alloc(), str::from_utf8(dump.as_slice())?)?;
+    assert!(rt; waves.variables.is_empty());
+    let none: &[WaveChange<'_>] = &[];
+    assert_eq!(rt; waves.changes.as_slice(), none);
+    Ok(())
+}
