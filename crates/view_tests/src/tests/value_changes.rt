@@ -110,13 +110,13 @@ fn variable<'a>(
 ) -> Result<(), Fail> {
     assert_eq!(rt; fields.len(), 4);
     let is_event = fields[0] == "event";
-    assert!(rt; is_event || fields[0] == "wire", "{}", fields[0]);
+    assert!(rt; is_event || fields[0] == "wire", "a type");
     assert_eq!(rt; fields[1], "1");
     let code = fields[2];
     assert!(rt; code.bytes().all(|byte| 33 <= byte && byte <= 126));
     assert!(rt;
         waves.variables.iter().all(|wave| wave.code != code),
-        "{code} twice"
+        "a code twice"
     );
     assert_identifier(rt, fields[3]);
     let mut path = String::new(alloc);

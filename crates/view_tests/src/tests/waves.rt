@@ -66,8 +66,11 @@ fn dump_of(alloc: Global, trace: &str, from: u64, to: Option<u64>) -> Result<Vec
     };
     let mut dump = Dump::new(alloc, Ticks(from), to);
     let mut reader = TraceReader::new(trace.as_bytes());
-    while let Some(event) = reader.next_event()? {
-        dump.add(&event)?;
+    for _ in 0..u64::MAX {
+        match reader.next_event()? {
+            Some(event) => dump.add(&event)?,
+            None => break,
+        }
     }
     dump.finish()?;
     let mut out = Vec::new(alloc);

@@ -140,7 +140,7 @@ fn class_of<'a>(rt: &impl Abort, alloc: Global, attributes: &'a str) -> Result<&
         };
         check_name(rt, name);
         check_text(rt, value);
-        assert!(rt; !names.contains(&name), "{name} stands twice");
+        assert!(rt; !names.contains(&name), "an attribute stands twice");
         names.push(name)?;
         if name == "class" {
             class = value;
