@@ -177,8 +177,11 @@ fn no_byte_is_lost_where_the_reader_fails(rt: HostRuntime) {
     };
     assert!(rt; is_failure);
     let mut last = Ticks(0);
-    while let Ok(Some(event)) = events.next_event() {
-        last = tick_of(&event);
+    for _ in 0..TRACE.len() {
+        match events.next_event() {
+            Ok(Some(event)) => last = tick_of(&event),
+            _ => break,
+        }
     }
     assert!(rt; last == Ticks(6));
     assert_eq!(rt; events.lines(), 5);
