@@ -15,10 +15,6 @@ mod number;
 mod piece;
 mod reader;
 mod stream;
-#[cfg(test)]
-mod stream_tests;
-#[cfg(test)]
-mod tests;
 mod whole;
 
 pub use line::{LineFault, read_line};

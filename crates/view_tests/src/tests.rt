@@ -1,5 +1,7 @@
 mod commands;
 mod picture;
+mod reading;
+mod streams;
 mod summaries;
 mod summary;
 mod traces;

@@ -2,12 +2,12 @@
 
 ghost use Rattle.std.specs.Prelude.{◌≡◌, ◌<◌, ◌^◌, ◌-◌, length};
 
-use crate::{TraceFault, TraceReader, check_trace, read_line};
 use apex_types::{
     ErrorKind, Event, EventKind, Mode, ModuleAction, ProcessState, Response, ReturnCode, Service,
     Subject, Ticks, WriterSink, write_event,
 };
 use std::process::Abort;
+use trace_text::{TraceFault, TraceReader, check_trace, read_line};
 
 /// Lines of the pages and of the examples, and one of each form with its greatest numbers.
 static LINES: [&str; 22] = [

@@ -1,10 +1,10 @@
 //! Streams over readers that give their bytes in pieces, fail, or never end.
 
-use crate::{StreamFault, TraceFault, TraceReader, TraceStream};
 use apex_types::{Event, Ticks, WriterSink, write_event};
 use std::alloc::Global;
 use std::io::{self, ErrorKind, Read};
 use std::process::Abort;
+use trace_text::{StreamFault, TraceFault, TraceReader, TraceStream};
 
 /// Gives at most so many bytes a read. Each read is interrupted once before.
 #[derive(Drop)]
