@@ -7,7 +7,8 @@ use host::HostFiles;
 use std::io;
 
 /// The words of each command.
-static COMMANDS: [&[&str]; 10] = [
+static COMMANDS: [&[&str]; 11] = [
+    &["mb"],
     &["mb", "run", "image", "devices", "128"],
     &["mb", "build", "table", "image", "source"],
     &["mb", "run", "image", "devices", "128"],
