@@ -2,28 +2,49 @@
 
 use apex_types::{ProcessIndex, Ticks};
 use links::{DueEntry, DueList};
+use std::process::Abort;
 
-fn due(process: u8, tick: u64) -> Option<DueEntry> {
-    Some(DueEntry {
+/// A step, and the process and the tick that are first after it.
+type Row = (Step, Option<(u8, u64)>);
+
+enum Step {
+    Insert(u8, u64),
+    Remove(u8),
+}
+
+static ROWS: [Row; 7] = [
+    (Step::Insert(4, 50), Some((4, 50))),
+    (Step::Insert(30, 20), Some((30, 20))),
+    (Step::Insert(0, 20), Some((30, 20))),
+    (Step::Insert(30, 60), Some((0, 20))),
+    (Step::Remove(0), Some((4, 50))),
+    (Step::Remove(4), Some((30, 60))),
+    (Step::Remove(30), None),
+];
+
+fn take(rt: &impl Abort, dues: &mut DueList, step: &Step) {
+    match *step {
+        Step::Insert(process, tick) => {
+            assert!(rt; process < 31);
+            dues.insert_by_due(ProcessIndex(process), Ticks(tick));
+        }
+        Step::Remove(process) => dues.remove(ProcessIndex(process)),
+    }
+}
+
+fn entry((process, tick): (u8, u64)) -> DueEntry {
+    DueEntry {
         process: ProcessIndex(process),
         tick: Ticks(tick),
-    })
+    }
 }
 
 #[test]
 fn the_least_tick_is_first_and_equals_in_turn(rt: HostRuntime) {
     let mut dues = DueList::new();
     assert_eq!(rt; dues.first(), None);
-    dues.insert_by_due(ProcessIndex(4), Ticks(50));
-    dues.insert_by_due(ProcessIndex(30), Ticks(20));
-    dues.insert_by_due(ProcessIndex(0), Ticks(20));
-    assert_eq!(rt; dues.first(), due(30, 20));
-    dues.insert_by_due(ProcessIndex(30), Ticks(60));
-    assert_eq!(rt; dues.first(), due(0, 20));
-    dues.remove(ProcessIndex(0));
-    assert_eq!(rt; dues.first(), due(4, 50));
-    dues.remove(ProcessIndex(4));
-    assert_eq!(rt; dues.first(), due(30, 60));
-    dues.remove(ProcessIndex(30));
-    assert_eq!(rt; dues.first(), None);
+    for (row, (step, first)) in ROWS.iter().enumerate() {
+        take(&rt, &mut dues, step);
+        assert_eq!(rt; dues.first(), first.map(entry), "row {row}");
+    }
 }

@@ -1,6 +1,6 @@
 //! The errors that wait for an error handler, how errors are handled, and the services on them.
 
-ghost use Rattle.std.specs.Prelude.{◌≡◌, [], IfOk};
+ghost use Rattle.apex_types.specs.Room.{HasRoom};
 
 use apex_types::{
     Action, ArrayPlace, BodyRow, ErrorKind, Event, HealthTable, Mode, Name, Out, PartitionAction,
@@ -12,9 +12,8 @@ use health::{
     report_application_message, response_of, start_handler,
 };
 use process_table_base::ProcessTable;
-use std::alloc::{AllocError, Global};
+use std::alloc::Global;
 use std::process::Abort;
-use std::test::Fail;
 
 const HEALTH: HealthTable = HealthTable {
     deadline_missed: PartitionAction::Ignore,
@@ -28,10 +27,12 @@ const HEALTH: HealthTable = HealthTable {
 
 const PROCESS: Runner = Runner::Process(ProcessIndex(0));
 
+const NUMERIC: ErrorKind = ErrorKind::NumericError;
+
 /// INIT, a handler and one process, of which none is created.
-fn table(alloc: Global) -> Result<ProcessTable, AllocError> {
+fn table(rt: &impl Abort, alloc: Global) -> ProcessTable {
     let rows = [ProcessRow {
-        name: Name::new(b"p").ok_or(AllocError)?,
+        name: Name::new(b"p").expect(rt, "a name"),
         priority: Priority(5),
         period: None,
         capacity: None,
@@ -42,7 +43,31 @@ fn table(alloc: Global) -> Result<ProcessTable, AllocError> {
             frame: 2,
         },
     }];
-    ProcessTable::new(alloc, &rows)
+    ProcessTable::new(alloc, &rows).expect(rt, "memory")
+}
+
+/// No errors wait for the handler, which the partition has.
+fn no_errors(rt: &impl Abort, alloc: Global) -> Errors {
+    Errors::new(alloc, true).expect(rt, "memory")
+}
+
+/// So many errors wait for the handler.
+fn errors(rt: &impl Abort, alloc: Global, waiting: u8) -> Errors {
+    let mut errors = no_errors(rt, alloc);
+    for _ in 0..waiting {
+        errors.queue(&raised());
+    }
+    errors
+}
+
+/// A table in which INIT has created the handler, and what the call told.
+fn with_handler(rt: &impl Abort, alloc: Global, out: &mut Out) -> ProcessTable
+    requires { HasRoom 2 out.old }
+{
+    let mut table = table(rt, alloc);
+    let errors = no_errors(rt, alloc);
+    create_error_handler(&mut table, &errors, Mode::ColdStart, Runner::Init, out);
+    table
 }
 
 fn words(first: i64, second: i64) -> Words {
@@ -61,127 +86,139 @@ fn raised() -> WaitingError {
     }
 }
 
-/// The line that a step told last, as that of partition `a` at tick 3.
-fn last_line(alloc: Global, out: &mut Out) -> Result<Vec<u8>, Fail> {
-    let kind = out.lines.pop().ok_or("no line")?;
+/// Expects that a step told this line last, as that of partition `a` at tick 3.
+fn expect_line(rt: &impl Abort, alloc: Global, out: &mut Out, line: &str) {
     let event = Event {
         tick: Ticks(3),
         partition: Name::new(b"a"),
-        kind,
+        kind: out.lines.pop().expect(rt, "a line"),
     };
     let mut sink = WriterSink::new(Vec::new(alloc));
     let _ = write_event(&event, &mut sink);
-    Ok(sink.writer)
+    assert_eq!(rt; sink.writer.as_slice(), line.as_bytes());
 }
 
 /// Expects that a step asked for this answer last, to the handler.
-fn expect_answer(rt: &impl Abort, out: &mut Out, answer: &[i64]) -> Result<(), Fail> {
+fn expect_answer(rt: &impl Abort, out: &mut Out, answer: &[i64]) {
     match out.actions.pop() {
         Some(Action::Reply(runner, words)) => {
             assert_eq!(rt; runner, Runner::Handler);
             assert_eq!(rt; words.as_slice(), answer);
-            Ok(())
         }
-        _ => Err("no answer".into()),
+        _ => panic!(rt; "no answer"),
     }
 }
 
-#[test]
-fn the_handler_is_created_and_starts(rt: HostRuntime) -> Result<(), Fail> {
-    let mut table = table(rt.alloc())?;
-    let mut errors = Errors::new(rt.alloc(), true)?;
-    assert_eq!(rt; free_places(&table, &errors, Mode::Normal), 0);
+/// Expects that a step asked for these words last, at this place of the data.
+fn expect_words(rt: &impl Abort, out: &mut Out, at: i64, written: &[i64]) {
+    match out.actions.pop() {
+        Some(Action::Write(place, words)) => {
+            assert_eq!(rt; place, at);
+            assert_eq!(rt; words.as_slice(), written);
+        }
+        _ => panic!(rt; "no words"),
+    }
+}
+
+/// What the start of the handler tells, if so many errors wait.
+fn started(rt: &impl Abort, alloc: Global, waiting: u8) -> Out {
     let mut out = Out::new();
-    create_error_handler(&mut table, &errors, Mode::ColdStart, Runner::Init, &mut out);
-    let created = last_line(rt.alloc(), &mut out)?;
-    assert_eq!(rt;
-        created.as_slice(),
-        b"0000000000003 a RET INIT CREATE_ERROR_HANDLER 0\n".as_slice()
-    );
-    assert_eq!(rt; free_places(&table, &errors, Mode::ColdStart), 0);
-    assert_eq!(rt; free_places(&table, &errors, Mode::Normal), 64);
+    let mut table = with_handler(rt, alloc, &mut out);
     let mut out = Out::new();
+    let errors = errors(rt, alloc, waiting);
     start_handler(&mut table, &errors, Mode::Normal, &mut out);
-    assert!(rt; out.lines.is_empty());
-    errors.queue(&raised());
+    out
+}
+
+/// The response to an error, if the handler is created and so many errors wait.
+fn response(rt: &impl Abort, alloc: Global, waiting: u8, runner: Runner) -> Response {
     let mut out = Out::new();
-    start_handler(&mut table, &errors, Mode::Normal, &mut out);
-    let started = last_line(rt.alloc(), &mut out)?;
-    assert_eq!(rt;
-        started.as_slice(),
-        b"0000000000003 a STATE HANDLER READY\n".as_slice()
-    );
-    Ok(())
+    let table = with_handler(rt, alloc, &mut out);
+    let errors = errors(rt, alloc, waiting);
+    response_of(HEALTH, Mode::Normal, &table, &errors, runner, NUMERIC)
+}
+
+/// How many more errors may wait, if the handler is created and so many wait.
+fn places(rt: &impl Abort, alloc: Global, waiting: u8, mode: Mode) -> u8 {
+    let mut out = Out::new();
+    let table = with_handler(rt, alloc, &mut out);
+    free_places(&table, &errors(rt, alloc, waiting), mode)
+}
+
+/// The same, if the handler is not created.
+fn places_without_handler(rt: &impl Abort, alloc: Global) -> u8 {
+    free_places(&table(rt, alloc), &no_errors(rt, alloc), Mode::Normal)
 }
 
 #[test]
-fn an_error_waits_and_is_taken(rt: HostRuntime) -> Result<(), Fail> {
-    let table = table(rt.alloc())?;
-    let mut errors = Errors::new(rt.alloc(), true)?;
-    errors.queue(&raised());
-    errors.queue(&raised());
+fn the_handler_is_created(rt: HostRuntime) {
+    let mut out = Out::new();
+    let _ = with_handler(&rt, rt.alloc(), &mut out);
+    let line = "0000000000003 a RET INIT CREATE_ERROR_HANDLER 0\n";
+    expect_line(&rt, rt.alloc(), &mut out, line);
+}
+
+#[test]
+fn the_handler_starts_for_an_error(rt: HostRuntime) {
+    assert!(rt; started(&rt, rt.alloc(), 0).lines.is_empty());
+    let mut out = started(&rt, rt.alloc(), 1);
+    let line = "0000000000003 a STATE HANDLER READY\n";
+    expect_line(&rt, rt.alloc(), &mut out, line);
+}
+
+#[test]
+fn places_of_errors(rt: HostRuntime) {
+    assert_eq!(rt; places_without_handler(&rt, rt.alloc()), 0);
+    assert_eq!(rt; places(&rt, rt.alloc(), 0, Mode::ColdStart), 0);
+    assert_eq!(rt; places(&rt, rt.alloc(), 0, Mode::Normal), 64);
+    assert_eq!(rt; places(&rt, rt.alloc(), 64, Mode::Normal), 0);
+}
+
+#[test]
+fn an_error_is_taken(rt: HostRuntime) {
+    let table = table(&rt, rt.alloc());
+    let mut errors = errors(&rt, rt.alloc(), 2);
     let array = ArrayPlace { base: 4, size: 16 };
     let mut out = Out::new();
     get_error_status(&table, &mut errors, Runner::Handler, array, &mut out);
-    let taken = last_line(rt.alloc(), &mut out)?;
-    assert_eq!(rt;
-        taken.as_slice(),
-        b"0000000000003 a RET HANDLER GET_ERROR_STATUS 0\n".as_slice()
-    );
-    match out.actions.pop() {
-        Some(Action::Write(place, words)) => {
-            assert_eq!(rt; place, 4);
-            assert_eq!(rt; words.as_slice(), [7, -8].as_slice());
-        }
-        _ => return Err("no words".into()),
-    }
-    expect_answer(&rt, &mut out, &[0, 1, 1, 2])?;
+    let line = "0000000000003 a RET HANDLER GET_ERROR_STATUS 0\n";
+    expect_line(&rt, rt.alloc(), &mut out, line);
+    expect_words(&rt, &mut out, 4, &[7, -8]);
+    expect_answer(&rt, &mut out, &[0, 1, 1, 2]);
+}
+
+#[test]
+fn cleared_errors_are_gone(rt: HostRuntime) {
+    let table = table(&rt, rt.alloc());
+    let mut errors = errors(&rt, rt.alloc(), 2);
     errors.clear();
+    let array = ArrayPlace { base: 4, size: 16 };
     let mut out = Out::new();
     get_error_status(&table, &mut errors, Runner::Handler, array, &mut out);
-    expect_answer(&rt, &mut out, &[1, 0, 0, 0])
+    expect_answer(&rt, &mut out, &[1, 0, 0, 0]);
 }
 
 #[test]
-fn errors_are_handled(rt: HostRuntime) -> Result<(), Fail> {
-    let mut table = table(rt.alloc())?;
-    let mut errors = Errors::new(rt.alloc(), true)?;
-    let mut out = Out::new();
-    create_error_handler(&mut table, &errors, Mode::ColdStart, Runner::Init, &mut out);
-    let error = ErrorKind::NumericError;
-    let found = response_of(HEALTH, Mode::Normal, &table, &errors, PROCESS, error);
-    assert_eq!(rt; found, Response::Handler);
-    let found = response_of(
-        HEALTH,
-        Mode::Normal,
-        &table,
-        &errors,
-        Runner::Handler,
-        error,
-    );
-    assert_eq!(rt; found, Response::Partition(PartitionAction::WarmStart));
-    for _ in 0..64 {
-        errors.queue(&raised());
-    }
-    assert_eq!(rt; free_places(&table, &errors, Mode::Normal), 0);
-    let found = response_of(HEALTH, Mode::Normal, &table, &errors, PROCESS, error);
-    assert_eq!(rt; found, Response::Partition(PartitionAction::WarmStart));
-    assert_eq!(rt;
-        action_of(HEALTH, ErrorKind::ApplicationError),
-        PartitionAction::Idle
-    );
-    Ok(())
+fn errors_are_handled(rt: HostRuntime) {
+    let warm = Response::Partition(PartitionAction::WarmStart);
+    assert_eq!(rt; response(&rt, rt.alloc(), 0, PROCESS), Response::Handler);
+    assert_eq!(rt; response(&rt, rt.alloc(), 0, Runner::Handler), warm);
+    assert_eq!(rt; response(&rt, rt.alloc(), 64, PROCESS), warm);
+    let action = action_of(HEALTH, ErrorKind::ApplicationError);
+    assert_eq!(rt; action, PartitionAction::Idle);
 }
 
 #[test]
-fn a_message_is_reported(rt: HostRuntime) -> Result<(), Fail> {
-    let table = table(rt.alloc())?;
+fn a_message_is_reported(rt: HostRuntime) {
+    let table = table(&rt, rt.alloc());
     let array = ArrayPlace { base: 0, size: 2 };
     let mut out = Out::new();
     report_application_message(&table, PROCESS, array, 1, words(5, 6), &mut out);
-    let told = last_line(rt.alloc(), &mut out)?;
-    assert_eq!(rt; told.as_slice(), b"0000000000003 a REPORT p 5\n".as_slice());
+    expect_line(&rt, rt.alloc(), &mut out, "0000000000003 a REPORT p 5\n");
+}
+
+#[test]
+fn lengths_of_messages(rt: HostRuntime) {
     assert!(rt; is_message_length(16, 16));
     assert!(rt; !is_message_length(20, 17));
-    Ok(())
 }

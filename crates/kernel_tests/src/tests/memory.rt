@@ -4,9 +4,9 @@ ghost use Rattle.std.specs.Prelude.{◌≡◌, IfOk, length};
 
 use apex_types::ErrorKind;
 use bitflags::Flags;
-use regions::{Memory, MemoryPlan, Region, Rights};
+use regions::{Memory, MemoryPlan, PartitionMem, Region, Rights};
 use std::alloc::{AllocError, Global};
-use std::test::Fail;
+use std::process::Abort;
 
 /// Two partitions: one with the data 5 and 6 and stacks of 2 and 3 words, one with the data 7 and
 /// a stack of 1 word.
@@ -25,6 +25,36 @@ fn memory(alloc: Global) -> Result<Memory, AllocError>
     Memory::new(alloc, &plan)
 }
 
+fn expect_load(
+    rt: &impl Abort,
+    part: &PartitionMem,
+    region: Region,
+    at: usize,
+    word: Result<i64, ErrorKind>,
+) {
+    assert_eq!(rt; part.load(region, at), word);
+}
+
+fn expect_store(
+    rt: &impl Abort,
+    part: &mut PartitionMem,
+    region: Region,
+    at: usize,
+    word: i64,
+    answer: Result<(), ErrorKind>,
+) {
+    assert_eq!(rt; part.store(region, at, word), answer);
+}
+
+fn expect_select(rt: &impl Abort, part: &mut PartitionMem, stack: usize, is_there: bool) {
+    assert_eq!(rt; part.select(stack), is_there);
+}
+
+fn expect_data(rt: &impl Abort, part: &PartitionMem, words: &[i64]) {
+    assert_eq!(rt; part.data(), words);
+    assert_eq!(rt; part.data_len(), words.len());
+}
+
 #[test]
 fn regions_have_numbers_and_rights(rt: HostRuntime) {
     assert_eq!(rt; Region::from_number(0), Some(Region::Code));
@@ -37,62 +67,62 @@ fn regions_have_numbers_and_rights(rt: HostRuntime) {
 }
 
 #[test]
-fn a_load_gives_the_last_store(rt: HostRuntime) -> Result<(), Fail> {
-    let mut memory = memory(rt.alloc())?;
+fn a_load_gives_the_last_store(rt: HostRuntime) {
+    let mut memory = memory(rt.alloc()).expect(&rt, "memory");
     let part = memory.lend(0);
-    assert_eq!(rt; part.load(Region::Data, 1), Ok(6));
-    assert_eq!(rt; part.store(Region::Data, 1, -8), Ok(()));
-    assert_eq!(rt; part.load(Region::Data, 1), Ok(-8));
-    assert_eq!(rt; part.store(Region::Stack, 1, 9), Ok(()));
-    assert_eq!(rt; part.load(Region::Stack, 1), Ok(9));
-    assert_eq!(rt; part.data(), [5, -8].as_slice());
-    assert_eq!(rt; part.data_len(), 2);
-    Ok(())
+    expect_load(&rt, part, Region::Data, 1, Ok(6));
+    expect_store(&rt, part, Region::Data, 1, -8, Ok(()));
+    expect_load(&rt, part, Region::Data, 1, Ok(-8));
+    expect_store(&rt, part, Region::Stack, 1, 9, Ok(()));
+    expect_load(&rt, part, Region::Stack, 1, Ok(9));
+    expect_data(&rt, part, &[5, -8]);
 }
 
 #[test]
-fn each_process_has_its_own_stack(rt: HostRuntime) -> Result<(), Fail> {
-    let mut memory = memory(rt.alloc())?;
+fn each_process_has_its_own_stack(rt: HostRuntime) {
+    let mut memory = memory(rt.alloc()).expect(&rt, "memory");
     let part = memory.lend(0);
-    assert_eq!(rt; part.store(Region::Stack, 0, 4), Ok(()));
-    assert!(rt; part.select(1));
+    expect_store(&rt, part, Region::Stack, 0, 4, Ok(()));
+    expect_select(&rt, part, 1, true);
     assert_eq!(rt; part.stack_len(), 3);
-    assert_eq!(rt; part.load(Region::Stack, 0), Ok(0));
-    assert!(rt; !part.select(2));
+    expect_load(&rt, part, Region::Stack, 0, Ok(0));
+    expect_select(&rt, part, 2, false);
     assert_eq!(rt; part.stack_len(), 3);
-    assert!(rt; part.select(0));
-    assert_eq!(rt; part.load(Region::Stack, 0), Ok(4));
+    expect_select(&rt, part, 0, true);
+    expect_load(&rt, part, Region::Stack, 0, Ok(4));
     part.clear_stack();
-    assert_eq!(rt; part.load(Region::Stack, 0), Ok(0));
-    Ok(())
+    expect_load(&rt, part, Region::Stack, 0, Ok(0));
 }
 
-#[test]
-#[tactic(auto, using(regions::proofs::Lists::stacks))]
-fn a_loan_leaves_the_other_partitions(rt: HostRuntime) -> Result<(), Fail> {
-    let mut memory = memory(rt.alloc())?;
-    let part = memory.lend(0);
-    if part.data_len() == 2 {
-        part.restore(&[1, 2]);
+/// Writes these data, which are as many words as there are.
+fn restore(rt: &impl Abort, part: &mut PartitionMem, words: &[i64]) {
+    if part.data_len() == words.len() {
+        part.restore(words);
+    } else {
+        panic!(rt; "another number of words");
     }
-    assert_eq!(rt; memory.lend(0).data(), [1, 2].as_slice());
-    assert_eq!(rt; memory.lend(1).data(), [7].as_slice());
-    assert_eq!(rt; memory.lend(1).store(Region::Data, 0, 3), Ok(()));
-    assert_eq!(rt; memory.lend(0).data(), [1, 2].as_slice());
-    Ok(())
 }
 
 #[test]
-fn a_refused_access_changes_nothing(rt: HostRuntime) -> Result<(), Fail> {
+fn a_loan_leaves_the_other_partitions(rt: HostRuntime) {
+    let mut memory = memory(rt.alloc()).expect(&rt, "memory");
+    restore(&rt, memory.lend(0), &[1, 2]);
+    expect_data(&rt, memory.lend(0), &[1, 2]);
+    expect_data(&rt, memory.lend(1), &[7]);
+    expect_store(&rt, memory.lend(1), Region::Data, 0, 3, Ok(()));
+    expect_data(&rt, memory.lend(0), &[1, 2]);
+}
+
+#[test]
+fn a_refused_access_changes_nothing(rt: HostRuntime) {
     let refused = ErrorKind::MemoryViolation;
-    let mut memory = memory(rt.alloc())?;
+    let mut memory = memory(rt.alloc()).expect(&rt, "memory");
     let part = memory.lend(0);
-    assert_eq!(rt; part.load(Region::Code, 0), Err(refused));
-    assert_eq!(rt; part.load(Region::Data, 2), Err(refused));
-    assert_eq!(rt; part.load(Region::Stack, 2), Err(refused));
-    assert_eq!(rt; part.store(Region::Code, 0, 1), Err(refused));
-    assert_eq!(rt; part.store(Region::Data, 2, 1), Err(refused));
-    assert_eq!(rt; part.store(Region::Stack, 2, 1), Err(refused));
-    assert_eq!(rt; part.data(), [5, 6].as_slice());
-    Ok(())
+    expect_load(&rt, part, Region::Code, 0, Err(refused));
+    expect_load(&rt, part, Region::Data, 2, Err(refused));
+    expect_load(&rt, part, Region::Stack, 2, Err(refused));
+    expect_store(&rt, part, Region::Code, 0, 1, Err(refused));
+    expect_store(&rt, part, Region::Data, 2, 1, Err(refused));
+    expect_store(&rt, part, Region::Stack, 2, 1, Err(refused));
+    expect_data(&rt, part, &[5, 6]);
 }
