@@ -3,8 +3,8 @@
 ghost use Rattle.std.specs.Prelude.{◌≤◌, ◌^◌};
 
 use apex_types::{At, PartitionId, Ticks};
+use std::alloc::Global;
 use std::process::Abort;
-use std::test::Fail;
 use window_table::{Schedule, read_table};
 
 /// Two partitions in three windows. The last window is no release window, and ticks 10, 11, 18 and
@@ -97,54 +97,79 @@ fn next(schedule: &Schedule, partition: u8, now: u64, origin: u64) -> u64
     schedule.next_release(PartitionId(partition), at).0
 }
 
-#[test]
-fn owners_and_ends(rt: HostRuntime) -> Result<(), Fail> {
-    let table = read_table(rt.alloc(), TABLE.as_bytes())?;
-    expect_frames(&rt, &table.schedule, 0, &OWNERS, &ENDED);
-    expect_frames(&rt, &table.schedule, 7, &OWNERS, &ENDED);
-    Ok(())
-}
+/// A partition, a tick, the origin, and the partition's next release after the tick.
+type Release = (u8, u64, u64, u64);
 
-#[test]
-fn releases(rt: HostRuntime) -> Result<(), Fail> {
-    let schedule = read_table(rt.alloc(), TABLE.as_bytes())?.schedule;
+static RELEASES: [Release; 10] = [
     // The window at 12 is not marked; a release is never at the tick itself.
-    assert_eq!(rt; next(&schedule, 1, 0, 0), 20);
-    assert_eq!(rt; next(&schedule, 1, 19, 0), 20);
-    assert_eq!(rt; next(&schedule, 1, 20, 0), 40);
-    assert_eq!(rt; next(&schedule, 2, 0, 0), 4);
-    assert_eq!(rt; next(&schedule, 2, 3, 0), 4);
-    assert_eq!(rt; next(&schedule, 2, 4, 0), 24);
+    (1, 0, 0, 20),
+    (1, 19, 0, 20),
+    (1, 20, 0, 40),
+    (2, 0, 0, 4),
+    (2, 3, 0, 4),
+    (2, 4, 0, 24),
     // Frames begin at the origin.
-    assert_eq!(rt; next(&schedule, 1, 5, 5), 25);
-    assert_eq!(rt; next(&schedule, 2, 5, 5), 9);
-    assert_eq!(rt; next(&schedule, 2, 9, 5), 29);
+    (1, 5, 5, 25),
+    (2, 5, 5, 9),
+    (2, 9, 5, 29),
     // The last tick
-    assert_eq!(rt; next(&schedule, 1, 1_099_511_627_776, 0), 1_099_511_627_780);
-    Ok(())
+    (1, 1_099_511_627_776, 0, 1_099_511_627_780),
+];
+
+/// Releases of a schedule in which the second partition has no release window: a frame later.
+static OWN_RELEASES: [Release; 2] = [(1, 0, 0, 20), (2, 3, 0, 23)];
+
+fn expect_releases(rt: &impl Abort, schedule: &Schedule, releases: &[Release]) {
+    for (partition, now, origin, release) in releases {
+        assert!(rt; *origin <= *now && *now <= 1_099_511_627_776);
+        let found = next(schedule, *partition, *now, *origin);
+        assert_eq!(rt; found, *release, "after {now} from {origin}");
+    }
+}
+
+/// The schedule of a table.
+fn schedule(rt: &impl Abort, alloc: Global, text: &str) -> Schedule {
+    match read_table(alloc, text.as_bytes()) {
+        Ok(table) => table.schedule,
+        Err(_) => panic!(rt; "the table is refused"),
+    }
 }
 
 #[test]
-fn a_copy_and_a_part(rt: HostRuntime) -> Result<(), Fail> {
-    let schedule = read_table(rt.alloc(), TABLE.as_bytes())?.schedule;
-    let copy = schedule.try_clone(rt.alloc())?;
+fn owners_and_ends(rt: HostRuntime) {
+    let schedule = schedule(&rt, rt.alloc(), TABLE);
+    expect_frames(&rt, &schedule, 0, &OWNERS, &ENDED);
+    expect_frames(&rt, &schedule, 7, &OWNERS, &ENDED);
+}
+
+#[test]
+fn releases(rt: HostRuntime) {
+    let schedule = schedule(&rt, rt.alloc(), TABLE);
+    expect_releases(&rt, &schedule, &RELEASES);
+}
+
+#[test]
+fn a_copy(rt: HostRuntime) {
+    let schedule = schedule(&rt, rt.alloc(), TABLE);
+    let copy = schedule.try_clone(rt.alloc()).expect(&rt, "memory");
     assert_eq!(rt; copy.frame, 20);
     assert_eq!(rt; copy.windows.as_slice(), schedule.windows.as_slice());
-    let own = schedule.of_partition(rt.alloc(), PartitionId(1))?;
+}
+
+#[test]
+fn the_part_of_a_partition(rt: HostRuntime) {
+    let schedule = schedule(&rt, rt.alloc(), TABLE);
+    let own = schedule
+        .of_partition(rt.alloc(), PartitionId(1))
+        .expect(&rt, "memory");
     assert_eq!(rt; own.frame, 20);
     assert_eq!(rt; own.windows.len(), 2);
     expect_frames(&rt, &own, 0, &OWN_TICKS, &OWN_ENDED);
-    assert_eq!(rt; next(&own, 1, 0, 0), 20);
-    // A partition without a release window: a frame later
-    assert_eq!(rt; next(&own, 2, 3, 0), 23);
-    Ok(())
+    expect_releases(&rt, &own, &OWN_RELEASES);
 }
 
-/// A window that ends with the frame has ended at the first tick of the next frame, and not at the
-/// origin.
-#[test]
-fn the_end_of_a_frame(rt: HostRuntime) -> Result<(), Fail> {
-    let text = "frame = 8
+/// A table of one partition, in the second half of the frame.
+const SHORT: &str = "frame = 8
 fault = 'RESET'
 [[partition]]
 name = 'a'
@@ -157,13 +182,16 @@ offset = 4
 length = 4
 release = true
 ";
-    let schedule = read_table(rt.alloc(), text.as_bytes())?.schedule;
+
+/// A window that ends with the frame has ended at the first tick of the next frame, and not at the
+/// origin.
+#[test]
+fn the_end_of_a_frame(rt: HostRuntime) {
+    let schedule = schedule(&rt, rt.alloc(), SHORT);
     let origin = Ticks(3);
     for (now, ended) in [(3, 0), (10, 0), (11, 1), (12, 0), (19, 1)] {
         let now = Ticks(now);
-        if now >= origin && now.0 < 100 {
-            assert_eq!(rt; number(schedule.ended(At { now, origin })), ended);
-        }
+        assert!(rt; now >= origin && now.0 < 100);
+        assert_eq!(rt; number(schedule.ended(At { now, origin })), ended);
     }
-    Ok(())
 }

@@ -13,9 +13,9 @@ use processor::Outcome;
 use regions::{Memory, MemoryPlan, PartitionMem};
 use scripted::{Part, Scripted};
 use std::alloc::{AllocError, Global};
-use std::test::Fail;
+use std::process::Abort;
 use sync_objects_base::Objects;
-use window_table::read_table;
+use window_table::{Schedule, read_table};
 
 const TABLE: &str = "frame = 20
 fault = 'RESET'
@@ -101,44 +101,59 @@ fn memory(alloc: Global) -> Result<Memory, AllocError>
 }
 
 /// The partition of the table, with the process `p`.
-fn partition(alloc: Global) -> Result<Partition<Scripted>, Fail>
-    ensures { IfOk result (λ partition. layout_of partition.executor ≡ 0 ∷ []) }
+fn partition(rt: &impl Abort, alloc: Global) -> Partition<Scripted>
+    ensures { layout_of result.executor ≡ 0 ∷ [] }
 {
-    let table = read_table(alloc, TABLE.as_bytes())?;
-    let body = BodyRow {
-        stack: 2,
-        entry: 0,
-        slots: 0,
-        frame: 2,
-    };
+    let executor = scripted(alloc).expect(rt, "memory");
+    Partition::new(kernel(rt, alloc), executor)
+}
+
+fn kernel(rt: &impl Abort, alloc: Global) -> Kernel {
     let rows = [ProcessRow {
-        name: Name::new(b"p").ok_or(AllocError)?,
+        name: name(rt, b"p"),
         priority: Priority(5),
         period: None,
         capacity: None,
-        body,
+        body: BodyRow {
+            stack: 2,
+            entry: 0,
+            slots: 0,
+            frame: 2,
+        },
     }];
     let fixed = Fixed {
-        name: Name::new(b"flight").ok_or(AllocError)?,
+        name: name(rt, b"flight"),
         number: PartitionId(1),
         period: 20,
         duration: 20,
-        schedule: table.schedule,
+        schedule: schedule(rt, alloc),
         health: HEALTH,
     };
-    let objects = Objects::new(alloc, &[], 0, &[], &[])?;
-    let ports = Ports::new(alloc, &[])?;
-    let kernel = Kernel::new(alloc, fixed, &rows, objects, ports, false)?;
-    Ok(Partition::new(kernel, scripted(alloc)?))
+    let objects = Objects::new(alloc, &[], 0, &[], &[]).expect(rt, "memory");
+    let ports = Ports::new(alloc, &[]).expect(rt, "memory");
+    Kernel::new(alloc, fixed, &rows, objects, ports, false).expect(rt, "memory")
 }
 
-/// The text of the lines of a tick.
-fn tick(
+fn name(rt: &impl Abort, text: &[u8]) -> Name {
+    Name::new(text).expect(rt, "a name")
+}
+
+fn schedule(rt: &impl Abort, alloc: Global) -> Schedule {
+    match read_table(alloc, TABLE.as_bytes()) {
+        Ok(table) => table.schedule,
+        Err(_) => panic!(rt; "the table is refused"),
+    }
+}
+
+/// Expects these lines of a tick.
+fn expect_tick(
+    rt: &impl Abort,
     alloc: Global,
     partition: &mut Partition<Scripted>,
     mem: &mut PartitionMem,
     now: u8,
-) -> Result<Vec<u8>, Fail>
+    lines: &str,
+)
     requires { laid_of mem.old ≡ layout_of partition.old.executor }
     ensures { laid_of mem.new ≡ layout_of partition.new.executor }
 {
@@ -148,17 +163,21 @@ fn tick(
         origin: Ticks(0),
     };
     partition.tick(mem, at, &mut events);
+    expect_lines(rt, alloc, &events, lines);
+}
+
+fn expect_lines(rt: &impl Abort, alloc: Global, events: &Events, lines: &str) {
     let mut sink = WriterSink::new(Vec::new(alloc));
     let _ = write_events(events.as_slice(), &mut sink);
-    Ok(sink.writer)
+    assert_eq!(rt; sink.writer.as_slice(), lines.as_bytes());
 }
 
 #[test]
 #[tactic(auto, using(scripted::proofs::Parts::laid_first))]
-fn scripts_are_played(rt: HostRuntime) -> Result<(), Fail> {
+fn scripts_are_played(rt: HostRuntime) {
     let alloc = rt.alloc();
-    let mut partition = partition(alloc)?;
-    let mut memory = memory(alloc)?;
+    let mut partition = partition(&rt, alloc);
+    let mut memory = memory(alloc).expect(&rt, "memory");
     let mem = memory.lend(0);
     let mut events = Events::new();
     let start = At {
@@ -166,19 +185,11 @@ fn scripts_are_played(rt: HostRuntime) -> Result<(), Fail> {
         origin: Ticks(0),
     };
     partition.clear(mem, start, StartCondition::NormalStart, &mut events);
-    let created = tick(alloc, &mut partition, mem, 0)?;
-    assert_eq!(rt; created.as_slice(), CREATED.as_bytes());
-    let started = tick(alloc, &mut partition, mem, 1)?;
-    assert_eq!(rt; started.as_slice(), STARTED.as_bytes());
-    let normal = tick(alloc, &mut partition, mem, 2)?;
-    assert_eq!(rt; normal.as_slice(), NORMAL.as_bytes());
-    let running = tick(alloc, &mut partition, mem, 3)?;
-    assert_eq!(rt; running.as_slice(), RUNNING.as_bytes());
-    let asked = tick(alloc, &mut partition, mem, 4)?;
-    assert_eq!(rt; asked.as_slice(), ASKED.as_bytes());
-    let faulty = tick(alloc, &mut partition, mem, 5)?;
-    assert_eq!(rt; faulty.as_slice(), FAULTY.as_bytes());
-    let idle = tick(alloc, &mut partition, mem, 6)?;
-    assert!(rt; idle.as_slice().is_empty());
-    Ok(())
+    expect_tick(&rt, alloc, &mut partition, mem, 0, CREATED);
+    expect_tick(&rt, alloc, &mut partition, mem, 1, STARTED);
+    expect_tick(&rt, alloc, &mut partition, mem, 2, NORMAL);
+    expect_tick(&rt, alloc, &mut partition, mem, 3, RUNNING);
+    expect_tick(&rt, alloc, &mut partition, mem, 4, ASKED);
+    expect_tick(&rt, alloc, &mut partition, mem, 5, FAULTY);
+    expect_tick(&rt, alloc, &mut partition, mem, 6, "");
 }

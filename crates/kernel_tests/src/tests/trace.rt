@@ -206,18 +206,28 @@ fn a_beginning_is_out_where_the_sink_failed(rt: HostRuntime) {
     }
 }
 
+/// Texts, and whether they are names.
+static NAMES: [(&[u8], bool); 6] = [
+    (b"a_0", true),
+    (b"", false),
+    (b"_a", false),
+    (b"a-", false),
+    (b"abcdefghijabcdefghijabcdefghij", true),
+    (b"abcdefghijabcdefghijabcdefghijk", false),
+];
+
 #[test]
-fn names_and_service_numbers(rt: HostRuntime) {
+fn texts_that_are_names(rt: HostRuntime) {
+    for (row, (text, is_name)) in NAMES.iter().enumerate() {
+        assert_eq!(rt; Name::new(text).is_some(), *is_name, "row {row}");
+    }
     assert_eq!(rt; name(&rt, b"a_0").as_str(), "a_0");
-    assert!(rt; Name::new(b"").is_none());
-    assert!(rt; Name::new(b"_a").is_none());
-    assert!(rt; Name::new(b"a-").is_none());
-    assert!(rt; Name::new(b"abcdefghijabcdefghijabcdefghij").is_some());
-    assert!(rt; Name::new(b"abcdefghijabcdefghijabcdefghijk").is_none());
-    assert_eq!(rt;
-        Service::from_number(57),
-        Some(Service::RaiseApplicationError)
-    );
+}
+
+#[test]
+fn numbers_and_words_of_services(rt: HostRuntime) {
+    let last = Service::from_number(57);
+    assert_eq!(rt; last, Some(Service::RaiseApplicationError));
     assert_eq!(rt; Service::from_number(58), None);
     assert_eq!(rt; Service::TimedWait.word(), "TIMED_WAIT");
     assert_eq!(rt; Service::SendBuffer.argument_words(), 5);
