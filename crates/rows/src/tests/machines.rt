@@ -7,68 +7,64 @@ use super::texts::{SMALLEST_IMAGE, SMALLEST_TRACE};
 use image::load_image;
 use module::{Machine, RunFault, split_tick};
 use std::alloc::Global;
-use std::test::Fail;
+use std::process::Abort;
 
-/// A tick without lines of the devices.
-fn tick(machine: &mut Machine, sink: &mut NarrowSink) -> Result<(), RunFault>
+/// Expects what a tick without lines of the devices answers.
+fn expect_tick(
+    rt: &impl Abort,
+    machine: &mut Machine,
+    sink: &mut NarrowSink,
+    wanted: Result<(), RunFault>,
+)
     requires { sink.old.failures < 100 }
     ensures { sink.new.failures ≤ sink.old.failures + 1 }
 {
-    machine.tick(&[], sink)
+    let found = machine.tick(&[], sink);
+    assert!(rt; found == wanted);
 }
 
 /// The machine of an image.
-fn machine_of(alloc: Global, image: &[u8]) -> Result<Machine, RunFault> {
-    Ok(Machine::load(alloc, load_image(alloc, image)?)?)
+fn machine_of(rt: &impl Abort, alloc: Global, image: &[u8]) -> Machine {
+    let image = match load_image(alloc, image) {
+        Ok(image) => image,
+        Err(_) => panic!(rt; "no image"),
+    };
+    Machine::load(alloc, image).expect(rt, "memory")
 }
 
 #[test]
-fn a_machine_whose_sink_fails(rt: HostRuntime) -> Result<(), Fail> {
-    let mut machine = machine_of(rt.alloc(), &SMALLEST_IMAGE).map_err(|_| "no machine")?;
+fn a_machine_whose_sink_fails(rt: HostRuntime) {
+    let mut machine = machine_of(&rt, rt.alloc(), &SMALLEST_IMAGE);
     // The three lines of tick 0 have 100 bytes.
     let mut sink = narrow_sink(100, false);
-    let answers = [
-        tick(&mut machine, &mut sink),
-        tick(&mut machine, &mut sink),
-        tick(&mut machine, &mut sink),
-        tick(&mut machine, &mut sink),
-        tick(&mut machine, &mut sink),
-        tick(&mut machine, &mut sink),
-        tick(&mut machine, &mut sink),
-    ];
-    let wanted = [
-        Ok(()),
-        Ok(()),
-        Ok(()),
-        Ok(()),
-        Err(RunFault::Write),
-        Err(RunFault::Failed),
-        Err(RunFault::Failed),
-    ];
-    assert!(rt; answers == wanted);
+    expect_tick(&rt, &mut machine, &mut sink, Ok(()));
+    expect_tick(&rt, &mut machine, &mut sink, Ok(()));
+    expect_tick(&rt, &mut machine, &mut sink, Ok(()));
+    expect_tick(&rt, &mut machine, &mut sink, Ok(()));
+    expect_tick(&rt, &mut machine, &mut sink, Err(RunFault::Write));
+    expect_tick(&rt, &mut machine, &mut sink, Err(RunFault::Failed));
+    expect_tick(&rt, &mut machine, &mut sink, Err(RunFault::Failed));
     assert_eq!(rt; sink.failures, 1);
     assert_eq!(rt; sink.taken.len(), 100);
     assert!(rt; SMALLEST_TRACE.as_bytes().starts_with(sink.taken.as_slice()));
     assert_eq!(rt; machine.now(), 4);
-    Ok(())
 }
 
 #[test]
-fn a_machine_that_is_shut_down(rt: HostRuntime) -> Result<(), Fail> {
+fn a_machine_that_is_shut_down(rt: HostRuntime) {
     let mut image = SMALLEST_IMAGE;
     // On a fault of the module it is shut down.
     image[14] = 1;
-    let mut machine = machine_of(rt.alloc(), &image).map_err(|_| "no machine")?;
+    let mut machine = machine_of(&rt, rt.alloc(), &image);
     let mut sink = narrow_sink(512, false);
     assert!(rt; !machine.is_shut_down());
-    shut_down(rt.alloc(), &mut machine, &mut sink).map_err(|_| "no tick")?;
+    assert!(rt; shut_down(rt.alloc(), &mut machine, &mut sink).is_ok());
     assert!(rt; machine.is_shut_down());
     assert_eq!(rt; machine.now(), 1);
     let lines = sink.taken.len();
-    assert!(rt; tick(&mut machine, &mut sink).is_ok());
+    expect_tick(&rt, &mut machine, &mut sink, Ok(()));
     assert_eq!(rt; machine.now(), 2);
     assert_eq!(rt; sink.taken.len(), lines);
-    Ok(())
 }
 
 /// The first tick of a machine, with a fault of the module.

@@ -6,7 +6,7 @@ use super::texts::{FIRST_TRACE, SMALLEST, SMALLEST_IMAGE, SMALLEST_TRACE, TABLE}
 use command_line::{Stream, command};
 use module::{BuildFault, RunFault, build, run};
 use std::alloc::Global;
-use std::test::Fail;
+use std::process::Abort;
 
 /// Takes all memory that the process can get, in ever smaller blocks, into the room of `held`. The
 /// stack cannot grow afterwards, so each test makes its call once before.
@@ -31,47 +31,60 @@ fn exhaust(alloc: Global, held: &mut Vec<Vec<u8>>) {
     }
 }
 
+/// Room for blocks of memory.
+fn no_blocks(rt: &impl Abort, alloc: Global) -> Vec<Vec<u8>> {
+    Vec::with_capacity(alloc, 100_000).expect(rt, "memory")
+}
+
+/// Expects that the smallest module is built.
+fn expect_image(rt: &impl Abort, alloc: Global) {
+    match build(alloc, TABLE.as_bytes(), &[SMALLEST.as_bytes()]) {
+        Ok(image) => assert_eq!(rt; image.as_slice(), SMALLEST_IMAGE.as_slice()),
+        Err(_) => panic!(rt; "nothing is built"),
+    }
+}
+
+/// Expects that the smallest image is run.
+fn expect_trace(rt: &impl Abort, alloc: Global) {
+    let mut sink = narrow_sink(512, false);
+    let ran = run(alloc, &SMALLEST_IMAGE, &[], 128, &mut sink);
+    assert!(rt; ran.is_ok());
+    assert_eq!(rt; sink.taken.as_slice(), SMALLEST_TRACE.as_bytes());
+}
+
 #[test]
-fn building(rt: HostRuntime) -> Result<(), Fail> {
+fn building(rt: HostRuntime) {
     let sources = [SMALLEST.as_bytes()];
-    let image = build(rt.alloc(), TABLE.as_bytes(), &sources)?;
-    assert_eq!(rt; image.as_slice(), SMALLEST_IMAGE.as_slice());
-    let mut held: Vec<Vec<u8>> = Vec::with_capacity(rt.alloc(), 100_000)?;
+    expect_image(&rt, rt.alloc());
+    let mut held = no_blocks(&rt, rt.alloc());
     exhaust(rt.alloc(), &mut held);
     let refused = build(rt.alloc(), TABLE.as_bytes(), &sources);
     held.clear();
     assert!(rt; matches!(refused, Err(BuildFault::Memory)));
-    let image = build(rt.alloc(), TABLE.as_bytes(), &sources)?;
-    assert_eq!(rt; image.as_slice(), SMALLEST_IMAGE.as_slice());
-    Ok(())
+    expect_image(&rt, rt.alloc());
 }
 
 #[test]
-fn running(rt: HostRuntime) -> Result<(), Fail> {
+fn running(rt: HostRuntime) {
+    expect_trace(&rt, rt.alloc());
     let mut sink = narrow_sink(512, false);
-    run(rt.alloc(), &SMALLEST_IMAGE, &[], 128, &mut sink)?;
-    assert_eq!(rt; sink.taken.as_slice(), SMALLEST_TRACE.as_bytes());
-    let mut sink = narrow_sink(512, false);
-    let mut held: Vec<Vec<u8>> = Vec::with_capacity(rt.alloc(), 100_000)?;
+    let mut held = no_blocks(&rt, rt.alloc());
     exhaust(rt.alloc(), &mut held);
     let refused = run(rt.alloc(), &SMALLEST_IMAGE, &[], 128, &mut sink);
     held.clear();
     assert!(rt; refused == Err(RunFault::Memory));
     assert!(rt; sink.taken.is_empty());
-    let mut sink = narrow_sink(512, false);
-    run(rt.alloc(), &SMALLEST_IMAGE, &[], 128, &mut sink)?;
-    assert_eq!(rt; sink.taken.as_slice(), SMALLEST_TRACE.as_bytes());
-    Ok(())
+    expect_trace(&rt, rt.alloc());
 }
 
 #[test]
-fn commanding(rt: HostRuntime) -> Result<(), Fail> {
+fn commanding(rt: HostRuntime) {
     let words = ["mb"];
     let mut shelf = Shelf::new(rt.alloc(), &[], &[]);
-    let mut out = Stream::new(Vec::with_capacity(rt.alloc(), 1024)?);
-    let mut err = Stream::new(Vec::with_capacity(rt.alloc(), 1024)?);
+    let mut out = Stream::new(Vec::with_capacity(rt.alloc(), 1024).expect(&rt, "memory"));
+    let mut err = Stream::new(Vec::with_capacity(rt.alloc(), 1024).expect(&rt, "memory"));
     expect_command(&rt, rt.alloc(), &mut shelf, &words, (0, FIRST_TRACE, ""));
-    let mut held: Vec<Vec<u8>> = Vec::with_capacity(rt.alloc(), 100_000)?;
+    let mut held = no_blocks(&rt, rt.alloc());
     exhaust(rt.alloc(), &mut held);
     let status = command(rt.alloc(), &words, &mut shelf, &mut out, &mut err);
     held.clear();
@@ -79,5 +92,4 @@ fn commanding(rt: HostRuntime) -> Result<(), Fail> {
     assert!(rt; out.into_writer().is_empty());
     assert_eq!(rt; err.into_writer().as_slice(), b"mb: memory\n".as_slice());
     expect_command(&rt, rt.alloc(), &mut shelf, &words, (0, FIRST_TRACE, ""));
-    Ok(())
 }
