@@ -8,8 +8,8 @@ use super::traces::{MODES, RATE_GROUPS, TELEMETRY};
 use apex_types::{Subject, Ticks};
 use std::alloc::Global;
 use std::io::{self, ErrorKind, Write};
+use std::process::Abort;
 use std::str;
-use std::test::Fail;
 use trace_stays::MemoryFull;
 use trace_text::{TraceFault, TraceReader};
 use trace_view::{Extremes, Report, ReportFault, Share, Summary};
@@ -66,6 +66,29 @@ fn sheet_of(alloc: Global, report: &Report) -> Result<Vec<u8>, Missing> {
     Ok(out)
 }
 
+fn expect_report(rt: &impl Abort, alloc: Global, text: &str, from: u64, to: Option<u64>) -> Report {
+    match report_of(alloc, text, from, to) {
+        Ok(report) => report,
+        Err(_) => panic!(rt; "no report"),
+    }
+}
+
+/// Expects these tables of a report.
+fn expect_tables(rt: &impl Abort, alloc: Global, report: &Report, wanted: &str) {
+    let Ok(out) = tables_of(alloc, report) else {
+        panic!(rt; "no tables");
+    };
+    assert_eq!(rt; str::from_utf8(out.as_slice()).unwrap_or("no text"), wanted);
+}
+
+/// The comma-separated values of a report.
+fn expect_sheet(rt: &impl Abort, alloc: Global, report: &Report) -> Vec<u8> {
+    match sheet_of(alloc, report) {
+        Ok(out) => out,
+        Err(_) => panic!(rt; "no sheet"),
+    }
+}
+
 /// A trace, the window of its summary, and the tables of the summary.
 type Shown = (&'static str, u64, Option<u64>, &'static str);
 
@@ -78,37 +101,33 @@ static SHOWN: [Shown; 5] = [
 ];
 
 #[test]
-fn tables_of_the_examples(rt: HostRuntime) -> Result<(), Fail> {
-    for (row, (text, from, to, wanted)) in SHOWN.iter().enumerate() {
-        let report = report_of(rt.alloc(), text, *from, *to)?;
-        let out = tables_of(rt.alloc(), &report)?;
-        let shown = str::from_utf8(out.as_slice()).unwrap_or("no text");
-        assert_eq!(rt; shown, *wanted, "row {row}");
+fn tables_of_the_examples(rt: HostRuntime) {
+    for (text, from, to, wanted) in &SHOWN {
+        let report = expect_report(&rt, rt.alloc(), text, *from, *to);
+        expect_tables(&rt, rt.alloc(), &report, wanted);
     }
-    Ok(())
 }
 
 #[test]
-fn sheets_of_the_examples(rt: HostRuntime) -> Result<(), Fail> {
+fn sheets_of_the_examples(rt: HostRuntime) {
     for (text, wanted) in [
         (RATE_GROUPS, RATE_GROUPS_SHEET),
         (TELEMETRY, TELEMETRY_SHEET),
     ] {
-        let report = report_of(rt.alloc(), text, 0, None)?;
-        let out = sheet_of(rt.alloc(), &report)?;
+        let report = expect_report(&rt, rt.alloc(), text, 0, None);
+        let out = expect_sheet(&rt, rt.alloc(), &report);
         let shown = str::from_utf8(out.as_slice()).unwrap_or("no text");
         assert_eq!(rt; shown, wanted);
     }
-    Ok(())
 }
 
 /// The times of `fast` in `rate_groups`, from its lines: it runs at once, from 500 to 617 the
 /// shortest time and from 2500 to 2869 the longest. In the 9 activations is none of tick 3600, where
 /// the error handler preempts it.
 #[test]
-fn numbers_of_a_process(rt: HostRuntime) -> Result<(), Fail> {
-    let report = report_of(rt.alloc(), RATE_GROUPS, 0, None)?;
-    let fast = report.processes.get(1).ok_or("fast")?;
+fn numbers_of_a_process(rt: HostRuntime) {
+    let report = expect_report(&rt, rt.alloc(), RATE_GROUPS, 0, None);
+    let fast = report.processes.get(1).expect(&rt, "fast");
     assert_eq!(rt; fast.tally.activations, 9);
     let at_once = Extremes {
         least: 0,
@@ -120,7 +139,6 @@ fn numbers_of_a_process(rt: HostRuntime) -> Result<(), Fail> {
         greatest: 370,
     };
     assert_eq!(rt; fast.tally.to_end, Some(to_end));
-    Ok(())
 }
 
 /// A process is READY at 5 and RUNNING from 8 on; a restart at 20 cuts it off. Then it is READY at 30
@@ -137,10 +155,10 @@ const RESTART: &str = "0000000000000 a MODE NORMAL
 ";
 
 #[test]
-fn a_restart_cuts_off(rt: HostRuntime) -> Result<(), Fail> {
-    let report = report_of(rt.alloc(), RESTART, 0, None)?;
+fn a_restart_cuts_off(rt: HostRuntime) {
+    let report = expect_report(&rt, rt.alloc(), RESTART, 0, None);
     let [process] = report.processes.as_slice() else {
-        return Err(Fail::from("one process"));
+        panic!(rt; "no one process");
     };
     let tally = process.tally;
     assert_eq!(rt; tally.activations, 2);
@@ -159,7 +177,6 @@ fn a_restart_cuts_off(rt: HostRuntime) -> Result<(), Fail> {
     assert_eq!(rt; tally.ticks.running, 17);
     assert_eq!(rt; tally.ticks.waiting, 0);
     assert_eq!(rt; report.extent.window.ticks(), 35);
-    Ok(())
 }
 
 /// Errors of no process, of the module, and of a process. The last line says nothing of a deadline.
@@ -170,17 +187,16 @@ const ERRORS: &str = "0000000000003 - HM HARDWARE_FAULT - MODULE IGNORE
 ";
 
 #[test]
-fn errors_without_a_process(rt: HostRuntime) -> Result<(), Fail> {
-    let report = report_of(rt.alloc(), ERRORS, 0, None)?;
+fn errors_without_a_process(rt: HostRuntime) {
+    let report = expect_report(&rt, rt.alloc(), ERRORS, 0, None);
     assert_eq!(rt; report.extent.lines, 4);
     assert_eq!(rt; report.partitions.len(), 1);
     let [process] = report.processes.as_slice() else {
-        return Err(Fail::from("one process"));
+        panic!(rt; "no one process");
     };
     assert!(rt; matches!(process.who, Subject::Process(_)));
     assert_eq!(rt; process.tally.deadlines_missed, 1);
     assert_eq!(rt; process.tally.activations, 0);
-    Ok(())
 }
 
 /// The tables of a trace without lines.
@@ -191,17 +207,15 @@ lines  first tick  last tick  from  to  ticks
 ";
 
 #[test]
-fn a_trace_without_lines(rt: HostRuntime) -> Result<(), Fail> {
-    let report = report_of(rt.alloc(), "", 0, None)?;
-    let out = tables_of(rt.alloc(), &report)?;
-    assert_eq!(rt; out.as_slice(), NOTHING.as_bytes());
-    let out = sheet_of(rt.alloc(), &report)?;
+fn a_trace_without_lines(rt: HostRuntime) {
+    let report = expect_report(&rt, rt.alloc(), "", 0, None);
+    expect_tables(&rt, rt.alloc(), &report, NOTHING);
+    let out = expect_sheet(&rt, rt.alloc(), &report);
     assert!(rt; out.ends_with(b"\ntrace,,,0,,,0,0,0,,,,,,,,,,,,,,,,,,,,,,,,,,,,\n"));
     // The window ends before it begins.
-    let report = report_of(rt.alloc(), MODES, 900, Some(800))?;
+    let report = expect_report(&rt, rt.alloc(), MODES, 900, Some(800));
     assert_eq!(rt; report.extent.lines, 0);
     assert_eq!(rt; report.extent.window.ticks(), 0);
-    Ok(())
 }
 
 /// Parts, wholes, and their shares in tenths of a percent, halves rounded up.
@@ -250,8 +264,8 @@ impl Write for Narrow {
 }
 
 #[test]
-fn a_writer_that_fails(rt: HostRuntime) -> Result<(), Fail> {
-    let report = report_of(rt.alloc(), TELEMETRY, 0, None)?;
+fn a_writer_that_fails(rt: HostRuntime) {
+    let report = expect_report(&rt, rt.alloc(), TELEMETRY, 0, None);
     for room in [0, 1, 400, TELEMETRY_TABLES.len() - 1] {
         let mut out = Narrow { room };
         let answer = report.write_table(rt.alloc(), &mut out);
@@ -262,5 +276,4 @@ fn a_writer_that_fails(rt: HostRuntime) -> Result<(), Fail> {
         let answer = report.write_csv(rt.alloc(), &mut out);
         assert_eq!(rt; answer, Err(ReportFault::Write));
     }
-    Ok(())
 }

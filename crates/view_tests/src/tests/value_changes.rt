@@ -1,8 +1,7 @@
 //! A reader of value change dumps, by the grammar of IEEE 1364 for dumps of four states.
 
-use std::alloc::Global;
+use std::alloc::{AllocError, Global};
 use std::process::Abort;
-use std::test::Fail;
 
 /// A variable of a dump.
 #[derive(Drop)]
@@ -40,7 +39,7 @@ enum Part {
 }
 
 /// Reads a dump, and stops the test where it is none.
-pub fn read_waves<'a>(rt: &impl Abort, alloc: Global, text: &'a str) -> Result<Waves<'a>, Fail> {
+pub fn read_waves<'a>(rt: &impl Abort, alloc: Global, text: &'a str) -> Waves<'a> {
     let mut waves = Waves {
         variables: Vec::new(alloc),
         changes: Vec::new(alloc),
@@ -52,18 +51,18 @@ pub fn read_waves<'a>(rt: &impl Abort, alloc: Global, text: &'a str) -> Result<W
     for line in text.lines() {
         let mut words: Vec<&str> = Vec::new(alloc);
         for word in line.split_whitespace() {
-            words.push(word)?;
+            words.push(word).expect(rt, "memory");
         }
         part = match part {
             Part::Declarations => {
-                declaration(rt, alloc, words.as_slice(), &mut scopes, &mut waves)?
+                declaration(rt, alloc, words.as_slice(), &mut scopes, &mut waves)
             }
-            _ => command(rt, words.as_slice(), part, &mut waves)?,
+            _ => command(rt, words.as_slice(), part, &mut waves),
         };
     }
     assert!(rt; part == Part::Changes, "the dump is complete");
     assert!(rt; scopes.is_empty(), "each scope has its end");
-    Ok(waves)
+    waves
 }
 
 /// Reads a declaration command.
@@ -73,7 +72,7 @@ fn declaration<'a>(
     words: &[&'a str],
     scopes: &mut Vec<&'a str>,
     waves: &mut Waves<'a>,
-) -> Result<Part, Fail> {
+) -> Part {
     let Some((last, front)) = words.split_last() else {
         panic!(rt; "an empty line");
     };
@@ -87,17 +86,17 @@ fn declaration<'a>(
         "$scope" => {
             assert!(rt; fields.len() == 2 && fields[0] == "module");
             assert_identifier(rt, fields[1]);
-            scopes.push(fields[1])?;
+            scopes.push(fields[1]).expect(rt, "memory");
         }
         "$upscope" => assert!(rt; fields.is_empty() && scopes.pop().is_some()),
-        "$var" => variable(rt, alloc, fields, scopes.as_slice(), waves)?,
+        "$var" => variable(rt, alloc, fields, scopes.as_slice(), waves),
         "$enddefinitions" => {
             assert!(rt; fields.is_empty());
-            return Ok(Part::Changes);
+            return Part::Changes;
         }
         _ => panic!(rt; "no declaration: {keyword}"),
     }
-    Ok(Part::Declarations)
+    Part::Declarations
 }
 
 /// Reads a variable: its type, its size, its code and its name.
@@ -107,7 +106,7 @@ fn variable<'a>(
     fields: &[&'a str],
     scopes: &[&'a str],
     waves: &mut Waves<'a>,
-) -> Result<(), Fail> {
+) {
     assert_eq!(rt; fields.len(), 4);
     let is_event = fields[0] == "event";
     assert!(rt; is_event || fields[0] == "wire", "a type");
@@ -119,64 +118,62 @@ fn variable<'a>(
         "a code twice"
     );
     assert_identifier(rt, fields[3]);
-    let mut path = String::new(alloc);
-    for scope in scopes {
-        path.push_str(scope)?;
-        path.push('.')?;
-    }
-    path.push_str(fields[3])?;
+    let path = path_of(alloc, scopes, fields[3]).expect(rt, "memory");
     assert!(rt;
         waves
             .variables
             .iter()
             .all(|wave| wave.path.as_str() != path.as_str())
     );
-    waves.variables.push(Wave {
+    let wave = Wave {
         path,
         code,
         is_event,
-    })?;
-    Ok(())
+    };
+    waves.variables.push(wave).expect(rt, "memory");
+}
+
+/// The names of the scopes and the name of a variable, with dots between them.
+fn path_of(alloc: Global, scopes: &[&str], name: &str) -> Result<String, AllocError> {
+    let mut path = String::new(alloc);
+    for scope in scopes {
+        path.push_str(scope)?;
+        path.push('.')?;
+    }
+    path.push_str(name)?;
+    Ok(path)
 }
 
 /// Reads a simulation command: a time, a change, or the bounds of the first values.
-fn command<'a>(
-    rt: &impl Abort,
-    words: &[&'a str],
-    part: Part,
-    waves: &mut Waves<'a>,
-) -> Result<Part, Fail> {
+fn command<'a>(rt: &impl Abort, words: &[&'a str], part: Part, waves: &mut Waves<'a>) -> Part {
     assert_eq!(rt; words.len(), 1);
     match words[0] {
         "$dumpvars" => {
             assert!(rt; part == Part::Changes && waves.changes.is_empty());
-            return Ok(Part::FirstValues);
+            return Part::FirstValues;
         }
         "$end" => {
             assert!(rt; part == Part::FirstValues);
-            return Ok(Part::Changes);
+            return Part::Changes;
         }
         word => match word.strip_prefix('#') {
             Some(time) => {
-                let time = time.parse::<u64>()?;
+                let Ok(time) = time.parse::<u64>() else {
+                    panic!(rt; "no time: {word}");
+                };
                 assert!(rt; part == Part::Changes);
                 assert!(rt; waves.last.is_none_or(|last| last < time), "time {time}");
                 waves.first = Some(waves.first.unwrap_or(time));
                 waves.last = Some(time);
             }
-            None => change(rt, word, part, waves)?,
+            None => change(rt, word, part, waves),
         },
     }
-    Ok(part)
+    part
 }
 
 /// Reads a change: a value, and the code of a variable.
-fn change<'a>(
-    rt: &impl Abort,
-    word: &'a str,
-    part: Part,
-    waves: &mut Waves<'a>,
-) -> Result<(), Fail> {
+fn change<'a>(rt: &impl Abort, word: &'a str, part: Part, waves: &mut Waves<'a>) {
     let (value, code) = match word.strip_prefix("0") {
         Some(code) => (0, code),
         None => match word.strip_prefix("1") {
@@ -192,9 +189,9 @@ fn change<'a>(
         panic!(rt; "a change without a time");
     };
     if part == Part::Changes {
-        waves.changes.push(WaveChange { time, code, value })?;
+        let change = WaveChange { time, code, value };
+        waves.changes.push(change).expect(rt, "memory");
     }
-    Ok(())
 }
 
 /// A simple identifier: letters, digits and `_`, a digit not in front.

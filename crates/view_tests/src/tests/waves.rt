@@ -103,7 +103,7 @@ fn assert_times(rt: &impl Abort, waves: &Waves<'_>, path: &str, value: u8, times
 #[test]
 fn the_whole_trace(rt: HostRuntime) -> Result<(), Fail> {
     let dump = dump_of(rt.alloc(), TRACE, 0, None)?;
-    let waves = read_waves(&rt, rt.alloc(), str::from_utf8(dump.as_slice())?)?;
+    let waves = read_waves(&rt, rt.alloc(), str::from_utf8(dump.as_slice())?);
     for (path, high, low) in WIRES {
         assert_times(&rt, &waves, path, 1, high);
         assert_times(&rt, &waves, path, 0, low);
@@ -122,7 +122,7 @@ fn the_whole_trace(rt: HostRuntime) -> Result<(), Fail> {
 #[test]
 fn some_ticks_of_it(rt: HostRuntime) -> Result<(), Fail> {
     let dump = dump_of(rt.alloc(), TRACE, 7, Some(12))?;
-    let waves = read_waves(&rt, rt.alloc(), str::from_utf8(dump.as_slice())?)?;
+    let waves = read_waves(&rt, rt.alloc(), str::from_utf8(dump.as_slice())?);
     assert_times(&rt, &waves, "a.MODE.NORMAL", 1, &[7]);
     assert_times(&rt, &waves, "a.MODE.NORMAL", 0, &[12]);
     assert_times(&rt, &waves, "a.MODE.COLD_START", 1, &[]);
@@ -200,7 +200,7 @@ fn a_small_dump(rt: HostRuntime) -> Result<(), Fail> {
 #[test]
 fn no_lines(rt: HostRuntime) -> Result<(), Fail> {
     let dump = dump_of(rt.alloc(), "", 0, None)?;
-    let waves = read_waves(&rt, rt.alloc(), str::from_utf8(dump.as_slice())?)?;
+    let waves = read_waves(&rt, rt.alloc(), str::from_utf8(dump.as_slice())?);
     assert!(rt; waves.variables.is_empty());
     let none: &[WaveChange<'_>] = &[];
     assert_eq!(rt; waves.changes.as_slice(), none);
