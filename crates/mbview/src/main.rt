@@ -1,13 +1,15 @@
 //! Shows the traces of modules.
 #![tactic(auto)]
 
+mod sources;
+
+use sources::HostSources;
 use std::alloc::AllocGlobal;
 use std::env;
 use std::io::{self, BufWriter, ErrorKind, Write};
 use std::process::ExitCode;
 use std::rt::Env;
 use view_command::{Stream, view};
-use view_host::HostSources;
 
 fn main(rt: HostRuntime) -> ExitCode {
     ExitCode::from(status(&rt))

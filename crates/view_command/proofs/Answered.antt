@@ -1,16 +1,24 @@
 -- From what a command came to, to its status.
-use Rattle.std.proofs.Common.{◌≡◌, ◌⊎◌, inl, inr, ℕ, true, Result, Ok, Err, refl, sym, subst, ◌∙◌, arith}
+use Rattle.std.proofs.Common.{◌≡◌, ◌⊎◌, inl, inr, ℕ, [], true, Option, Result, Ok, Err, refl, sym, subst, ◌∙◌, arith}
 use Rattle.std.specs.Prelude.{IfErr, OnOk}
+use Rattle.clap.specs.Faults.{is_simple_and_free}
+use Rattle.clap.specs.Kinds.{Kinds, IsAmong}
 use Rattle.clap.specs.Values.{kind_of}
 use Rattle.clap.specs.declared.error.Error.{Error}
 use Rattle.clap.specs.declared.error.kind.ErrorKind.{ErrorKind}
 use Rattle.clap.specs.declared.error.kind.ErrorKind.TheVariants as kind
-use Rattle.view_command.specs.Answers.{IsAnswer, IsFailure, IsHelp, IsMistake, IsTold, IsUsageTold}
+use Rattle.view_command.specs.Answers.{AreNoCommand, AskForHelp, IsAnswer, IsFailure, IsHelp, IsMistake, IsRefused, IsRefusedFor, IsTold, IsUsageTold}
 use Rattle.view_command.specs.Lines.{line_of}
+use Rattle.view_command.specs.Orders.{AsksForNothing, Entered, trace_of}
 use Rattle.view_command.specs.States.{Seen, TakesLine}
+use Rattle.view_command.specs.Texts.{Texts, IsTraceIn}
+use Rattle.view_command.specs.Words.{view_app}
 use Rattle.view_command.specs.declared.refusal.Failure.{Failure}
 use Rattle.view_command.specs.declared.refusal.Failure.TheVariants.{Refused, Usage}
 use Rattle.view_command.specs.declared.refusal.Refusal.TheVariants as refusal
+
+pub view_is_free : is_simple_and_free view_app ≡ true
+view_is_free = refl
 
 help_or : (k : ErrorKind) → IsHelp k ⊎ IsMistake k
 help_or kind.InvalidValue = inr ((λ e. cc), (λ e. cc))
@@ -31,44 +39,62 @@ help_or kind.Io = inr ((λ e. cc), (λ e. cc))
 help_or kind.Format = inr ((λ e. cc), (λ e. cc))
 help_or kind.OutOfMemory = inr ((λ e. cc), (λ e. cc))
 
-of_usage : (before mid new_out old_err new_err : Seen) (status : ℕ) (e : Error) → mid ≡ before → IsUsageTold e mid new_out old_err new_err status → IsHelp (kind_of e) ⊎ IsMistake (kind_of e) → IsAnswer before new_out old_err new_err status
-of_usage before mid new_out old_err new_err status e same told (inr mistake) =
+of_usage : (kinds : Kinds) (entered : Entered) (texts : Option Texts) (before mid new_out old_err new_err : Seen) (status : ℕ) (e : Error) → IsFailure kinds entered texts before mid (Usage e) → IsUsageTold e mid new_out old_err new_err status
+    → IsHelp (kind_of e) ⊎ IsMistake (kind_of e) → IsAnswer kinds entered texts before new_out old_err new_err status
+of_usage kinds entered texts before mid new_out old_err new_err status e (same, why) told (inr mistake) =
     let it = told.mistake mistake in
     record {
       range = omega (arith, it.0);
       done = λ zero. absurd (omega (arith, it.0, zero));
       refused = λ one. absurd (omega (arith, it.0, one));
-      usage = λ two. it.1 ∙ same;
+      usage = λ two. (it.1 ∙ same, no_command why);
     }
-of_usage before mid new_out old_err new_err status e same told (inl help) = by (told.help help)
   where
-    by : ((status ≡ 0) × (new_out.flushed ≡ true) × (new_err ≡ old_err)) ⊎ ((status ≡ 1) × TakesLine old_err new_err (line_of refusal.Write)) → IsAnswer before new_out old_err new_err status
+    no_command : IsAmong (kind_of e) kinds ⊎ ((kinds ≡ []) × AsksForNothing entered × IsMistake (kind_of e)) → AreNoCommand kinds entered
+    no_command (inl a) = inl (kind_of e, a, mistake)
+    no_command (inr (none, nothing, is)) = inr (none, nothing)
+of_usage kinds entered texts before mid new_out old_err new_err status e (same, why) told (inl help) = by (told.help help)
+  where
+    no_help : (k : ErrorKind) → IsMistake k → IsHelp k → ⊥
+    no_help k mistake (inl h) = mistake.0 h
+    no_help k mistake (inr h) = mistake.1 h
+
+    wants : IsAmong (kind_of e) kinds ⊎ ((kinds ≡ []) × AsksForNothing entered × IsMistake (kind_of e)) → AskForHelp kinds
+    wants (inl a) = (kind_of e, a, help)
+    wants (inr (none, nothing, mistake)) = absurd (no_help (kind_of e) mistake help)
+
+    by : ((status ≡ 0) × (new_out.flushed ≡ true) × (new_err ≡ old_err)) ⊎ ((status ≡ 1) × TakesLine old_err new_err (line_of refusal.Write)) → IsAnswer kinds entered texts before new_out old_err new_err status
     by (inl (zero, flushed, quiet)) = record {
       range = omega (arith, zero);
-      done = λ z. (flushed, quiet);
+      done = λ z. ((flushed, inr (wants why)), quiet);
       refused = λ one. absurd (omega (arith, zero, one));
       usage = λ two. absurd (omega (arith, zero, two));
     }
     by (inr (one, line)) = record {
       range = omega (arith, one);
       done = λ zero. absurd (omega (arith, zero, one));
-      refused = λ o. (refusal.Write, line);
+      refused = λ o. (refusal.Write, inr (inr (refl, wants why)), line);
       usage = λ two. absurd (omega (arith, one, two));
     }
 
-pub answered : (before mid new_out old_err new_err : Seen) (status : ℕ) (outcome : Result (Unit {0}) Failure)
-    → OnOk outcome (mid.flushed ≡ true) → IfErr outcome (λ f. IsFailure before mid f)
-    → IsTold outcome mid new_out old_err new_err status → IsAnswer before new_out old_err new_err status
-answered before mid new_out old_err new_err status (Ok x) flushed failed (zero, same, quiet) = record {
+pub answered : (kinds : Kinds) (entered : Entered) (texts : Option Texts) (before mid new_out old_err new_err : Seen) (status : ℕ) (outcome : Result (Unit {0}) Failure)
+    → OnOk outcome (kinds ≡ []) → OnOk outcome (IsTraceIn texts (trace_of entered)) → OnOk outcome (mid.flushed ≡ true) → IfErr outcome (λ f. IsFailure kinds entered texts before mid f)
+    → IsTold outcome mid new_out old_err new_err status → IsAnswer kinds entered texts before new_out old_err new_err status
+answered kinds entered texts before mid new_out old_err new_err status (Ok x) none trace flushed failed (zero, same, quiet) = record {
   range = omega (arith, zero);
-  done = λ z. (subst (λ (s : Seen). s.flushed ≡ true) (sym same) flushed, quiet);
+  done = λ z. ((subst (λ (s : Seen). s.flushed ≡ true) (sym same) flushed, inl (none, trace)), quiet);
   refused = λ one. absurd (omega (arith, zero, one));
   usage = λ two. absurd (omega (arith, zero, two));
 }
-answered before mid new_out old_err new_err status (Err (Refused r)) flushed failed (one, same, line) = record {
+answered kinds entered texts before mid new_out old_err new_err status (Err (Refused r)) none trace flushed failed (one, same, line) = record {
   range = omega (arith, one);
   done = λ zero. absurd (omega (arith, zero, one));
-  refused = λ o. (r, line);
+  refused = λ o. (r, why failed, line);
   usage = λ two. absurd (omega (arith, one, two));
 }
-answered before mid new_out old_err new_err status (Err (Usage e)) flushed failed told = of_usage before mid new_out old_err new_err status e failed told (help_or (kind_of e))
+  where
+    why : ((kinds ≡ []) × IsRefused texts (trace_of entered) before mid r) ⊎ ((r ≡ refusal.Memory) × (mid ≡ before)) → IsRefusedFor kinds entered texts before new_out r
+    why (inl (taken, refused)) = inl (taken, subst (λ s. IsRefused texts (trace_of entered) before s r) (sym same) refused)
+    why (inr (memory, untouched)) = inr (inl (memory, same ∙ untouched))
+answered kinds entered texts before mid new_out old_err new_err status (Err (Usage e)) none trace flushed failed told =
+    of_usage kinds entered texts before mid new_out old_err new_err status e failed told (help_or (kind_of e))

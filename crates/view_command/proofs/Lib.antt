@@ -1,2 +1,4 @@
 pub mod Answered
+pub mod Found
 pub mod SoFar
+pub mod Subcommands

@@ -1,5 +1,6 @@
 -- What each status means.
-use Rattle.std.specs.Prelude.{◌≡◌, ◌≢◌, ◌⊎◌, ◌≤◌, ℕ, List, true, Option, Result, Ok, Err, string_bytes}
+use Rattle.std.specs.Prelude.{◌≡◌, ◌≢◌, ◌⊎◌, ◌≤◌, ℕ, List, [], true, Option, Result, Ok, Err, string_bytes}
+use Rattle.clap.specs.Kinds.{Kinds, IsAmong}
 use Rattle.clap.specs.Values.{kind_of}
 use Rattle.clap.specs.declared.error.Error.{Error}
 use Rattle.clap.specs.declared.error.kind.ErrorKind.{ErrorKind}
@@ -7,6 +8,8 @@ use Rattle.clap.specs.declared.error.kind.ErrorKind.TheVariants.{DisplayHelp, Di
 use Rattle.trace_text.specs.declared.stream.StreamFault.{StreamFault}
 use Rattle.trace_text.specs.declared.stream.StreamFault.TheVariants as faults
 use Rattle.view_command.specs.Lines.{called, line_of}
+use Rattle.clap.specs.Walk.{Row}
+use Rattle.view_command.specs.Orders.{Entered, AreWrongTicks, AsksForNothing, IsNoTick, trace_of}
 use Rattle.view_command.specs.States.{Seen, TakesLine}
 use Rattle.view_command.specs.Texts.{Texts, IsRefusedIn, IsRefusedLine, IsTraceIn}
 use Rattle.view_command.specs.declared.refusal.Failure.{Failure}
@@ -66,20 +69,62 @@ IsHelp k = (k ≡ DisplayHelp) ⊎ (k ≡ DisplayVersion)
 abbrev pub IsMistake : ErrorKind → Type 0
 IsMistake k = (k ≢ DisplayHelp) × (k ≢ DisplayVersion)
 
--- why words are not done: words that are no command leave standard output as it was
-abbrev pub IsFailure : Seen → Seen → Failure → Type 0
-IsFailure before after (Refused r) = Unit {0}
-IsFailure before after (Usage error) = after ≡ before
+-- they ask for help
+abbrev pub AskForHelp : Kinds → Type 0
+AskForHelp kinds = (k : ErrorKind) × IsAmong k kinds × IsHelp k
+
+-- they are no command
+abbrev pub AreNoCommand : Kinds → Entered → Type 0
+AreNoCommand kinds entered = ((k : ErrorKind) × IsAmong k kinds × IsMistake k) ⊎ ((kinds ≡ []) × AsksForNothing entered)
+
+-- the word for a tick is none, or memory ran out
+abbrev pub IsTickFailure : Option (List ℕ) → Failure → Type 0
+IsTickFailure word (Refused Memory) = Unit {0}
+IsTickFailure word (Refused _) = ⊥
+IsTickFailure word (Usage error) = IsNoTick word × IsMistake (kind_of error)
+
+-- the words for ticks are wrong, or memory ran out
+abbrev pub IsTicksFailure : List Row → Failure → Type 0
+IsTicksFailure rows (Refused Memory) = Unit {0}
+IsTicksFailure rows (Refused _) = ⊥
+IsTicksFailure rows (Usage error) = AreWrongTicks rows × IsMistake (kind_of error)
+
+-- what was found asks for nothing, or memory ran out
+abbrev pub IsNothingAsked : Entered → Failure → Type 0
+IsNothingAsked entered (Refused Memory) = Unit {0}
+IsNothingAsked entered (Refused _) = ⊥
+IsNothingAsked entered (Usage error) = AsksForNothing entered × IsMistake (kind_of error)
+
+-- why nothing is asked for
+abbrev pub IsFailureOfWords : Kinds → Entered → Failure → Type 0
+IsFailureOfWords kinds entered (Refused Memory) = Unit {0}
+IsFailureOfWords kinds entered (Refused _) = ⊥
+IsFailureOfWords kinds entered (Usage error) = IsAmong (kind_of error) kinds ⊎ ((kinds ≡ []) × AsksForNothing entered × IsMistake (kind_of error))
+
+-- why words are not done
+abbrev pub IsFailure : Kinds → Entered → Option Texts → Seen → Seen → Failure → Type 0
+IsFailure kinds entered texts before after (Refused r) = ((kinds ≡ []) × IsRefused texts (trace_of entered) before after r) ⊎ ((r ≡ Memory) × (after ≡ before))
+IsFailure kinds entered texts before after (Usage error) = (after ≡ before) × IsFailureOfWords kinds entered (Usage error)
 
 -- ---- the statuses
 
--- With 0 all that was written is flushed, and standard error is as it was; with 1 standard error has the line of
--- a refusal; with 2 standard output is as it was.
-pub record IsAnswer (before after old_err new_err : Seen) (status : ℕ) : Type 0 where
+-- the trace was read to its end and its view is written and flushed, or help is
+abbrev pub IsShownOrHelp : Kinds → Entered → Option Texts → Seen → Type 0
+IsShownOrHelp kinds entered texts after = (after.flushed ≡ true) × (((kinds ≡ []) × IsTraceIn texts (trace_of entered)) ⊎ AskForHelp kinds)
+
+-- the trace is refused, or memory ran out at the words, or help is not written
+abbrev pub IsRefusedFor : Kinds → Entered → Option Texts → Seen → Seen → Refusal → Type 0
+IsRefusedFor kinds entered texts before after r =
+    ((kinds ≡ []) × IsRefused texts (trace_of entered) before after r) ⊎ ((r ≡ Memory) × (after ≡ before)) ⊎ ((r ≡ Write) × AskForHelp kinds)
+
+-- With 0 the trace was read to its end and shown, or help is, and standard error is as it was; with 1 the trace
+-- is refused, and standard error has the line of the refusal; with 2 the words are no command, and standard
+-- output is as it was.
+pub record IsAnswer (kinds : Kinds) (entered : Entered) (texts : Option Texts) (before after old_err new_err : Seen) (status : ℕ) : Type 0 where
   pub range : status ≤ 2
-  pub done : status ≡ 0 → (after.flushed ≡ true) × (new_err ≡ old_err)
-  pub refused : status ≡ 1 → (r : Refusal) × TakesLine old_err new_err (line_of r)
-  pub usage : status ≡ 2 → after ≡ before
+  pub done : status ≡ 0 → IsShownOrHelp kinds entered texts after × (new_err ≡ old_err)
+  pub refused : status ≡ 1 → (r : Refusal) × IsRefusedFor kinds entered texts before after r × TakesLine old_err new_err (line_of r)
+  pub usage : status ≡ 2 → (after ≡ before) × AreNoCommand kinds entered
 
 -- ---- what was told of an outcome
 

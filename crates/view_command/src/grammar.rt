@@ -6,14 +6,16 @@ ghost use Rattle.clap.specs.Values.{kind_of};
 ghost use Rattle.clap.specs.Walk.{rule_of};
 ghost use Rattle.clap.specs.declared.error.kind.ErrorKind.TheVariants.{MissingSubcommand, ValueValidation};
 ghost use Rattle.view_command.specs.Orders.{ReadsTick};
-ghost use Rattle.view_command.specs.Words.{IsCommand, csv_rule, shown_app, summary_app, tick_rule, trace_rule};
+ghost use Rattle.view_command.specs.Words.{IsCommand, csv_rule, shown_app, summary_app, tick_rule, trace_rule, view_app};
 
 use clap::error::ErrorKind;
 use clap::{Arg, ArgAction, Command, Error};
 use std::alloc::{AllocError, Global};
 
 /// The commands and their arguments.
-pub fn grammar<'a>(alloc: Global) -> Result<Command<'a>, AllocError> {
+pub fn grammar<'a>(alloc: Global) -> Result<Command<'a>, AllocError>
+    ensures { IfOk result (λ command. IsCommand command view_app) }
+{
     Command::new(alloc, "mbview")
         .about("Shows the trace of a run: what the partitions and their processes did, and when")
         .after_help("Example: mbview summary trace.txt")

@@ -1,9 +1,14 @@
 //! The command line of `mbview`.
 #![tactic(auto)]
 
-ghost use Rattle.std.specs.Prelude.{◌≡◌, true, IfErr, OnOk};
+ghost use Rattle.std.specs.Prelude.{◌≡◌, [], map, true, IfErr, OnOk};
+ghost use Rattle.clap.specs.Faults.{fault_of};
+ghost use Rattle.clap.specs.Simple.{subcommand_of};
 ghost use Rattle.view_command.specs.Answers.{IsAnswer, IsFailure};
+ghost use Rattle.view_command.specs.Orders.{trace_of};
 ghost use Rattle.view_command.specs.States.{seen};
+ghost use Rattle.view_command.specs.Texts.{IsTraceIn};
+ghost use Rattle.view_command.specs.Words.{view_app};
 
 mod grammar;
 mod refusal;
@@ -37,7 +42,8 @@ pub fn view<S: AsStr, F: Sources, O: Write, E: Write>(
     out: &mut Stream<O>,
     err: &mut Stream<E>,
 ) -> u8
-    ensures { IsAnswer (seen O.contents out.old) (seen O.contents out.new) (seen E.contents err.old) (seen E.contents err.new) result }
+    ensures { IsAnswer (fault_of view_app (map S.text words.now)) (subcommand_of view_app (map S.text words.now)) (F.texts sources.old)
+        (seen O.contents out.old) (seen O.contents out.new) (seen E.contents err.old) (seen E.contents err.new) result }
 {
     let outcome = perform(alloc, words, sources, out);
     tell(outcome, out, err)
@@ -50,8 +56,11 @@ fn perform<S: AsStr, F: Sources, O: Write>(
     sources: &mut F,
     out: &mut Stream<O>,
 ) -> Result<(), Failure>
-    ensures done { OnOk result (out.new.flushed ≡ true) }
-    ensures failed { IfErr result (λ f. IsFailure (seen O.contents out.old) (seen O.contents out.new) f) }
+    ensures command { OnOk result (fault_of view_app (map S.text words.now) ≡ []) }
+    ensures trace { OnOk result (IsTraceIn (F.texts sources.old) (trace_of (subcommand_of view_app (map S.text words.now)))) }
+    ensures flushed { OnOk result (out.new.flushed ≡ true) }
+    ensures failed { IfErr result (λ f. IsFailure (fault_of view_app (map S.text words.now)) (subcommand_of view_app (map S.text words.now)) (F.texts sources.old)
+        (seen O.contents out.old) (seen O.contents out.new) f) }
 {
     let request = request_of(alloc, words)?;
     Ok(show(alloc, &request, sources, out)?)

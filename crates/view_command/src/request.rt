@@ -1,5 +1,14 @@
 //! What the words ask for.
 
+ghost use Rattle.std.specs.Prelude.{◌≡◌, [], map, IfErr, IfOk, OnOk, codes, string_bytes};
+ghost use Rattle.clap.specs.Faults.{fault_of};
+ghost use Rattle.clap.specs.Matches.{found_of};
+ghost use Rattle.clap.specs.Simple.{subcommand_of, subcommand_rows_of};
+ghost use Rattle.clap.specs.Walk.{first_of, rows_of};
+ghost use Rattle.view_command.specs.Answers.{IsFailureOfWords, IsNothingAsked, IsTickFailure, IsTicksFailure};
+ghost use Rattle.view_command.specs.Orders.{IsTickOf, trace_of, word_at};
+ghost use Rattle.view_command.specs.Words.{view_app};
+
 use crate::grammar::{bad_tick, grammar, no_command, no_ticks, tick_of};
 use crate::refusal::Failure;
 use crate::views::View;
@@ -21,13 +30,20 @@ pub struct Request {
 }
 
 /// What the words ask for.
-pub fn request_of<S: AsStr>(alloc: Global, words: &[S]) -> Result<Request, Failure> {
+pub fn request_of<S: AsStr>(alloc: Global, words: &[S]) -> Result<Request, Failure>
+    ensures command { OnOk result (fault_of view_app (map S.text words.now) ≡ []) }
+    ensures trace { IfOk result (λ r. string_bytes r.trace ≡ trace_of (subcommand_of view_app (map S.text words.now))) }
+    ensures failed { IfErr result (λ f. IsFailureOfWords (fault_of view_app (map S.text words.now)) (subcommand_of view_app (map S.text words.now)) f) }
+{
     let matches = grammar(alloc)?.try_get_matches_from(words)?;
     requested(alloc, &matches)
 }
 
 /// What was found in the words.
-fn requested(alloc: Global, matches: &ArgMatches<'_>) -> Result<Request, Failure> {
+fn requested(alloc: Global, matches: &ArgMatches<'_>) -> Result<Request, Failure>
+    ensures trace { IfOk result (λ r. string_bytes r.trace ≡ trace_of (subcommand_rows_of matches.now)) }
+    ensures failed { IfErr result (λ f. IsNothingAsked (subcommand_rows_of matches.now) f) }
+{
     match matches.subcommand() {
         Some(("summary", found)) => shown(alloc, table_or_rows(found), found),
         Some(("svg", found)) => shown(alloc, View::Picture, found),
@@ -46,7 +62,10 @@ fn table_or_rows(found: &ArgMatches<'_>) -> View {
 }
 
 /// The trace and the ticks that were found.
-fn shown(alloc: Global, view: View, found: &ArgMatches<'_>) -> Result<Request, Failure> {
+fn shown(alloc: Global, view: View, found: &ArgMatches<'_>) -> Result<Request, Failure>
+    ensures trace { IfOk result (λ r. string_bytes r.trace ≡ word_at (codes "TRACE") (rows_of (found_of found.now))) }
+    ensures failed { IfErr result (λ f. IsTicksFailure (rows_of (found_of found.now)) f) }
+{
     let trace = String::from_str(alloc, word(found, "TRACE"))?;
     let from = tick(alloc, found, "from")?.unwrap_or(0);
     let to = tick(alloc, found, "to")?;
@@ -64,7 +83,10 @@ fn shown(alloc: Global, view: View, found: &ArgMatches<'_>) -> Result<Request, F
 }
 
 /// The tick of an option, if it is there.
-fn tick(alloc: Global, found: &ArgMatches<'_>, option: &str) -> Result<Option<u64>, Failure> {
+fn tick(alloc: Global, found: &ArgMatches<'_>, option: &str) -> Result<Option<u64>, Failure>
+    ensures read { IfOk result (λ t. IsTickOf (first_of option.now (rows_of (found_of found.now))) t) }
+    ensures failed { IfErr result (λ f. IsTickFailure (first_of option.now (rows_of (found_of found.now))) f) }
+{
     let Some(word) = found.get_str(option) else {
         return Ok(None);
     };
@@ -75,6 +97,8 @@ fn tick(alloc: Global, found: &ArgMatches<'_>, option: &str) -> Result<Option<u6
 }
 
 /// A required argument. The parse has found it.
-fn word<'a>(found: &ArgMatches<'a>, name: &str) -> &'a str {
+fn word<'a>(found: &ArgMatches<'a>, name: &str) -> &'a str
+    ensures { result.now ≡ word_at name.now (rows_of (found_of found.now)) }
+{
     found.get_str(name).unwrap_or("")
 }
