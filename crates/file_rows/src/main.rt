@@ -5,11 +5,12 @@
 //!
 //! The file `rows` lists them, one a line: `check FOLDER SOURCE..` for the verdict on a table and
 //! its sources, `run FOLDER TICKS SOURCE..` for the trace of their image, `refused FOLDER TICKS
-//! SOURCE..` for a run of it that is refused, `image FOLDER TICKS` for the trace of an image that no
-//! source makes, and `refused FOLDER TICKS` for a run of such an image that is refused. In the folder
-//! lie the table and the sources, or the image, the device text `devices` if it is not empty, and
-//! what is expected: `answer` or `trace`. Beside an image with a trace the file `cases` tells what each
-//! of its partitions shows.
+//! SOURCE..` for a run of it that is refused, `image FOLDER TICKS` for the trace of an image that lies
+//! there, `refused FOLDER TICKS` for a run of such an image that is refused, and `build FOLDER
+//! SOURCE..`, `cost FOLDER SOURCE..` and `dis FOLDER` for what these commands write. In the folder lie
+//! the table and the sources, or the image, the device text `devices` if it is not empty, and what is
+//! expected: `answer` or `trace`. Beside an image that no source makes, if it has a trace, the file
+//! `cases` tells what each of its partitions shows.
 #![tactic(auto)]
 
 mod answer;

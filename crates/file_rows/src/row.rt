@@ -25,6 +25,8 @@ enum Asked<'a> {
     TraceOfImage(&'a str),
     /// The refusal of a run of so many ticks.
     Refusal(&'a str),
+    /// The answer to `build`, to `cost` or to `dis`, which lists the image that lies there.
+    Answer(&'a str),
 }
 
 impl<'a> Row<'a> {
@@ -48,6 +50,7 @@ impl<'a> Row<'a> {
                 Some(ticks) => Asked::Refusal(ticks),
                 None => return Ok(None),
             },
+            "build" | "cost" | "dis" => Asked::Answer(command),
             _ => return Ok(None),
         };
         let sources = words.collect(alloc)?;
@@ -64,14 +67,18 @@ impl<'a> Row<'a> {
             Asked::Trace(ticks) => Ok(self.build(rt)?.is_done() && self.has_trace(rt, ticks)?),
             Asked::TraceOfImage(ticks) => self.has_trace(rt, ticks),
             Asked::Refusal(ticks) => self.has_refusal(rt, ticks),
+            Asked::Answer(command) => self.has_answer(rt, command),
         }
     }
 
-    /// Whether `check` answers what is expected, and `build` writes an image where the module is
-    /// accepted, and else refuses it with the same line and writes none.
+    /// Whether `check` answers what is expected and writes no image, and `build` writes one where
+    /// the module is accepted, and else refuses it with the same line and writes none.
     fn has_verdict<R: Files + AllocGlobal>(&self, rt: &R) -> io::Result<bool> {
         let expected = self.read(rt, "answer")?;
         let checked = Answer::to(rt, self.words(rt.alloc(), "check", None)?.as_slice());
+        if self.read(rt, "image").is_ok() {
+            return Ok(false);
+        }
         let built = self.build(rt)?;
         let is_written = self.read(rt, "image").is_ok();
         if expected.as_slice() == b"accepted\n".as_slice() {
@@ -97,6 +104,22 @@ impl<'a> Row<'a> {
         let expected = self.read(rt, "answer")?;
         let is_there = self.sources.is_empty() || self.build(rt)?.is_done();
         Ok(is_there && self.run(rt, ticks)?.is_refused_with(expected.as_slice()))
+    }
+
+    /// Whether the command writes what is expected, or is refused with that line.
+    fn has_answer<R: Files + AllocGlobal>(&self, rt: &R, command: &str) -> io::Result<bool> {
+        let expected = self.read(rt, "answer")?;
+        let answer = match command {
+            "build" => self.build(rt)?,
+            "dis" => self.list(rt)?,
+            _ => Answer::to(rt, self.words(rt.alloc(), command, None)?.as_slice()),
+        };
+        Ok(answer.is_done_with(expected.as_slice()) || answer.is_refused_with(expected.as_slice()))
+    }
+
+    fn list<R: Files + AllocGlobal>(&self, rt: &R) -> Result<Answer, AllocError> {
+        let image = self.path(rt.alloc(), "image")?;
+        Ok(Answer::to(rt, &["mb", "dis", image.as_str()]))
     }
 
     fn run<R: Files + AllocGlobal>(&self, rt: &R, ticks: &str) -> Result<Answer, AllocError> {

@@ -1,6 +1,6 @@
-//! Tests of the whole program: worked modules, from the words of a command line to the bytes of a
-//! trace, with what is refused, what fails to be read or written, and what is answered without
-//! memory.
+//! Tests of the whole program that no file can state: words that are refused, files, writers and
+//! sinks that fail, lack of memory, machines that are driven tick by tick, and texts as long as they
+//! may be. Worked modules stand as files, in `file_rows`.
 #![tactic(auto)]
 
 #[cfg(test)]

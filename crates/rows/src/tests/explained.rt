@@ -1,18 +1,7 @@
 //! Refusals that are explained, by each command.
 
-use super::shelf::{Shelf, expect_command};
-use super::texts::{HEALTH, SMALLEST, SMALLEST_IMAGE, TABLE};
-use std::alloc::{AllocError, Global};
-use std::test::Fail;
-
-/// A source with an unknown name in its second line.
-const UNKNOWN: &str = "var x;\ninit stack 16 { y := 1; }\n";
-
-/// What `--explain` adds for it.
-const UNKNOWN_EXPLAINED: &str = "\
-A name is not declared, or is declared again.
-line 2: \"init stack 16 { y := 1; }\", looked for a name that is declared once
-";
+use super::shelf::{Shelf, expect_command, smallest_shelf};
+use super::texts::{SMALLEST, TABLE};
 
 /// Words over the smallest module, and what standard error takes; standard output takes nothing.
 static REFUSALS: [(&[&str], &str); 9] = [
@@ -62,64 +51,94 @@ static REFUSALS: [(&[&str], &str); 9] = [
 ];
 
 #[test]
-fn refusals_with_their_sentence(rt: HostRuntime) -> Result<(), Fail> {
-    let sources = [SMALLEST.as_bytes()];
+fn refusals_with_their_sentence(rt: HostRuntime) {
     for (words, text) in &REFUSALS {
-        let mut shelf = Shelf::new(rt.alloc(), TABLE.as_bytes(), &sources);
-        shelf.image = Some(Vec::from_slice(rt.alloc(), &SMALLEST_IMAGE)?);
+        let mut shelf = smallest_shelf(&rt, rt.alloc());
         expect_command(&rt, rt.alloc(), &mut shelf, words, (1, "", *text));
     }
-    Ok(())
 }
 
-#[test]
-fn a_source_with_its_line(rt: HostRuntime) -> Result<(), Fail> {
-    let sources = [UNKNOWN.as_bytes()];
-    let text = format!(in rt.alloc(); "mb: pal a 3 line 2\n{UNKNOWN_EXPLAINED}")?;
-    let commands: [&[&str]; 3] = [
+/// A source with an unknown name in its second line.
+const UNKNOWN: &str = "var x;\ninit stack 16 { y := 1; }\n";
+
+const UNKNOWN_LINE: &str = "mb: pal a 3 line 2\n";
+
+/// The same line, explained.
+const UNKNOWN_EXPLAINED: &str = "\
+mb: pal a 3 line 2
+A name is not declared, or is declared again.
+line 2: \"init stack 16 { y := 1; }\", looked for a name that is declared once
+";
+
+/// Words over this source, and what standard error takes.
+static UNKNOWNS: [(&[&str], &str); 4] = [
+    (&["mb", "check", "table", "source"], UNKNOWN_LINE),
+    (
         &["mb", "check", "--explain", "table", "source"],
+        UNKNOWN_EXPLAINED,
+    ),
+    (
         &["mb", "build", "--explain", "table", "image", "source"],
+        UNKNOWN_EXPLAINED,
+    ),
+    (
         &["mb", "cost", "table", "--explain", "source"],
-    ];
-    for words in &commands {
-        let mut shelf = Shelf::new(rt.alloc(), TABLE.as_bytes(), &sources);
-        expect_command(&rt, rt.alloc(), &mut shelf, words, (1, "", text.as_str()));
-        assert!(rt; shelf.image.is_none());
-    }
-    Ok(())
-}
+        UNKNOWN_EXPLAINED,
+    ),
+];
 
 #[test]
-fn a_source_without_its_line(rt: HostRuntime) {
-    let sources = [UNKNOWN.as_bytes()];
-    let mut shelf = Shelf::new(rt.alloc(), TABLE.as_bytes(), &sources);
-    let words = ["mb", "check", "table", "source"];
-    let wanted = (1, "", "mb: pal a 3 line 2\n");
+fn a_source_with_its_line(rt: HostRuntime) {
+    for (words, text) in &UNKNOWNS {
+        let mut shelf = Shelf::new(rt.alloc(), TABLE, &[UNKNOWN]);
+        expect_command(&rt, rt.alloc(), &mut shelf, words, (1, "", *text));
+        assert_eq!(rt; shelf.writes, 0);
+    }
+}
+
+/// Two partitions that have half of the frame each.
+static HALVES: &str = "\
+frame = 128
+fault = \"IGNORE\"
+[[partition]]
+name = \"a\"
+period = 128
+duration = 64
+hm = { DEADLINE_MISSED = \"IGNORE\", APPLICATION_ERROR = \"IGNORE\", NUMERIC_ERROR = \"IGNORE\", ILLEGAL_REQUEST = \"IGNORE\", STACK_OVERFLOW = \"IGNORE\", MEMORY_VIOLATION = \"IGNORE\", HARDWARE_FAULT = \"IGNORE\" }
+[[partition]]
+name = \"b\"
+period = 128
+duration = 64
+hm = { DEADLINE_MISSED = \"IGNORE\", APPLICATION_ERROR = \"IGNORE\", NUMERIC_ERROR = \"IGNORE\", ILLEGAL_REQUEST = \"IGNORE\", STACK_OVERFLOW = \"IGNORE\", MEMORY_VIOLATION = \"IGNORE\", HARDWARE_FAULT = \"IGNORE\" }
+[[window]]
+partition = \"a\"
+offset = 0
+length = 64
+release = true
+[[window]]
+partition = \"b\"
+offset = 64
+length = 64
+release = true
+";
+
+const SECOND_EXPLAINED: &str = "\
+mb: pal b 3 line 2
+A name is not declared, or is declared again.
+line 2: \"init stack 16 { y := 1; }\", looked for a name that is declared once
+";
+
+#[test]
+fn the_source_of_the_second_partition(rt: HostRuntime) {
+    let mut shelf = Shelf::new(rt.alloc(), HALVES, &[SMALLEST, UNKNOWN]);
+    let words = ["mb", "check", "--explain", "table", "source", "source2"];
+    let wanted = (1, "", SECOND_EXPLAINED);
     expect_command(&rt, rt.alloc(), &mut shelf, &words, wanted);
 }
 
 #[test]
-fn the_source_of_the_second_partition(rt: HostRuntime) -> Result<(), Fail> {
-    let alloc = rt.alloc();
-    let table = format!(in alloc;
-        "frame = 128\nfault = \"IGNORE\"\n\
-         [[partition]]\nname = \"a\"\nperiod = 128\nduration = 64\n{HEALTH}\
-         [[partition]]\nname = \"b\"\nperiod = 128\nduration = 64\n{HEALTH}\
-         [[window]]\npartition = \"a\"\noffset = 0\nlength = 64\nrelease = true\n\
-         [[window]]\npartition = \"b\"\noffset = 64\nlength = 64\nrelease = true\n"
-    )?;
-    let sources = [SMALLEST.as_bytes(), UNKNOWN.as_bytes()];
-    let text = format!(in alloc; "mb: pal b 3 line 2\n{UNKNOWN_EXPLAINED}")?;
-    let mut shelf = Shelf::new(alloc, table.as_bytes(), &sources);
-    let words = ["mb", "check", "--explain", "table", "source", "source2"];
-    expect_command(&rt, alloc, &mut shelf, &words, (1, "", text.as_str()));
-    Ok(())
-}
-
-#[test]
 fn an_accepted_module_has_nothing_to_explain(rt: HostRuntime) {
-    let sources = [SMALLEST.as_bytes()];
-    let mut shelf = Shelf::new(rt.alloc(), TABLE.as_bytes(), &sources);
+    let mut shelf = smallest_shelf(&rt, rt.alloc());
     let words = ["mb", "check", "--explain", "table", "source"];
     expect_command(&rt, rt.alloc(), &mut shelf, &words, (0, "accepted\n", ""));
 }

@@ -1,16 +1,21 @@
 //! The order in which faults are met: the words, the files, the call, the file written.
 
-use super::shelf::{Shelf, expect_command};
-use super::texts::{SMALLEST, SMALLEST_IMAGE, TABLE};
+use super::shelf::{Shelf, expect_command, smallest_shelf};
+use super::texts::TABLE;
 use command_line::{Stream, command};
-use std::test::Fail;
+use std::alloc::Global;
+use std::process::Abort;
 
 /// Words over a good table, source and image, with the line on the standard error.
-static LINES: [(&[&str], &str); 17] = [
+static LINES: [(&[&str], &str); 18] = [
     (&["mb", "check", "gone", "lost"], "mb: file gone\n"),
     (&["mb", "check", "table", "lost"], "mb: file lost\n"),
     (
         &["mb", "check", "source", "source", "lost"],
+        "mb: file lost\n",
+    ),
+    (
+        &["mb", "check", "table", "source", "lost"],
         "mb: file lost\n",
     ),
     (
@@ -60,18 +65,15 @@ static LINES: [(&[&str], &str); 17] = [
 ];
 
 #[test]
-fn the_first_fault_is_told(rt: HostRuntime) -> Result<(), Fail> {
-    let sources = [SMALLEST.as_bytes()];
+fn the_first_fault_is_told(rt: HostRuntime) {
     for (words, line) in &LINES {
-        let mut shelf = Shelf::new(rt.alloc(), TABLE.as_bytes(), &sources);
-        shelf.image = Some(Vec::from_slice(rt.alloc(), &SMALLEST_IMAGE)?);
+        let mut shelf = smallest_shelf(&rt, rt.alloc());
         expect_command(&rt, rt.alloc(), &mut shelf, words, (1, "", *line));
     }
-    Ok(())
 }
 
 /// Words that are no command. No file is read for them.
-static NO_COMMANDS: [&[&str]; 12] = [
+static NO_COMMANDS: [&[&str]; 22] = [
     &["mb", "check", "gone"],
     &["mb", "check", "table"],
     &["mb", "check"],
@@ -84,19 +86,34 @@ static NO_COMMANDS: [&[&str]; 12] = [
     &["mb", "build", "gone", "new"],
     &["mb", "build", "gone"],
     &["mb", "make"],
+    &["mb", "build", "table", "new"],
+    &["mb", "build", "table"],
+    &["mb", "run", "image", "devices"],
+    &["mb", "run", "image", "devices", "5", "6"],
+    &["mb", "run", "gone", "devices", "12x"],
+    &["mb", "run", "gone", "devices", "-5"],
+    &["mb", "run", "gone", "devices", "+5"],
+    &["mb", "walk"],
+    &["mb", "cost", "gone"],
+    &["mb", "dis", "image", "image"],
 ];
+
+fn expect_usage(rt: &impl Abort, alloc: Global, words: &[&str]) {
+    let mut shelf = Shelf::new(alloc, TABLE, &[]);
+    let mut out = Stream::new(Vec::new(alloc));
+    let mut err = Stream::new(Vec::new(alloc));
+    let status = command(alloc, words, &mut shelf, &mut out, &mut err);
+    let err = err.into_writer();
+    assert_eq!(rt; status, 2);
+    assert!(rt; out.into_writer().is_empty());
+    assert!(rt; !err.is_empty());
+    assert!(rt; !err.starts_with(b"mb: "));
+    assert_eq!(rt; shelf.writes, 0);
+}
 
 #[test]
 fn words_that_are_no_command(rt: HostRuntime) {
     for words in &NO_COMMANDS {
-        let mut shelf = Shelf::new(rt.alloc(), TABLE.as_bytes(), &[]);
-        let mut out = Stream::new(Vec::new(rt.alloc()));
-        let mut err = Stream::new(Vec::new(rt.alloc()));
-        let status = command(rt.alloc(), words, &mut shelf, &mut out, &mut err);
-        let (out, err) = (out.into_writer(), err.into_writer());
-        assert_eq!(rt; status, 2);
-        assert!(rt; out.is_empty());
-        assert!(rt; !err.is_empty());
-        assert!(rt; !err.starts_with(b"mb: "));
+        expect_usage(&rt, rt.alloc(), words);
     }
 }

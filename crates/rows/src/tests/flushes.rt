@@ -1,22 +1,29 @@
-//! A writer that takes all bytes, and fails to flush them.
+//! Writers that take nothing, and writers that take all bytes and fail to flush them.
 
-use super::shelf::Shelf;
-use super::texts::{SMALLEST, SMALLEST_IMAGE, TABLE};
+use super::shelf::{Shelf, smallest_shelf};
+use super::texts::TABLE;
 use command_line::{Stream, command};
+use std::alloc::Global;
 use std::io::{self, ErrorKind, Write};
-use std::test::Fail;
+use std::process::Abort;
 
-/// Takes all bytes, and fails to flush them.
+/// Takes all bytes and fails to flush them, or takes nothing.
 #[derive(Drop)]
-struct StuckWriter;
+struct FailingWriter {
+    is_taking: bool,
+}
 
-impl Write for StuckWriter {
+impl Write for FailingWriter {
     fn write(&mut self, bytes: &[u8]) -> io::Result<usize> {
-        Ok(bytes.len())
+        Ok(if self.is_taking { bytes.len() } else { 0 })
     }
 
     fn flush(&mut self) -> io::Result<()> {
-        Err(ErrorKind::WriteZero.into())
+        if self.is_taking {
+            Err(ErrorKind::WriteZero.into())
+        } else {
+            Ok(())
+        }
     }
 }
 
@@ -31,19 +38,22 @@ static COMMANDS: [&[&str]; 7] = [
     &["mb", "help"],
 ];
 
+/// Expects that an output that is not taken, or not flushed, is told.
+fn expect_fault(rt: &impl Abort, alloc: Global, is_taking: bool, words: &[&str]) {
+    let mut shelf = smallest_shelf(rt, alloc);
+    let mut out = Stream::new(FailingWriter { is_taking });
+    let mut err = Stream::new(Vec::new(alloc));
+    let status = command(alloc, words, &mut shelf, &mut out, &mut err);
+    assert_eq!(rt; status, 1);
+    assert_eq!(rt; err.into_writer().as_slice(), b"mb: write\n".as_slice());
+}
+
 #[test]
-fn an_output_that_is_not_flushed(rt: HostRuntime) -> Result<(), Fail> {
-    let sources = [SMALLEST.as_bytes()];
+fn an_output_that_fails(rt: HostRuntime) {
     for words in &COMMANDS {
-        let mut shelf = Shelf::new(rt.alloc(), TABLE.as_bytes(), &sources);
-        shelf.image = Some(Vec::from_slice(rt.alloc(), &SMALLEST_IMAGE)?);
-        let mut out = Stream::new(StuckWriter);
-        let mut err = Stream::new(Vec::new(rt.alloc()));
-        let status = command(rt.alloc(), words, &mut shelf, &mut out, &mut err);
-        assert_eq!(rt; status, 1);
-        assert_eq!(rt; err.into_writer().as_slice(), b"mb: write\n".as_slice());
+        expect_fault(&rt, rt.alloc(), true, words);
+        expect_fault(&rt, rt.alloc(), false, words);
     }
-    Ok(())
 }
 
 /// Words that are refused, and the status.
@@ -53,14 +63,18 @@ static REFUSED: [(&[&str], u8); 3] = [
     (&["mb", "check", "table"], 2),
 ];
 
+fn expect_status(rt: &impl Abort, alloc: Global, words: &[&str], wanted: u8) {
+    let mut shelf = Shelf::new(alloc, TABLE, &[]);
+    let mut out = Stream::new(Vec::new(alloc));
+    let mut err = Stream::new(FailingWriter { is_taking: true });
+    let status = command(alloc, words, &mut shelf, &mut out, &mut err);
+    assert_eq!(rt; status, wanted);
+    assert!(rt; out.into_writer().is_empty());
+}
+
 #[test]
 fn a_line_that_is_not_flushed(rt: HostRuntime) {
     for (words, wanted) in &REFUSED {
-        let mut shelf = Shelf::new(rt.alloc(), TABLE.as_bytes(), &[]);
-        let mut out = Stream::new(Vec::new(rt.alloc()));
-        let mut err = Stream::new(StuckWriter);
-        let status = command(rt.alloc(), words, &mut shelf, &mut out, &mut err);
-        assert_eq!(rt; status, *wanted);
-        assert!(rt; out.into_writer().is_empty());
+        expect_status(&rt, rt.alloc(), words, *wanted);
     }
 }

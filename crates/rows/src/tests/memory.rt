@@ -80,7 +80,7 @@ fn running(rt: HostRuntime) {
 #[test]
 fn commanding(rt: HostRuntime) {
     let words = ["mb"];
-    let mut shelf = Shelf::new(rt.alloc(), &[], &[]);
+    let mut shelf = Shelf::new(rt.alloc(), "", &[]);
     let mut out = Stream::new(Vec::with_capacity(rt.alloc(), 1024).expect(&rt, "memory"));
     let mut err = Stream::new(Vec::with_capacity(rt.alloc(), 1024).expect(&rt, "memory"));
     expect_command(&rt, rt.alloc(), &mut shelf, &words, (0, FIRST_TRACE, ""));

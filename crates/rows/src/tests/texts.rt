@@ -26,16 +26,13 @@ length = 128
 release = true
 ";
 
-/// The actions of a partition that ignores every error.
-pub const HEALTH: &str = "\
-hm = { DEADLINE_MISSED = \"IGNORE\", APPLICATION_ERROR = \"IGNORE\", NUMERIC_ERROR = \"IGNORE\", ILLEGAL_REQUEST = \"IGNORE\", STACK_OVERFLOW = \"IGNORE\", MEMORY_VIOLATION = \"IGNORE\", HARDWARE_FAULT = \"IGNORE\" }
-";
-
 /// The smallest source.
-pub static SMALLEST: &str = "init stack 16 { local r; SET_PARTITION_MODE(3) -> r; }";
+pub const SMALLEST: &str = "init stack 16 { local r; SET_PARTITION_MODE(3) -> r; }";
+
+pub static SMALLEST_SOURCES: [&str; 1] = [SMALLEST];
 
 /// The trace of the smallest source.
-pub static SMALLEST_TRACE: &str = "\
+pub const SMALLEST_TRACE: &str = "\
 0000000000000 a MODE COLD_START
 0000000000000 a STATE INIT READY
 0000000000000 a STATE INIT RUNNING
@@ -55,28 +52,7 @@ pub static SMALLEST_IMAGE: [u8; 164] = [
     0, 0, 0, 128, 0, 0, 0, 1, 0, 0, 0, 0,
 ];
 
-/// A process that reports when it asked for the time.
-pub static FIRST: &str = "\
-array m[2];
-init stack 16 {
-    local r;
-    local i;
-    CREATE_PROCESS(p) -> r, i;
-    START(i) -> r;
-    SET_PARTITION_MODE(3) -> r;
-}
-process p priority 5 period -1 capacity -1 stack 16 {
-    local r;
-    local t;
-    work 3;
-    GET_TIME() -> r, t;
-    m[0] := t;
-    m[1] := 7;
-    REPORT_APPLICATION_MESSAGE(m, 2) -> r;
-}
-";
-
-/// The trace of that process.
+/// The trace of the stored first module: a process that reports when it asked for the time.
 pub static FIRST_TRACE: &str = "\
 0000000000000 a MODE COLD_START
 0000000000000 a STATE INIT READY

@@ -196,7 +196,7 @@ static USAGES: [(&[&str], u8, &str, &str); 31] = [
 #[test]
 fn texts_of_usage_and_help(rt: HostRuntime) {
     for (words, status, text, line) in &USAGES {
-        let mut shelf = Shelf::new(rt.alloc(), TABLE.as_bytes(), &[]);
+        let mut shelf = Shelf::new(rt.alloc(), TABLE, &[]);
         expect_command(&rt, rt.alloc(), &mut shelf, words, (*status, *text, *line));
     }
 }
