@@ -7,4 +7,3 @@ mod summary;
 mod traces;
 mod value_changes;
 mod waves;
-mod xml;

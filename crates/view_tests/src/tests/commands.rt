@@ -64,6 +64,7 @@ impl Write for Full {
 }
 
 /// The words, and what they come to.
+#[derive(Drop)]
 struct Row {
     words: &'static [&'static str],
     status: u8,
@@ -147,6 +148,25 @@ static ROWS: [Row; 12] = [
     },
 ];
 
+/// What a command line comes to.
+#[derive(Drop)]
+struct Outcome {
+    status: u8,
+    out: Vec<u8>,
+    err: Vec<u8>,
+}
+
+fn said(alloc: Global, words: &[&str]) -> Outcome {
+    let mut out = Stream::new(Vec::new(alloc));
+    let mut err = Stream::new(Vec::new(alloc));
+    let status = view(alloc, words, &mut Texts, &mut out, &mut err);
+    Outcome {
+        status,
+        out: out.into_writer(),
+        err: err.into_writer(),
+    }
+}
+
 fn shown<'a>(rt: &impl Abort, bytes: &'a [u8]) -> &'a str {
     std::str::from_utf8(bytes).expect(rt, "UTF-8")
 }
@@ -161,16 +181,14 @@ fn is_shown(row: &Row, text: &str) -> bool {
 }
 
 fn check(rt: &impl Abort, alloc: Global, row: &Row) {
-    let mut out = Stream::new(Vec::new(alloc));
-    let mut err = Stream::new(Vec::new(alloc));
-    let status = view(alloc, row.words, &mut Texts, &mut out, &mut err);
+    let said = said(alloc, row.words);
     assert!(rt;
-        is_shown(row, shown(rt, out.into_writer().as_slice())),
+        is_shown(row, shown(rt, said.out.as_slice())),
         "{}",
         row.out
     );
-    assert_eq!(rt; shown(rt, err.into_writer().as_slice()), row.err);
-    assert_eq!(rt; status, row.status);
+    assert_eq!(rt; shown(rt, said.err.as_slice()), row.err);
+    assert_eq!(rt; said.status, row.status);
 }
 
 #[test]
@@ -180,45 +198,43 @@ fn each_row(rt: HostRuntime) {
     }
 }
 
+/// Command lines that ask for help.
+static HELP: [&[&str]; 3] = [
+    &["mbview", "--help"],
+    &["mbview", "help", "summary"],
+    &["mbview", "svg", "--help"],
+];
+
 #[test]
 fn help_and_usage(rt: HostRuntime) {
-    for words in [
-        &["mbview", "--help"].as_slice(),
-        &["mbview", "help", "summary"].as_slice(),
-        &["mbview", "svg", "--help"].as_slice(),
-    ] {
-        let mut out = Stream::new(Vec::new(rt.alloc()));
-        let mut err = Stream::new(Vec::new(rt.alloc()));
-        assert_eq!(&rt; view(rt.alloc(), words, &mut Texts, &mut out, &mut err), 0);
-        assert!(&rt; shown(&rt, out.into_writer().as_slice()).contains("Example: mbview"));
-        assert!(&rt; err.into_writer().is_empty());
+    for words in HELP {
+        check(
+            &rt,
+            rt.alloc(),
+            &Row {
+                words,
+                status: 0,
+                out: "Example: mbview",
+                err: "",
+            },
+        );
     }
-    let mut out = Stream::new(Vec::new(rt.alloc()));
-    let mut err = Stream::new(Vec::new(rt.alloc()));
-    assert_eq!(&rt;
-        view(rt.alloc(), &["mbview"], &mut Texts, &mut out, &mut err),
-        2
-    );
-    assert!(&rt; out.into_writer().is_empty());
-    assert!(&rt; shown(&rt, err.into_writer().as_slice()).contains("Usage: mbview"));
+    let said = said(rt.alloc(), &["mbview"]);
+    assert_eq!(rt; said.status, 2);
+    assert!(rt; said.out.is_empty());
+    assert!(rt; shown(&rt, said.err.as_slice()).contains("Usage: mbview"));
 }
 
 #[test]
 fn output_that_takes_nothing(rt: HostRuntime) {
+    let mut out = Stream::new(Full);
     let mut err = Stream::new(Vec::new(rt.alloc()));
     let words = ["mbview", "summary", "trace.txt"];
-    assert_eq!(&rt;
-        view(
-            rt.alloc(),
-            &words,
-            &mut Texts,
-            &mut Stream::new(Full),
-            &mut err
-        ),
-        1
-    );
-    assert_eq!(&rt;
-        shown(&rt, err.into_writer().as_slice()),
+    let status = view(rt.alloc(), &words, &mut Texts, &mut out, &mut err);
+    assert_eq!(rt; status, 1);
+    let err = err.into_writer();
+    assert_eq!(rt;
+        shown(&rt, err.as_slice()),
         "mbview: the output cannot be written\n"
     );
 }

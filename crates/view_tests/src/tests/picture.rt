@@ -1,10 +1,8 @@
 //! Pictures of traces.
 
-use crate::tests::xml::{Element, read_xml};
-use apex_types::{Event, EventKind, Mode, Name, ProcessState, Subject, Ticks};
+use apex_types::{Event, EventKind, Name, ProcessState, Subject, Ticks};
 use std::alloc::Global;
 use std::process::Abort;
-use std::test::Fail;
 use trace_picture::{Drawing, MOST_SHAPES, Picture, PictureFault, push_escaped};
 use trace_text::TraceReader;
 
@@ -72,284 +70,306 @@ const RESTARTS: &str = "0000000000000 logbook MODE COLD_START
 0000000000090 logbook MODE COLD_START
 ";
 
-/// A title, and the class of what it belongs to.
-#[derive(Clone, Copy)]
-struct Titled<'a> {
-    class: &'a str,
-    text: &'a str,
-}
-
-fn drawn(alloc: Global, trace: &str, from: u64, to: Option<u64>) -> Result<Drawing, Fail> {
-    let to = match to {
-        Some(tick) => Some(Ticks(tick)),
-        None => None,
-    };
-    let mut picture = Picture::new(alloc, Ticks(from), to);
+/// Adds the events of a trace to a picture.
+fn add_all(rt: &impl Abort, picture: &mut Picture, trace: &str) {
     let mut reader = TraceReader::new(trace.as_bytes());
-    for _ in 0..trace.len() {
-        match reader.next_event()? {
-            Some(event) => picture.add(&event)?,
+    for _ in 0..u64::MAX {
+        match reader.next_event().expect(rt, "a line") {
+            Some(event) => picture.add(&event).expect(rt, "memory"),
             None => break,
         }
     }
-    Ok(picture.finish()?)
 }
 
-/// The titles of a picture, which is well-formed, and an element `svg`.
-fn titles<'a>(rt: &impl Abort, alloc: Global, text: &'a str) -> Result<Vec<Titled<'a>>, Fail> {
-    let elements = read_xml(rt, alloc, text)?;
-    let mut titles = Vec::new(alloc);
-    for element in elements.as_slice() {
-        if element.name == "title" {
-            let class = class_at(&elements, element.parent);
-            titles.push(Titled {
-                class,
-                text: element.text,
-            })?;
-        }
-    }
-    match elements.first() {
-        Some(root) => assert_eq!(rt; root.name, "svg"),
-        None => panic!(rt; "no element"),
-    }
-    Ok(titles)
+/// The picture of a trace, from one tick to before another.
+fn drawn(rt: &impl Abort, alloc: Global, trace: &str, from: u64, to: Option<u64>) -> Drawing {
+    let mut picture = Picture::new(alloc, Ticks(from), to.map(Ticks));
+    add_all(rt, &mut picture, trace);
+    picture.finish().expect(rt, "memory")
 }
 
-fn class_at<'a>(elements: &Vec<Element<'a>>, place: usize) -> &'a str {
-    match elements.get(place) {
-        Some(element) => element.class,
+/// The class of the element that this tag begins, if it has one.
+fn class_of(tag: &str) -> &str {
+    match tag.split_once(" class=\"") {
+        Some((_, behind)) => match behind.split_once('"') {
+            Some((class, _)) => class,
+            None => "",
+        },
         None => "",
     }
 }
 
-/// How many titles of this class begin so.
-fn count(titles: &[Titled<'_>], class: &str, front: &str) -> usize {
+/// How many elements of this class have a title that begins so. A title stands on one line with the
+/// tag of its element.
+fn count(svg: &str, class: &str, front: &str) -> usize {
     let mut count = 0usize;
-    for title in titles {
-        if title.class == class && title.text.starts_with(front) {
-            count = count.saturating_add(1);
+    for line in svg.lines() {
+        if let Some((tag, title)) = line.split_once("<title>") {
+            if class_of(tag) == class && title.starts_with(front) {
+                count = count.saturating_add(1);
+            }
         }
     }
     count
 }
 
-/// Whether this is the whole title of one element of this class, and of no other.
-fn check_title(rt: &impl Abort, titles: &[Titled<'_>], class: &str, text: &str) {
-    let same = titles
-        .iter()
-        .filter(|title| title.class == class && title.text == text)
-        .count();
-    assert_eq!(rt; same, 1, "{class}: {text}");
+/// How many titles a picture has.
+fn titles(rt: &impl Abort, drawing: &Drawing) -> usize {
+    let svg = drawing.text().expect(rt, "memory");
+    svg.as_str().matches("<title>").count()
 }
 
-// The bars were counted by hand.
+/// A class, the beginning of titles, and how many elements of this class have such a title.
+type Counted = (&'static str, &'static str, usize);
+
+/// Expects these titles in the picture of a trace. Answers how many shapes it has.
+fn expect_titles(
+    rt: &impl Abort,
+    alloc: Global,
+    trace: &str,
+    from: u64,
+    to: Option<u64>,
+    wanted: &[Counted],
+) -> usize {
+    let drawing = drawn(rt, alloc, trace, from, to);
+    let svg = drawing.text().expect(rt, "memory");
+    for (class, front, number) in wanted {
+        assert_eq!(rt;
+            count(svg.as_str(), class, front),
+            *number,
+            "{class}: {front}"
+        );
+    }
+    drawing.shapes()
+}
+
+/// What the picture of the first 2,500 ticks shows. The bars were counted by hand.
+static BARS: [Counted; 27] = [
+    ("running", "INIT RUNNING, ", 1),
+    ("running", "fast RUNNING, ", 4),
+    ("running", "medium RUNNING, ", 2),
+    ("running", "slow RUNNING, ", 2),
+    ("running", "", 9),
+    ("ready", "medium READY, ", 2),
+    ("ready", "slow READY, ", 2),
+    ("ready", "", 4),
+    ("waiting", "fast WAITING, ", 5),
+    ("waiting", "medium WAITING, ", 3),
+    ("waiting", "slow WAITING, ", 2),
+    ("waiting", "", 10),
+    ("dormant", "INIT DORMANT, ", 1),
+    ("dormant", "", 1),
+    ("cold", "", 1),
+    ("normal", "", 1),
+    ("message", "", 0),
+    ("flag", "", 0),
+    ("running", "fast RUNNING, ticks 500 to 617 (118)</title>", 1),
+    ("running", "slow RUNNING, ticks 824 to 999 (176)</title>", 1),
+    ("ready", "slow READY, ticks 1000 to 1119 (120)</title>", 1),
+    (
+        "running",
+        "slow RUNNING, ticks 1120 to 1349 (230)</title>",
+        1,
+    ),
+    (
+        "waiting",
+        "fast WAITING, ticks 2120 to 2499 (380)</title>",
+        1,
+    ),
+    (
+        "dormant",
+        "INIT DORMANT, ticks 65 to 2499 (2435)</title>",
+        1,
+    ),
+    ("cold", "control COLD_START, ticks 0 to 63 (64)</title>", 1),
+    (
+        "normal",
+        "control NORMAL, ticks 64 to 2499 (2436)</title>",
+        1,
+    ),
+    ("", "A trace, from tick 0 to tick 2500</title>", 1),
+];
 
 #[test]
-fn rate_groups(rt: HostRuntime) -> Result<(), Fail> {
-    let drawing = drawn(rt.alloc(), RATE_GROUPS, 0, Some(2500))?;
-    let text = drawing.text()?;
-    let titles = titles(&rt, rt.alloc(), text.as_str())?;
-    let bars = [
-        ("running", "INIT RUNNING, ", 1),
-        ("running", "fast RUNNING, ", 4),
-        ("running", "medium RUNNING, ", 2),
-        ("running", "slow RUNNING, ", 2),
-        ("running", "", 9),
-        ("ready", "medium READY, ", 2),
-        ("ready", "slow READY, ", 2),
-        ("ready", "", 4),
-        ("waiting", "fast WAITING, ", 5),
-        ("waiting", "medium WAITING, ", 3),
-        ("waiting", "slow WAITING, ", 2),
-        ("waiting", "", 10),
-        ("dormant", "INIT DORMANT, ", 1),
-        ("dormant", "", 1),
-        ("cold", "", 1),
-        ("normal", "", 1),
-        ("message", "", 0),
-        ("flag", "", 0),
-    ];
-    for (class, front, wanted) in &bars {
-        let found = count(titles.as_slice(), class, front);
-        assert_eq!(rt; found, *wanted, "{class}: {front}");
-    }
-    assert_eq!(rt; drawing.shapes(), 26);
-    let wanted = [
-        ("running", "fast RUNNING, ticks 500 to 617 (118)"),
-        ("running", "slow RUNNING, ticks 824 to 999 (176)"),
-        ("ready", "slow READY, ticks 1000 to 1119 (120)"),
-        ("running", "slow RUNNING, ticks 1120 to 1349 (230)"),
-        ("waiting", "fast WAITING, ticks 2120 to 2499 (380)"),
-        ("dormant", "INIT DORMANT, ticks 65 to 2499 (2435)"),
-        ("cold", "control COLD_START, ticks 0 to 63 (64)"),
-        ("normal", "control NORMAL, ticks 64 to 2499 (2436)"),
-        ("", "A trace, from tick 0 to tick 2500"),
-    ];
-    for (class, text) in &wanted {
-        check_title(&rt, titles.as_slice(), class, text);
-    }
-    Ok(())
+fn rate_groups(rt: HostRuntime) {
+    let shapes = expect_titles(&rt, rt.alloc(), RATE_GROUPS, 0, Some(2500), &BARS);
+    assert_eq!(rt; shapes, 26);
 }
+
+/// What the picture of some ticks in their middle shows, all of it cut at its edges.
+static PART: [Counted; 5] = [
+    ("running", "fast RUNNING, ticks 550 to 599 (50)</title>", 1),
+    ("ready", "medium READY, ticks 550 to 599 (50)</title>", 1),
+    ("ready", "slow READY, ticks 550 to 599 (50)</title>", 1),
+    ("dormant", "INIT DORMANT, ticks 550 to 599 (50)</title>", 1),
+    ("normal", "control NORMAL, ticks 550 to 599 (50)</title>", 1),
+];
+
+/// The last bars of a picture without an end.
+static END: [Counted; 2] = [
+    ("running", "fast RUNNING, ticks 2500 to 2500 (1)</title>", 1),
+    (
+        "waiting",
+        "fast WAITING, ticks 2200 to 2499 (300)</title>",
+        1,
+    ),
+];
 
 /// A bar is cut at the edges of a picture. A picture without an end goes to the last line.
 #[test]
-fn edges(rt: HostRuntime) -> Result<(), Fail> {
-    let drawing = drawn(rt.alloc(), RATE_GROUPS, 550, Some(600))?;
-    let text = drawing.text()?;
-    let titles_of_part = titles(&rt, rt.alloc(), text.as_str())?;
-    let wanted = [
-        ("running", "fast RUNNING, ticks 550 to 599 (50)"),
-        ("ready", "medium READY, ticks 550 to 599 (50)"),
-        ("ready", "slow READY, ticks 550 to 599 (50)"),
-        ("dormant", "INIT DORMANT, ticks 550 to 599 (50)"),
-        ("normal", "control NORMAL, ticks 550 to 599 (50)"),
-    ];
-    assert_eq!(rt; drawing.shapes(), wanted.len());
-    for (class, text) in &wanted {
-        check_title(&rt, titles_of_part.as_slice(), class, text);
-    }
-    let drawing = drawn(rt.alloc(), RATE_GROUPS, 2200, None)?;
-    let text = drawing.text()?;
-    let titles_of_end = titles(&rt, rt.alloc(), text.as_str())?;
-    check_title(
-        &rt,
-        titles_of_end.as_slice(),
-        "running",
-        "fast RUNNING, ticks 2500 to 2500 (1)",
-    );
-    check_title(
-        &rt,
-        titles_of_end.as_slice(),
-        "waiting",
-        "fast WAITING, ticks 2200 to 2499 (300)",
-    );
-    Ok(())
+fn edges(rt: HostRuntime) {
+    let shapes = expect_titles(&rt, rt.alloc(), RATE_GROUPS, 550, Some(600), &PART);
+    assert_eq!(rt; shapes, PART.len());
+    let _ = expect_titles(&rt, rt.alloc(), RATE_GROUPS, 2200, None, &END);
 }
 
-#[test]
-fn messages(rt: HostRuntime) -> Result<(), Fail> {
-    let drawing = drawn(rt.alloc(), TELEMETRY, 600, Some(2400))?;
-    let text = drawing.text()?;
-    let titles = titles(&rt, rt.alloc(), text.as_str())?;
-    assert_eq!(rt; drawing.shapes(), 6);
-    let wanted = [
-        ("message", "outside to sensors.commands: 6, tick 800"),
-        ("message", "sensors.taken to radio.queue: 6 982, tick 1500"),
-        (
-            "lost",
-            "sensors.taken to radio.queue, lost: 7 979, tick 1500",
-        ),
-        (
-            "message",
-            "radio.sent to outside by downlink: -3 991 1, tick 1800",
-        ),
-    ];
-    for (class, text) in &wanted {
-        check_title(&rt, titles.as_slice(), class, text);
-    }
-    Ok(())
-}
+/// The arrows of messages.
+static MESSAGES: [Counted; 4] = [
+    (
+        "message",
+        "outside to sensors.commands: 6, tick 800</title>",
+        1,
+    ),
+    (
+        "message",
+        "sensors.taken to radio.queue: 6 982, tick 1500</title>",
+        1,
+    ),
+    (
+        "lost",
+        "sensors.taken to radio.queue, lost: 7 979, tick 1500</title>",
+        1,
+    ),
+    (
+        "message",
+        "radio.sent to outside by downlink: -3 991 1, tick 1800</title>",
+        1,
+    ),
+];
 
 #[test]
-fn flags_and_reports(rt: HostRuntime) -> Result<(), Fail> {
-    let drawing = drawn(rt.alloc(), RESTARTS, 0, None)?;
-    let text = drawing.text()?;
-    let titles = titles(&rt, rt.alloc(), text.as_str())?;
-    let wanted = [
-        ("report", "REPORT INIT 1 1 0, tick 35"),
-        ("flag", "HM APPLICATION_ERROR obey PROCESS HANDLER, tick 72"),
-        ("flag", "HM HARDWARE_FAULT - PARTITION WARM_START, tick 80"),
-        ("flag", "HM HARDWARE_FAULT - MODULE RESET, tick 90"),
-        ("warm", "logbook WARM_START, ticks 80 to 89 (10)"),
-        ("cold", "logbook COLD_START, ticks 90 to 90 (1)"),
-        ("waiting", "obey WAITING, ticks 63 to 79 (17)"),
-        ("ready", "INIT READY, ticks 80 to 89 (10)"),
-    ];
-    for (class, text) in &wanted {
-        check_title(&rt, titles.as_slice(), class, text);
-    }
-    Ok(())
+fn messages(rt: HostRuntime) {
+    let shapes = expect_titles(&rt, rt.alloc(), TELEMETRY, 600, Some(2400), &MESSAGES);
+    assert_eq!(rt; shapes, 6);
 }
 
-/// A trace without a line, and ticks of which there are none.
+/// The flags of errors, the mark of a report, and what the restarts cut off.
+static FLAGS: [Counted; 8] = [
+    ("report", "REPORT INIT 1 1 0, tick 35</title>", 1),
+    (
+        "flag",
+        "HM APPLICATION_ERROR obey PROCESS HANDLER, tick 72</title>",
+        1,
+    ),
+    (
+        "flag",
+        "HM HARDWARE_FAULT - PARTITION WARM_START, tick 80</title>",
+        1,
+    ),
+    (
+        "flag",
+        "HM HARDWARE_FAULT - MODULE RESET, tick 90</title>",
+        1,
+    ),
+    ("warm", "logbook WARM_START, ticks 80 to 89 (10)</title>", 1),
+    ("cold", "logbook COLD_START, ticks 90 to 90 (1)</title>", 1),
+    ("waiting", "obey WAITING, ticks 63 to 79 (17)</title>", 1),
+    ("ready", "INIT READY, ticks 80 to 89 (10)</title>", 1),
+];
+
 #[test]
-fn nothing(rt: HostRuntime) -> Result<(), Fail> {
-    for (from, to) in [(0, None), (7, Some(7)), (9, Some(3)), (0, Some(u64::MAX))] {
-        let drawing = drawn(rt.alloc(), "", from, to)?;
+fn flags_and_reports(rt: HostRuntime) {
+    let _ = expect_titles(&rt, rt.alloc(), RESTARTS, 0, None, &FLAGS);
+}
+
+/// A trace and a window in which nothing is to be seen.
+static EMPTY: [(&str, u64, Option<u64>); 6] = [
+    ("", 0, None),
+    ("", 7, Some(7)),
+    ("", 9, Some(3)),
+    ("", 0, Some(u64::MAX)),
+    (RATE_GROUPS, 700, Some(700)),
+    ("0000000000000 p MODE NORMAL\n", 20_000, None),
+];
+
+/// A trace without a line, and ticks of which there are none, or none that has a line.
+#[test]
+fn nothing(rt: HostRuntime) {
+    for (trace, from, to) in &EMPTY {
+        let drawing = drawn(&rt, rt.alloc(), trace, *from, *to);
         assert_eq!(rt; drawing.shapes(), 0);
-        let text = drawing.text()?;
-        let titles = titles(&rt, rt.alloc(), text.as_str())?;
-        assert_eq!(rt; titles.len(), 1);
+        assert_eq!(rt; titles(&rt, &drawing), 1);
     }
-    let drawing = drawn(rt.alloc(), RATE_GROUPS, 700, Some(700))?;
-    assert_eq!(rt; drawing.shapes(), 0);
-    Ok(())
 }
 
+/// Texts, and how they stand in XML.
+static ESCAPED: [(&str, &str); 8] = [
+    ("", ""),
+    ("plain_7", "plain_7"),
+    ("a<b>&\"c'd;", "a&lt;b&gt;&amp;&quot;c&apos;d;"),
+    ("&amp;", "&amp;amp;"),
+    ("\t\n\r \u{7F}", "\t\n\r \u{7F}"),
+    (
+        "\u{0}\u{1}\u{8}\u{B}\u{C}\u{E}\u{1F}",
+        "\u{FFFD}\u{FFFD}\u{FFFD}\u{FFFD}\u{FFFD}\u{FFFD}\u{FFFD}",
+    ),
+    (
+        "\u{E9}\u{20AC}\u{1F600}\u{FFFD}",
+        "\u{E9}\u{20AC}\u{1F600}\u{FFFD}",
+    ),
+    ("\u{FFFE}\u{FFFF}\u{10FFFF}", "\u{FFFD}\u{FFFD}\u{10FFFF}"),
+];
+
 #[test]
-fn escapes(rt: HostRuntime) -> Result<(), Fail> {
-    let rows = [
-        ("", ""),
-        ("plain_7", "plain_7"),
-        ("a<b>&\"c'd;", "a&lt;b&gt;&amp;&quot;c&apos;d;"),
-        ("&amp;", "&amp;amp;"),
-        ("\t\n\r \u{7F}", "\t\n\r \u{7F}"),
-        (
-            "\u{0}\u{1}\u{8}\u{B}\u{C}\u{E}\u{1F}",
-            "\u{FFFD}\u{FFFD}\u{FFFD}\u{FFFD}\u{FFFD}\u{FFFD}\u{FFFD}",
-        ),
-        (
-            "\u{E9}\u{20AC}\u{1F600}\u{FFFD}",
-            "\u{E9}\u{20AC}\u{1F600}\u{FFFD}",
-        ),
-        ("\u{FFFE}\u{FFFF}\u{10FFFF}", "\u{FFFD}\u{FFFD}\u{10FFFF}"),
-    ];
-    for (text, wanted) in &rows {
+fn escapes(rt: HostRuntime) {
+    for (text, wanted) in &ESCAPED {
         let mut escaped = String::new(rt.alloc());
-        push_escaped(&mut escaped, text)?;
+        push_escaped(&mut escaped, text).expect(&rt, "memory");
         assert_eq!(rt; escaped.as_str(), *wanted);
     }
+}
+
+/// The event of a change in every second tick.
+fn change_at(name: Name, change: u64) -> Event {
+    let state = if change % 2 == 0 {
+        ProcessState::Ready
+    } else {
+        ProcessState::Running
+    };
+    Event {
+        tick: Ticks(change.saturating_mul(2)),
+        partition: Some(name),
+        kind: EventKind::State(Subject::Process(name), state),
+    }
+}
+
+/// Adds a process that changes its state so many times.
+fn add_changes(picture: &mut Picture, name: Name, changes: u64) -> Result<(), PictureFault> {
+    for change in 0..changes {
+        picture.add(&change_at(name, change))?;
+    }
     Ok(())
 }
 
-/// A process that changes its state in every second tick.
+/// The picture of a process that changes its state so many times.
 fn restless(alloc: Global, name: Name, changes: u64) -> Result<Drawing, PictureFault> {
     let mut picture = Picture::new(alloc, Ticks(0), None);
-    for change in 0..changes {
-        let state = if change % 2 == 0 {
-            ProcessState::Ready
-        } else {
-            ProcessState::Running
-        };
-        picture.add(&Event {
-            tick: Ticks(change.saturating_mul(2)),
-            partition: Some(name),
-            kind: EventKind::State(Subject::Process(name), state),
-        })?;
+    match add_changes(&mut picture, name, changes) {
+        Ok(()) => picture.finish(),
+        Err(fault) => Err(fault),
     }
-    picture.finish()
 }
 
 /// As many shapes as a picture may have are drawn, and one more is refused.
 #[test]
-fn too_many(rt: HostRuntime) -> Result<(), Fail> {
-    let name = Name::new(b"p").ok_or("a name")?;
+fn too_many(rt: HostRuntime) {
+    let name = Name::new(b"p").expect(&rt, "a name");
     let most = MOST_SHAPES as u64;
-    let drawing = restless(rt.alloc(), name, most)?;
+    let drawing = restless(rt.alloc(), name, most).expect(&rt, "memory");
     assert_eq!(rt; drawing.shapes(), MOST_SHAPES);
-    let text = drawing.text()?;
-    let titles = titles(&rt, rt.alloc(), text.as_str())?;
-    assert_eq!(rt; titles.len(), 5_001);
+    assert_eq!(rt; titles(&rt, &drawing), 5_001);
     for more in 1..4u64 {
         let fault = restless(rt.alloc(), name, most.saturating_add(more)).err();
         assert_eq!(rt; fault, Some(PictureFault::TooMany));
     }
-    let mut picture = Picture::new(rt.alloc(), Ticks(20_000), None);
-    picture.add(&Event {
-        tick: Ticks(0),
-        partition: Some(name),
-        kind: EventKind::Mode(Mode::Normal),
-    })?;
-    assert_eq!(rt; picture.finish()?.shapes(), 0);
-    Ok(())
 }

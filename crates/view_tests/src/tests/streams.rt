@@ -75,6 +75,57 @@ fn line_of(alloc: Global, event: &Event) -> Vec<u8> {
     sink.writer
 }
 
+/// Appends the line of an event.
+fn keep(rt: &impl Abort, alloc: Global, lines: &mut Vec<u8>, event: &Event) {
+    let line = line_of(alloc, event);
+    lines
+        .extend_from_slice(line.as_slice())
+        .expect(rt, "memory");
+}
+
+/// What is read next.
+#[derive(Clone, Copy, Debug, PartialEq, Eq)]
+enum Step {
+    /// An event, whose line is kept.
+    Event,
+    End,
+    /// No event, since the line with this number is none of a trace.
+    Refused(u64),
+}
+
+fn step_of_stream(
+    rt: &impl Abort,
+    alloc: Global,
+    stream: &mut TraceStream<Slow<'_>>,
+    lines: &mut Vec<u8>,
+) -> Step {
+    match stream.next_event() {
+        Ok(Some(event)) => {
+            keep(rt, alloc, lines, &event);
+            Step::Event
+        }
+        Ok(None) => Step::End,
+        Err(StreamFault::Line(fault)) => Step::Refused(fault.line),
+        Err(_) => panic!(rt; "no bytes"),
+    }
+}
+
+fn step_of_text(
+    rt: &impl Abort,
+    alloc: Global,
+    reader: &mut TraceReader<'_>,
+    lines: &mut Vec<u8>,
+) -> Step {
+    match reader.next_event() {
+        Ok(Some(event)) => {
+            keep(rt, alloc, lines, &event);
+            Step::Event
+        }
+        Ok(None) => Step::End,
+        Err(fault) => Step::Refused(fault.line),
+    }
+}
+
 /// Reads the text as a stream, and as a text; both have to give the same.
 fn compare(rt: &impl Abort, alloc: Global, text: &[u8], most: usize) {
     let slow = Slow {
@@ -84,43 +135,36 @@ fn compare(rt: &impl Abort, alloc: Global, text: &[u8], most: usize) {
     };
     let mut stream = stream(rt, alloc, slow);
     let mut reader = TraceReader::new(text);
+    let mut streamed = Vec::new(alloc);
+    let mut read = Vec::new(alloc);
+    let mut step = Step::Event;
     for _ in 0..text.len() + 1 {
-        match (stream.next_event(), reader.next_event()) {
-            (Ok(Some(one)), Ok(Some(other))) => assert!(rt;
-                line_of(alloc, &one) == line_of(alloc, &other)
-            ),
-            (Ok(None), Ok(None)) => return,
-            (Err(StreamFault::Line(one)), Err(other)) => {
-                assert_eq!(rt; one, other);
-                assert_eq!(rt; stream.lines(), reader.lines());
-                return;
-            }
-            _ => panic!(rt; "the stream differs"),
+        step = step_of_stream(rt, alloc, &mut stream, &mut streamed);
+        assert_eq!(rt; step, step_of_text(rt, alloc, &mut reader, &mut read));
+        if step != Step::Event {
+            break;
         }
     }
-    panic!(rt; "no end");
+    assert!(rt; step != Step::Event, "no end");
+    assert!(rt; streamed.as_slice() == read.as_slice());
+    assert_eq!(rt; stream.lines(), reader.lines());
 }
 
-/// All these texts, with so many bytes a read.
+/// Texts that are traces, and that are none, with so many bytes a read.
 fn compare_all(rt: &impl Abort, alloc: Global, most: usize) {
     let bytes = TRACE.as_bytes();
-    compare(rt, alloc, bytes, most);
-    compare(rt, alloc, b"", most);
-    compare(rt, alloc, b"\n", most);
-    compare(rt, alloc, &bytes[..bytes.len() - 1], most);
-    compare(rt, alloc, &bytes[1..], most);
-    compare(
-        rt,
-        alloc,
+    let texts: [&[u8]; 7] = [
+        bytes,
+        b"",
+        b"\n",
+        &bytes[..bytes.len() - 1],
+        &bytes[1..],
         b"0000000000005 a MODE IDLE\n0000000000004 a MODE IDLE\n",
-        most,
-    );
-    compare(
-        rt,
-        alloc,
         b"0000000000005 a MODE IDLE\n\n0000000000005 a MODE IDLE\n",
-        most,
-    );
+    ];
+    for text in texts {
+        compare(rt, alloc, text, most);
+    }
 }
 
 #[test]

@@ -1,11 +1,10 @@
 //! Value change dumps of traces.
 
-use crate::tests::value_changes::{WaveChange, Waves, read_waves};
+use crate::tests::value_changes::read_waves;
 use apex_types::Ticks;
 use std::alloc::Global;
 use std::process::Abort;
 use std::str;
-use std::test::Fail;
 use trace_text::TraceReader;
 use wave_dump::Dump;
 
@@ -58,88 +57,71 @@ static EVENTS: [(&str, u64); 7] = [
     ("MODULE.ERRORS.HARDWARE_FAULT", 20),
 ];
 
-/// The dump of some ticks of a trace.
-fn dump_of(alloc: Global, trace: &str, from: u64, to: Option<u64>) -> Result<Vec<u8>, Fail> {
-    let to = match to {
-        Some(tick) => Some(Ticks(tick)),
-        None => None,
-    };
-    let mut dump = Dump::new(alloc, Ticks(from), to);
+/// Adds the events of a trace to a dump.
+fn add_all(rt: &impl Abort, dump: &mut Dump, trace: &str) {
     let mut reader = TraceReader::new(trace.as_bytes());
     for _ in 0..u64::MAX {
-        match reader.next_event()? {
-            Some(event) => dump.add(&event)?,
+        match reader.next_event().expect(rt, "a line") {
+            Some(event) => dump.add(&event).expect(rt, "memory"),
             None => break,
         }
     }
-    dump.finish()?;
-    let mut out = Vec::new(alloc);
-    dump.write(&mut out)?;
-    Ok(out)
 }
 
-/// Asserts that the variable takes this value at these times, and at no others.
-fn assert_times(rt: &impl Abort, waves: &Waves<'_>, path: &str, value: u8, times: &[u64]) {
-    let Some(wave) = waves
-        .variables
-        .iter()
-        .find(|wave| wave.path.as_str() == path)
-    else {
-        panic!(rt; "no variable {path}");
-    };
-    let mut rest = times;
-    for change in &waves.changes {
-        if change.code == wave.code && change.value == value {
-            let Some((time, others)) = rest.split_first() else {
-                panic!(rt; "{path} is {value} at {}", change.time);
-            };
-            assert_eq!(rt; change.time, *time, "{path}");
-            rest = others;
-        }
-    }
-    assert!(rt; rest.is_empty(), "{path} is {value} too seldom");
+/// The dump of a trace, from one tick to before another.
+fn dump_of(rt: &impl Abort, alloc: Global, trace: &str, from: u64, to: Option<u64>) -> Vec<u8> {
+    let mut dump = Dump::new(alloc, Ticks(from), to.map(Ticks));
+    add_all(rt, &mut dump, trace);
+    dump.finish().expect(rt, "memory");
+    let mut out = Vec::new(alloc);
+    dump.write(&mut out).expect(rt, "memory");
+    out
+}
+
+fn shown<'a>(rt: &impl Abort, dump: &'a Vec<u8>) -> &'a str {
+    str::from_utf8(dump.as_slice()).expect(rt, "UTF-8")
 }
 
 #[test]
-fn the_whole_trace(rt: HostRuntime) -> Result<(), Fail> {
-    let dump = dump_of(rt.alloc(), TRACE, 0, None)?;
-    let waves = read_waves(&rt, rt.alloc(), str::from_utf8(dump.as_slice())?);
+fn the_whole_trace(rt: HostRuntime) {
+    let dump = dump_of(&rt, rt.alloc(), TRACE, 0, None);
+    let waves = read_waves(&rt, rt.alloc(), shown(&rt, &dump));
     for (path, high, low) in WIRES {
-        assert_times(&rt, &waves, path, 1, high);
-        assert_times(&rt, &waves, path, 0, low);
+        waves.assert_times(&rt, path, 1, high);
+        waves.assert_times(&rt, path, 0, low);
     }
     for (path, time) in EVENTS {
-        assert_times(&rt, &waves, path, 1, &[time]);
+        waves.assert_times(&rt, path, 1, &[time]);
     }
     // 2 partitions with 4 modes, INIT and p with 4 states, 7 pulses; 9 stays and 7 pulses.
     assert_eq!(rt; waves.variables.len(), 2 * 4 + 2 * 4 + 7);
     assert_eq!(rt; waves.changes.len(), 2 * 9 + 7);
     assert_eq!(rt; waves.first, Some(0));
     assert_eq!(rt; waves.last, Some(21));
-    Ok(())
 }
 
+/// The times at which variables become 1 and 0 from tick 7 to before tick 12, counted by hand.
+static PART: [(&str, u8, &[u64]); 8] = [
+    ("a.MODE.NORMAL", 1, &[7]),
+    ("a.MODE.NORMAL", 0, &[12]),
+    ("a.MODE.COLD_START", 1, &[]),
+    ("a.p.RUNNING", 1, &[7]),
+    ("a.p.RUNNING", 0, &[10]),
+    ("a.p.WAITING", 1, &[10]),
+    ("a.p.WAITING", 0, &[12]),
+    ("a.REPORTS.p", 1, &[9]),
+];
+
 #[test]
-fn some_ticks_of_it(rt: HostRuntime) -> Result<(), Fail> {
-    let dump = dump_of(rt.alloc(), TRACE, 7, Some(12))?;
-    let waves = read_waves(&rt, rt.alloc(), str::from_utf8(dump.as_slice())?);
-    assert_times(&rt, &waves, "a.MODE.NORMAL", 1, &[7]);
-    assert_times(&rt, &waves, "a.MODE.NORMAL", 0, &[12]);
-    assert_times(&rt, &waves, "a.MODE.COLD_START", 1, &[]);
-    assert_times(&rt, &waves, "a.p.RUNNING", 1, &[7]);
-    assert_times(&rt, &waves, "a.p.RUNNING", 0, &[10]);
-    assert_times(&rt, &waves, "a.p.WAITING", 1, &[10]);
-    assert_times(&rt, &waves, "a.p.WAITING", 0, &[12]);
-    assert_times(&rt, &waves, "a.REPORTS.p", 1, &[9]);
-    assert!(rt;
-        waves
-            .variables
-            .iter()
-            .all(|wave| wave.path.as_str() != "a.MESSAGES.out_MOVE")
-    );
+fn some_ticks_of_it(rt: HostRuntime) {
+    let dump = dump_of(&rt, rt.alloc(), TRACE, 7, Some(12));
+    let waves = read_waves(&rt, rt.alloc(), shown(&rt, &dump));
+    for (path, value, times) in PART {
+        waves.assert_times(&rt, path, value, times);
+    }
+    assert!(rt; waves.variable_at("a.MESSAGES.out_MOVE").is_none());
     assert_eq!(rt; waves.first, Some(7));
     assert_eq!(rt; waves.last, Some(12));
-    Ok(())
 }
 
 /// A dump byte for byte, written by hand.
@@ -185,24 +167,23 @@ $end
 0s0.0
 ";
 
-#[test]
-fn a_small_dump(rt: HostRuntime) -> Result<(), Fail> {
-    let trace = "0000000000003 a STATE p RUNNING
+/// The trace of this dump.
+const SMALL_TRACE: &str = "0000000000003 a STATE p RUNNING
 0000000000005 a REPORT p 1
 0000000000005 a STATE p DORMANT
 0000000000006 a RET p STOP 0
 ";
-    let dump = dump_of(rt.alloc(), trace, 3, None)?;
-    assert_eq!(rt; str::from_utf8(dump.as_slice())?, SMALL);
-    Ok(())
+
+#[test]
+fn a_small_dump(rt: HostRuntime) {
+    let dump = dump_of(&rt, rt.alloc(), SMALL_TRACE, 3, None);
+    assert_eq!(rt; shown(&rt, &dump), SMALL);
 }
 
 #[test]
-fn no_lines(rt: HostRuntime) -> Result<(), Fail> {
-    let dump = dump_of(rt.alloc(), "", 0, None)?;
-    let waves = read_waves(&rt, rt.alloc(), str::from_utf8(dump.as_slice())?);
+fn no_lines(rt: HostRuntime) {
+    let dump = dump_of(&rt, rt.alloc(), "", 0, None);
+    let waves = read_waves(&rt, rt.alloc(), shown(&rt, &dump));
     assert!(rt; waves.variables.is_empty());
-    let none: &[WaveChange<'_>] = &[];
-    assert_eq!(rt; waves.changes.as_slice(), none);
-    Ok(())
+    assert!(rt; waves.changes.is_empty());
 }
