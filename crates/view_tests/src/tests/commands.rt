@@ -37,15 +37,18 @@ impl Sources for Texts {
     type Reader = Text;
 
     fn open(&mut self, name: &str) -> Result<Text, SourceFault> {
-        let (rest, fails): (&'static [u8], bool) = match name {
-            "trace.txt" | "-" => (TRACE.as_bytes(), false),
-            "empty.txt" => (b"", false),
-            "torn.txt" => (TRACE.as_bytes(), true),
-            "other.txt" => (b"0000000000000 a MODE COLD_START\nx\n", false),
+        let (text, fails): (&'static str, bool) = match name {
+            "trace.txt" | "-" => (TRACE, false),
+            "empty.txt" => ("", false),
+            "torn.txt" => (TRACE, true),
+            "other.txt" => ("0000000000000 a MODE COLD_START\nx\n", false),
             "memory.txt" => return Err(SourceFault::Memory),
             _ => return Err(SourceFault::Unavailable),
         };
-        Ok(Text { rest, fails })
+        Ok(Text {
+            rest: text.as_bytes(),
+            fails,
+        })
     }
 }
 
@@ -64,7 +67,6 @@ impl Write for Full {
 }
 
 /// The words, and what they come to.
-#[derive(Drop)]
 struct Row {
     words: &'static [&'static str],
     status: u8,
@@ -199,25 +201,31 @@ fn each_row(rt: HostRuntime) {
 }
 
 /// Command lines that ask for help.
-static HELP: [&[&str]; 3] = [
-    &["mbview", "--help"],
-    &["mbview", "help", "summary"],
-    &["mbview", "svg", "--help"],
+static HELP: [Row; 3] = [
+    Row {
+        words: &["mbview", "--help"],
+        status: 0,
+        out: "Example: mbview",
+        err: "",
+    },
+    Row {
+        words: &["mbview", "help", "summary"],
+        status: 0,
+        out: "Example: mbview",
+        err: "",
+    },
+    Row {
+        words: &["mbview", "svg", "--help"],
+        status: 0,
+        out: "Example: mbview",
+        err: "",
+    },
 ];
 
 #[test]
 fn help_and_usage(rt: HostRuntime) {
-    for words in HELP {
-        check(
-            &rt,
-            rt.alloc(),
-            &Row {
-                words,
-                status: 0,
-                out: "Example: mbview",
-                err: "",
-            },
-        );
+    for row in &HELP {
+        check(&rt, rt.alloc(), row);
     }
     let said = said(rt.alloc(), &["mbview"]);
     assert_eq!(rt; said.status, 2);

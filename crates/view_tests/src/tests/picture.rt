@@ -99,15 +99,21 @@ fn class_of(tag: &str) -> &str {
     }
 }
 
-/// How many elements of this class have a title that begins so. A title stands on one line with the
-/// tag of its element.
+/// Whether this line begins an element of this class whose title begins so. A title stands on one
+/// line with the tag of its element.
+fn has_title(line: &str, class: &str, front: &str) -> bool {
+    match line.split_once("<title>") {
+        Some((tag, title)) => class_of(tag) == class && title.starts_with(front),
+        None => false,
+    }
+}
+
+/// How many elements of this class have a title that begins so.
 fn count(svg: &str, class: &str, front: &str) -> usize {
     let mut count = 0usize;
     for line in svg.lines() {
-        if let Some((tag, title)) = line.split_once("<title>") {
-            if class_of(tag) == class && title.starts_with(front) {
-                count = count.saturating_add(1);
-            }
+        if has_title(line, class, front) {
+            count = count.saturating_add(1);
         }
     }
     count

@@ -100,14 +100,14 @@ fn expect_again(rt: &impl Abort, alloc: Global, line: &str) {
 
 #[test]
 fn each_line_is_written_again(rt: HostRuntime) {
-    for line in LINES {
+    for line in &LINES {
         expect_again(&rt, rt.alloc(), line);
     }
 }
 
 #[test]
 fn no_wrong_line_is_read(rt: HostRuntime) {
-    for line in WRONG_LINES {
+    for line in &WRONG_LINES {
         assert!(rt; read_line(line.as_bytes()).is_err(), "{line}");
     }
     assert!(rt; read_line(b"0000000000004 a\xff MODE NORMAL\n").is_err());
@@ -131,7 +131,8 @@ static WRONG_TEXTS: [(&str, u64); 2] = [
 
 #[test]
 fn the_first_wrong_line_is_named(rt: HostRuntime) {
-    for (text, line) in WRONG_TEXTS {
+    for (text, line) in &WRONG_TEXTS {
+        let line = *line;
         assert_eq!(rt; check_trace(text.as_bytes()), Err(TraceFault { line }));
     }
     let without_end = TRACE.trim_end().as_bytes();

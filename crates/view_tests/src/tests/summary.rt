@@ -10,83 +10,39 @@ use std::alloc::Global;
 use std::io::{self, ErrorKind, Write};
 use std::process::Abort;
 use std::str;
-use trace_stays::MemoryFull;
-use trace_text::{TraceFault, TraceReader};
+use trace_text::TraceReader;
 use trace_view::{Extremes, Report, ReportFault, Share, Summary};
 
-/// What a test does not get.
-#[derive(Debug, Drop)]
-enum Missing {
-    Line(TraceFault),
-    Memory,
-    Report(ReportFault),
-    Text,
-}
-
-impl From<TraceFault> for Missing {
-    fn from(fault: TraceFault) -> Missing {
-        Missing::Line(fault)
-    }
-}
-
-impl From<MemoryFull> for Missing {
-    fn from(_: MemoryFull) -> Missing {
-        Missing::Memory
-    }
-}
-
-impl From<ReportFault> for Missing {
-    fn from(fault: ReportFault) -> Missing {
-        Missing::Report(fault)
+/// Counts the events of a trace.
+fn count_all(rt: &impl Abort, summary: &mut Summary, text: &str) {
+    let mut reader = TraceReader::new(text.as_bytes());
+    for _ in 0..u64::MAX {
+        match reader.next_event().expect(rt, "a line") {
+            Some(event) => summary.count(&event).expect(rt, "memory"),
+            None => break,
+        }
     }
 }
 
 /// The summary of a text, from one tick to before another.
-fn report_of(alloc: Global, text: &str, from: u64, to: Option<u64>) -> Result<Report, Missing> {
-    let mut summary = Summary::new(alloc, Ticks(from), to.map(Ticks));
-    let mut reader = TraceReader::new(text.as_bytes());
-    for _ in 0..u64::MAX {
-        match reader.next_event()? {
-            Some(event) => summary.count(&event)?,
-            None => break,
-        }
-    }
-    Ok(summary.finish()?)
-}
-
-fn tables_of(alloc: Global, report: &Report) -> Result<Vec<u8>, Missing> {
-    let mut out = Vec::new(alloc);
-    report.write_table(alloc, &mut out)?;
-    Ok(out)
-}
-
-fn sheet_of(alloc: Global, report: &Report) -> Result<Vec<u8>, Missing> {
-    let mut out = Vec::new(alloc);
-    report.write_csv(alloc, &mut out)?;
-    Ok(out)
-}
-
 fn expect_report(rt: &impl Abort, alloc: Global, text: &str, from: u64, to: Option<u64>) -> Report {
-    match report_of(alloc, text, from, to) {
-        Ok(report) => report,
-        Err(_) => panic!(rt; "no report"),
-    }
+    let mut summary = Summary::new(alloc, Ticks(from), to.map(Ticks));
+    count_all(rt, &mut summary, text);
+    summary.finish().expect(rt, "memory")
 }
 
 /// Expects these tables of a report.
 fn expect_tables(rt: &impl Abort, alloc: Global, report: &Report, wanted: &str) {
-    let Ok(out) = tables_of(alloc, report) else {
-        panic!(rt; "no tables");
-    };
+    let mut out = Vec::new(alloc);
+    report.write_table(alloc, &mut out).expect(rt, "tables");
     assert_eq!(rt; str::from_utf8(out.as_slice()).unwrap_or("no text"), wanted);
 }
 
 /// The comma-separated values of a report.
 fn expect_sheet(rt: &impl Abort, alloc: Global, report: &Report) -> Vec<u8> {
-    match sheet_of(alloc, report) {
-        Ok(out) => out,
-        Err(_) => panic!(rt; "no sheet"),
-    }
+    let mut out = Vec::new(alloc);
+    report.write_csv(alloc, &mut out).expect(rt, "a sheet");
+    out
 }
 
 /// A trace, the window of its summary, and the tables of the summary.

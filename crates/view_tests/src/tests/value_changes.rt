@@ -5,7 +5,7 @@ use std::alloc::Global;
 use std::process::Abort;
 
 /// A variable of a dump: its scopes from the outside in, and its name.
-#[derive(Clone, Copy, Debug, PartialEq, Eq)]
+#[derive(Clone, Copy)]
 pub struct Wave<'a> {
     outer: &'a str,
     inner: &'a str,
@@ -15,7 +15,7 @@ pub struct Wave<'a> {
 }
 
 /// A variable takes a value.
-#[derive(Clone, Copy, Debug, PartialEq, Eq)]
+#[derive(Clone, Copy)]
 pub struct WaveChange<'a> {
     pub time: u64,
     pub code: &'a str,
@@ -23,7 +23,7 @@ pub struct WaveChange<'a> {
 }
 
 /// How far a dump is read.
-#[derive(Clone, Copy, Debug, PartialEq, Eq)]
+#[derive(Clone, Copy, PartialEq, Eq)]
 enum Part {
     Declarations,
     Changes,

@@ -1,6 +1,6 @@
 //! Value change dumps of traces.
 
-use crate::tests::value_changes::read_waves;
+use crate::tests::value_changes::{Waves, read_waves};
 use apex_types::Ticks;
 use std::alloc::Global;
 use std::process::Abort;
@@ -47,14 +47,14 @@ static WIRES: [(&str, &[u64], &[u64]); 12] = [
 ];
 
 /// The times of the pulses of this trace.
-static EVENTS: [(&str, u64); 7] = [
-    ("a.MESSAGES.q_ARRIVE", 5),
-    ("a.REPORTS.p", 9),
-    ("a.MESSAGES.out_MOVE", 12),
-    ("b.MESSAGES.in_ARRIVE", 12),
-    ("a.MESSAGES.echo_OUT", 12),
-    ("a.ERRORS.HARDWARE_FAULT", 14),
-    ("MODULE.ERRORS.HARDWARE_FAULT", 20),
+static EVENTS: [(&str, &[u64]); 7] = [
+    ("a.MESSAGES.q_ARRIVE", &[5]),
+    ("a.REPORTS.p", &[9]),
+    ("a.MESSAGES.out_MOVE", &[12]),
+    ("b.MESSAGES.in_ARRIVE", &[12]),
+    ("a.MESSAGES.echo_OUT", &[12]),
+    ("a.ERRORS.HARDWARE_FAULT", &[14]),
+    ("MODULE.ERRORS.HARDWARE_FAULT", &[20]),
 ];
 
 /// Adds the events of a trace to a dump.
@@ -82,17 +82,25 @@ fn shown<'a>(rt: &impl Abort, dump: &'a Vec<u8>) -> &'a str {
     str::from_utf8(dump.as_slice()).expect(rt, "UTF-8")
 }
 
+fn expect_wires(rt: &impl Abort, waves: &Waves<'_>) {
+    for (path, high, low) in &WIRES {
+        waves.assert_times(rt, path, 1, high);
+        waves.assert_times(rt, path, 0, low);
+    }
+}
+
+fn expect_events(rt: &impl Abort, waves: &Waves<'_>) {
+    for (path, times) in &EVENTS {
+        waves.assert_times(rt, path, 1, times);
+    }
+}
+
 #[test]
 fn the_whole_trace(rt: HostRuntime) {
     let dump = dump_of(&rt, rt.alloc(), TRACE, 0, None);
     let waves = read_waves(&rt, rt.alloc(), shown(&rt, &dump));
-    for (path, high, low) in WIRES {
-        waves.assert_times(&rt, path, 1, high);
-        waves.assert_times(&rt, path, 0, low);
-    }
-    for (path, time) in EVENTS {
-        waves.assert_times(&rt, path, 1, &[time]);
-    }
+    expect_wires(&rt, &waves);
+    expect_events(&rt, &waves);
     // 2 partitions with 4 modes, INIT and p with 4 states, 7 pulses; 9 stays and 7 pulses.
     assert_eq!(rt; waves.variables.len(), 2 * 4 + 2 * 4 + 7);
     assert_eq!(rt; waves.changes.len(), 2 * 9 + 7);
@@ -112,13 +120,17 @@ static PART: [(&str, u8, &[u64]); 8] = [
     ("a.REPORTS.p", 1, &[9]),
 ];
 
+fn expect_part(rt: &impl Abort, waves: &Waves<'_>) {
+    for (path, value, times) in &PART {
+        waves.assert_times(rt, path, *value, times);
+    }
+}
+
 #[test]
 fn some_ticks_of_it(rt: HostRuntime) {
     let dump = dump_of(&rt, rt.alloc(), TRACE, 7, Some(12));
     let waves = read_waves(&rt, rt.alloc(), shown(&rt, &dump));
-    for (path, value, times) in PART {
-        waves.assert_times(&rt, path, value, times);
-    }
+    expect_part(&rt, &waves);
     assert!(rt; waves.variable_at("a.MESSAGES.out_MOVE").is_none());
     assert_eq!(rt; waves.first, Some(7));
     assert_eq!(rt; waves.last, Some(12));
