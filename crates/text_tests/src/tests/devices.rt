@@ -5,7 +5,6 @@ use image::{Image, load_image};
 use module_base::{DeviceTextFault, read_devices};
 use std::alloc::Global;
 use std::process::Abort;
-use std::test::Fail;
 
 /// An image of the partitions `a` and `pos`, which do nothing. Its channels are `link` from a port to
 /// a port, `pos` from the device with 2 words, `wide` from the device with 16, and `out` to the device.
@@ -24,143 +23,124 @@ static MODULE: [u8; 349] = [
     0, 0, 2, 0, 0, 0, 2, 2, 1, 3, 3, 111, 117, 116, 2, 3, 1, 0, 0, 0, 0, 0,
 ];
 
-fn module(alloc: Global) -> Result<Image, Fail> {
-    let image = load_image(alloc, &MODULE).ok().ok_or("the image is read")?;
-    Ok(image)
+fn module(rt: &impl Abort, alloc: Global) -> Image {
+    load_image(alloc, &MODULE).expect(rt, "the image is read")
 }
 
-fn expect_refusal(rt: &(impl Abort + AllocGlobal), image: &Image, text: &[u8], fault: DeviceFault) {
-    let refusal = read_devices(rt.alloc(), image, text).err();
-    assert_eq!(rt; refusal, Some(DeviceTextFault::Line(fault)));
+fn expect_refusal(rt: &impl Abort, alloc: Global, image: &Image, text: &str, fault: DeviceFault) {
+    let refusal = read_devices(alloc, image, text.as_bytes()).err();
+    assert!(rt; refusal == Some(DeviceTextFault::Line(fault)), "{text}");
 }
 
 // The numbers of these refusals are those of an independent program.
 
-#[test]
-fn lines_of_no_form(rt: HostRuntime) -> Result<(), Fail> {
-    let image = module(rt.alloc())?;
-    expect_refusal(&rt, &image, b"\n", DeviceFault::Form);
-    expect_refusal(&rt, &image, b" \n", DeviceFault::Form);
-    expect_refusal(&rt, &image, b"1\n", DeviceFault::Form);
-    expect_refusal(&rt, &image, b"1 \n", DeviceFault::Form);
-    expect_refusal(&rt, &image, b"FAULT\n", DeviceFault::Form);
-    expect_refusal(&rt, &image, b" 1 FAULT\n", DeviceFault::Form);
-    expect_refusal(&rt, &image, b"1  FAULT\n", DeviceFault::Form);
-    expect_refusal(&rt, &image, b"1 FAULT \n", DeviceFault::Form);
-    expect_refusal(&rt, &image, b"1 FAULT a pos\n", DeviceFault::Form);
-    expect_refusal(&rt, &image, b"1 FAULT A\n", DeviceFault::Form);
-    expect_refusal(&rt, &image, b"1 fault\n", DeviceFault::Form);
-    expect_refusal(&rt, &image, b"1 FAULTS\n", DeviceFault::Form);
-    expect_refusal(&rt, &image, b"1 FAULT\r\n", DeviceFault::Form);
-    expect_refusal(&rt, &image, b"1\tFAULT\n", DeviceFault::Form);
-    expect_refusal(&rt, &image, b"1 FAULT", DeviceFault::Form);
-    expect_refusal(&rt, &image, b"1 FAULT\n2", DeviceFault::Form);
-    expect_refusal(&rt, &image, b"1 FAULT\n\n", DeviceFault::Form);
-    expect_refusal(&rt, &image, b"05 FAULT\n", DeviceFault::Form);
-    expect_refusal(&rt, &image, b"-1 FAULT\n", DeviceFault::Form);
-    expect_refusal(&rt, &image, b"+1 FAULT\n", DeviceFault::Form);
-    expect_refusal(&rt, &image, b"1099511627777 FAULT\n", DeviceFault::Form);
-    expect_refusal(
-        &rt,
-        &image,
-        b"18446744073709551617 FAULT\n",
-        DeviceFault::Form,
-    );
-    expect_refusal(&rt, &image, b"1 MSG\n", DeviceFault::Form);
-    expect_refusal(&rt, &image, b"1 MSG pos\n", DeviceFault::Form);
-    expect_refusal(&rt, &image, b"1 MSG pos \n", DeviceFault::Form);
-    expect_refusal(&rt, &image, b"1 MSG pos 1 \n", DeviceFault::Form);
-    expect_refusal(&rt, &image, b"1 MSG pos -0\n", DeviceFault::Form);
-    expect_refusal(&rt, &image, b"1 MSG pos 00\n", DeviceFault::Form);
-    expect_refusal(&rt, &image, b"1 MSG pos -\n", DeviceFault::Form);
-    expect_refusal(&rt, &image, b"1 MSG pos 1.5\n", DeviceFault::Form);
-    expect_refusal(
-        &rt,
-        &image,
-        b"1 MSG pos 9223372036854775808\n",
-        DeviceFault::Form,
-    );
-    expect_refusal(
-        &rt,
-        &image,
-        b"1 MSG pos -9223372036854775809\n",
-        DeviceFault::Form,
-    );
-    expect_refusal(&rt, &image, b"1 MSG 1pos 1\n", DeviceFault::Form);
-    expect_refusal(
-        &rt,
-        &image,
-        b"1 MSG aaaaaaaaaaaaaaaaaaaaaaaaaaaaaaa 1\n",
-        DeviceFault::Form,
-    );
-    expect_refusal(&rt, &image, b"2 FAULT\n1 FAULT b c\n", DeviceFault::Form);
-    expect_refusal(&rt, &image, b"1 MSG none 1 x\n", DeviceFault::Form);
-    expect_refusal(
-        &rt,
-        &image,
-        b"1 MSG wide 1 2 3 4 5 6 7 8 9 10 11 12 13 14 15 16 17 x\n",
-        DeviceFault::Form,
-    );
-    Ok(())
-}
+static NO_FORM: [&str; 37] = [
+    "\n",
+    " \n",
+    "1\n",
+    "1 \n",
+    "FAULT\n",
+    " 1 FAULT\n",
+    "1  FAULT\n",
+    "1 FAULT \n",
+    "1 FAULT a pos\n",
+    "1 FAULT A\n",
+    "1 fault\n",
+    "1 FAULTS\n",
+    "1 FAULT\r\n",
+    "1\tFAULT\n",
+    "1 FAULT",
+    "1 FAULT\n2",
+    "1 FAULT\n\n",
+    "05 FAULT\n",
+    "-1 FAULT\n",
+    "+1 FAULT\n",
+    "1099511627777 FAULT\n",
+    "18446744073709551617 FAULT\n",
+    "1 MSG\n",
+    "1 MSG pos\n",
+    "1 MSG pos \n",
+    "1 MSG pos 1 \n",
+    "1 MSG pos -0\n",
+    "1 MSG pos 00\n",
+    "1 MSG pos -\n",
+    "1 MSG pos 1.5\n",
+    "1 MSG pos 9223372036854775808\n",
+    "1 MSG pos -9223372036854775809\n",
+    "1 MSG 1pos 1\n",
+    "1 MSG aaaaaaaaaaaaaaaaaaaaaaaaaaaaaaa 1\n",
+    "2 FAULT\n1 FAULT b c\n",
+    "1 MSG none 1 x\n",
+    "1 MSG wide 1 2 3 4 5 6 7 8 9 10 11 12 13 14 15 16 17 x\n",
+];
+
+static OUT_OF_ORDER: [&str; 3] = [
+    "2 FAULT\n1 FAULT\n",
+    "1 FAULT\n0 MSG none 1\n",
+    "9 FAULT\n10 FAULT\n9 FAULT a\n",
+];
+
+static WRONG_NAMES: [&str; 7] = [
+    "1 FAULT b\n",
+    "1 FAULT wide\n",
+    "1 MSG none 1 2 3\n",
+    "1 MSG a 1\n",
+    "1 MSG po 1\n",
+    "1 MSG link 1\n",
+    "1 MSG out 1\n",
+];
+
+static TOO_LONG: [&str; 3] = [
+    "1 MSG pos 1 2 3\n",
+    "1 MSG wide 1 2 3 4 5 6 7 8 9 10 11 12 13 14 15 16 17\n",
+    "1 MSG pos 1 2 3\n0 FAULT\n",
+];
 
 #[test]
-fn lines_out_of_order(rt: HostRuntime) -> Result<(), Fail> {
-    let image = module(rt.alloc())?;
-    expect_refusal(&rt, &image, b"2 FAULT\n1 FAULT\n", DeviceFault::Order);
-    expect_refusal(&rt, &image, b"1 FAULT\n0 MSG none 1\n", DeviceFault::Order);
-    expect_refusal(
-        &rt,
-        &image,
-        b"9 FAULT\n10 FAULT\n9 FAULT a\n",
-        DeviceFault::Order,
-    );
-    Ok(())
+fn lines_of_no_form(rt: HostRuntime) {
+    let image = module(&rt, rt.alloc());
+    for text in &NO_FORM {
+        expect_refusal(&rt, rt.alloc(), &image, text, DeviceFault::Form);
+    }
 }
 
 #[test]
-fn lines_with_wrong_names(rt: HostRuntime) -> Result<(), Fail> {
-    let image = module(rt.alloc())?;
-    expect_refusal(&rt, &image, b"1 FAULT b\n", DeviceFault::Name);
-    expect_refusal(&rt, &image, b"1 FAULT wide\n", DeviceFault::Name);
-    expect_refusal(&rt, &image, b"1 MSG none 1 2 3\n", DeviceFault::Name);
-    expect_refusal(&rt, &image, b"1 MSG a 1\n", DeviceFault::Name);
-    expect_refusal(&rt, &image, b"1 MSG po 1\n", DeviceFault::Name);
-    expect_refusal(&rt, &image, b"1 MSG link 1\n", DeviceFault::Name);
-    expect_refusal(&rt, &image, b"1 MSG out 1\n", DeviceFault::Name);
-    Ok(())
+fn lines_out_of_order(rt: HostRuntime) {
+    let image = module(&rt, rt.alloc());
+    for text in &OUT_OF_ORDER {
+        expect_refusal(&rt, rt.alloc(), &image, text, DeviceFault::Order);
+    }
 }
 
 #[test]
-fn messages_that_are_too_long(rt: HostRuntime) -> Result<(), Fail> {
-    let image = module(rt.alloc())?;
-    expect_refusal(&rt, &image, b"1 MSG pos 1 2 3\n", DeviceFault::Size);
-    expect_refusal(
-        &rt,
-        &image,
-        b"1 MSG wide 1 2 3 4 5 6 7 8 9 10 11 12 13 14 15 16 17\n",
-        DeviceFault::Size,
-    );
-    expect_refusal(
-        &rt,
-        &image,
-        b"1 MSG pos 1 2 3\n0 FAULT\n",
-        DeviceFault::Size,
-    );
-    Ok(())
+fn lines_with_wrong_names(rt: HostRuntime) {
+    let image = module(&rt, rt.alloc());
+    for text in &WRONG_NAMES {
+        expect_refusal(&rt, rt.alloc(), &image, text, DeviceFault::Name);
+    }
 }
 
-fn lines_of(alloc: Global, text: &[u8]) -> Result<Vec<DeviceLine>, Fail> {
-    let image = module(alloc)?;
-    let lines = read_devices(alloc, &image, text)
-        .ok()
-        .ok_or("the text is read")?;
-    Ok(lines)
+#[test]
+fn messages_that_are_too_long(rt: HostRuntime) {
+    let image = module(&rt, rt.alloc());
+    for text in &TOO_LONG {
+        expect_refusal(&rt, rt.alloc(), &image, text, DeviceFault::Size);
+    }
 }
 
-fn expect_message(rt: &impl Abort, line: &DeviceLine, channel: u8, words: &[i64]) {
-    match &line.input {
-        DeviceInput::Message(found, message) => {
+fn lines_of(rt: &impl Abort, alloc: Global, text: &str) -> Vec<DeviceLine> {
+    let image = module(rt, alloc);
+    read_devices(alloc, &image, text.as_bytes()).expect(rt, "the text is read")
+}
+
+fn expect_message(rt: &impl Abort, line: Option<&DeviceLine>, channel: u8, words: &[i64]) {
+    match line {
+        Some(
+            DeviceLine {
+                input: DeviceInput::Message(found, message),
+                ..
+            },
+        ) => {
             assert_eq!(rt; found.0, channel);
             assert_eq!(rt; message.as_slice(), words);
         }
@@ -169,61 +149,66 @@ fn expect_message(rt: &impl Abort, line: &DeviceLine, channel: u8, words: &[i64]
 }
 
 #[test]
-fn no_lines(rt: HostRuntime) -> Result<(), Fail> {
-    assert!(rt; lines_of(rt.alloc(), b"")?.is_empty());
-    Ok(())
+fn no_lines(rt: HostRuntime) {
+    assert!(rt; lines_of(&rt, rt.alloc(), "").is_empty());
 }
 
+static MESSAGES: &str = "0 MSG pos 9223372036854775807 -9223372036854775808
+5 MSG pos 0
+5 MSG wide 1 2 3 4 5 6 7 8 9 10 11 12 13 14 15 16
+";
+
 #[test]
-fn messages(rt: HostRuntime) -> Result<(), Fail> {
-    let text =
-        b"0 MSG pos 9223372036854775807 -9223372036854775808\n5 MSG pos 0\n5 MSG wide 1 2 3 4 5 6 7 8 9 10 11 12 13 14 15 16\n";
-    let lines = lines_of(rt.alloc(), text)?;
+fn messages(rt: HostRuntime) {
+    let lines = lines_of(&rt, rt.alloc(), MESSAGES);
     assert_eq!(rt; lines.len(), 3);
-    expect_message(&rt, &lines[0], 1, &[i64::MAX, i64::MIN]);
-    expect_message(&rt, &lines[1], 1, &[0]);
+    expect_message(&rt, lines.get(0), 1, &[i64::MAX, i64::MIN]);
+    expect_message(&rt, lines.get(1), 1, &[0]);
     expect_message(
         &rt,
-        &lines[2],
+        lines.get(2),
         2,
         &[1, 2, 3, 4, 5, 6, 7, 8, 9, 10, 11, 12, 13, 14, 15, 16],
     );
     assert_eq!(rt; lines[2].tick.0, 5);
-    Ok(())
 }
 
 #[test]
-fn faults(rt: HostRuntime) -> Result<(), Fail> {
-    let lines = lines_of(rt.alloc(), b"0 FAULT\n0 FAULT a\n1099511627776 FAULT pos\n")?;
+fn faults(rt: HostRuntime) {
+    let text = "0 FAULT\n0 FAULT a\n1099511627776 FAULT pos\n";
+    let lines = lines_of(&rt, rt.alloc(), text);
     assert_eq!(rt; lines.len(), 3);
     assert!(rt; matches!(lines[0].input, DeviceInput::ModuleFault));
     assert!(rt; matches!(lines[1].input, DeviceInput::PartitionFault(PartitionId(1))));
     assert!(rt; matches!(lines[2].input, DeviceInput::PartitionFault(PartitionId(2))));
     assert_eq!(rt; lines[2].tick.0, 1_099_511_627_776);
-    Ok(())
 }
 
 #[test]
-fn most_lines(rt: HostRuntime) -> Result<(), Fail> {
-    let image = module(rt.alloc())?;
-    let mut text = Vec::new(rt.alloc());
+fn most_lines(rt: HostRuntime) {
+    let image = module(&rt, rt.alloc());
+    let mut text = String::new(rt.alloc());
     for _ in 0..65_536 {
-        text.extend_from_slice(b"7 FAULT\n")?;
+        text.push_str("7 FAULT\n").expect(&rt, "memory");
     }
-    let lines = read_devices(rt.alloc(), &image, text.as_slice())
-        .ok()
-        .ok_or("the text is read")?;
+    let lines = lines_of(&rt, rt.alloc(), text.as_str());
     assert_eq!(rt; lines.len(), 65_536);
-    text.extend_from_slice(b"7 FAULT\n")?;
-    expect_refusal(&rt, &image, text.as_slice(), DeviceFault::Size);
-    Ok(())
+    text.push_str("7 FAULT\n").expect(&rt, "memory");
+    expect_refusal(&rt, rt.alloc(), &image, text.as_str(), DeviceFault::Size);
+}
+
+fn expect_shown(rt: &impl Abort, alloc: Global, fault: DeviceTextFault, wanted: &str) {
+    let shown = format!(in alloc; "{fault}").expect(rt, "memory");
+    assert_eq!(rt; shown.as_str(), wanted);
 }
 
 #[test]
-fn refusals_as_texts(rt: HostRuntime) -> Result<(), Fail> {
-    let fault = DeviceTextFault::Line(DeviceFault::Size);
-    assert_eq!(rt; format!(in rt.alloc(); "{fault}")?.as_str(), "device 4");
-    let memory = DeviceTextFault::Memory;
-    assert_eq!(rt; format!(in rt.alloc(); "{memory}")?.as_str(), "memory");
-    Ok(())
+fn refusals_as_texts(rt: HostRuntime) {
+    expect_shown(
+        &rt,
+        rt.alloc(),
+        DeviceTextFault::Line(DeviceFault::Size),
+        "device 4",
+    );
+    expect_shown(&rt, rt.alloc(), DeviceTextFault::Memory, "memory");
 }

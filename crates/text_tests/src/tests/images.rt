@@ -2,7 +2,7 @@
 
 use image::{Image, ImageFault, load_image, write_image};
 use std::alloc::Global;
-use std::test::Fail;
+use std::process::Abort;
 
 /// The image of one partition whose INIT asks for the mode NORMAL: its section stands from byte 40 to
 /// byte 146.
@@ -16,57 +16,51 @@ static SMALLEST: [u8; 164] = [
 ];
 
 #[test]
-fn smallest_image(rt: HostRuntime) -> Result<(), Fail> {
-    let image = load_image(rt.alloc(), &SMALLEST)
-        .ok()
-        .ok_or("the image is read")?;
+fn smallest_image(rt: HostRuntime) {
+    let image = load_image(rt.alloc(), &SMALLEST).expect(&rt, "the image is read");
     assert_eq!(rt; image.schedule.frame, 128);
-    let copy = write_image(rt.alloc(), &image)
-        .ok()
-        .ok_or("the image is written again")?;
+    let copy = write_image(rt.alloc(), &image).expect(&rt, "the image is written again");
     assert_eq!(rt; copy.as_slice(), SMALLEST.as_slice());
-    Ok(())
 }
 
 #[test]
-fn cut_or_longer(rt: HostRuntime) -> Result<(), Fail> {
-    let mut bytes = Vec::from_slice(rt.alloc(), SMALLEST.as_slice())?;
-    let mut truncated: usize = 0;
-    for len in 0..bytes.len() {
-        if let Err(ImageFault::Truncated) = load_image(rt.alloc(), &bytes[..len]) {
-            truncated = truncated.wrapping_add(1);
-        }
+fn cut_or_longer(rt: HostRuntime) {
+    for len in 0..SMALLEST.len() {
+        let loaded = load_image(rt.alloc(), &SMALLEST[..len]);
+        assert!(rt; matches!(loaded, Err(ImageFault::Truncated)), "{len}");
     }
-    assert_eq!(rt; truncated, 164);
-    bytes.push(0)?;
-    assert!(rt; matches!(load_image(rt.alloc(), &bytes), Err(ImageFault::Trailing)));
-    Ok(())
+    let mut bytes = Vec::new(rt.alloc());
+    put(&rt, &mut bytes, &SMALLEST);
+    put(&rt, &mut bytes, &[0]);
+    let loaded = load_image(rt.alloc(), &bytes);
+    assert!(rt; matches!(loaded, Err(ImageFault::Trailing)));
 }
 
-/// The bytes of a count.
-fn count(number: u8) -> [u8; 4] {
-    [number, 0, 0, 0]
+fn put(rt: &impl Abort, out: &mut Vec<u8>, bytes: &[u8]) {
+    out.extend_from_slice(bytes).expect(rt, "memory");
+}
+
+fn put_count(rt: &impl Abort, out: &mut Vec<u8>, count: usize) {
+    let count = u8::try_from(count).expect(rt, "few");
+    put(rt, out, &[count, 0, 0, 0]);
+}
+
+/// A partition in an image: its period, its duration and its port.
+#[derive(Clone, Copy)]
+struct Part {
+    name: u8,
+    times: (u8, u8),
+    port: [u8; 15],
 }
 
 /// A partition with the section of the smallest image.
-fn put_partition(
-    out: &mut Vec<u8>,
-    name: u8,
-    period: u8,
-    duration: u8,
-    ports: &[[u8; 15]],
-) -> Result<(), Fail> {
-    out.extend_from_slice(&[1, name])?;
-    out.extend_from_slice(&count(period))?;
-    out.extend_from_slice(&count(duration))?;
-    out.extend_from_slice(&[0; 7])?;
-    out.extend_from_slice(&count(u8::try_from(ports.len()).ok().ok_or("few ports")?))?;
-    for port in ports {
-        out.extend_from_slice(port.as_slice())?;
-    }
-    let section = SMALLEST.get(40..146).ok_or("a section")?;
-    out.extend_from_slice(section)?;
-    Ok(())
+fn put_part(rt: &impl Abort, out: &mut Vec<u8>, part: &Part) {
+    put(rt, out, &[1, part.name]);
+    put(rt, out, &[part.times.0, 0, 0, 0, part.times.1, 0, 0, 0]);
+    put(rt, out, &[0; 7]);
+    put(rt, out, &[1, 0, 0, 0]);
+    put(rt, out, &part.port);
+    put(rt, out, &SMALLEST[40..146]);
 }
 
 /// A window.
@@ -80,26 +74,27 @@ fn port(kind: u8, direction: u8) -> [u8; 15] {
     [1, 112, kind, direction, 1, 0, 0, 0, 0, 0, 0, 0, 0, kind, 0]
 }
 
-/// What loading answers on the image of two partitions in a frame of 128 ticks: the first has this
-/// period and duration, the second 32 ticks in 128; each has one port; channels are as spelled.
+/// What loading answers on the image of two partitions in a frame of 128 ticks, with channels as they
+/// are spelled.
 fn two_loaded(
+    rt: &impl Abort,
     alloc: Global,
-    times: (u8, u8),
-    ports: ([u8; 15], [u8; 15]),
+    parts: &[Part; 2],
     windows: &[[u8; 10]],
     channels: &[u8],
-) -> Result<Result<Image, ImageFault>, Fail> {
+) -> Result<Image, ImageFault> {
     let mut bytes = Vec::new(alloc);
-    bytes.extend_from_slice(SMALLEST.get(..15).ok_or("a head")?)?;
-    bytes.extend_from_slice(&count(2))?;
-    put_partition(&mut bytes, b'a', times.0, times.1, &[ports.0])?;
-    put_partition(&mut bytes, b'b', 128, 32, &[ports.1])?;
-    bytes.extend_from_slice(&count(u8::try_from(windows.len()).ok().ok_or("few windows")?))?;
-    for row in windows {
-        bytes.extend_from_slice(row.as_slice())?;
+    put(rt, &mut bytes, &SMALLEST[..15]);
+    put(rt, &mut bytes, &[2, 0, 0, 0]);
+    for part in parts {
+        put_part(rt, &mut bytes, part);
     }
-    bytes.extend_from_slice(channels)?;
-    Ok(load_image(alloc, &bytes))
+    put_count(rt, &mut bytes, windows.len());
+    for row in windows {
+        put(rt, &mut bytes, row);
+    }
+    put(rt, &mut bytes, channels);
+    load_image(alloc, &bytes)
 }
 
 /// Windows of two partitions in turn, where the last is this one.
@@ -112,103 +107,122 @@ fn in_turn(last: [u8; 10]) -> [[u8; 10]; 4] {
     ]
 }
 
+/// Two partitions with a port each, of these kinds: the first has this period and duration, the second
+/// 32 ticks in 128.
+fn two_parts(times: (u8, u8), kinds: (u8, u8)) -> [Part; 2] {
+    [
+        Part {
+            name: b'a',
+            times,
+            port: port(kinds.0, 0),
+        },
+        Part {
+            name: b'b',
+            times: (128, 32),
+            port: port(kinds.1, 1),
+        },
+    ]
+}
+
 /// What loading answers on two partitions without channels.
 fn unconnected(
+    rt: &impl Abort,
     alloc: Global,
-    period: u8,
-    duration: u8,
+    times: (u8, u8),
     windows: &[[u8; 10]],
-) -> Result<Result<Image, ImageFault>, Fail> {
-    let ports = (port(0, 0), port(0, 1));
-    two_loaded(alloc, (period, duration), ports, windows, &count(0))
+) -> Result<Image, ImageFault> {
+    two_loaded(rt, alloc, &two_parts(times, (0, 0)), windows, &[0, 0, 0, 0])
 }
 
 #[test]
-fn windows_in_turn(rt: HostRuntime) -> Result<(), Fail> {
+fn windows_in_turn(rt: HostRuntime) {
     let windows = in_turn(window(2, 96, 32, 0));
-    let image = unconnected(rt.alloc(), 64, 32, &windows)?
-        .ok()
-        .ok_or("the image is read")?;
+    let loaded = unconnected(&rt, rt.alloc(), (64, 32), &windows);
+    let image = loaded.expect(&rt, "the image is read");
     assert_eq!(rt; image.partitions.len(), 2);
     assert_eq!(rt; image.schedule.windows.len(), 4);
-    Ok(())
+}
+
+fn expect_limit(rt: &impl Abort, alloc: Global, times: (u8, u8), windows: &[[u8; 10]]) {
+    let loaded = unconnected(rt, alloc, times, windows);
+    assert!(rt; matches!(loaded, Err(ImageFault::Limit)));
 }
 
 #[test]
-fn wrong_windows(rt: HostRuntime) -> Result<(), Fail> {
-    let past_the_frame = in_turn(window(2, 96, 33, 0));
-    let of_none = in_turn(window(0, 96, 32, 0));
-    let of_a_third = in_turn(window(3, 96, 32, 0));
-    for windows in [past_the_frame, of_none, of_a_third] {
-        let loaded = unconnected(rt.alloc(), 64, 32, &windows)?;
-        assert!(rt; matches!(loaded, Err(ImageFault::Limit)));
+fn wrong_windows(rt: HostRuntime) {
+    let past_the_frame = window(2, 96, 33, 0);
+    let of_none = window(0, 96, 32, 0);
+    let of_a_third = window(3, 96, 32, 0);
+    for last in &[past_the_frame, of_none, of_a_third] {
+        expect_limit(&rt, rt.alloc(), (64, 32), &in_turn(*last));
     }
-    Ok(())
 }
 
 #[test]
-fn broken_rules(rt: HostRuntime) -> Result<(), Fail> {
+fn broken_rules(rt: HostRuntime) {
     let windows = in_turn(window(2, 96, 32, 0));
-    let odd_period = unconnected(rt.alloc(), 48, 0, &windows)?;
-    assert!(rt; matches!(odd_period, Err(ImageFault::Limit)));
-    let short_duration = unconnected(rt.alloc(), 64, 33, &windows)?;
-    assert!(rt; matches!(short_duration, Err(ImageFault::Limit)));
+    // An odd period, and a duration that the windows do not offer
+    expect_limit(&rt, rt.alloc(), (48, 0), &windows);
+    expect_limit(&rt, rt.alloc(), (64, 33), &windows);
     let releases_one = [window(1, 0, 32, 1), window(2, 32, 96, 0)];
-    let no_release = unconnected(rt.alloc(), 128, 32, &releases_one)?;
-    assert!(rt; matches!(no_release, Err(ImageFault::Limit)));
+    expect_limit(&rt, rt.alloc(), (128, 32), &releases_one);
     let releases_both = [window(1, 0, 32, 1), window(2, 32, 96, 1)];
-    let both = unconnected(rt.alloc(), 128, 32, &releases_both)?;
+    let both = unconnected(&rt, rt.alloc(), (128, 32), &releases_both);
     assert!(rt; both.is_ok());
-    Ok(())
 }
 
-/// What loading answers on a channel `c` from one end to another, between ports of these kinds.
+/// A channel from one end to another, each a partition and a port.
+type Ends = ([u8; 2], [u8; 2]);
+
+/// What loading answers on a channel `c` between ports of these kinds.
 fn connected(
+    rt: &impl Abort,
     alloc: Global,
     kinds: (u8, u8),
-    source: [u8; 2],
-    destination: [u8; 2],
-) -> Result<Result<Image, ImageFault>, Fail> {
+    ends: &Ends,
+) -> Result<Image, ImageFault> {
+    let (source, destination) = ends;
     let mut channel = Vec::new(alloc);
-    channel.extend_from_slice(&count(1))?;
-    channel.extend_from_slice(&[1, 99])?;
-    channel.extend_from_slice(&source)?;
-    channel.extend_from_slice(&count(1))?;
-    channel.extend_from_slice(&destination)?;
-    let ports = (port(kinds.0, 0), port(kinds.1, 1));
+    put(rt, &mut channel, &[1, 0, 0, 0, 1, 99]);
+    put(rt, &mut channel, source);
+    put(rt, &mut channel, &[1, 0, 0, 0]);
+    put(rt, &mut channel, destination);
     let windows = in_turn(window(2, 96, 32, 0));
-    two_loaded(alloc, (64, 32), ports, &windows, &channel)
+    two_loaded(rt, alloc, &two_parts((64, 32), kinds), &windows, &channel)
 }
 
+/// Channels between ports of these kinds, or the device.
+static TOGETHER: [((u8, u8), Ends); 4] = [
+    ((0, 0), ([1, 1], [2, 1])),
+    ((1, 1), ([1, 1], [2, 1])),
+    ((0, 0), ([0, 0], [2, 1])),
+    ((0, 0), ([1, 1], [0, 0])),
+];
+
 #[test]
-fn channels_that_go_together(rt: HostRuntime) -> Result<(), Fail> {
-    for kind in [0, 1] {
-        let image = connected(rt.alloc(), (kind, kind), [1, 1], [2, 1])?
-            .ok()
-            .ok_or("the image is read")?;
+fn channels_that_go_together(rt: HostRuntime) {
+    for (kinds, ends) in &TOGETHER {
+        let loaded = connected(&rt, rt.alloc(), *kinds, ends);
+        let image = loaded.expect(&rt, "the image is read");
         assert_eq!(rt; image.channels.len(), 1);
     }
-    assert!(rt; connected(rt.alloc(), (0, 0), [0, 0], [2, 1])?.is_ok());
-    assert!(rt; connected(rt.alloc(), (0, 0), [1, 1], [0, 0])?.is_ok());
-    Ok(())
 }
 
+static NOT_TOGETHER: [((u8, u8), Ends); 8] = [
+    ((0, 0), ([1, 2], [2, 1])),
+    ((0, 0), ([3, 1], [2, 1])),
+    ((0, 0), ([0, 1], [2, 1])),
+    ((0, 0), ([1, 0], [2, 1])),
+    ((0, 0), ([2, 1], [1, 1])),
+    ((0, 0), ([1, 1], [1, 1])),
+    ((0, 0), ([0, 0], [0, 0])),
+    ((0, 1), ([1, 1], [2, 1])),
+];
+
 #[test]
-fn wrong_channels(rt: HostRuntime) -> Result<(), Fail> {
-    let ends = [
-        ([1, 2], [2, 1]),
-        ([3, 1], [2, 1]),
-        ([0, 1], [2, 1]),
-        ([1, 0], [2, 1]),
-        ([2, 1], [1, 1]),
-        ([1, 1], [1, 1]),
-        ([0, 0], [0, 0]),
-    ];
-    for (source, destination) in ends {
-        let loaded = connected(rt.alloc(), (0, 0), source, destination)?;
+fn wrong_channels(rt: HostRuntime) {
+    for (kinds, ends) in &NOT_TOGETHER {
+        let loaded = connected(&rt, rt.alloc(), *kinds, ends);
         assert!(rt; matches!(loaded, Err(ImageFault::Limit)));
     }
-    let mixed = connected(rt.alloc(), (0, 1), [1, 1], [2, 1])?;
-    assert!(rt; matches!(mixed, Err(ImageFault::Limit)));
-    Ok(())
 }
