@@ -51,8 +51,7 @@ static REFUSALS: [(&[&str], &str); 12] = [
 #[test]
 fn refusals(rt: HostRuntime) {
     for (words, line) in &REFUSALS {
-        let mut shelf = Shelf::new(rt.alloc(), "table", &["source"]);
-        shelf.image = Some(Vec::from_slice(rt.alloc(), b"image").expect(&rt, "memory"));
+        let mut shelf = Shelf::with_image(&rt, rt.alloc(), "table", &["source"], b"image");
         expect_command(&rt, rt.alloc(), &mut shelf, words, (1, "", *line));
         assert_eq!(rt; shelf.writes, 0);
     }
@@ -63,75 +62,61 @@ fn expect_line(rt: &impl Abort, alloc: Global, refusal: &Refusal, line: &str) {
     assert_eq!(rt; shown.as_str(), line);
 }
 
+/// Refusals of a build, and their lines.
+const BUILDS: [(BuildFault, &str); 5] = [
+    (BuildFault::Table(TableFault::Document), "mb: table 1"),
+    (BuildFault::Table(TableFault::Health), "mb: table 10"),
+    (BuildFault::Table(TableFault::Memory), "mb: memory"),
+    (BuildFault::Sources, "mb: sources"),
+    (BuildFault::Memory, "mb: memory"),
+];
+
+/// Refusals of a run, and their lines.
+static RUNS: [(RunFault, &str); 9] = [
+    (RunFault::Ticks, "mb: ticks"),
+    (RunFault::Device(DeviceFault::Form), "mb: device 1"),
+    (RunFault::Device(DeviceFault::Order), "mb: device 2"),
+    (RunFault::Device(DeviceFault::Name), "mb: device 3"),
+    (RunFault::Device(DeviceFault::Size), "mb: device 4"),
+    (RunFault::Image(ImageFault::Truncated), "mb: image 1"),
+    (RunFault::Image(ImageFault::Trailing), "mb: image 5"),
+    (RunFault::Memory, "mb: memory"),
+    (RunFault::Write, "mb: write"),
+];
+
 #[test]
 fn lines_of_refusals(rt: HostRuntime) {
-    let partition = Name::new(b"engine_1".as_slice()).expect(&rt, "a name");
+    for (fault, line) in &BUILDS {
+        expect_line(&rt, rt.alloc(), &Refusal::Build(*fault), line);
+    }
+    for (fault, line) in &RUNS {
+        expect_line(&rt, rt.alloc(), &Refusal::Run(*fault), line);
+    }
+    expect_line(&rt, rt.alloc(), &Refusal::Memory, "mb: memory");
+    expect_line(&rt, rt.alloc(), &Refusal::Write, "mb: write");
+}
+
+/// The name of a partition.
+fn engine(rt: &impl Abort) -> Name {
+    Name::new(b"engine_1".as_slice()).expect(rt, "a name")
+}
+
+/// The line of the refusal of this partition's source.
+fn expect_source_line(rt: &impl Abort, alloc: Global, fault: PalFault, line: &str) {
+    let partition = engine(rt);
+    let refusal = Refusal::Build(BuildFault::Pal { partition, fault });
+    expect_line(rt, alloc, &refusal, line);
+}
+
+#[test]
+fn lines_that_name_a_partition(rt: HostRuntime) {
     let fault = PalFault {
         refusal: SourceRefusal::Name,
         line: 1_048_577,
     };
-    let short = PalFault::MEMORY;
-    let lines = [
-        (
-            Refusal::Build(BuildFault::Table(TableFault::Document)),
-            "mb: table 1",
-        ),
-        (
-            Refusal::Build(BuildFault::Table(TableFault::Health)),
-            "mb: table 10",
-        ),
-        (
-            Refusal::Build(BuildFault::Table(TableFault::Memory)),
-            "mb: memory",
-        ),
-        (Refusal::Build(BuildFault::Sources), "mb: sources"),
-        (
-            Refusal::Build(BuildFault::Pal { partition, fault }),
-            "mb: pal engine_1 3 line 1048577",
-        ),
-        (
-            Refusal::Build(BuildFault::Pal {
-                partition,
-                fault: short,
-            }),
-            "mb: memory",
-        ),
-        (
-            Refusal::Build(BuildFault::Compile(partition)),
-            "mb: compile engine_1 1",
-        ),
-        (Refusal::Build(BuildFault::Memory), "mb: memory"),
-        (Refusal::Run(RunFault::Ticks), "mb: ticks"),
-        (
-            Refusal::Run(RunFault::Device(DeviceFault::Form)),
-            "mb: device 1",
-        ),
-        (
-            Refusal::Run(RunFault::Device(DeviceFault::Order)),
-            "mb: device 2",
-        ),
-        (
-            Refusal::Run(RunFault::Device(DeviceFault::Name)),
-            "mb: device 3",
-        ),
-        (
-            Refusal::Run(RunFault::Device(DeviceFault::Size)),
-            "mb: device 4",
-        ),
-        (
-            Refusal::Run(RunFault::Image(ImageFault::Truncated)),
-            "mb: image 1",
-        ),
-        (
-            Refusal::Run(RunFault::Image(ImageFault::Trailing)),
-            "mb: image 5",
-        ),
-        (Refusal::Run(RunFault::Memory), "mb: memory"),
-        (Refusal::Run(RunFault::Write), "mb: write"),
-        (Refusal::Memory, "mb: memory"),
-        (Refusal::Write, "mb: write"),
-    ];
-    for (refusal, line) in &lines {
-        expect_line(&rt, rt.alloc(), refusal, line);
-    }
+    let line = "mb: pal engine_1 3 line 1048577";
+    expect_source_line(&rt, rt.alloc(), fault, line);
+    expect_source_line(&rt, rt.alloc(), PalFault::MEMORY, "mb: memory");
+    let refusal = Refusal::Build(BuildFault::Compile(engine(&rt)));
+    expect_line(&rt, rt.alloc(), &refusal, "mb: compile engine_1 1");
 }

@@ -30,13 +30,30 @@ impl<'a> Shelf<'a> {
             writes: 0,
         }
     }
+
+    /// The same with an image of these bytes.
+    pub fn with_image(
+        rt: &impl Abort,
+        alloc: Global,
+        table: &'a str,
+        sources: &'a [&'a str],
+        image: &[u8],
+    ) -> Self {
+        let image = Vec::from_slice(alloc, image).expect(rt, "memory");
+        Shelf {
+            alloc,
+            table,
+            sources,
+            devices: "",
+            image: Some(image),
+            writes: 0,
+        }
+    }
 }
 
 /// The smallest module's table, source and image.
 pub fn smallest_shelf(rt: &impl Abort, alloc: Global) -> Shelf<'static> {
-    let mut shelf = Shelf::new(alloc, TABLE, &SMALLEST_SOURCES);
-    shelf.image = Some(Vec::from_slice(alloc, &SMALLEST_IMAGE).expect(rt, "memory"));
-    shelf
+    Shelf::with_image(rt, alloc, TABLE, &SMALLEST_SOURCES, &SMALLEST_IMAGE)
 }
 
 impl<'a> Files for Shelf<'a> {

@@ -2,11 +2,15 @@
 
 ghost use Rattle.std.specs.Prelude.{◌≡◌, Some};
 
+use super::shelf::smallest_shelf;
 use super::texts::{SMALLEST_IMAGE, SMALLEST_TRACE};
 use apex_types::{Sink, SinkFault, WriterSink};
 use arrayvec::ArrayVec;
+use command_line::{Stream, command};
 use module::{RunFault, run};
+use std::alloc::Global;
 use std::io::{self, ErrorKind, Write};
+use std::process::Abort;
 
 /// Takes one byte a call into its room. When the room is full it takes none, and says so by an
 /// error or, if it stalls, by a count of 0.
@@ -81,6 +85,28 @@ pub fn roomy_writer(room: usize) -> RoomyWriter {
         taken: ArrayVec::new(),
         room,
     }
+}
+
+/// Does what the words say over the smallest module, with a standard output of so much room. Expects
+/// that it is refused with the line, that the room has the beginning of the text, and that no file is
+/// written.
+pub fn expect_beginning(
+    rt: &impl Abort,
+    alloc: Global,
+    room: usize,
+    words: &[&str],
+    (line, text): (&str, &str),
+) {
+    let mut shelf = smallest_shelf(rt, alloc);
+    let mut out = Stream::new(roomy_writer(room));
+    let mut err = Stream::new(Vec::new(alloc));
+    let status = command(alloc, words, &mut shelf, &mut out, &mut err);
+    assert_eq!(rt; status, 1);
+    assert_eq!(rt; err.into_writer().as_slice(), line.as_bytes());
+    let writer = out.into_writer();
+    assert_eq!(rt; writer.taken.len(), room);
+    assert!(rt; text.as_bytes().starts_with(writer.taken.as_slice()));
+    assert_eq!(rt; shelf.writes, 0);
 }
 
 #[test]
