@@ -77,7 +77,7 @@ AskForHelp kinds = (k : ErrorKind) × IsAmong k kinds × IsHelp k
 abbrev pub AreNoCommand : Kinds → Entered → Type 0
 AreNoCommand kinds entered = ((k : ErrorKind) × IsAmong k kinds × IsMistake k) ⊎ ((kinds ≡ []) × AsksForNothing entered)
 
--- the word for a tick is none, or memory ran out
+-- the word for a tick is no tick, or memory ran out
 abbrev pub IsTickFailure : Option (List ℕ) → Failure → Type 0
 IsTickFailure word (Refused Memory) = Unit {0}
 IsTickFailure word (Refused _) = ⊥
