@@ -1,8 +1,8 @@
 -- An accepted module table is within the limits of an image.
 use Rattle.std.proofs.Common.{◌≡◌, ℕ, suc, ◌+◌, ◌-◌, ◌≤◌, ◌<◌, ◌^◌, ℤ, pos, negsuc, nat_abs, Bool, true, false, not, cond, List, [], ◌∷◌, ◌++◌, length, map, Option, Some, None, Result, Ok, Err, refl, sym, ap, ◌∙◌, subst, arith, length-append}
-use Rattle.std.specs.Prelude.{◌||◌, ◌==◌, ◌+ℤ◌, slice_get, nat_le, nat_lt, int_lt, bytes_eq, is_none, codes, unwrap_or}
+use Rattle.std.specs.Prelude.{◌||◌, ◌==◌, ◌+ℤ◌, slice_get, nat_lt, int_lt, bytes_eq, is_none, codes, unwrap_or}
 use Rattle.std.specs.List.{list_any, AllByRecursion, All}
-use Rattle.std.proofs.lemmas.Bool.{not-false, ltb-false, lt-leb, or_parts, or_from, and_left, ne_eqb}
+use Rattle.std.proofs.lemmas.Bool.{not-false, ltb-false, or_parts, or_from, and_left, ne_eqb}
 use Rattle.std.proofs.lemmas.List.{length-map}
 use Rattle.std.proofs.lemmas.List.Folds.{list_any-append}
 use Rattle.apex_types.specs.NameText.{is_name}
@@ -14,11 +14,12 @@ use Rattle.toml.specs.Data.{Members}
 use Rattle.apex_meaning.specs.Image.{Table, Partition, Channel, Item, Image}
 use Rattle.apex_meaning.specs.TableText.{same, KindText, Sampling, Queuing, PortText, PartitionText, WindowText, ChannelText, TableText, table_text_of}
 use Rattle.apex_meaning.specs.TableRules.{Refusal, Shape, is_outside, is_count_outside, exceeds_kind, exceeds_port, exceeds_times, has_many_ports, exceeds_partition, exceeds_window, exceeds_channel, exceeds_counts, exceeds_rows, exceeds_limits, has_twice, is_unknown_window, has_unknown_end, has_same_names, number_from, partition_number, port_number, port_from, end_of, has_unknown_name, window_row, channel_row, kind_row, port_row, partition_row, numbered, overlaps_after, overlaps, has_odd_period, has_short_period, lacks_release, has_wrong_ends, has_unknown_action, judge_table, judge_text, verdict}
-use Rattle.apex_meaning.specs.Windows.{begins_late, BeginWithin}
+use Rattle.apex_meaning.specs.Windows.{Schedule, BeginWithin}
 use Rattle.apex_meaning.specs.ImageReading.{last_end, end_of as image_end}
 use Rattle.apex_meaning.specs.ImageLimits.{IsFrom, EachBeside, IsPortKind, IsPort, IsSection, IsItem, IsWindow, IsEnd, IsChannel, IsWithinLimits}
 use Rattle.apex_meaning.proofs.WellFormedFits.{at_seam}
 use Rattle.apex_meaning.proofs.WellFormedObjects.{each_beside, each_at}
+use Rattle.apex_meaning.proofs.WindowOrder.{AreInOrder, begin_within}
 
 -- ---- the verdict
 
@@ -198,7 +199,7 @@ items_are frame before (it ∷ items) rows sections =
 last_there : (before : List WindowRow) (row : WindowRow) → slice_get (before ++ row ∷ []) (length (before ++ row ∷ []) - 1) ≡ Some row
 last_there before row = at_seam before row [] (length (before ++ row ∷ []) - 1) (omega (arith, length-append before (row ∷ [])))
 
-last_of : (before : List WindowRow) (row : WindowRow) → last_end (before ++ row ∷ []) ≡ row.offset + row.length
+pub last_of : (before : List WindowRow) (row : WindowRow) → last_end (before ++ row ∷ []) ≡ row.offset + row.length
 last_of before row = ap image_end (last_there before row)
 
 number_first : (b : Bool) (n m k : ℕ) (o : Option ℕ) → (o ≡ Some k → (n + 1 ≤ k) × (k < n + 1 + m)) → cond b (Some n) o ≡ Some k → (n ≤ k) × (k < n + suc m)
@@ -253,20 +254,20 @@ windows_are ps frame end before (w ∷ ws) few small at apart limits =
       (k.room, rest.1),
     )
 
--- a window that has room, and is not empty, begins within the frame
-begins_within : (frame o n : ℕ) → 1 ≤ n → o + n ≤ frame → nat_le frame o ≡ false
-begins_within frame o n some room = lt-leb frame o (omega arith)
-
-pub windows_begin : (ps : List PartitionText) (frame end : ℕ) (ws : List WindowText) → overlaps_after (pos frame) (pos end) ws ≡ false → list_any exceeds_window ws ≡ false → BeginWithin frame (map (window_row ps) ws)
+-- each window begins at or after the end of the one before, and ends within the frame
+windows_in_order : (ps : List PartitionText) (frame end : ℕ) (ws : List WindowText) → overlaps_after (pos frame) (pos end) ws ≡ false → list_any exceeds_window ws ≡ false → AreInOrder frame end (map (window_row ps) ws)
 unfolding overlaps_after exceeds_window
-windows_begin ps frame end [] apart limits = refl
-windows_begin ps frame end (w ∷ ws) apart limits =
+windows_in_order ps frame end [] apart limits = tt
+windows_in_order ps frame end (w ∷ ws) apart limits =
     let a = or_parts _ (overlaps_after (pos frame) (w.offset +ℤ w.length) ws) apart in
     let b = or_parts (int_lt w.offset (pos end)) (int_lt (pos frame) (w.offset +ℤ w.length)) a.0 in
     let l = or_parts (exceeds_window w) (list_any exceeds_window ws) limits in
     let k = window_keeps frame end w.offset w.length l.0 b.0 b.1 in
     let next : overlaps_after (pos frame) (pos (nat_abs w.offset + nat_abs w.length)) ws ≡ false = subst (λ (z : ℤ). overlaps_after (pos frame) z ws ≡ false) k.next a.1 in
-    or_from (begins_late frame (window_row ps w)) _ (begins_within frame (nat_abs w.offset) (nat_abs w.length) k.some k.room) (windows_begin ps frame (nat_abs w.offset + nat_abs w.length) ws next l.1)
+    (k.after, k.some, k.room, windows_in_order ps frame (nat_abs w.offset + nat_abs w.length) ws next l.1)
+
+pub windows_begin : (ps : List PartitionText) (frame end : ℕ) (ws : List WindowText) → overlaps_after (pos frame) (pos end) ws ≡ false → list_any exceeds_window ws ≡ false → BeginWithin frame (map (window_row ps) ws)
+windows_begin ps frame end ws apart limits = begin_within frame end (map (window_row ps) ws) (windows_in_order ps frame end ws apart limits)
 
 -- ---- channels
 
@@ -412,11 +413,15 @@ text_windows text h =
 pub window_numbers : (text : TableText) (t : Table) → AcceptedTable text t → AllByRecursion (λ (w : WindowRow). (1 ≤ w.partition.0) × (w.partition.0 ≤ length t.partitions)) t.schedule.windows
 window_numbers text t a = subst (λ (x : Table). AllByRecursion (λ (w : WindowRow). (1 ≤ w.partition.0) × (w.partition.0 ≤ length x.partitions)) x.schedule.windows) a.is (text_windows text a.known)
 
--- ---- where windows begin
+-- ---- where windows stand
 
-text_begins : (text : TableText) → exceeds_limits text ≡ false → overlaps text ≡ false → (1 ≤ (numbered text).schedule.frame) × BeginWithin (numbered text).schedule.frame (numbered text).schedule.windows
+-- the windows of a schedule with a frame stand one behind the other
+abbrev pub IsInOrder : Schedule → Type 0
+IsInOrder s = (1 ≤ s.frame) × AreInOrder s.frame 0 s.windows
+
+text_in_order : (text : TableText) → exceeds_limits text ≡ false → overlaps text ≡ false → IsInOrder (numbered text).schedule
 unfolding numbered exceeds_counts exceeds_rows
-text_begins text limits apart =
+text_in_order text limits apart =
     let ps = text.partitions in
     let l1 = or_parts _ (list_any (exceeds_partition text.frame) ps) limits in
     let l2 = or_parts (exceeds_counts text) (exceeds_rows text) l1.0 in
@@ -427,7 +432,7 @@ text_begins text limits apart =
     let frame = inside 1 (pos 16777216) text.frame c3.0 in
     let frame_is = not_negative 1 16777216 text.frame c3.0 in
     let follow : overlaps_after (pos (nat_abs text.frame)) (pos 0) text.windows ≡ false = subst (λ (z : ℤ). overlaps_after z (pos 0) text.windows ≡ false) frame_is apart in
-    (frame.least, windows_begin ps (nat_abs text.frame) 0 text.windows follow rows.0)
+    (frame.least, windows_in_order ps (nat_abs text.frame) 0 text.windows follow rows.0)
 
-pub table_begins : (text : TableText) (t : Table) → AcceptedTable text t → (1 ≤ t.schedule.frame) × BeginWithin t.schedule.frame t.schedule.windows
-table_begins text t a = subst (λ (x : Table). (1 ≤ x.schedule.frame) × BeginWithin x.schedule.frame x.schedule.windows) a.is (text_begins text a.limits a.apart)
+pub table_in_order : (text : TableText) (t : Table) → AcceptedTable text t → IsInOrder t.schedule
+table_in_order text t a = subst (λ (x : Table). IsInOrder x.schedule) a.is (text_in_order text a.limits a.apart)

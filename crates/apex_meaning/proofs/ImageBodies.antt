@@ -9,7 +9,7 @@ use Rattle.apex_types.specs.declared.row.BodyRow.{BodyRow}
 use Rattle.apex_types.specs.declared.row.ProcessRow.{ProcessRow}
 use Rattle.apex_meaning.specs.Image.{Section}
 use Rattle.apex_meaning.specs.ImageSpelling.{Bodies, objects_in, bodies_in, u8, u16, u32, i64, name, list, truth, routine, body, duration, process, handler, instruction, objects, bodies, section}
-use Rattle.apex_meaning.specs.ImageReading.{Fault, Limit, Read, ◌>>=◌, number_at, limited_at, small_at, word_at, bytes_at, fresh_name_at, chosen, choice_at, truth_of, list_at, items_at, is_process, routine_at, body_at, duration_of, duration_at, is_multiple, period_at, process_at, handler_at, bodies_at, enter_within, code_at, objects_at, section_at}
+use Rattle.apex_meaning.specs.ImageReading.{Fault, Limit, Read, ◌>>=◌, number_at, limited_at, small_at, word_at, bytes_at, fresh_name_at, chosen, choice_at, truth_of, list_at, items_at, is_process, routine_at, body_at, duration_of, duration_at, is_infinite_or_multiple, period_at, process_at, handler_at, bodies_at, enter_within, code_at, objects_at, section_at}
 use Rattle.apex_meaning.specs.ImageLimits.{IsFrom, EachBeside, AreObjects, IsRoutine, IsBody, IsDuration, IsProcess, IsHandler, AreBodies, IsCode, IsSection}
 use Rattle.apex_meaning.proofs.ImageFields.{IsBytes, bind_ok, ok_is, Takes, Takes-then, Reads, said, first, last, assoc3, assoc4, assoc5}
 use Rattle.apex_meaning.proofs.ImageNumbers.{wide16, wide32, number_reads, limited_reads, small_reads}
@@ -119,16 +119,16 @@ duration_reads = record {
       ∙ ap (chosen rest) (word_stands o good);
 }
 
-pub period_reads : (unit : ℕ) → Reads (period_at unit) duration (λ o. IsDuration o × (is_multiple unit o ≡ true))
+pub period_reads : (unit : ℕ) → Reads (period_at unit) duration (λ o. IsDuration o × (is_infinite_or_multiple unit o ≡ true))
 unfolding period_at
 period_reads unit = record {
   takes = λ bytes x fits e.
-      let a = bind_ok (duration_at bytes) (λ period. cond (is_multiple unit period.0) (Ok period) (Err Limit)) x e in
-      let g = held (is_multiple unit a.0.0) Limit a.0 x a.2 in
+      let a = bind_ok (duration_at bytes) (λ period. cond (is_infinite_or_multiple unit period.0) (Ok period) (Err Limit)) x e in
+      let g = held (is_infinite_or_multiple unit a.0.0) Limit a.0 x a.2 in
       let p = duration_reads.takes bytes a.0 fits a.1 in
-      subst (λ (y : Option ℕ × List ℕ). Takes bytes (duration y.0) y.1 × (IsDuration y.0 × (is_multiple unit y.0 ≡ true))) g.1 (p.0, (p.1, g.0));
+      subst (λ (y : Option ℕ × List ℕ). Takes bytes (duration y.0) y.1 × (IsDuration y.0 × (is_infinite_or_multiple unit y.0 ≡ true))) g.1 (p.0, (p.1, g.0));
   again = λ o rest good.
-      ap (λ (y : Read (Option ℕ)). y >>= λ period. cond (is_multiple unit period.0) (Ok period) (Err Limit)) (duration_reads.again o rest good.0) ∙ rw (good.1) refl;
+      ap (λ (y : Read (Option ℕ)). y >>= λ period. cond (is_infinite_or_multiple unit period.0) (Ok period) (Err Limit)) (duration_reads.again o rest good.0) ∙ rw (good.1) refl;
 }
 
 -- ---- processes

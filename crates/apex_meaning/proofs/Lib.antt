@@ -25,6 +25,7 @@ pub mod StackLength
 pub mod WellFormedFits
 pub mod WellFormedObjects
 pub mod WellFormedSection
+pub mod WindowOrder
 pub mod AcceptedTable
 pub mod KnownPorts
 pub mod AcceptedImage

@@ -18,12 +18,12 @@ use Rattle.apex_meaning.specs.Syntax as written
 use Rattle.apex_meaning.specs.Cost.{size_of, size_of_handler, size_of_process, size_of_procedure}
 use Rattle.apex_meaning.specs.CompiledCode.{code_of, handler_place, processes_place, procedures_place, body_row, process_row, process_rows, routine_row, routine_rows, section_of}
 use Rattle.apex_meaning.specs.Instructions.{bytes_of}
-use Rattle.apex_meaning.specs.ImageReading.{is_process, is_multiple, handler_enters}
+use Rattle.apex_meaning.specs.ImageReading.{is_process, is_infinite_or_multiple, handler_enters}
 use Rattle.apex_meaning.specs.ImageSpelling.{bodies_in}
 use Rattle.apex_meaning.specs.ImageLimits.{EachBeside, IsRoutine, IsBody, IsDuration, IsProcess, IsHandler, AreBodies, IsCode, IsSection}
 use Rattle.apex_meaning.specs.Fits.{Fits, FitsBody, FitsHandler, FitsProcedure}
 use Rattle.apex_meaning.specs.Resolve.{no_counts, Entry, find, declaration_entries, process_entries, declared_entries, within, count_within, resolve_body, resolve_stack_body, resolve_process, procedure_of, resolve}
-use Rattle.apex_meaning.specs.WellFormed.{verdict, names_hold, limits_hold, periods_hold, are_new, is_between, keeps_period, keeps_stack_body, keeps_process, keeps_handler, keeps_counts, keeps_declaration, is_multiple as written_multiple}
+use Rattle.apex_meaning.specs.WellFormed.{verdict, names_hold, limits_hold, periods_hold, are_new, is_between, keeps_period, keeps_stack_body, keeps_process, keeps_handler, keeps_counts, keeps_declaration, is_written_multiple}
 use Rattle.apex_meaning.proofs.Counts.{procedure_counts, body_counts}
 use Rattle.apex_meaning.proofs.Sizes.{code_size}
 use Rattle.apex_meaning.proofs.WellFormedFits.{accepted, keeps_within, well_formed_fits}
@@ -111,7 +111,7 @@ duration_is : (negative : Bool) (m : Option ℕ) → cond negative (is_between 1
 duration_is true m h = tt
 duration_is false m h = let k = keeps_within 1 (2 ^ 40) m h in record { least = omega (arith, k.4, k.2); most = omega (arith, k.4, k.3) }
 
-multiple_is : (unit : ℕ) (negative : Bool) (m : Option ℕ) → cond negative (is_between 1 1 m) (is_between 1 (2 ^ 40) m) ≡ true → cond negative true (written_multiple unit m) ≡ true → is_multiple unit (cond negative None (Some (within (2 ^ 40) m))) ≡ true
+multiple_is : (unit : ℕ) (negative : Bool) (m : Option ℕ) → cond negative (is_between 1 1 m) (is_between 1 (2 ^ 40) m) ≡ true → cond negative true (is_written_multiple unit m) ≡ true → is_infinite_or_multiple unit (cond negative None (Some (within (2 ^ 40) m))) ≡ true
 multiple_is unit true m h k = refl
 multiple_is unit false None h k = absurd cc
 multiple_is unit false (Some n) h k =

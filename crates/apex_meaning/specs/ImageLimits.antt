@@ -17,7 +17,7 @@ use Rattle.apex_types.specs.declared.row.ChannelEnd.TheVariants.{Device, Port}
 use Rattle.apex_types.specs.declared.row.PortKind.{PortKind}
 use Rattle.apex_types.specs.declared.row.PortKind.TheVariants.{Sampling, Queuing}
 use Rattle.apex_types.specs.NameText.{is_name}
-use Rattle.apex_meaning.specs.ImageReading.{is_process, is_multiple, enter_within, is_port, is_partition, is_channel, last_end, keeps_table_rules}
+use Rattle.apex_meaning.specs.ImageReading.{is_process, is_infinite_or_multiple, enter_within, is_port, is_partition, is_channel, last_end, keeps_table_rules}
 use Rattle.apex_meaning.specs.ImageSpelling.{Objects, Bodies, objects_in, bodies_in}
 use Rattle.apex_meaning.specs.Image.{Section, Partition, Channel, Item, Image}
 
@@ -83,7 +83,7 @@ pub record IsProcess (unit : ℕ) (before : List ProcessRow) (row : ProcessRow) 
   pub fresh : is_process before row.name ≡ false
   pub priority : IsFrom 1 239 row.priority.0
   pub period : IsDuration row.period
-  pub multiple : is_multiple unit row.period ≡ true
+  pub multiple : is_infinite_or_multiple unit row.period ≡ true
   pub capacity : IsDuration row.capacity
   pub body : IsBody row.body
 

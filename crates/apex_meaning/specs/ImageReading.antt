@@ -240,15 +240,16 @@ duration_at bytes = do
   word ← word_at bytes
   chosen word.1 (duration_of word.0)
 
-abbrev pub is_multiple : ℕ → Option ℕ → Bool
-is_multiple unit None = true
-is_multiple unit (Some n) = n % unit == 0
+-- whether a period is infinite, or a multiple of the partition's
+abbrev pub is_infinite_or_multiple : ℕ → Option ℕ → Bool
+is_infinite_or_multiple unit None = true
+is_infinite_or_multiple unit (Some n) = n % unit == 0
 
 -- a finite period of a process is a multiple of the partition's
 unfoldable pub period_at : ℕ → List ℕ → Read (Option ℕ)
 period_at unit bytes = do
   period ← duration_at bytes
-  if is_multiple unit period.0 then Ok period else Err Limit
+  if is_infinite_or_multiple unit period.0 then Ok period else Err Limit
 
 abbrev pub is_process : List ProcessRow → List ℕ → Bool
 is_process rows name = list_any (λ row. bytes_eq row.name name) rows

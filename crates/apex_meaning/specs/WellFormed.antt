@@ -273,12 +273,13 @@ limits_hold ports p = let declared = declared_entries ports p in
 
 -- PERIODS: the finite period of a process is a multiple of its partition's.
 
-abbrev pub is_multiple : ℕ → Option ℕ → Bool
-is_multiple partition None = false
-is_multiple partition (Some n) = nat_lt 0 partition && nat_eq (n % partition) 0
+-- whether a number as it is written is a multiple of the partition's period; one above 2^63 - 1 is not
+abbrev pub is_written_multiple : ℕ → Option ℕ → Bool
+is_written_multiple partition None = false
+is_written_multiple partition (Some n) = nat_lt 0 partition && nat_eq (n % partition) 0
 
 abbrev pub keeps_period : ℕ → written.Process → Bool
-keeps_period partition p = if p.period.negative then true else is_multiple partition p.period.magnitude
+keeps_period partition p = if p.period.negative then true else is_written_multiple partition p.period.magnitude
 
 abbrev pub periods_hold : ℕ → written.Program → Bool
 periods_hold partition p = list_all (keeps_period partition) p.processes

@@ -1,6 +1,6 @@
 -- The major frame and its windows: whose tick it is, whose window ends, and the next release. The
 -- frames follow one another from the origin on, the tick of the last start of the module.
-use Rattle.std.specs.Prelude.{◌≡◌, ℕ, ◌+◌, ◌-◌, ◌%◌, ◌<◌, ◌≤◌, min, Bool, false, ◌&&◌, ◌==◌, nat_le, nat_lt, IsTrue, if◌then◌else◌, List, [], ◌∷◌, Option, None, option_map, find, filter}
+use Rattle.std.specs.Prelude.{◌≡◌, ℕ, ◌+◌, ◌-◌, ◌%◌, ◌<◌, ◌≤◌, min, Bool, false, ◌&&◌, ◌==◌, nat_le, nat_lt, IsTrue, if◌then◌else◌, List, [], ◌∷◌, Option, Some, None, option_map, find, filter, slice_get}
 use Rattle.std.specs.List.{list_any}
 use Rattle.apex_types.specs.declared.identity.At.{At}
 use Rattle.apex_types.specs.declared.row.WindowRow.{WindowRow}
@@ -42,6 +42,28 @@ owner s at = option_map (λ w. w.partition.0) (find (is_within (phase s at)) s.w
 -- origin itself none ends.
 abbrev pub ended : Schedule → At → Option ℕ
 ended s at = if nat_lt at.origin.0 at.now.0 then option_map (λ w. w.partition.0) (find (ends_at s.frame (phase s at)) s.windows) else None
+
+-- A window holds a tick: it holds the tick's place in its frame.
+abbrev pub Holds : Schedule → At → WindowRow → Type 0
+Holds s at w = IsTrue (is_within (phase s at) w)
+
+-- A window ends at a tick, so that its last tick was the one before. At the origin itself none ends.
+abbrev pub Ends : Schedule → At → WindowRow → Type 0
+Ends s at w = (at.origin.0 < at.now.0) × IsTrue (ends_at s.frame (phase s at) w)
+
+-- At most one of these windows is so: two that are so stand at one place.
+abbrev pub AtMostOne : (WindowRow → Type 0) → List WindowRow → Type 0
+AtMostOne IsSo windows = (i j : ℕ) (v w : WindowRow) → slice_get windows i ≡ Some v → slice_get windows j ≡ Some w → IsSo v → IsSo w → i ≡ j
+
+-- At most one window holds the tick, and the partition of the window that holds it owns it.
+pub record HasOneOwner (s : Schedule) (at : At) : Type 0 where
+  pub window : AtMostOne (Holds s at) s.windows
+  pub owner : (i : ℕ) (w : WindowRow) → slice_get s.windows i ≡ Some w → Holds s at w → owner s at ≡ Some w.partition.0
+
+-- At most one window ends at the tick, and it is that of the partition whose window has ended.
+pub record HasOneEnd (s : Schedule) (at : At) : Type 0 where
+  pub window : AtMostOne (Ends s at) s.windows
+  pub ended : (i : ℕ) (w : WindowRow) → slice_get s.windows i ≡ Some w → Ends s at w → ended s at ≡ Some w.partition.0
 
 -- whether a window is a release window of a partition
 abbrev pub releases : ℕ → WindowRow → Bool

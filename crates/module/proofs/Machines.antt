@@ -1,5 +1,6 @@
 -- A tick of a machine within a run.
-use Rattle.std.proofs.Common.{◌≡◌, ◌<◌, ◌^◌, ℕ, suc, true, false, List, Option, Some, None, Result, Err, refl, sym, ap, subst, ◌∙◌, arith}
+use Rattle.std.proofs.Common.{◌≡◌, ◌<◌, ◌≤◌, ◌+◌, ◌^◌, ℕ, zero, suc, true, false, List, [], Option, Some, None, Result, Ok, Err, inl, inr, refl, sym, ap, subst, ◌∙◌, append-nil, arith}
+use Rattle.std.proofs.KnownBytes.{Appends-nil}
 use Rattle.std.specs.Io.KnownBytes.{Appends}
 use Rattle.std.specs.Prelude.{is_none}
 use Rattle.apex_types.specs.Line.{text_of}
@@ -12,11 +13,12 @@ use Rattle.apex_meaning.specs.Module.{of_tick}
 use Rattle.apex_meaning.specs.MachineControl.{MachineControl}
 use Rattle.apex_meaning.specs.Partition.{Member}
 use Rattle.apex_meaning.specs.TwoMeanings.{machine_module, machine_trace}
-use Rattle.module.specs.Machines.{Machine, HasGoneOn, HasFailed, HasTicked, fresh_machine}
+use Rattle.module.specs.Machines.{Machine, HasGoneOn, HasFailed, HasTicked, HaveTicked, fresh_machine}
 use Rattle.module.specs.Promises.{RunsImage}
 use Rattle.module.specs.Standing.{Standing, after, lines_of, ticks}
 use Rattle.module.specs.declared.fault.RunFault.{RunFault}
 use Rattle.module.specs.declared.fault.RunFault.TheVariants as fault
+use Rattle.module.proofs.DeviceLines.{of_tick_again}
 use Rattle.module.proofs.Standing.{tick_text, none_down, is_traced}
 
 -- ---- what a tick that may be made comes to
@@ -79,3 +81,43 @@ pub shut_down : {old new : Option (List ℕ)} {text : List ℕ} (image : Image) 
 shut_down {old = old} {new = new} {text = text} image lines n now ms None down way =
     under_way_end old new text (subst (IsUnderWay old new text) (ap text_of (none_down (machine_module image).plan lines n now ms None refl)) way)
 shut_down image lines n now ms (Some origin) down way = absurd cc
+
+-- ---- calls of a machine's tick
+
+-- the rest of a run behind a part of its text
+run_on : (old mid new : Option (List ℕ)) (text : List ℕ) (events whole : List Event) (r : Result (Unit {0}) RunFault) → text ≡ text_of whole → IsUnderWay old mid text (text_of events) → RunsImage events mid new r → RunsImage whole old new r
+run_on old mid new text events whole (Ok x) is way h =
+    subst (Appends old new) is (under_way_end old new text (under_way_more old mid new text (text_of events) [] (rw (append-nil (text_of events)) way) h))
+run_on old mid new text events whole (Err fault.Write) is way h =
+    subst (TakesBeginning old new) is (under_way_fails old mid new text (text_of events) [] (rw (append-nil (text_of events)) way) h)
+run_on old mid new text events whole (Err fault.Failed) is way h = h
+run_on old mid new text events whole (Err fault.Ticks) is way h = h
+run_on old mid new text events whole (Err (fault.Image f)) is way h = h
+run_on old mid new text events whole (Err (fault.Device f)) is way h = h
+run_on old mid new text events whole (Err fault.Memory) is way h = h
+
+-- so many calls write the lines of so many ticks
+calls_run : (image : Image) (lines : List DeviceLine) (n : ℕ) (m last : Machine) (old new : Option (List ℕ)) (before now : ℕ) (answer : Result (Unit {0}) RunFault)
+    → m.image ≡ image → m.failed ≡ false → m.standing.now + n ≤ 2 ^ 40 → HaveTicked lines n m last old new before now answer → RunsImage (lines_of (machine_module image).plan lines n m.standing) old new answer
+calls_run image lines zero m last old new before now answer same sound few h =
+    subst (RunsImage [] old new) (sym h.0) (subst (λ (o : Option (List ℕ)). Appends old o []) (sym h.1.taken) (Appends-nil old))
+calls_run image lines (suc n) m last old new before now answer same sound few (inl (f, is, h)) =
+    let plan = (machine_module image).plan in
+    let whole = lines_of plan lines (suc n) m.standing in
+    let failed = only_write f sound (omega (arith, few)) (subst (HasTicked (of_tick m.standing.now lines) m last old new before now) is h) in
+    run_fails whole old new f answer is failed.0
+    (ends_early image m last lines (of_tick m.standing.now lines) lines (suc n) n refl same (of_tick_again m.standing.now lines) (λ t k. refl) (under_way_start old (text_of whole)) failed.1)
+calls_run image lines (suc n) m last old new before now answer same sound few (inr (next, mid, between, h, rest)) =
+    let plan = (machine_module image).plan in
+    let whole = lines_of plan lines (suc n) m.standing in
+    let gone = h.2 in
+    let later : next.standing.now ≡ m.standing.now + 1 = ap (λ s. s.now) gone.standing in
+    run_on old mid new (text_of whole) (lines_of plan lines n next.standing) whole answer refl
+    (goes_on image m next lines (of_tick m.standing.now lines) lines (suc n) n refl same (of_tick_again m.standing.now lines) (λ t k. refl) (under_way_start old (text_of whole)) gone)
+    (calls_run image lines n next last mid new between now answer (gone.image ∙ same) gone.failed (omega (arith, later, few)) rest)
+
+pub calls_write_the_trace : (image : Image) (lines : List DeviceLine) (n : ℕ) (last : Machine) (old new : Option (List ℕ)) (before now : ℕ) (answer : Result (Unit {0}) RunFault)
+    → n ≤ 2 ^ 40 → HaveTicked lines n (fresh_machine image) last old new before now answer → RunsImage (machine_trace image lines n) old new answer
+calls_write_the_trace image lines n last old new before now answer few h =
+    subst (λ (es : List Event). RunsImage es old new answer) (ticks_are_the_trace image lines n)
+    (calls_run image lines n (fresh_machine image) last old new before now answer refl refl (omega (arith, few)) h)

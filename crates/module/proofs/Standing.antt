@@ -10,7 +10,7 @@ use Rattle.apex_meaning.specs.Module.{Plan, Advanced, Course, of_tick, first_tic
 use Rattle.apex_meaning.specs.Partition.{Member}
 use Rattle.apex_meaning.specs.Windows.{tick_from}
 use Rattle.module.specs.Standing.{Standing, at_first, begins, ticks_from, ticks, origin_of, after, lines_of}
-use Rattle.module.proofs.DeviceLines.{IsNow, not_true, same_tick, tick_now}
+use Rattle.module.proofs.DeviceLines.{IsNow, not_true, of_tick_again, same_tick, tick_now}
 use Rattle.module.proofs.Texts.{text_append}
 
 -- what begins, and then the tick
@@ -28,8 +28,8 @@ same_ticks plan xs ys t ms (Some origin) e = ap (behind (begins t ms)) (same_tic
 same_lines : {C : Type 0} (plan : Plan) (n : ℕ) (s : Standing C) (xs ys : List DeviceLine) → ((u : ℕ) → s.now ≤ u → of_tick u xs ≡ of_tick u ys) → lines_of plan xs n s ≡ lines_of plan ys n s
 same_lines plan zero s xs ys h = refl
 same_lines plan (suc n) s xs ys h =
-    let own = ticks plan ys s in
-    ap (λ (c : Course _). c.lines ++ lines_of plan xs n (after s c)) (same_ticks plan xs ys s.now s.members s.origin (h s.now (omega arith)))
+    let own = ticks plan (of_tick s.now ys) s in
+    ap (λ (ls : List DeviceLine). (ticks plan ls s).lines ++ lines_of plan xs n (after s (ticks plan ls s))) (h s.now (omega arith))
     ∙ ap (λ (es : List Event). own.lines ++ es) (same_lines plan n (after s own) xs ys (λ u k. h u (omega (arith, k))))
 
 -- The text of the first of several ticks, with the lines of this tick, and of the rest, with the lines
@@ -41,7 +41,7 @@ pub tick_text : {C : Type 0} (plan : Plan) (lines now later : List DeviceLine) (
 tick_text plan lines now later n k s next count of_now of_later same =
     let own = ticks plan now s in
     ap text_of (ap (λ m. lines_of plan lines m s) count
-    ∙ ap (λ (c : Course _). c.lines ++ lines_of plan lines k (after s c)) (same_ticks plan lines now s.now s.members s.origin (sym of_now))
+    ∙ ap (λ (c : Course _). c.lines ++ lines_of plan lines k (after s c)) (same_ticks plan (of_tick s.now lines) now s.now s.members s.origin (of_tick_again s.now lines ∙ sym of_now))
     ∙ ap (λ (es : List Event). own.lines ++ es) (same_lines plan k (after s own) lines later (λ u h. sym (of_later u (omega (arith, h)))) ∙ ap (λ (x : Standing _). lines_of plan later k x) (sym same)))
     ∙ text_append own.lines (lines_of plan later k next)
 
@@ -73,8 +73,10 @@ later_is plan lines zero now ms o h = refl
 later_is plan lines (suc n) now ms None h = none_from plan lines n (now + 1) ms
 later_is plan lines (suc n) now ms (Some origin) h =
     let at = tick_from origin now in
+    let its = of_tick now lines in
     let own = module_tick plan at lines ms in
-    ap (λ (b : Advanced _). (b.lines ++ (module_tick plan at lines b.members).lines) ++ lines_of plan lines n (record { members = (module_tick plan at lines b.members).members; now = now + 1; origin = option_map origin_of (module_tick plan at lines b.members).at })) (begins_later now ms h)
+    ap (λ (b : Advanced _). (b.lines ++ (module_tick plan at its b.members).lines) ++ lines_of plan lines n (record { members = (module_tick plan at its b.members).members; now = now + 1; origin = option_map origin_of (module_tick plan at its b.members).at })) (begins_later now ms h)
+    ∙ ap (λ (c : Course _). c.lines ++ lines_of plan lines n (record { members = c.members; now = now + 1; origin = option_map origin_of c.at })) (same_tick plan at its lines ms (of_tick_again now lines))
     ∙ ap (λ (es : List Event). own.lines ++ es)
     (later_is plan lines n (now + 1) own.members (option_map origin_of own.at) (omega arith) ∙ ap (λ (x : Option At). trace_from plan lines n x own.members) (same_next now own.at (tick_now plan at lines ms)))
 
@@ -85,6 +87,8 @@ is_traced plan devices (suc n) ms =
     let s = starts ms in
     let own = module_tick plan first_tick devices s.members in
     let next = lines_of plan devices n (record { members = own.members; now = 0 + 1; origin = option_map origin_of own.at }) in
-    sym (append_assoc s.lines own.lines next
+    let first = same_tick plan first_tick (of_tick 0 devices) devices s.members (of_tick_again 0 devices) in
+    sym (ap (λ (c : Course _). (s.lines ++ c.lines) ++ lines_of plan devices n (record { members = c.members; now = 0 + 1; origin = option_map origin_of c.at })) first
+    ∙ append_assoc s.lines own.lines next
     ∙ ap (λ (es : List Event). s.lines ++ (own.lines ++ es))
     (later_is plan devices n (0 + 1) own.members (option_map origin_of own.at) (omega arith) ∙ ap (λ (x : Option At). trace_from plan devices n x own.members) (same_next 0 own.at (tick_now plan first_tick devices s.members))))

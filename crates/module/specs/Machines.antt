@@ -1,12 +1,12 @@
 -- A machine that runs an image tick by tick, and what a tick of it promises.
-use Rattle.std.specs.Prelude.{◌≡◌, ◌<◌, ◌^◌, ℕ, ◌+◌, Bool, true, false, List, Option, Result, Ok, Err}
+use Rattle.std.specs.Prelude.{◌≡◌, ◌<◌, ◌^◌, ℕ, zero, suc, ◌+◌, Bool, true, false, List, Option, Result, Ok, Err, ◌⊎◌}
 use Rattle.std.specs.Io.KnownBytes.{Appends}
 use Rattle.apex_types.specs.Line.{text_of}
 use Rattle.apex_types.specs.Sink.{TakesBeginning}
 use Rattle.apex_types.specs.declared.device.DeviceLine.{DeviceLine}
 use Rattle.apex_meaning.specs.Image.{Image}
 use Rattle.apex_meaning.specs.MachineControl.{MachineControl}
-use Rattle.apex_meaning.specs.Module.{Course}
+use Rattle.apex_meaning.specs.Module.{Course, of_tick}
 use Rattle.apex_meaning.specs.TwoMeanings.{machine_module}
 use Rattle.image.specs.Views.{image_of}
 use Rattle.partition_base.specs.contracts.machine.MachineExecutor.TheImpl.{ghosts as executor}
@@ -61,3 +61,11 @@ HasTicked lines m next old new before now (Err fault.Write) = (m.failed ≡ fals
 HasTicked lines m next old new before now (Err fault.Failed) = (m.failed ≡ true) × IsUntouched m next old new before now
 HasTicked lines m next old new before now (Err fault.Ticks) = (m.failed ≡ false) × (m.standing.now ≡ 2 ^ 40) × IsUntouched m next old new before now
 HasTicked lines m next old new before now (Err _) = ⊥
+
+-- What so many calls of `Machine::tick`, one after another, have made of a machine and of a sink, where each is
+-- handed the devices' lines of its own tick. The first call that is refused is the last one, and its answer is that of all.
+abbrev pub HaveTicked : List DeviceLine → ℕ → Machine → Machine → Option (List ℕ) → Option (List ℕ) → ℕ → ℕ → Result (Unit {0}) RunFault → Type 0
+HaveTicked lines zero m last old new before now answer = (answer ≡ Ok tt) × IsUntouched m last old new before now
+HaveTicked lines (suc n) m last old new before now answer =
+    ((f : RunFault) × (answer ≡ Err f) × HasTicked (of_tick m.standing.now lines) m last old new before now answer)
+    ⊎ ((next : Machine) × (mid : Option (List ℕ)) × (between : ℕ) × HasTicked (of_tick m.standing.now lines) m next old mid before between (Ok tt) × HaveTicked lines n next last mid new between now answer)

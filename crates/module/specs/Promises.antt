@@ -53,11 +53,10 @@ Runs read devices n old new (Err (NoImage f)) = (n ≤ 2 ^ 40) × IsImageRefusal
 Runs read devices n old new (Err Memory) = new ≡ old
 Runs read devices n old new (Err Failed) = ⊥
 
--- the same of an image with lines that are taken
+-- the same of an image with lines that are taken, once it is loaded
 abbrev pub RunsImage : List Event → Option (List ℕ) → Option (List ℕ) → Result (Unit {0}) RunFault → Type 0
 RunsImage events old new (Ok _) = Appends old new (text_of events)
 RunsImage events old new (Err Write) = TakesBeginning old new (text_of events)
-RunsImage events old new (Err Memory) = new ≡ old
 RunsImage events old new (Err _) = ⊥
 
 -- why bytes are not run: they are no image

@@ -4,7 +4,7 @@ use Rattle.apex_types.specs.declared.device.DeviceLine.{DeviceLine}
 use Rattle.apex_types.specs.declared.event.Event.{Event}
 use Rattle.apex_types.specs.declared.identity.At.{At}
 use Rattle.apex_types.specs.declared.identity.Ticks.{Ticks}
-use Rattle.apex_meaning.specs.Module.{Plan, Advanced, Course, still, starts, goes_on, then_runs, module_tick}
+use Rattle.apex_meaning.specs.Module.{Plan, Advanced, Course, still, starts, goes_on, then_runs, of_tick, module_tick}
 use Rattle.apex_meaning.specs.Partition.{Member}
 use Rattle.apex_meaning.specs.Windows.{tick_from}
 
@@ -42,10 +42,10 @@ origin_of at = at.origin.0
 abbrev pub after : {C : Type 0} → Standing C → Course C → Standing C
 after s c = record { members = c.members; now = s.now + 1; origin = option_map origin_of c.at }
 
--- the lines of so many ticks, one after another
+-- the lines of so many ticks, one after another, each with the devices' lines of its own
 abbrev pub lines_of : {C : Type 0} → Plan → List DeviceLine → ℕ → Standing C → List Event
 lines_of plan lines zero s = []
-lines_of plan lines (suc n) s = let c = ticks plan lines s in c.lines ++ lines_of plan lines n (after s c)
+lines_of plan lines (suc n) s = let c = ticks plan (of_tick s.now lines) s in c.lines ++ lines_of plan lines n (after s c)
 
 -- ---- ticks as the code holds them
 

@@ -1,14 +1,15 @@
 //! An image that runs tick by tick.
 
-ghost use Rattle.std.specs.Prelude.{◌≡◌, ◌<◌, ◌-◌, ◌^◌, ℕ, List, Ok, is_none, IfOk, IfErr};
+ghost use Rattle.std.specs.Prelude.{◌≡◌, ◌<◌, ◌≤◌, ◌-◌, ◌^◌, ℕ, List, Option, Result, Ok, is_none, IfOk, IfErr};
 ghost use Rattle.apex_meaning.specs.DeviceText.{verdict_for};
 ghost use Rattle.apex_meaning.specs.Module.{of_tick};
 ghost use Rattle.image.specs.Views.{image_of};
 ghost use Rattle.apex_meaning.specs.Image as meant;
 ghost use Rattle.apex_meaning.specs.TwoMeanings.{machine_module, machine_trace};
-ghost use Rattle.module.specs.Machines.{HasTicked, fresh_machine, machine_of};
+ghost use Rattle.module.specs.Machines as machines;
+ghost use Rattle.module.specs.Machines.{HasTicked, HaveTicked, fresh_machine, machine_of};
 ghost use Rattle.module.specs.Standing.{lines_of};
-ghost use Rattle.module.specs.Promises.{AreRefused};
+ghost use Rattle.module.specs.Promises.{AreRefused, RunsImage};
 ghost use Rattle.module.specs.Written.{AreFrom};
 
 use crate::fault::RunFault;
@@ -105,8 +106,12 @@ impl Machine {
     }
 }
 
-/// So many ticks of the machine of an image, one after another, write its trace.
-#[tactic(auto, using(crate::proofs::Machines::ticks_are_the_trace))]
+/// So many calls of [`Machine::tick`] for an image, one after another, each with the devices' lines of
+/// its own tick, write what [`run`](crate::run) writes: the text of the trace of so many ticks, or a
+/// beginning of it where the sink fails. No call is refused but for that.
+#[tactic(auto, using(crate::proofs::Machines::calls_write_the_trace, crate::proofs::Machines::ticks_are_the_trace))]
 pub fn ticks_make_the_trace()
-    ensures { (image : meant.Image) (lines : List DeviceLine) (n : ℕ) → lines_of (machine_module image).plan lines n (fresh_machine image).standing ≡ machine_trace image lines n }
+    ensures written { (image : meant.Image) (lines : List DeviceLine) (n : ℕ) (last : machines.Machine) (old new : Option (List ℕ)) (before now : ℕ) (answer : Result (Unit {0}) RunFault) → n ≤ 2 ^ 40
+        → HaveTicked lines n (fresh_machine image) last old new before now answer → RunsImage (machine_trace image lines n) old new answer }
+    ensures lines { (image : meant.Image) (lines : List DeviceLine) (n : ℕ) → lines_of (machine_module image).plan lines n (fresh_machine image).standing ≡ machine_trace image lines n }
 {}

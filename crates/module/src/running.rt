@@ -1,6 +1,6 @@
 //! Running an image: its partitions in their windows, tick by tick, and the text of their trace.
 
-ghost use Rattle.std.specs.Prelude.{◌≡◌, ◌≤◌, ◌<◌, ◌+◌, ◌-◌, ◌^◌, Ok, map, IfOk, IfErr, OnOk, IsErrOf};
+ghost use Rattle.std.specs.Prelude.{◌≡◌, ◌≢◌, ◌≤◌, ◌<◌, ◌+◌, ◌-◌, ◌^◌, Ok, map, IfOk, IfErr, OnOk, IsErrOf};
 ghost use Rattle.apex_meaning.specs.DeviceText.{verdict_for};
 ghost use Rattle.apex_meaning.specs.ImageReading.{image_at};
 ghost use Rattle.apex_meaning.specs.TwoMeanings.{machine_trace};
@@ -18,8 +18,8 @@ use image::load_image;
 use std::alloc::Global;
 
 /// Runs the image for so many ticks, with what the device text says, and writes the text of its trace
-/// into the sink. After [`RunFault::Write`] the sink has taken a beginning of that text; every other
-/// refusal comes before the first byte.
+/// into the sink. After [`RunFault::Write`] the sink has failed once and has taken a beginning of that
+/// text; every other refusal comes before the sink is asked to take anything.
 ///
 /// # Errors
 ///
@@ -36,6 +36,7 @@ pub fn run<S: Sink>(
     ensures trace { Runs (image_at image.now) devices.now ticks (S.taken sink.old) (S.taken sink.new) result }
     ensures ok { OnOk result (S.failures sink.new ≡ S.failures sink.old) }
     ensures write { IsErrOf result RunFault.Write → S.failures sink.new ≡ S.failures sink.old + 1 }
+    ensures quiet { IfErr result (λ fault. fault ≢ RunFault.Write → S.failures sink.new ≡ S.failures sink.old) }
 {
     if ticks > MOST_TICKS {
         return Err(RunFault::Ticks);
@@ -86,6 +87,7 @@ pub fn build_and_run<S: Sink>(
     ensures trace { Means table.now (map (λ s. s.now) sources.now) devices.now ticks (S.taken sink.old) (S.taken sink.new) result }
     ensures ok { OnOk result (S.failures sink.new ≡ S.failures sink.old) }
     ensures write { IsErrOf result (BuildAndRunFault.Run RunFault.Write) → S.failures sink.new ≡ S.failures sink.old + 1 }
+    ensures quiet { IfErr result (λ fault. fault ≢ BuildAndRunFault.Run RunFault.Write → S.failures sink.new ≡ S.failures sink.old) }
 {
     let image = match build(alloc, table, sources) {
         Ok(image) => image,

@@ -2,7 +2,7 @@
 
 ghost use Rattle.std.specs.Prelude.{◌≡◌, ◌&&◌, List, ℕ, map, is_ok, true, if◌then◌else◌};
 ghost use Rattle.std.specs.List.{list_all};
-ghost use Rattle.apex_meaning.specs.WellFormed.{keeps_period, is_multiple};
+ghost use Rattle.apex_meaning.specs.WellFormed.{keeps_period, is_written_multiple};
 ghost use Rattle.pal_base.specs.View as view;
 ghost use Rattle.pal_base.specs.View.{number_of};
 
@@ -23,14 +23,15 @@ pub fn check_periods(processes: &[Process], partition: u32) -> Check
 
 /// Whether a period is infinite or a multiple of the partition's.
 fn is_aligned(partition: u32, period: &Numeral) -> bool
-    ensures { result ≡ (if period.now.negative then true else is_multiple partition (number_of period.now)) }
+    ensures { result ≡ (if period.now.negative then true else is_written_multiple partition (number_of period.now)) }
 {
-    period.negative || is_multiple(partition, period)
+    period.negative || is_written_multiple(partition, period)
 }
 
-/// Whether a number is a multiple of the partition's period.
-fn is_multiple(partition: u32, number: &Numeral) -> bool
-    ensures { result ≡ is_multiple partition (number_of number.now) }
+/// Whether a number as it is written is a multiple of the partition's period; one above 2^63 - 1 is
+/// not.
+fn is_written_multiple(partition: u32, number: &Numeral) -> bool
+    ensures { result ≡ is_written_multiple partition (number_of number.now) }
 {
     match value_of(number) {
         Some(ticks) => 0 < partition && ticks % partition as u64 == 0,

@@ -2,7 +2,7 @@
 
 ghost use Rattle.std.specs.Prelude.{◌≡◌, ◌<◌, [], nat_lt};
 ghost use Rattle.std.specs.List.{list_all};
-ghost use Rattle.apex_meaning.specs.ImageReading.{is_process, fresh_name_at, duration_at, period_at, duration_of, is_multiple, routine_at, body_at, process_at, items_at, list_at, handler_at, bodies_at, enter_within, handler_enters, code_at, bytes_at};
+ghost use Rattle.apex_meaning.specs.ImageReading.{is_process, fresh_name_at, duration_at, period_at, duration_of, is_infinite_or_multiple, routine_at, body_at, process_at, items_at, list_at, handler_at, bodies_at, enter_within, handler_enters, code_at, bytes_at};
 ghost use Rattle.image.specs.Views.{Gives, bodies_of};
 
 use crate::fault::ImageFault;
@@ -89,9 +89,10 @@ fn duration_at(bytes: &[u8]) -> Result<(Option<u64>, &[u8]), ImageFault>
     }
 }
 
-fn is_multiple(unit: u32, period: Option<u64>) -> bool
+/// Whether a period is infinite, or a multiple of the partition's.
+fn is_infinite_or_multiple(unit: u32, period: Option<u64>) -> bool
     requires { 0 < unit }
-    ensures { result ≡ is_multiple unit period }
+    ensures { result ≡ is_infinite_or_multiple unit period }
 {
     match period {
         Some(ticks) => ticks % u64::from(unit) == 0,
@@ -105,7 +106,7 @@ fn period_at(unit: u32, bytes: &[u8]) -> Result<(Option<u64>, &[u8]), ImageFault
     ensures { Gives (λ x. (x.0, x.1.now)) result (period_at unit bytes.now) }
 {
     let (period, rest) = duration_at(bytes)?;
-    if !is_multiple(unit, period) {
+    if !is_infinite_or_multiple(unit, period) {
         return Err(ImageFault::Limit);
     }
     Ok((period, rest))
