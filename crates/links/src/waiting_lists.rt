@@ -59,7 +59,6 @@ fn number_of(key: ListKey) -> ListId
     }
 }
 
-#[tactic(auto, using(crate::proofs::ByKind::by_keys))]
 impl WaitingLists {
     /// Nobody waits. An error is one of memory.
     pub fn new(alloc: Global) -> Result<WaitingLists, AllocError>
