@@ -8,7 +8,7 @@ ghost use Rattle.apex_meaning.specs.TimeServices as meaning;
 ghost use Rattle.process_table_base.specs.Bounds.{IsAtMost, IsBounded};
 
 use crate::lock::may_not_lock;
-use apex_types::{At, Due, Mode, Out, ProcessStatus, ReturnCode, Runner, Service, Ticks, Wait};
+use apex_types::{At, Due, Mode, Out, ProcessStatus, ReturnCode, Runner, Service, Ticks};
 use process_table_base::{ProcessTable, is_delay, is_duration};
 
 /// GET_TIME (ARINC 653 Part 1, time management): the current tick.
@@ -54,7 +54,7 @@ fn wait_for(table: &mut ProcessTable, at: At, caller: Runner, delay: i64, out: &
         table.go_last(caller);
     } else {
         let due = Due::Delay(Ticks(at.now.0 + delay as u64));
-        table.wait(caller, Wait::Service(service), Some(due), out);
+        table.wait(caller, service, Some(due), out);
     }
 }
 

@@ -6,22 +6,20 @@ ghost use Rattle.apex_types.specs.Room.{HasRoom, Grows};
 ghost use Rattle.apex_meaning.specs.Processes as meaning;
 ghost use Rattle.apex_meaning.specs.Step.{IsMade};
 ghost use Rattle.apex_meaning.specs.Waiting.{gives};
-ghost use Rattle.process_table_base.specs.Bounds.{IsDelayed};
 ghost use Rattle.process_table_base.specs.Own.{own_change, own_step};
 
 use crate::table::ProcessTable;
-use apex_types::{Due, Out, ReturnCode, Runner, Wait, Words};
+use apex_types::{Due, Out, ReturnCode, Runner, Service, Wait, Words};
 
 impl ProcessTable {
-    /// It waits, until its due time if it has one. There is no line where it waited before.
-    pub fn wait(&mut self, runner: Runner, reason: Wait, due: Option<Due>, out: &mut Out)
-        requires reason { IsDelayed reason }
-        requires room { HasRoom 1 out.old }
-        ensures step { IsMade (own_step self.old runner (λ r. meaning.waits self.old runner r reason due)) self.new out.old out.new }
+    /// It waits in a service, until its due time if it has one. There is no line where it waited before.
+    pub fn wait(&mut self, runner: Runner, service: Service, due: Option<Due>, out: &mut Out)
+        requires { HasRoom 1 out.old }
+        ensures step { IsMade (own_step self.old runner (λ r. meaning.waits self.old runner r (Wait.Service service) due)) self.new out.old out.new }
         ensures grows { Grows 1 out.old out.new }
     {
         if let Some(row) = self.row(runner) {
-            self.wait_as(runner, row, reason, due, out);
+            self.wait_as(runner, row, Wait::Service(service), due, out);
         }
     }
 
