@@ -1,12 +1,14 @@
 -- Each waiting list has the order of its numbers.
-use Rattle.std.proofs.Common.{◌≡◌, ◌⊎◌, ◌↔◌, inl, inr, ℕ, zero, suc, ◌+◌, ◌<◌, nat_eq, cond, true, false, not, List, [], ◌∷◌, ◌++◌, Some, slice_get, refl, sym, ap, subst, arith}
+use Rattle.std.proofs.Common.{◌≡◌, ◌⊎◌, ◌↔◌, inl, inr, ℕ, zero, suc, ◌+◌, ◌<◌, nat_eq, cond, true, false, not, List, [], ◌∷◌, ◌++◌, map, Some, slice_get, slice_set, refl, sym, ap, subst, arith}
 use Rattle.std.proofs.lemmas.Option.{none-some, same_Some}
 use Rattle.apex_types.specs.declared.codes.Discipline.{Discipline}
 use Rattle.apex_types.specs.declared.codes.Discipline.TheVariants as discipline
+use Rattle.apex_types.specs.declared.identity.ListKey.{ListKey}
+use Rattle.apex_types.specs.declared.identity.ListKey.TheVariants as key
 use Rattle.apex_types.specs.declared.process.Entry.{Entry}
 use Rattle.apex_meaning.specs.Choice.{IsAmong, IsOrdered, IsBeforeEach, AreNumbersBelow, takes}
 use Rattle.apex_meaning.specs.Entries.{without, behind_equals}
-use Rattle.apex_meaning.specs.Queues.{without_in_all, list_at, put_list, joined, joins, emptied}
+use Rattle.apex_meaning.specs.Queues.{Queues, list_in, each_list, without_in_all, list_at, put_list, joined, joins, no_entries, emptied}
 use Rattle.apex_meaning.specs.WaitingOrder.{IsBeforeUnder, IsBeforeEachUnder, IsOrderedUnder, IsQueue, AreQueues, IsReleasedFirst}
 use Rattle.apex_meaning.proofs.Choosing.{AreOthers, below_without, others_without, same_number, own_number, before_other, below_takes, ordered_behind, below_behind, not_both}
 
@@ -31,12 +33,23 @@ ordered_without d number p (x ∷ xs) h =
 one_without : (d : Discipline) (number : ℕ → ℕ) (next p : ℕ) (es : List Entry) → IsQueue d number next es → IsQueue d number next (without p es)
 one_without d number next p es h = record { ordered = ordered_without d number p es h.ordered; below = below_without number next p es h.below }
 
-at_without : (p : ℕ) (lists : List (List Entry)) (k : ℕ) → list_at (without_in_all p lists) k ≡ without p (list_at lists k)
-at_without p [] k = refl
-at_without p (list ∷ lists) zero = refl
-at_without p (list ∷ lists) (suc k) = at_without p lists k
+-- at each key the list is changed so, if nothing becomes of an empty one
+in_each : (change : List Entry → List Entry) (lists : List (List Entry)) (place : ℕ) → change [] ≡ [] → list_in (map change lists) place ≡ change (list_in lists place)
+in_each change [] place none = sym none
+in_each change (list ∷ lists) zero none = refl
+in_each change (list ∷ lists) (suc place) none = in_each change lists place none
 
-pub leaves : (disciplines : ℕ → Discipline) (number : ℕ → ℕ) (next p : ℕ) (lists : List (List Entry)) → AreQueues disciplines number next lists → AreQueues disciplines number next (without_in_all p lists)
+at_each : (change : List Entry → List Entry) (queues : Queues) (k : ListKey) → change [] ≡ [] → list_at (each_list change queues) k ≡ change (list_at queues k)
+at_each change queues (key.Semaphore place) none = in_each change queues.semaphores place none
+at_each change queues (key.Event place) none = in_each change queues.events place none
+at_each change queues (key.Buffer place) none = in_each change queues.buffers place none
+at_each change queues (key.Blackboard place) none = in_each change queues.blackboards place none
+at_each change queues (key.Port place) none = in_each change queues.ports place none
+
+at_without : (p : ℕ) (queues : Queues) (k : ListKey) → list_at (without_in_all p queues) k ≡ without p (list_at queues k)
+at_without p queues k = at_each (without p) queues k refl
+
+pub leaves : (disciplines : ListKey → Discipline) (number : ℕ → ℕ) (next p : ℕ) (lists : Queues) → AreQueues disciplines number next lists → AreQueues disciplines number next (without_in_all p lists)
 leaves disciplines number next p lists h k = subst (IsQueue (disciplines k) number next) (sym (at_without p lists k)) (one_without (disciplines k) number next p (list_at lists k) (h k))
 
 -- ---- one takes a number
@@ -100,40 +113,53 @@ one_joins discipline.Priority number next e xs own below h = record {
   below = below_behind number next e xs own below;
 }
 
--- a list is put at one number, if it is put at all
-at_put : (lists : List (List Entry)) (k : ℕ) (list : List Entry) (j : ℕ) → (list_at (put_list lists k list) j ≡ list_at lists j) ⊎ ((j ≡ k) × (list_at (put_list lists k list) j ≡ list))
-at_put [] zero list j = inl refl
-at_put [] (suc k) list j = inl refl
-at_put (first ∷ lists) zero list zero = inr (refl, refl)
-at_put (first ∷ lists) zero list (suc j) = inl refl
-at_put (first ∷ lists) (suc k) list zero = inl refl
-at_put (first ∷ lists) (suc k) list (suc j) = further (at_put lists k list j)
-  where
-    further : (list_at (put_list lists k list) j ≡ list_at lists j) ⊎ ((j ≡ k) × (list_at (put_list lists k list) j ≡ list)) → (list_at (put_list lists k list) j ≡ list_at lists j) ⊎ ((suc j ≡ suc k) × (list_at (put_list lists k list) j ≡ list))
-    further (inl same) = inl same
-    further (inr put) = inr (ap suc put.0, put.1)
+-- what stands at one place is as before, or this is the place and the new list stands there
+abbrev IsPut : {K : Type 0} → List Entry → List Entry → List Entry → K → K → Type 0
+IsPut before list after k j = (after ≡ before) ⊎ ((j ≡ k) × (after ≡ list))
 
-others_at : (p : ℕ) (lists : List (List Entry)) (k : ℕ) → AreOthers p (list_at (without_in_all p lists) k)
+named : {K L : Type 0} {before list after : List Entry} {k j : K} (name : K → L) → IsPut before list after k j → IsPut before list after (name k) (name j)
+named name (inl same) = inl same
+named name (inr put) = inr (ap name put.0, put.1)
+
+-- a list is put at one place, if it is put at all
+in_put : (lists : List (List Entry)) (k : ℕ) (list : List Entry) (j : ℕ) → IsPut (list_in lists j) list (list_in (slice_set lists k list) j) k j
+in_put [] zero list j = inl refl
+in_put [] (suc k) list j = inl refl
+in_put (first ∷ lists) zero list zero = inr (refl, refl)
+in_put (first ∷ lists) zero list (suc j) = inl refl
+in_put (first ∷ lists) (suc k) list zero = inl refl
+in_put (first ∷ lists) (suc k) list (suc j) = named suc (in_put lists k list j)
+
+-- a list is put at one key, if it is put at all
+at_put : (queues : Queues) (k : ListKey) (list : List Entry) (j : ListKey) → IsPut (list_at queues j) list (list_at (put_list queues k list) j) k j
+at_put queues (key.Semaphore place) list (key.Semaphore other) = named key.Semaphore (in_put queues.semaphores place list other)
+at_put queues (key.Event place) list (key.Event other) = named key.Event (in_put queues.events place list other)
+at_put queues (key.Buffer place) list (key.Buffer other) = named key.Buffer (in_put queues.buffers place list other)
+at_put queues (key.Blackboard place) list (key.Blackboard other) = named key.Blackboard (in_put queues.blackboards place list other)
+at_put queues (key.Port place) list (key.Port other) = named key.Port (in_put queues.ports place list other)
+at_put queues _ list _ = inl refl
+
+others_at : (p : ℕ) (lists : Queues) (k : ListKey) → AreOthers p (list_at (without_in_all p lists) k)
 others_at p lists k = subst (AreOthers p) (sym (at_without p lists k)) (others_without p (list_at lists k))
 
 -- the lists when the one who begins to wait has left them, and the list that it then joins
-abbrev left : Entry → List (List Entry) → List (List Entry)
+abbrev left : Entry → Queues → Queues
 left e lists = without_in_all e.process.0 lists
 
-abbrev longer : Discipline → ℕ → Entry → List (List Entry) → List Entry
+abbrev longer : Discipline → ListKey → Entry → Queues → List Entry
 longer d k e lists = joined d e (list_at (left e lists) k)
 
-left_takes : (d : Discipline) (number : ℕ → ℕ) (next j : ℕ) (e : Entry) (lists : List (List Entry)) → IsQueue d number next (list_at (left e lists) j) → IsQueue d (takes number e.process.0 next) (next + 1) (list_at (left e lists) j)
+left_takes : (d : Discipline) (number : ℕ → ℕ) (next : ℕ) (j : ListKey) (e : Entry) (lists : Queues) → IsQueue d number next (list_at (left e lists) j) → IsQueue d (takes number e.process.0 next) (next + 1) (list_at (left e lists) j)
 left_takes d number next j e lists h = others_take d number e.process.0 next (list_at (left e lists) j) (others_at e.process.0 lists j) h
 
-longer_takes : (d : Discipline) (number : ℕ → ℕ) (next k : ℕ) (e : Entry) (lists : List (List Entry)) → IsQueue d number next (list_at (left e lists) k) → IsQueue d (takes number e.process.0 next) (next + 1) (longer d k e lists)
+longer_takes : (d : Discipline) (number : ℕ → ℕ) (next : ℕ) (k : ListKey) (e : Entry) (lists : Queues) → IsQueue d number next (list_at (left e lists) k) → IsQueue d (takes number e.process.0 next) (next + 1) (longer d k e lists)
 longer_takes d number next k e lists h =
     let p = e.process.0 in
     let before = list_at (left e lists) k in
     let others = others_at p lists k in
     one_joins d (takes number p next) next e before (own_number number p next) (below_takes number p next before others h.below) (ordered_takes d number p next before others h.ordered)
 
-pub begins_to_wait : (disciplines : ℕ → Discipline) (number : ℕ → ℕ) (next k : ℕ) (e : Entry) (lists : List (List Entry)) → AreQueues disciplines number next lists → AreQueues disciplines (takes number e.process.0 next) (next + 1) (joins k (disciplines k) e lists)
+pub begins_to_wait : (disciplines : ListKey → Discipline) (number : ℕ → ℕ) (next : ℕ) (k : ListKey) (e : Entry) (lists : Queues) → AreQueues disciplines number next lists → AreQueues disciplines (takes number e.process.0 next) (next + 1) (joins k (disciplines k) e lists)
 begins_to_wait disciplines number next k e lists h j = by_place (list_at (joins k (disciplines k) e lists) j) (at_put (left e lists) k (longer (disciplines k) k e lists) j)
   where
     by_place : (list : List Entry) → (list ≡ list_at (left e lists) j) ⊎ ((j ≡ k) × (list ≡ longer (disciplines k) k e lists)) → IsQueue (disciplines j) (takes number e.process.0 next) (next + 1) list
@@ -174,17 +200,15 @@ first_of_list d number (x ∷ xs) e h = (
   (λ first. ap Some (first_is_head d number x xs e h first)),
 )
 
-pub released_first : (disciplines : ℕ → Discipline) (number : ℕ → ℕ) (next k : ℕ) (e : Entry) (lists : List (List Entry)) → AreQueues disciplines number next lists → (slice_get (list_at lists k) 0 ≡ Some e ↔ IsReleasedFirst (disciplines k) number (list_at lists k) e)
+pub released_first : (disciplines : ListKey → Discipline) (number : ℕ → ℕ) (next : ℕ) (k : ListKey) (e : Entry) (lists : Queues) → AreQueues disciplines number next lists → (slice_get (list_at lists k) 0 ≡ Some e ↔ IsReleasedFirst (disciplines k) number (list_at lists k) e)
 released_first disciplines number next k e lists h = let queue = h k in first_of_list (disciplines k) number (list_at lists k) e queue.ordered
 
 -- ---- nobody waits
 
-at_emptied : (lists : List (List Entry)) (k : ℕ) → list_at (emptied lists) k ≡ []
-at_emptied [] k = refl
-at_emptied (list ∷ lists) zero = refl
-at_emptied (list ∷ lists) (suc k) = at_emptied lists k
+at_emptied : (queues : Queues) (k : ListKey) → list_at (emptied queues) k ≡ []
+at_emptied queues k = at_each no_entries queues k refl
 
-pub all_empty : (disciplines : ℕ → Discipline) (number : ℕ → ℕ) (next : ℕ) (lists : List (List Entry)) → AreQueues disciplines number next (emptied lists)
+pub all_empty : (disciplines : ListKey → Discipline) (number : ℕ → ℕ) (next : ℕ) (lists : Queues) → AreQueues disciplines number next (emptied lists)
 all_empty disciplines number next lists k =
     let none : IsQueue (disciplines k) number next [] = record { ordered = tt; below = tt } in
     subst (IsQueue (disciplines k) number next) (sym (at_emptied lists k)) none

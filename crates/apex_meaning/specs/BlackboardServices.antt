@@ -4,8 +4,9 @@ use Rattle.arrayvec.specs.ArrayVec.{ArrayVec}
 use Rattle.apex_types.specs.declared.codes.Discipline.TheVariants as discipline
 use Rattle.apex_types.specs.declared.codes.Mode.{Mode}
 use Rattle.apex_types.specs.declared.codes.ReturnCode.TheVariants as code
-use Rattle.apex_types.specs.declared.denotation.ObjectKind.TheVariants as kind
 use Rattle.apex_types.specs.declared.identity.At.{At}
+use Rattle.apex_types.specs.declared.identity.ListKey.{ListKey}
+use Rattle.apex_types.specs.declared.identity.ListKey.TheVariants as key
 use Rattle.apex_types.specs.declared.identity.Runner.{Runner}
 use Rattle.apex_types.specs.declared.process.Waiting.{Waiting}
 use Rattle.apex_types.specs.declared.service.ArrayPlace.{ArrayPlace}
@@ -14,14 +15,14 @@ use Rattle.apex_meaning.specs.Durations.{is_duration}
 use Rattle.apex_meaning.specs.Objects.{Objects, Blackboard, blackboard, put_blackboard}
 use Rattle.apex_meaning.specs.Sharing.{Sharing, of_processes, becomes, answers, refuses, has, on, create, get_id, get_status, is_length, is_large_enough}
 use Rattle.apex_meaning.specs.Step.{Step, after, message, first_words, row}
-use Rattle.apex_meaning.specs.Waiting.{list_of, waiting, waiting_count, blocks, fills, gives_all}
+use Rattle.apex_meaning.specs.Waiting.{waiting, waiting_count, blocks, fills, gives_all}
 
 abbrev pub is_created : Blackboard → Bool
 is_created x = x.created
 
 -- its waiting list
-abbrev pub list : ℕ → ℕ
-list place = list_of kind.Blackboard place
+abbrev pub list : ℕ → ListKey
+list place = key.Blackboard place
 
 -- ---- CREATE_BLACKBOARD and GET_BLACKBOARD_ID
 
@@ -63,7 +64,7 @@ clear_blackboard b p id =
 -- ---- READ_BLACKBOARD
 
 abbrev pub reader : ℕ → ArrayPlace → Waiting
-reader place array = record { service = service.ReadBlackboard; list = record { 0 = list place }; discipline = discipline.Fifo; array = Some array }
+reader place array = record { service = service.ReadBlackboard; list = list place; discipline = discipline.Fifo; array = Some array }
 
 -- the message goes into the array; while there is none the caller waits
 abbrev pub reads : At → Sharing Objects → Runner → ArrayPlace → ℤ → ℕ → Option (ArrayVec ℤ) → Step (Sharing Objects)

@@ -3,8 +3,9 @@ use Rattle.std.specs.Prelude.{ℕ, ℤ, pos, Bool, true, not, nat_le, List, [], 
 use Rattle.arrayvec.specs.ArrayVec.{ArrayVec}
 use Rattle.apex_types.specs.declared.codes.Mode.{Mode}
 use Rattle.apex_types.specs.declared.codes.ReturnCode.TheVariants as code
-use Rattle.apex_types.specs.declared.denotation.ObjectKind.TheVariants as kind
 use Rattle.apex_types.specs.declared.identity.At.{At}
+use Rattle.apex_types.specs.declared.identity.ListKey.{ListKey}
+use Rattle.apex_types.specs.declared.identity.ListKey.TheVariants as key
 use Rattle.apex_types.specs.declared.identity.Runner.{Runner}
 use Rattle.apex_types.specs.declared.process.ProcessStatus.{ProcessStatus}
 use Rattle.apex_types.specs.declared.process.Waiting.{Waiting}
@@ -15,14 +16,14 @@ use Rattle.apex_meaning.specs.Objects.{Objects, Buffer, buffer, put_buffer}
 use Rattle.apex_meaning.specs.Processes.{released}
 use Rattle.apex_meaning.specs.Sharing.{Sharing, of_processes, becomes, answers, refuses, has, on, create, get_id, get_status, is_length, is_large_enough}
 use Rattle.apex_meaning.specs.Step.{Step, after, message, first_words, row}
-use Rattle.apex_meaning.specs.Waiting.{list_of, waiting_count, first_waiting, handed_by, blocks, fills, gives}
+use Rattle.apex_meaning.specs.Waiting.{waiting_count, first_waiting, handed_by, blocks, fills, gives}
 
 abbrev pub is_created : Buffer → Bool
 is_created x = x.created
 
 -- its waiting list, of receivers while it is empty and of senders while it is full
-abbrev pub list : ℕ → ℕ
-list place = list_of kind.Buffer place
+abbrev pub list : ℕ → ListKey
+list place = key.Buffer place
 
 -- ---- CREATE_BUFFER and GET_BUFFER_ID
 
@@ -38,7 +39,7 @@ get_buffer_id b p name = get_id b p service.GetBufferId name (buffer b.shared na
 -- ---- SEND_BUFFER
 
 abbrev pub sender : ℕ → Buffer → Waiting
-sender place x = record { service = service.SendBuffer; list = record { 0 = list place }; discipline = x.row.discipline; array = None }
+sender place x = record { service = service.SendBuffer; list = list place; discipline = x.row.discipline; array = None }
 
 abbrev pub is_full : Buffer → Bool
 is_full x = nat_le x.row.depth (length x.messages)
@@ -70,7 +71,7 @@ send_buffer at b p id array length limit words =
 -- ---- RECEIVE_BUFFER
 
 abbrev pub receiver : ℕ → Buffer → ArrayPlace → Waiting
-receiver place x array = record { service = service.ReceiveBuffer; list = record { 0 = list place }; discipline = x.row.discipline; array = Some array }
+receiver place x array = record { service = service.ReceiveBuffer; list = list place; discipline = x.row.discipline; array = Some array }
 
 -- the message of the first sender that waits comes behind the others, and the sender is released
 abbrev pub admits : Sharing Objects → ℕ → Buffer → Option (Runner × ProcessStatus) → Step (Sharing Objects)

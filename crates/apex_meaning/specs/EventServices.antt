@@ -3,8 +3,9 @@ use Rattle.std.specs.Prelude.{ℕ, ℤ, pos, Bool, true, false, not, List, [], �
 use Rattle.apex_types.specs.declared.codes.Discipline.TheVariants as discipline
 use Rattle.apex_types.specs.declared.codes.Mode.{Mode}
 use Rattle.apex_types.specs.declared.codes.ReturnCode.TheVariants as code
-use Rattle.apex_types.specs.declared.denotation.ObjectKind.TheVariants as kind
 use Rattle.apex_types.specs.declared.identity.At.{At}
+use Rattle.apex_types.specs.declared.identity.ListKey.{ListKey}
+use Rattle.apex_types.specs.declared.identity.ListKey.TheVariants as key
 use Rattle.apex_types.specs.declared.identity.Runner.{Runner}
 use Rattle.apex_types.specs.declared.process.Waiting.{Waiting}
 use Rattle.apex_types.specs.declared.service.Service.TheVariants as service
@@ -12,14 +13,14 @@ use Rattle.apex_meaning.specs.Durations.{is_duration}
 use Rattle.apex_meaning.specs.Objects.{Objects, Event, event, put_event}
 use Rattle.apex_meaning.specs.Sharing.{Sharing, of_processes, becomes, answers, refuses, has, on, create, get_id, get_status}
 use Rattle.apex_meaning.specs.Step.{Step, after, message, row}
-use Rattle.apex_meaning.specs.Waiting.{list_of, waiting, waiting_count, releases_all, blocks}
+use Rattle.apex_meaning.specs.Waiting.{waiting, waiting_count, releases_all, blocks}
 
 abbrev pub is_created : Event → Bool
 is_created x = x.created
 
 -- its waiting list
-abbrev pub list : ℕ → ℕ
-list place = list_of kind.Event place
+abbrev pub list : ℕ → ListKey
+list place = key.Event place
 
 -- ---- CREATE_EVENT and GET_EVENT_ID
 
@@ -60,7 +61,7 @@ reset_event b p id =
 -- ---- WAIT_EVENT
 
 abbrev pub waiting_for : ℕ → Waiting
-waiting_for place = record { service = service.WaitEvent; list = record { 0 = list place }; discipline = discipline.Fifo; array = None }
+waiting_for place = record { service = service.WaitEvent; list = list place; discipline = discipline.Fifo; array = None }
 
 -- while it is down the caller waits
 abbrev pub awaits : At → Sharing Objects → Runner → ℤ → ℕ → Event → Step (Sharing Objects)

@@ -4,8 +4,9 @@ use Rattle.arrayvec.specs.ArrayVec.{ArrayVec}
 use Rattle.apex_types.specs.declared.codes.Mode.{Mode}
 use Rattle.apex_types.specs.declared.codes.ReturnCode.{ReturnCode}
 use Rattle.apex_types.specs.declared.codes.ReturnCode.TheVariants as code
-use Rattle.apex_types.specs.declared.denotation.ObjectKind.TheVariants as kind
 use Rattle.apex_types.specs.declared.identity.At.{At}
+use Rattle.apex_types.specs.declared.identity.ListKey.{ListKey}
+use Rattle.apex_types.specs.declared.identity.ListKey.TheVariants as key
 use Rattle.apex_types.specs.declared.identity.Runner.{Runner}
 use Rattle.apex_types.specs.declared.process.Waiting.{Waiting}
 use Rattle.apex_types.specs.declared.service.ArrayPlace.{ArrayPlace}
@@ -16,7 +17,7 @@ use Rattle.apex_meaning.specs.Durations.{is_duration}
 use Rattle.apex_meaning.specs.Ports.{Port, Ports, sampling, queuing, put_port, with_sample, with_message, is_source, is_full, refresh_of, depth_of, discipline_of}
 use Rattle.apex_meaning.specs.Sharing.{Sharing, of_processes, becomes, answers, refuses, has, on, create, get_id, get_status, is_length, is_large_enough}
 use Rattle.apex_meaning.specs.Step.{Step, nothing, after, message, first_words, row}
-use Rattle.apex_meaning.specs.Waiting.{list_of, waiting_count, blocks, fills}
+use Rattle.apex_meaning.specs.Waiting.{waiting_count, blocks, fills}
 
 abbrev pub is_created : Port → Bool
 is_created x = x.created
@@ -25,8 +26,8 @@ abbrev pub becomes_port : Sharing Ports → ℕ → Port → Step (Sharing Ports
 becomes_port b place x = becomes b (put_port b.shared place x)
 
 -- the waiting list of a queuing port: of senders while it is full, of receivers while it is empty
-abbrev pub list : ℕ → ℕ
-list place = list_of kind.Port place
+abbrev pub list : ℕ → ListKey
+list place = key.Port place
 
 -- source 0, destination 1
 abbrev pub direction_number : Port → ℕ
@@ -107,7 +108,7 @@ get_queuing_port_id b p name = get_id b p service.GetQueuingPortId name (queuing
 -- ---- SEND_QUEUING_MESSAGE
 
 abbrev pub sender : ℕ → Port → Waiting
-sender place x = record { service = service.SendQueuingMessage; list = record { 0 = list place }; discipline = discipline_of x.row.kind; array = None }
+sender place x = record { service = service.SendQueuingMessage; list = list place; discipline = discipline_of x.row.kind; array = None }
 
 -- the message goes behind the others, until it moves; while the port is full the caller waits
 abbrev pub sends : At → Sharing Ports → Runner → ℤ → ArrayVec ℤ → ℕ → Port → Step (Sharing Ports)
@@ -129,7 +130,7 @@ send_queuing_message at b p id array length limit words =
 -- ---- RECEIVE_QUEUING_MESSAGE
 
 abbrev pub receiver : ℕ → Port → ArrayPlace → Waiting
-receiver place x array = record { service = service.ReceiveQueuingMessage; list = record { 0 = list place }; discipline = discipline_of x.row.kind; array = Some array }
+receiver place x array = record { service = service.ReceiveQueuingMessage; list = list place; discipline = discipline_of x.row.kind; array = Some array }
 
 -- the first receive after an overflow tells of it
 abbrev pub code_of_receive : Bool → ReturnCode

@@ -30,7 +30,7 @@ use Rattle.apex_types.specs.declared.process.Wait.{Wait}
 use Rattle.apex_types.specs.declared.process.Wait.TheVariants as wait
 use Rattle.apex_types.specs.declared.service.Service.{Service}
 pub use Rattle.apex_meaning.specs.Entries.{entry, is_entry_of, without, behind_equals}
-use Rattle.apex_meaning.specs.Queues.{without_in_all}
+use Rattle.apex_meaning.specs.Queues.{Queues, without_in_all}
 use Rattle.apex_meaning.specs.Step.{Step, nothing, after, answered, zeros}
 
 pub record Processes : Type 0 where
@@ -41,7 +41,7 @@ pub record Processes : Type 0 where
   pub running : Option Runner
   pub lock : Lock
   -- the waiting lists, one for each object and port
-  pub queues : List (List Entry)
+  pub queues : Queues
   -- for each process in the order of the source, the message of the call in which it waits
   pub handed : List (ArrayVec ℤ)
 
@@ -74,7 +74,7 @@ goes_last _ priority ready = ready
 -- ---- the lists of those that wait
 
 -- p waits in no list
-abbrev pub leaves_queues : Runner → List (List Entry) → List (List Entry)
+abbrev pub leaves_queues : Runner → Queues → Queues
 leaves_queues (runner.Process p) queues = without_in_all p.0 queues
 leaves_queues _ queues = queues
 

@@ -1,20 +1,52 @@
--- The lists of those who wait for an object, each in the order in which they are released.
+-- The lists of those who wait for an object or a port, each in the order in which they are released.
 use Rattle.std.specs.Prelude.{ℕ, List, [], ◌∷◌, ◌++◌, map, slice_index_or, slice_set}
 use Rattle.apex_types.specs.declared.codes.Discipline.{Discipline}
 use Rattle.apex_types.specs.declared.codes.Discipline.TheVariants as discipline
+use Rattle.apex_types.specs.declared.identity.ListKey.{ListKey}
+use Rattle.apex_types.specs.declared.identity.ListKey.TheVariants as key
 use Rattle.apex_types.specs.declared.process.Entry.{Entry}
 use Rattle.apex_meaning.specs.Entries.{without, behind_equals}
 
+-- for each kind the lists of its objects, by their places
+pub record Queues : Type 0 where
+  pub semaphores : List (List Entry)
+  pub events : List (List Entry)
+  pub buffers : List (List Entry)
+  pub blackboards : List (List Entry)
+  pub ports : List (List Entry)
+
+abbrev pub list_in : List (List Entry) → ℕ → List Entry
+list_in lists place = slice_index_or lists place []
+
+-- the list of an object or a port, which is empty where there is none
+abbrev pub list_at : Queues → ListKey → List Entry
+list_at q (key.Semaphore place) = list_in q.semaphores place
+list_at q (key.Event place) = list_in q.events place
+list_at q (key.Buffer place) = list_in q.buffers place
+list_at q (key.Blackboard place) = list_in q.blackboards place
+list_at q (key.Port place) = list_in q.ports place
+
+-- the list of this one alone is another
+abbrev pub put_list : Queues → ListKey → List Entry → Queues
+put_list q (key.Semaphore place) entries = record q { semaphores = slice_set q.semaphores place entries }
+put_list q (key.Event place) entries = record q { events = slice_set q.events place entries }
+put_list q (key.Buffer place) entries = record q { buffers = slice_set q.buffers place entries }
+put_list q (key.Blackboard place) entries = record q { blackboards = slice_set q.blackboards place entries }
+put_list q (key.Port place) entries = record q { ports = slice_set q.ports place entries }
+
+-- each list is changed so
+abbrev pub each_list : (List Entry → List Entry) → Queues → Queues
+each_list change q = record {
+  semaphores = map change q.semaphores;
+  events = map change q.events;
+  buffers = map change q.buffers;
+  blackboards = map change q.blackboards;
+  ports = map change q.ports;
+}
+
 -- the process is in no list
-abbrev pub without_in_all : ℕ → List (List Entry) → List (List Entry)
-without_in_all p lists = map (without p) lists
-
--- the list with a number, which is empty where there is none
-abbrev pub list_at : List (List Entry) → ℕ → List Entry
-list_at lists number = slice_index_or lists number []
-
-abbrev pub put_list : List (List Entry) → ℕ → List Entry → List (List Entry)
-put_list lists number entries = slice_set lists number entries
+abbrev pub without_in_all : ℕ → Queues → Queues
+without_in_all p q = each_list (without p) q
 
 -- First in, first out: behind all others. By priority: behind all of its priority or a higher one.
 abbrev pub joined : Discipline → Entry → List Entry → List Entry
@@ -22,14 +54,14 @@ joined discipline.Fifo e entries = entries ++ e ∷ []
 joined discipline.Priority e entries = behind_equals e entries
 
 -- the entry's process leaves the list that it is in, and joins this one
-abbrev pub joins : ℕ → Discipline → Entry → List (List Entry) → List (List Entry)
-joins number d e lists =
-    let others = without_in_all e.process.0 lists in
-    put_list others number (joined d e (list_at others number))
+abbrev pub joins : ListKey → Discipline → Entry → Queues → Queues
+joins k d e q =
+    let others = without_in_all e.process.0 q in
+    put_list others k (joined d e (list_at others k))
 
 abbrev pub no_entries : List Entry → List Entry
 no_entries entries = []
 
 -- all lists are empty
-abbrev pub emptied : List (List Entry) → List (List Entry)
-emptied lists = map no_entries lists
+abbrev pub emptied : Queues → Queues
+emptied q = each_list no_entries q

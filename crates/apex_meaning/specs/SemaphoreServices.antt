@@ -2,8 +2,9 @@
 use Rattle.std.specs.Prelude.{ℕ, ◌+◌, ◌-◌, ℤ, pos, Bool, true, not, nat_lt, nat_le, List, [], ◌∷◌, Option, Some, None, if◌then◌else◌}
 use Rattle.apex_types.specs.declared.codes.Mode.{Mode}
 use Rattle.apex_types.specs.declared.codes.ReturnCode.TheVariants as code
-use Rattle.apex_types.specs.declared.denotation.ObjectKind.TheVariants as kind
 use Rattle.apex_types.specs.declared.identity.At.{At}
+use Rattle.apex_types.specs.declared.identity.ListKey.{ListKey}
+use Rattle.apex_types.specs.declared.identity.ListKey.TheVariants as key
 use Rattle.apex_types.specs.declared.identity.Runner.{Runner}
 use Rattle.apex_types.specs.declared.process.ProcessStatus.{ProcessStatus}
 use Rattle.apex_types.specs.declared.process.Waiting.{Waiting}
@@ -13,14 +14,14 @@ use Rattle.apex_meaning.specs.Objects.{Objects, Semaphore, semaphore, put_semaph
 use Rattle.apex_meaning.specs.Processes.{released}
 use Rattle.apex_meaning.specs.Sharing.{Sharing, of_processes, becomes, answers, refuses, has, on, create, get_id, get_status}
 use Rattle.apex_meaning.specs.Step.{Step, after, message, row}
-use Rattle.apex_meaning.specs.Waiting.{list_of, waiting_count, first_waiting, blocks}
+use Rattle.apex_meaning.specs.Waiting.{waiting_count, first_waiting, blocks}
 
 abbrev pub is_created : Semaphore → Bool
 is_created x = x.created
 
 -- its waiting list
-abbrev pub list : ℕ → ℕ
-list place = list_of kind.Semaphore place
+abbrev pub list : ℕ → ListKey
+list place = key.Semaphore place
 
 -- ---- CREATE_SEMAPHORE and GET_SEMAPHORE_ID
 
@@ -36,7 +37,7 @@ get_semaphore_id b p name = get_id b p service.GetSemaphoreId name (semaphore b.
 -- ---- WAIT_SEMAPHORE
 
 abbrev pub waiting_for : ℕ → Semaphore → Waiting
-waiting_for place x = record { service = service.WaitSemaphore; list = record { 0 = list place }; discipline = x.row.discipline; array = None }
+waiting_for place x = record { service = service.WaitSemaphore; list = list place; discipline = x.row.discipline; array = None }
 
 -- its value falls by one; at 0 the caller waits
 abbrev pub takes : At → Sharing Objects → Runner → ℤ → ℕ → Semaphore → Step (Sharing Objects)

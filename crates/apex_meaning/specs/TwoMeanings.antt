@@ -2,7 +2,7 @@
 -- the same in both; they differ in the engine on which processes run.
 use Rattle.std.specs.Prelude.{ℕ, ◌+◌, ℤ, List, [], ◌∷◌, Option, None, option_map, map, replicate, Bool, false, is_some}
 use Rattle.arrayvec.specs.ArrayVec.{ArrayVec}
-use Rattle.apex_types.specs.declared.identity.TheConstants.{WAITING_LISTS}
+use Rattle.apex_types.specs.declared.identity.TheConstants.{MOST_OBJECTS}
 use Rattle.apex_types.specs.declared.codes.Mode.TheVariants as mode
 use Rattle.apex_types.specs.declared.codes.ProcessState.TheVariants.{Dormant}
 use Rattle.apex_types.specs.declared.codes.StartCondition.TheVariants as condition
@@ -30,6 +30,7 @@ use Rattle.apex_meaning.specs.Partition.{World, Member}
 use Rattle.apex_meaning.specs.Ports.{Ports, fresh_ports}
 use Rattle.apex_meaning.specs.Processes.{Processes}
 use Rattle.apex_meaning.specs.Program as program
+use Rattle.apex_meaning.specs.Queues.{Queues}
 pub use Rattle.apex_meaning.specs.Starts.{ticks}
 use Rattle.apex_meaning.specs.Step.{message}
 use Rattle.apex_meaning.specs.Windows.{Schedule, schedule_of_partition}
@@ -63,9 +64,15 @@ handler_row = fresh_row Handler (record { 0 = 0 }) None None
 abbrev pub no_message : ProcessStatus → ArrayVec ℤ
 no_message r = message []
 
+-- nobody waits for an object or a port
+abbrev pub fresh_queues : Queues
+fresh_queues =
+    let none = replicate MOST_OBJECTS [] in
+    record { semaphores = none; events = none; buffers = none; blackboards = none; ports = none }
+
 -- no process is created, and none runs or waits
 abbrev pub fresh_processes : List ProcessStatus → Processes
-fresh_processes rows = record { rows = init_row ∷ handler_row ∷ rows; ready = []; running = None; lock = lock.Free; queues = replicate WAITING_LISTS []; handed = map no_message rows }
+fresh_processes rows = record { rows = init_row ∷ handler_row ∷ rows; ready = []; running = None; lock = lock.Free; queues = fresh_queues; handed = map no_message rows }
 
 -- what is fixed of the partition with a number
 abbrev pub fixed_of : Schedule → ℕ → Partition → Fixed

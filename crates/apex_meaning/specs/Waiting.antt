@@ -1,10 +1,9 @@
 -- How a process comes to wait at an object or a port, and how it is released: the same for all of them.
-use Rattle.std.specs.Prelude.{ℕ, ◌*◌, ◌+◌, ℤ, pos, List, [], ◌∷◌, length, Option, Some, None, slice_index_or, slice_set}
+use Rattle.std.specs.Prelude.{ℕ, ℤ, pos, List, [], ◌∷◌, length, Option, Some, None, slice_index_or, slice_set}
 use Rattle.arrayvec.specs.ArrayVec.{ArrayVec}
 use Rattle.apex_types.specs.declared.codes.ReturnCode.TheVariants as code
-use Rattle.apex_types.specs.declared.denotation.ObjectKind.{ObjectKind}
-use Rattle.apex_types.specs.declared.denotation.ObjectKind.TheVariants as kind
 use Rattle.apex_types.specs.declared.identity.At.{At}
+use Rattle.apex_types.specs.declared.identity.ListKey.{ListKey}
 use Rattle.apex_types.specs.declared.identity.Runner.{Runner}
 use Rattle.apex_types.specs.declared.identity.Runner.TheVariants as runner
 use Rattle.apex_types.specs.declared.process.Action.{Action}
@@ -24,23 +23,12 @@ use Rattle.apex_meaning.specs.Step.{Step, nothing, after, message, row}
 
 -- ---- the waiting lists
 
-abbrev pub place_of_kind : ObjectKind → ℕ
-place_of_kind kind.Semaphore = 0
-place_of_kind kind.Event = 1
-place_of_kind kind.Buffer = 2
-place_of_kind kind.Blackboard = 3
-place_of_kind _ = 4
-
--- the waiting list of the object of a kind at a place, from 0: sixteen for each kind
-abbrev pub list_of : ObjectKind → ℕ → ℕ
-list_of k place = 16 * place_of_kind k + place
-
 -- those who wait in a list
-abbrev pub waiting : Processes → ℕ → List Entry
+abbrev pub waiting : Processes → ListKey → List Entry
 waiting s list = list_at s.queues list
 
 -- how many they are
-abbrev pub waiting_count : Processes → ℕ → ℕ
+abbrev pub waiting_count : Processes → ListKey → ℕ
 waiting_count s list = length (waiting s list)
 
 abbrev pub found_first : Processes → List Entry → Option (Runner × ProcessStatus)
@@ -48,7 +36,7 @@ found_first s [] = None
 found_first s (e ∷ es) = numbered e.process (row_of s (runner.Process e.process))
 
 -- the first who waits in a list, with its record
-abbrev pub first_waiting : Processes → ℕ → Option (Runner × ProcessStatus)
+abbrev pub first_waiting : Processes → ListKey → Option (Runner × ProcessStatus)
 first_waiting s list = found_first s (waiting s list)
 
 -- the message of the call in which a process waits
@@ -61,7 +49,7 @@ handed_by s _ = message []
 -- in the list of its object, with the message that its call hands in
 abbrev pub enters : Processes → Runner → Waiting → ArrayVec ℤ → ProcessStatus → Processes
 enters s (runner.Process p) w message r = record s {
-  queues = joins w.list.0 w.discipline (entry p r.current_priority) s.queues;
+  queues = joins w.list w.discipline (entry p r.current_priority) s.queues;
   handed = slice_set s.handed p.0 message;
 }
 enters s _ w message r = s

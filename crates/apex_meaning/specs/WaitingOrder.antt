@@ -6,9 +6,10 @@
 use Rattle.std.specs.Prelude.{◌<◌, ℕ, List, [], ◌∷◌}
 use Rattle.apex_types.specs.declared.codes.Discipline.{Discipline}
 use Rattle.apex_types.specs.declared.codes.Discipline.TheVariants as discipline
+use Rattle.apex_types.specs.declared.identity.ListKey.{ListKey}
 use Rattle.apex_types.specs.declared.process.Entry.{Entry}
 use Rattle.apex_meaning.specs.Choice.{IsAmong, IsBefore, AreNumbersBelow}
-use Rattle.apex_meaning.specs.Queues.{list_at}
+use Rattle.apex_meaning.specs.Queues.{Queues, list_at}
 
 -- under a discipline one is before another
 abbrev pub IsBeforeUnder : Discipline → (ℕ → ℕ) → Entry → Entry → Type 0
@@ -35,5 +36,5 @@ pub record IsQueue (d : Discipline) (number : ℕ → ℕ) (next : ℕ) (list : 
   pub below : AreNumbersBelow number next list
 
 -- each list is so under the discipline of its object
-abbrev pub AreQueues : (ℕ → Discipline) → (ℕ → ℕ) → ℕ → List (List Entry) → Type 0
-AreQueues disciplines number next lists = (k : ℕ) → IsQueue (disciplines k) number next (list_at lists k)
+abbrev pub AreQueues : (ListKey → Discipline) → (ℕ → ℕ) → ℕ → Queues → Type 0
+AreQueues disciplines number next queues = (k : ListKey) → IsQueue (disciplines k) number next (list_at queues k)

@@ -66,13 +66,15 @@ pub const MOST_OBJECTS: u8 = 16;
 /// The most errors that wait for an error handler.
 pub const MOST_ERRORS: u8 = 64;
 
-/// The waiting lists of a partition: one for each semaphore, event, buffer, blackboard and port that
-/// it may have.
-pub const WAITING_LISTS: u8 = 5 * MOST_OBJECTS;
-
-/// A waiting list of a partition, from 0.
+/// A waiting list of a partition: that of an object or a port, by its kind and its place from 0.
 #[derive(Clone, Copy, Debug, PartialEq, Eq)]
-pub struct ListId(pub u8);
+pub enum ListKey {
+    Semaphore(u8),
+    Event(u8),
+    Buffer(u8),
+    Blackboard(u8),
+    Port(u8),
+}
 
 /// A process priority, 1 to 239; a higher number goes first.
 #[derive(Clone, Copy, Debug, Default, PartialEq, Eq, PartialOrd, Ord)]

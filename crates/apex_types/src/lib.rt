@@ -35,8 +35,8 @@ pub use denotation::{Denotation, ObjectKind};
 pub use device::{DeviceFault, DeviceInput, DeviceLine};
 pub use event::{Event, EventKind, Events, Subject, Words};
 pub use identity::{
-    At, ChannelIndex, ListId, MOST_ERRORS, MOST_OBJECTS, MOST_PROCESSES, MOST_RUNNERS, PartitionId,
-    PortId, Priority, ProcessIndex, Runner, Ticks, WAITING_LISTS,
+    At, ChannelIndex, ListKey, MOST_ERRORS, MOST_OBJECTS, MOST_PROCESSES, MOST_RUNNERS,
+    PartitionId, PortId, Priority, ProcessIndex, Runner, Ticks,
 };
 pub use instruction::{BinaryOperator, Instr, UnaryOperator};
 pub use name::Name;

@@ -2,7 +2,7 @@
 
 use crate::codes::{Discipline, ErrorKind, ProcessState};
 use crate::event::{Subject, Words};
-use crate::identity::{ListId, Priority, ProcessIndex, Runner, Ticks};
+use crate::identity::{ListKey, Priority, ProcessIndex, Runner, Ticks};
 use crate::service::{ArrayPlace, Service};
 
 /// What a waiting process waits for.
@@ -29,7 +29,7 @@ pub enum Wait {
 pub struct Waiting {
     pub service: Service,
     /// The waiting list of the object.
-    pub list: ListId,
+    pub list: ListKey,
     pub discipline: Discipline,
     /// The array of a receiver.
     pub array: Option<ArrayPlace>,

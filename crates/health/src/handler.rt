@@ -37,9 +37,7 @@ pub fn create_error_handler(
         return table.refuse(caller, service, ReturnCode::NoAction, &[], out);
     }
     table.answer(caller, service, ReturnCode::NoError, &[], out);
-    if let Some(row) = table.row(Runner::Handler) {
-        table.create(Runner::Handler, row);
-    }
+    table.create(Runner::Handler);
 }
 
 /// The number of an error in what a program reads, 0 to 6.
@@ -110,7 +108,7 @@ fn begin_if_dormant(table: &mut ProcessTable, out: &mut Out)
 {
     if let Some(row) = table.row(Runner::Handler) {
         if row.created && is_dormant(&row) {
-            table.wake(Runner::Handler, row, out);
+            table.wake(Runner::Handler, out);
             out.actions.push(Action::Begin(Runner::Handler));
         }
     }

@@ -9,10 +9,11 @@ use Rattle.std.proofs.Math.ListN as listn
 use Rattle.arrayvec.specs.ArrayVec.{ArrayVec}
 use Rattle.apex_types.specs.declared.codes.Discipline.{Discipline}
 use Rattle.apex_types.specs.declared.codes.Discipline.TheVariants as discipline
-use Rattle.apex_types.specs.declared.identity.ListId.{ListId}
+use Rattle.links.specs.declared.lists.ListId.{ListId}
 use Rattle.apex_types.specs.declared.process.Entry.{Entry}
 use Rattle.apex_meaning.specs.Entries.{without, behind_equals}
-use Rattle.apex_meaning.specs.Queues.{without_in_all, list_at, put_list, joined, emptied, no_entries}
+use Rattle.apex_meaning.specs.Queues.{list_in, joined, no_entries}
+use Rattle.links.specs.Lists.{without_in_each, put_in, emptied_each}
 use Rattle.apex_meaning.specs.Ready.{times_listed, AreBelow, IsListed}
 use Rattle.apex_meaning.proofs.ReadyLists.{length-without}
 use Rattle.links.specs.OneHome.{entries_of, once_at, IsHomed}
@@ -32,9 +33,9 @@ test_le p q = grind (arith, nat_tests)
 -- ---- a list of the code
 
 -- a list changed is that entry of all lists changed
-pub put-entries : (lists : List (ArrayVec Entry)) (place number : ℕ) (old new : ArrayVec Entry) (next : List Entry → List Entry) → place ≡ number → place < length lists → old ≡ get_or lists place old → new.items ≡ next old.items → map entries_of (slice_set lists place new) ≡ put_list (map entries_of lists) number (next (list_at (map entries_of lists) number))
+pub put-entries : (lists : List (ArrayVec Entry)) (place number : ℕ) (old new : ArrayVec Entry) (next : List Entry → List Entry) → place ≡ number → place < length lists → old ≡ get_or lists place old → new.items ≡ next old.items → map entries_of (slice_set lists place new) ≡ put_in (map entries_of lists) number (next (list_in (map entries_of lists) number))
 put-entries lists place number old new next same lt is changed =
-    let at : list_at (map entries_of lists) place ≡ old.items = get_or-map entries_of lists place old [] lt ∙ ap entries_of (sym is) in
+    let at : list_in (map entries_of lists) place ≡ old.items = get_or-map entries_of lists place old [] lt ∙ ap entries_of (sym is) in
     rw (← same) (rw (map-set entries_of lists place new, changed, at) refl)
 
 -- ---- none waits
@@ -48,7 +49,7 @@ same-everywhere n i x = elim (cases_lt i n) [
 pub IsHomed-new : (n m : ℕ) → IsHomed (replicate n []) (replicate m None)
 IsHomed-new n m = λ p k. rw (same-everywhere {X = List Entry} n k [], same-everywhere {X = Option ListId} m p None) refl
 
-pub IsHomed-emptied : (m : ℕ) (lists : List (List Entry)) → IsHomed (emptied lists) (replicate m None)
+pub IsHomed-emptied : (m : ℕ) (lists : List (List Entry)) → IsHomed (emptied_each lists) (replicate m None)
 IsHomed-emptied m lists = λ p k. rw (listn.get_or-map no_entries lists k [], same-everywhere {X = Option ListId} m p None) refl
 
 -- ---- one who leaves a list
@@ -88,37 +89,37 @@ without-absent p (e ∷ es) h = elim (cases_eq p e.process.0) [
 
 -- ---- one who leaves all lists
 
-list_at-without : (p : ℕ) (lists : List (List Entry)) (k : ℕ) → list_at (without_in_all p lists) k ≡ without p (list_at lists k)
+list_at-without : (p : ℕ) (lists : List (List Entry)) (k : ℕ) → list_in (without_in_each p lists) k ≡ without p (list_in lists k)
 list_at-without p lists k = listn.get_or-map (without p) lists k []
 
-without-nobody : (p : ℕ) (lists : List (List Entry)) → ((j : ℕ) → times_listed p (list_at lists j) ≡ 0) → without_in_all p lists ≡ lists
+without-nobody : (p : ℕ) (lists : List (List Entry)) → ((j : ℕ) → times_listed p (list_in lists j) ≡ 0) → without_in_each p lists ≡ lists
 without-nobody p [] h = refl
 without-nobody p (x ∷ xs) h =
     let here : without p x ≡ x = without-absent p x (h 0) in
-    let rest : without_in_all p xs ≡ xs = without-nobody p xs (λ j. h (suc j)) in
+    let rest : without_in_each p xs ≡ xs = without-nobody p xs (λ j. h (suc j)) in
     cc
 
 -- where one is in no other list, to leave this one is to leave all
-without-one : (p k : ℕ) (lists : List (List Entry)) → ((j : ℕ) → (j ≡ k → ⊥) → times_listed p (list_at lists j) ≡ 0) → put_list lists k (without p (list_at lists k)) ≡ without_in_all p lists
+without-one : (p k : ℕ) (lists : List (List Entry)) → ((j : ℕ) → (j ≡ k → ⊥) → times_listed p (list_in lists j) ≡ 0) → put_in lists k (without p (list_in lists k)) ≡ without_in_each p lists
 without-one p zero [] h = refl
 without-one p (suc k) [] h = refl
 without-one p zero (x ∷ xs) h =
-    let rest : without_in_all p xs ≡ xs = without-nobody p xs (λ j. h (suc j) (λ q. omega arith)) in
+    let rest : without_in_each p xs ≡ xs = without-nobody p xs (λ j. h (suc j) (λ q. omega arith)) in
     cc
 without-one p (suc k) (x ∷ xs) h =
     let here : without p x ≡ x = without-absent p x (h 0 (λ q. omega arith)) in
-    let rest : put_list xs k (without p (list_at xs k)) ≡ without_in_all p xs = without-one p k xs (λ j ne. h (suc j) (λ q. ne (omega arith))) in
+    let rest : put_in xs k (without p (list_in xs k)) ≡ without_in_each p xs = without-one p k xs (λ j ne. h (suc j) (λ q. ne (omega arith))) in
     cc
 
-pub leaves-home : (p : ℕ) (home : ListId) (lists : List (List Entry)) (homes : List (Option ListId)) → IsHomed lists homes → slice_index_or homes p None ≡ Some home → put_list lists home.0 (without p (list_at lists home.0)) ≡ without_in_all p lists
+pub leaves-home : (p : ℕ) (home : ListId) (lists : List (List Entry)) (homes : List (Option ListId)) → IsHomed lists homes → slice_index_or homes p None ≡ Some home → put_in lists home.0 (without p (list_in lists home.0)) ≡ without_in_each p lists
 leaves-home p home lists homes h is =
     without-one p home.0 lists (λ j ne.
     let back : (home.0 ≡ j → ⊥) = λ q. ne (sym q) in
     let none : once_at (Some home) j ≡ 0 = test_other home.0 j back in
-    let found : times_listed p (list_at lists j) ≡ once_at (Some home) j = rw is at (h p j) in
+    let found : times_listed p (list_in lists j) ≡ once_at (Some home) j = rw is at (h p j) in
     omega arith)
 
-pub leaves-none : (p : ℕ) (lists : List (List Entry)) (homes : List (Option ListId)) → IsHomed lists homes → slice_index_or homes p None ≡ None → without_in_all p lists ≡ lists
+pub leaves-none : (p : ℕ) (lists : List (List Entry)) (homes : List (Option ListId)) → IsHomed lists homes → slice_index_or homes p None ≡ None → without_in_each p lists ≡ lists
 leaves-none p lists homes h is = without-nobody p lists (λ j. rw is at (h p j))
 
 set-none : (homes : List (Option ListId)) (p q : ℕ) → q ≡ p → slice_index_or (slice_set homes p None) q None ≡ None
@@ -127,20 +128,20 @@ set-none homes p q same = elim (cases_lt p (length homes)) [
   | inr le ↦ get_or_past (slice_set homes p None) q None (rw length-set (omega arith))
 ]
 
-pub IsHomed-leaves : (p : ℕ) (lists : List (List Entry)) (homes : List (Option ListId)) → IsHomed lists homes → IsHomed (without_in_all p lists) (slice_set homes p None)
+pub IsHomed-leaves : (p : ℕ) (lists : List (List Entry)) (homes : List (Option ListId)) → IsHomed lists homes → IsHomed (without_in_each p lists) (slice_set homes p None)
 IsHomed-leaves p lists homes h = λ q k. elim (cases_eq q p) [
   | inl same ↦
       let home : slice_index_or (slice_set homes p None) q None ≡ None = set-none homes p q same in
-      let gone : times_listed q (without p (list_at lists k)) ≡ 0 = subst (λ (r : ℕ). times_listed r (without p (list_at lists k)) ≡ 0) (sym same) (without-none p (list_at lists k)) in
+      let gone : times_listed q (without p (list_in lists k)) ≡ 0 = subst (λ (r : ℕ). times_listed r (without p (list_in lists k)) ≡ 0) (sym same) (without-none p (list_in lists k)) in
       rw (list_at-without p lists k, home) gone
   | inr other ↦
       let home : slice_index_or (slice_set homes p None) q None ≡ slice_index_or homes q None = get_or-set_other homes p q None None other in
-      let stays : times_listed q (without p (list_at lists k)) ≡ times_listed q (list_at lists k) = without-other p q (list_at lists k) other in
+      let stays : times_listed q (without p (list_in lists k)) ≡ times_listed q (list_in lists k) = without-other p q (list_in lists k) other in
       rw (list_at-without p lists k, home, stays) (h q k)
 ]
 
-pub absent : (p : ℕ) (lists old : List (List Entry)) → lists ≡ without_in_all p old → (j : ℕ) → times_listed p (list_at lists j) ≡ 0
-absent p lists old is j = rw (is, list_at-without p old j) (without-none p (list_at old j))
+pub absent : (p : ℕ) (lists old : List (List Entry)) → lists ≡ without_in_each p old → (j : ℕ) → times_listed p (list_in lists j) ≡ 0
+absent p lists old is j = rw (is, list_at-without p old j) (without-none p (list_in old j))
 
 -- ---- each list has room
 
@@ -160,22 +161,22 @@ below n (e ∷ es) h = (
   below n es (λ p le. omega (arith, h p le)),
 )
 
-listed : (n : ℕ) (lists : List (List Entry)) (homes : List (Option ListId)) → length homes ≡ n → IsHomed lists homes → (k : ℕ) → IsListed n (list_at lists k)
+listed : (n : ℕ) (lists : List (List Entry)) (homes : List (Option ListId)) → length homes ≡ n → IsHomed lists homes → (k : ℕ) → IsListed n (list_in lists k)
 listed n lists homes full h k = record {
-  below = below n (list_at lists k) (λ p le. rw (get_or_past homes p None (omega arith)) at (h p k));
+  below = below n (list_in lists k) (λ p le. rw (get_or_past homes p None (omega arith)) at (h p k));
   once = λ p. omega (arith, h p k, once-le (slice_index_or homes p None) k);
 }
 
-pub room : (n p : ℕ) (lists : List (List Entry)) (homes : List (Option ListId)) → length homes ≡ n → IsHomed lists homes → p < n → (k : ℕ) → times_listed p (list_at lists k) ≡ 0 → length (list_at lists k) < n
+pub room : (n p : ℕ) (lists : List (List Entry)) (homes : List (Option ListId)) → length homes ≡ n → IsHomed lists homes → p < n → (k : ℕ) → times_listed p (list_in lists k) ≡ 0 → length (list_in lists k) < n
 room n p lists homes full h lt k none =
-    subst (λ (es : List Entry). length es < n) (without-absent p (list_at lists k) none) (length-without n p (list_at lists k) (listed n lists homes full h k) lt)
+    subst (λ (es : List Entry). length es < n) (without-absent p (list_in lists k) none) (length-without n p (list_in lists k) (listed n lists homes full h k) lt)
 
 first-below : (n : ℕ) (es : List Entry) → AreBelow n es → IfSome (slice_get es 0) (λ e. e.process.0 < n)
 first-below n [] h = tt
 first-below n (e ∷ es) h = h.0
 
-pub first_below : (n : ℕ) (lists : List (List Entry)) (homes : List (Option ListId)) → length homes ≡ n → IsHomed lists homes → (k : ℕ) → IfSome (slice_get (list_at lists k) 0) (λ e. e.process.0 < n)
-first_below n lists homes full h k = first-below n (list_at lists k) (listed n lists homes full h k).below
+pub first_below : (n : ℕ) (lists : List (List Entry)) (homes : List (Option ListId)) → length homes ≡ n → IsHomed lists homes → (k : ℕ) → IfSome (slice_get (list_in lists k) 0) (λ e. e.process.0 < n)
+first_below n lists homes full h k = first-below n (list_in lists k) (listed n lists homes full h k).below
 
 -- ---- one who joins a list
 
@@ -195,13 +196,13 @@ joined-times : (d : Discipline) (e : Entry) (q : ℕ) (es : List Entry) → time
 joined-times discipline.Fifo e q es = last-times e q es
 joined-times discipline.Priority e q es = behind-times e q es
 
-pub IsHomed-joins : (d : Discipline) (e : Entry) (home : ListId) (lists : List (List Entry)) (homes : List (Option ListId)) → IsHomed lists homes → home.0 < length lists → e.process.0 < length homes → ((j : ℕ) → times_listed e.process.0 (list_at lists j) ≡ 0) → IsHomed (put_list lists home.0 (joined d e (list_at lists home.0))) (slice_set homes e.process.0 (Some home))
+pub IsHomed-joins : (d : Discipline) (e : Entry) (home : ListId) (lists : List (List Entry)) (homes : List (Option ListId)) → IsHomed lists homes → home.0 < length lists → e.process.0 < length homes → ((j : ℕ) → times_listed e.process.0 (list_in lists j) ≡ 0) → IsHomed (put_in lists home.0 (joined d e (list_in lists home.0))) (slice_set homes e.process.0 (Some home))
 IsHomed-joins d e home lists homes h there within none = λ q j.
-    let es = list_at lists home.0 in
-    let next = joined d e (list_at lists home.0) in
+    let es = list_in lists home.0 in
+    let next = joined d e (list_in lists home.0) in
     elim (cases_eq j home.0) [
       | inl here ↦
-          let list : list_at (put_list lists home.0 next) j ≡ next = get_or-set_at lists home.0 j next [] here there in
+          let list : list_in (put_in lists home.0 next) j ≡ next = get_or-set_at lists home.0 j next [] here there in
           let times : times_listed q next ≡ one_if (nat_eq q e.process.0) + times_listed q es = joined-times d e q es in
           elim (cases_eq q e.process.0) [
             | inl same ↦
@@ -217,13 +218,13 @@ IsHomed-joins d e home lists homes h there within none = λ q j.
                 rw (list, at) (omega arith)
           ]
       | inr elsewhere ↦
-          let list : list_at (put_list lists home.0 next) j ≡ list_at lists j = get_or-set_other lists home.0 j next [] elsewhere in
+          let list : list_in (put_in lists home.0 next) j ≡ list_in lists j = get_or-set_other lists home.0 j next [] elsewhere in
           elim (cases_eq q e.process.0) [
             | inl same ↦
                 let at : slice_index_or (slice_set homes e.process.0 (Some home)) q None ≡ Some home = get_or-set_at homes e.process.0 q (Some home) None same within in
                 let back : (home.0 ≡ j → ⊥) = λ r. elsewhere (sym r) in
                 let no : one_if (nat_eq home.0 j) ≡ 0 = test_other home.0 j back in
-                let zero_here : times_listed q (list_at lists j) ≡ 0 = subst (λ (r : ℕ). times_listed r (list_at lists j) ≡ 0) (sym same) (none j) in
+                let zero_here : times_listed q (list_in lists j) ≡ 0 = subst (λ (r : ℕ). times_listed r (list_in lists j) ≡ 0) (sym same) (none j) in
                 rw (list, at) (omega arith)
             | inr other ↦
                 let at : slice_index_or (slice_set homes e.process.0 (Some home)) q None ≡ slice_index_or homes q None = get_or-set_other homes e.process.0 q (Some home) None other in
@@ -257,13 +258,13 @@ first-leaves e (x ∷ xs) is h =
     let gone : times_listed e.process.0 xs ≡ 0 = omega arith in
     record { one = omega arith; rest = rw test (without-absent e.process.0 xs gone) }
 
-pops : (k : ℕ) (e : Entry) (lists : List (List Entry)) (homes : List (Option ListId)) → IsHomed lists homes → slice_get (list_at lists k) 0 ≡ Some e → without_in_all e.process.0 lists ≡ put_list lists k (drop 1 (list_at lists k))
+pops : (k : ℕ) (e : Entry) (lists : List (List Entry)) (homes : List (Option ListId)) → IsHomed lists homes → slice_get (list_in lists k) 0 ≡ Some e → without_in_each e.process.0 lists ≡ put_in lists k (drop 1 (list_in lists k))
 pops k e lists homes h is =
-    let first = first-leaves e (list_at lists k) is (omega (arith, h e.process.0 k, once-le (slice_index_or homes e.process.0 None) k)) in
+    let first = first-leaves e (list_in lists k) is (omega (arith, h e.process.0 k, once-le (slice_index_or homes e.process.0 None) k)) in
     let one : once_at (slice_index_or homes e.process.0 None) k ≡ 1 = omega (arith, h e.process.0 k, first.one) in
     let alone = without-one e.process.0 k lists (λ j ne. omega (arith, h e.process.0 j, once-elsewhere (slice_index_or homes e.process.0 None) k j one ne)) in
     sym (rw first.rest at alone)
 
-pub pops-seen : (k : ℕ) (e : Entry) (lists seen : List (List Entry)) (homes : List (Option ListId)) → lists ≡ seen → IsHomed lists homes → slice_get (list_at lists k) 0 ≡ Some e → without_in_all e.process.0 seen ≡ put_list seen k (drop 1 (list_at seen k))
+pub pops-seen : (k : ℕ) (e : Entry) (lists seen : List (List Entry)) (homes : List (Option ListId)) → lists ≡ seen → IsHomed lists homes → slice_get (list_in lists k) 0 ≡ Some e → without_in_each e.process.0 seen ≡ put_in seen k (drop 1 (list_in seen k))
 pops-seen k e lists seen homes same h is =
-    subst (λ (ls : List (List Entry)). without_in_all e.process.0 ls ≡ put_list ls k (drop 1 (list_at ls k))) same (pops k e lists homes h is)
+    subst (λ (ls : List (List Entry)). without_in_each e.process.0 ls ≡ put_in ls k (drop 1 (list_in ls k))) same (pops k e lists homes h is)

@@ -1,9 +1,9 @@
 -- A process stands in one list at most.
 use Rattle.std.specs.Prelude.{ℕ, ◌≡◌, ◌==◌, List, Option, Some, None, slice_index_or, if◌then◌else◌}
 use Rattle.arrayvec.specs.ArrayVec.{ArrayVec}
-use Rattle.apex_types.specs.declared.identity.ListId.{ListId}
+use Rattle.links.specs.declared.lists.ListId.{ListId}
 use Rattle.apex_types.specs.declared.process.Entry.{Entry}
-use Rattle.apex_meaning.specs.Queues.{list_at}
+use Rattle.apex_meaning.specs.Queues.{list_in}
 use Rattle.apex_meaning.specs.Ready.{times_listed}
 
 abbrev pub entries_of : ArrayVec Entry → List Entry
@@ -16,4 +16,4 @@ once_at (Some home) number = if home.0 == number then 1 else 0
 
 -- each process stands once in its home and in no other list
 abbrev pub IsHomed : List (List Entry) → List (Option ListId) → Type 0
-IsHomed lists homes = (p number : ℕ) → times_listed p (list_at lists number) ≡ once_at (slice_index_or homes p None) number
+IsHomed lists homes = (p number : ℕ) → times_listed p (list_in lists number) ≡ once_at (slice_index_or homes p None) number

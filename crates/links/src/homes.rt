@@ -2,7 +2,8 @@
 
 ghost use Rattle.std.specs.Prelude.{◌≡◌, None, slice_index_or, slice_set};
 
-use apex_types::{ListId, ProcessIndex};
+use crate::lists::ListId;
+use apex_types::ProcessIndex;
 
 /// The list in which a process stands.
 pub(crate) fn home_of(homes: &[Option<ListId>], process: ProcessIndex) -> Option<ListId>

@@ -8,8 +8,11 @@ mod entries;
 mod homes;
 mod links;
 mod lists;
+mod waiting_lists;
 
 pub use due_list::DueList;
 pub use dues::DueEntry;
 pub use entries::Entries;
 pub use links::Links;
+pub use lists::ListId;
+pub use waiting_lists::WaitingLists;

@@ -1,19 +1,21 @@
-//! The waiting lists, with the list of each process.
+//! Lists of processes, with the list of each process.
 
 ghost use Rattle.std.specs.Prelude.{◌≡◌, ℕ, ◌<◌, ◌≤◌, [], drop, length, replicate, slice_get, IfOk, IfSome};
 ghost use Rattle.apex_types.specs.declared.codes.Discipline.TheVariants as discipline;
-ghost use Rattle.apex_meaning.specs.Queues.{emptied, joins, list_at, put_list, without_in_all};
+ghost use Rattle.apex_meaning.specs.Queues.{list_in};
+ghost use Rattle.links.specs.Lists.{emptied_each, joins_in, put_in, without_in_each};
 ghost use Rattle.apex_meaning.specs.Ready.{times_listed};
 ghost use Rattle.links.specs.OneHome.{once_at};
 
 use crate::entries::{Entries, MOST_WAITING};
+use crate::lists::ListId;
 use crate::{homes, lists};
-use apex_types::{Discipline, Entry, ListId, MOST_PROCESSES, ProcessIndex};
+use apex_types::{Discipline, Entry, MOST_PROCESSES, ProcessIndex};
 use std::alloc::{AllocError, Global};
 use std::marker::Model;
 
-/// The waiting lists of a partition. A process stands in one of them at most. A contract sees them as
-/// lists of entries.
+/// Several lists of processes. A process stands in one of them at most. A contract sees them as lists
+/// of entries.
 #[derive(Drop)]
 pub struct Links {
     lists: Vec<Entries>,
@@ -46,7 +48,7 @@ impl Links {
 
     /// The one of a list who is released next.
     pub fn first(&self, list: ListId) -> Option<Entry>
-        ensures value { result ≡ slice_get (list_at self.now list.0) 0 }
+        ensures value { result ≡ slice_get (list_in self.now list.0) 0 }
         ensures below { IfSome result (λ entry. entry.process.0 < MOST_PROCESSES) }
     {
         lists::front_at(&self.lists, list)
@@ -54,7 +56,7 @@ impl Links {
 
     /// How many stand in a list.
     pub fn count(&self, list: ListId) -> u8
-        ensures count { result ≡ length (list_at self.now list.0) }
+        ensures count { result ≡ length (list_in self.now list.0) }
         ensures most { result ≤ MOST_PROCESSES }
     {
         lists::count_at(&self.lists, list)
@@ -62,21 +64,21 @@ impl Links {
 
     /// A copy of a list.
     pub fn entries(&self, list: ListId) -> Entries
-        ensures { result.items ≡ list_at self.now list.0 }
+        ensures { result.items ≡ list_in self.now list.0 }
     {
         lists::copy_at(&self.lists, list)
     }
 
     /// The list in which a process stands, once, and in no other.
     pub fn which(&self, process: ProcessIndex) -> Option<ListId>
-        ensures { (k : ℕ) → times_listed process.0 (list_at self.now k) ≡ once_at result k }
+        ensures { (k : ℕ) → times_listed process.0 (list_in self.now k) ≡ once_at result k }
     {
         homes::home_of(&self.homes, process)
     }
 
     /// Takes a process out of its list.
     pub fn remove(&mut self, process: ProcessIndex)
-        ensures { self.new ≡ without_in_all process.0 self.old }
+        ensures { self.new ≡ without_in_each process.0 self.old }
     {
         match homes::home_of(&self.homes, process) {
             Some(list) => {
@@ -90,7 +92,7 @@ impl Links {
     /// A process leaves its list, and joins this one as its discipline says.
     pub fn join(&mut self, list: ListId, discipline: Discipline, entry: Entry)
         requires below { entry.process.0 < MOST_PROCESSES }
-        ensures { self.new ≡ joins list.0 discipline entry self.old }
+        ensures { self.new ≡ joins_in list.0 discipline entry self.old }
     {
         self.remove(entry.process);
         if usize::from(list.0) < self.lists.len() {
@@ -102,7 +104,7 @@ impl Links {
     /// A process leaves its list, and goes behind all others of this one.
     pub fn push_back(&mut self, list: ListId, entry: Entry)
         requires below { entry.process.0 < MOST_PROCESSES }
-        ensures { self.new ≡ joins list.0 discipline.Fifo entry self.old }
+        ensures { self.new ≡ joins_in list.0 discipline.Fifo entry self.old }
     {
         self.join(list, Discipline::Fifo, entry);
     }
@@ -111,16 +113,16 @@ impl Links {
     /// one.
     pub fn insert_by_priority(&mut self, list: ListId, entry: Entry)
         requires below { entry.process.0 < MOST_PROCESSES }
-        ensures { self.new ≡ joins list.0 discipline.Priority entry self.old }
+        ensures { self.new ≡ joins_in list.0 discipline.Priority entry self.old }
     {
         self.join(list, Discipline::Priority, entry);
     }
 
     /// Releases the first of a list.
     pub fn pop_front(&mut self, list: ListId) -> Option<Entry>
-        ensures value { result ≡ slice_get (list_at self.old list.0) 0 }
+        ensures value { result ≡ slice_get (list_in self.old list.0) 0 }
         ensures below { IfSome result (λ entry. entry.process.0 < MOST_PROCESSES) }
-        ensures lists { self.new ≡ put_list self.old list.0 (drop 1 (list_at self.old list.0)) }
+        ensures lists { self.new ≡ put_in self.old list.0 (drop 1 (list_in self.old list.0)) }
     {
         let first = lists::front_at(&self.lists, list)?;
         self.remove(first.process);
@@ -129,7 +131,7 @@ impl Links {
 
     /// Empties all lists.
     pub fn clear(&mut self)
-        ensures { self.new ≡ emptied self.old }
+        ensures { self.new ≡ emptied_each self.old }
     {
         lists::clear_all(&mut self.lists);
         self.homes = [None; MOST_WAITING];

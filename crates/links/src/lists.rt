@@ -2,12 +2,17 @@
 
 ghost use Rattle.std.specs.Prelude.{◌≡◌, ◌<◌, ◌≤◌, [], length, map, replicate, slice_get, IfOk};
 ghost use Rattle.apex_meaning.specs.Entries.{without};
-ghost use Rattle.apex_meaning.specs.Queues.{emptied, joined, list_at, put_list};
+ghost use Rattle.apex_meaning.specs.Queues.{joined, list_in};
+ghost use Rattle.links.specs.Lists.{emptied_each, put_in};
 ghost use Rattle.links.specs.OneHome.{entries_of};
 
 use crate::entries::{self, Entries};
-use apex_types::{Discipline, Entry, ListId, MOST_PROCESSES, ProcessIndex};
+use apex_types::{Discipline, Entry, MOST_PROCESSES, ProcessIndex};
 use std::alloc::{AllocError, Global};
+
+/// One of several lists, from 0.
+#[derive(Clone, Copy, Debug, PartialEq, Eq)]
+pub struct ListId(pub u8);
 
 /// So many empty lists.
 pub(crate) fn empty_lists(alloc: Global, count: u8) -> Result<Vec<Entries>, AllocError>
@@ -22,7 +27,7 @@ pub(crate) fn empty_lists(alloc: Global, count: u8) -> Result<Vec<Entries>, Allo
 
 /// The one of a list who is released next.
 pub(crate) fn front_at(lists: &[Entries], list: ListId) -> Option<Entry>
-    ensures { result ≡ slice_get (list_at (map entries_of lists.now) list.0) 0 }
+    ensures { result ≡ slice_get (list_in (map entries_of lists.now) list.0) 0 }
 {
     match lists.get(usize::from(list.0)) {
         Some(entries) => entries::front(entries),
@@ -32,7 +37,7 @@ pub(crate) fn front_at(lists: &[Entries], list: ListId) -> Option<Entry>
 
 /// How many stand in a list.
 pub(crate) fn count_at(lists: &[Entries], list: ListId) -> u8
-    ensures count { result ≡ length (list_at (map entries_of lists.now) list.0) }
+    ensures count { result ≡ length (list_in (map entries_of lists.now) list.0) }
     ensures most { result ≤ MOST_PROCESSES }
 {
     match lists.get(usize::from(list.0)) {
@@ -54,7 +59,7 @@ fn copy_of(entries: &Entries) -> Entries
 
 /// A copy of a list.
 pub(crate) fn copy_at(lists: &[Entries], list: ListId) -> Entries
-    ensures { result.items ≡ list_at (map entries_of lists.now) list.0 }
+    ensures { result.items ≡ list_in (map entries_of lists.now) list.0 }
 {
     match lists.get(usize::from(list.0)) {
         Some(entries) => copy_of(entries),
@@ -64,7 +69,7 @@ pub(crate) fn copy_at(lists: &[Entries], list: ListId) -> Entries
 
 /// Takes a process out of a list.
 pub(crate) fn leave_at(lists: &mut Vec<Entries>, list: ListId, process: ProcessIndex)
-    ensures { map entries_of lists.new.items ≡ put_list (map entries_of lists.old.items) list.0 (without process.0 (list_at (map entries_of lists.old.items) list.0)) }
+    ensures { map entries_of lists.new.items ≡ put_in (map entries_of lists.old.items) list.0 (without process.0 (list_in (map entries_of lists.old.items) list.0)) }
 {
     if let Some(entries) = lists.get_mut(usize::from(list.0)) {
         entries::leave(entries, process);
@@ -73,8 +78,8 @@ pub(crate) fn leave_at(lists: &mut Vec<Entries>, list: ListId, process: ProcessI
 
 /// Puts an entry into a list as its discipline says.
 pub(crate) fn join_at(lists: &mut Vec<Entries>, list: ListId, discipline: Discipline, entry: Entry)
-    requires { length (list_at (map entries_of lists.old.items) list.0) < MOST_PROCESSES }
-    ensures { map entries_of lists.new.items ≡ put_list (map entries_of lists.old.items) list.0 (joined discipline entry (list_at (map entries_of lists.old.items) list.0)) }
+    requires { length (list_in (map entries_of lists.old.items) list.0) < MOST_PROCESSES }
+    ensures { map entries_of lists.new.items ≡ put_in (map entries_of lists.old.items) list.0 (joined discipline entry (list_in (map entries_of lists.old.items) list.0)) }
 {
     if let Some(entries) = lists.get_mut(usize::from(list.0)) {
         entries::join(entries, discipline, entry);
@@ -83,7 +88,7 @@ pub(crate) fn join_at(lists: &mut Vec<Entries>, list: ListId, discipline: Discip
 
 /// Empties all lists.
 pub(crate) fn clear_all(lists: &mut Vec<Entries>)
-    ensures { map entries_of lists.new.items ≡ emptied (map entries_of lists.old.items) }
+    ensures { map entries_of lists.new.items ≡ emptied_each (map entries_of lists.old.items) }
 {
     for entries in lists.iter_mut() {
         entries.clear();

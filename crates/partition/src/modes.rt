@@ -44,9 +44,7 @@ impl Kernel {
         ensures step { IsMade (of_processes self.old (meaning.rests_found self.old.processes runner (row_of self.old.processes runner))) self.new out.old out.new }
         ensures grows { Grows 1 out.old out.new }
     {
-        if let Some(row) = self.processes.row(runner) {
-            self.processes.rest(runner, row, out);
-        }
+        self.processes.rest(runner, out);
     }
 
     fn enter_normal(&mut self, out: &mut Out)

@@ -13,8 +13,8 @@ ghost use Rattle.ports.specs.Status.{placed_port, port_status};
 
 use crate::port::PortStatus;
 use crate::ports::Ports;
-use apex_types::{At, Entry, EventKind, ObjectKind, Out, ReturnCode, Words};
-use process_table_base::{ProcessTable, copied, list_of};
+use apex_types::{At, Entry, EventKind, ListKey, Out, ReturnCode, Words};
+use process_table_base::{ProcessTable, copied};
 
 /// A sampling port has the message, with its tick, in place of the one before.
 fn arrive_sampling(
@@ -77,11 +77,11 @@ fn arrive_queuing(
     ensures step { IsMade (meaning.arrives_queuing (both table.old ports.old) place (placed_port ports.old place) message (first_waiting table.old (list place))) (both table.new ports.new) out.old out.new }
     ensures grows { Grows 4 out.old out.new }
 {
-    match table.first_waiting(list_of(ObjectKind::Port, place)) {
-        Some((receiver, row)) => {
+    match table.first_waiting(ListKey::Port(place)) {
+        Some((receiver, _)) => {
             let line = EventKind::Arrive(port.row.name, copied(&message));
             out.lines.push(line);
-            table.give(receiver, row, &message, out);
+            table.give(receiver, &message, out);
         }
         None => store(table, ports, place, port, message, out),
     }
@@ -125,9 +125,9 @@ fn admit_one(table: &mut ProcessTable, ports: &mut Ports, entry: Entry, place: u
     if port.is_full() {
         return;
     }
-    if let Some((sender, row)) = table.numbered(entry.process) {
+    if let Some((sender, _)) = table.numbered(entry.process) {
         ports.push_message(place, table.handed_by(sender));
-        table.release(sender, row, ReturnCode::NoError, out);
+        table.release(sender, ReturnCode::NoError, out);
     }
 }
 
@@ -158,7 +158,7 @@ pub fn admit(table: &mut ProcessTable, ports: &mut Ports, place: u8, out: &mut O
     ensures grows { Grows 62 out.old out.new }
 {
     if place < ports.count() {
-        let entries = table.waiting(list_of(ObjectKind::Port, place));
+        let entries = table.waiting(ListKey::Port(place));
         admit_each(table, ports, entries.as_slice(), place, out);
     }
 }

@@ -14,11 +14,9 @@ use crate::deliver::deliver;
 use crate::port::PortStatus;
 use crate::ports::Ports;
 use apex_types::{
-    ArrayPlace, At, Discipline, Mode, ObjectKind, Out, ReturnCode, Runner, Service, Waiting, Words,
+    ArrayPlace, At, Discipline, ListKey, Mode, Out, ReturnCode, Runner, Service, Waiting, Words,
 };
-use process_table_base::{
-    ProcessTable, first_words, is_duration, is_large_enough, is_length, list_of,
-};
+use process_table_base::{ProcessTable, first_words, is_duration, is_large_enough, is_length};
 
 /// CREATE_QUEUING_PORT (ARINC 653 Part 1, interpartition communication): the queuing port of that
 /// number exists, and its output is its number. INVALID_MODE: in normal mode; INVALID_CONFIG: the
@@ -95,7 +93,7 @@ fn send(
     if port.is_full() {
         let waiting = Waiting {
             service,
-            list: list_of(ObjectKind::Port, place),
+            list: ListKey::Port(place),
             discipline: port.discipline(),
             array: None,
         };
@@ -185,7 +183,7 @@ fn receive(
     }
     let waiting = Waiting {
         service,
-        list: list_of(ObjectKind::Port, place),
+        list: ListKey::Port(place),
         discipline,
         array: Some(array),
     };
@@ -249,7 +247,7 @@ fn tell_status(
     ensures step { let b = both table.now ports.now in IsTold (answers b caller Service.GetQueuingPortStatus ReturnCode.NoError (meaning.queuing_status b place (placed_port ports.now place))) out.old out.new }
     ensures grows { Grows 1 out.old out.new }
 {
-    let waiting = table.waiting_count(list_of(ObjectKind::Port, place));
+    let waiting = table.waiting_count(ListKey::Port(place));
     let outputs = [
         i64::from(port.messages),
         i64::from(port.depth()),

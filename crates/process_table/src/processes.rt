@@ -84,7 +84,7 @@ pub fn create_process(
         return table.refuse(caller, service, ReturnCode::NoAction, &[0], out);
     }
     table.answer(caller, service, ReturnCode::NoError, &[name], out);
-    table.create(process, row);
+    table.create(process);
 }
 
 /// SET_PRIORITY (ARINC 653 Part 1, process management): another current priority of a process. A
@@ -106,7 +106,7 @@ pub fn set_priority(table: &mut ProcessTable, caller: Runner, id: i64, priority:
         return table.refuse(caller, service, ReturnCode::InvalidMode, &[], out);
     }
     table.answer(caller, service, ReturnCode::NoError, &[], out);
-    table.take_priority(process, row, Priority(priority as u8));
+    table.take_priority(process, Priority(priority as u8));
 }
 
 /// STOP (ARINC 653 Part 1, process management): another process becomes dormant. INVALID_PARAM: no
@@ -127,7 +127,7 @@ pub fn stop(table: &mut ProcessTable, caller: Runner, id: i64, out: &mut Out)
         return table.refuse(caller, service, ReturnCode::NoAction, &[], out);
     }
     table.answer(caller, service, ReturnCode::NoError, &[], out);
-    table.rest(process, row, out);
+    table.rest(process, out);
 }
 
 /// START (ARINC 653 Part 1, process management): a dormant process starts its body with a fresh stack
@@ -158,7 +158,7 @@ pub fn start(
         return table.refuse(caller, service, ReturnCode::NoAction, &[], out);
     }
     table.answer(caller, service, ReturnCode::NoError, &[], out);
-    table.start(mode, points, process, Ticks(0), row, out);
+    table.start(mode, points, process, Ticks(0), out);
 }
 
 /// Whether a delay is at least a period, where there is one.
@@ -201,5 +201,5 @@ pub fn delayed_start(
         return table.refuse(caller, service, ReturnCode::NoAction, &[], out);
     }
     table.answer(caller, service, ReturnCode::NoError, &[], out);
-    table.start(mode, points, process, Ticks(delay as u64), row, out);
+    table.start(mode, points, process, Ticks(delay as u64), out);
 }

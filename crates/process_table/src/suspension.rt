@@ -7,8 +7,8 @@ ghost use Rattle.apex_meaning.specs.Processes.{is_periodic};
 ghost use Rattle.apex_meaning.specs.ProcessServices as meaning;
 ghost use Rattle.apex_meaning.specs.Step.{IsMade};
 
-use apex_types::{At, Lock, Out, ProcessStatus, ReturnCode, Runner, Service, Wait};
-use process_table_base::{ProcessTable, is_dormant, is_duration, is_same, time_out};
+use apex_types::{At, Lock, Out, ProcessStatus, ReturnCode, Runner, Service};
+use process_table_base::{ProcessTable, is_dormant, is_duration, is_same};
 
 /// Whether there is a record, and it is of a periodic process.
 fn is_periodic(row: &Option<ProcessStatus>) -> bool
@@ -36,24 +36,13 @@ pub fn suspend_self(table: &mut ProcessTable, at: At, caller: Runner, limit: i64
     if !is_duration(limit) {
         return table.refuse(caller, service, ReturnCode::InvalidParam, &[], out);
     }
-    let row = table.row(caller);
-    if is_periodic(&row) {
+    if is_periodic(&table.row(caller)) {
         return table.refuse(caller, service, ReturnCode::InvalidMode, &[], out);
     }
     if limit == 0 {
         table.answer(caller, service, ReturnCode::NoError, &[], out);
-    } else if let Some(row) = row {
-        let suspended = ProcessStatus {
-            suspended: true,
-            ..row
-        };
-        table.wait(
-            caller,
-            suspended,
-            Wait::Service(service),
-            time_out(at, limit),
-            out,
-        );
+    } else {
+        table.suspend_self(at, caller, limit, out);
     }
 }
 
@@ -89,7 +78,7 @@ pub fn suspend(table: &mut ProcessTable, caller: Runner, id: i64, out: &mut Out)
         return table.refuse(caller, service, ReturnCode::NoAction, &[], out);
     }
     table.answer(caller, service, ReturnCode::NoError, &[], out);
-    table.suspend(process, row, out);
+    table.suspend(process, out);
 }
 
 /// RESUME (ARINC 653 Part 1, process management): another process is suspended no longer. Its
@@ -115,5 +104,5 @@ pub fn resume(table: &mut ProcessTable, caller: Runner, id: i64, out: &mut Out)
         return table.refuse(caller, service, ReturnCode::NoAction, &[], out);
     }
     table.answer(caller, service, ReturnCode::NoError, &[], out);
-    table.resume(process, row, out);
+    table.resume(process, out);
 }

@@ -8,7 +8,7 @@ ghost use Rattle.apex_meaning.specs.TimeServices as meaning;
 ghost use Rattle.process_table_base.specs.Bounds.{IsAtMost, IsBounded};
 
 use crate::lock::may_not_lock;
-use apex_types::{At, Due, Mode, Out, ProcessStatus, ReturnCode, Runner, Service, Ticks, Wait};
+use apex_types::{At, Due, Mode, Out, ProcessStatus, ReturnCode, Runner, Service, Ticks};
 use process_table_base::{ProcessTable, is_delay, is_duration};
 
 /// GET_TIME (ARINC 653 Part 1, time management): the current tick.
@@ -48,16 +48,13 @@ fn wait_for(table: &mut ProcessTable, at: At, caller: Runner, delay: i64, out: &
     ensures step { IsMade (meaning.delays at table.old caller delay) table.new out.old out.new }
     ensures grows { Grows 1 out.old out.new }
 {
-    let row = table.row(caller);
     let service = Service::TimedWait;
     if delay == 0 {
         table.answer(caller, service, ReturnCode::NoError, &[], out);
-        if let Some(row) = row {
-            table.go_last(caller, row);
-        }
-    } else if let Some(row) = row {
+        table.go_last(caller);
+    } else {
         let due = Due::Delay(Ticks(at.now.0 + delay as u64));
-        table.wait(caller, row, Wait::Service(service), Some(due), out);
+        table.wait(caller, service, Some(due), out);
     }
 }
 
@@ -76,7 +73,7 @@ pub fn periodic_wait(table: &mut ProcessTable, caller: Runner, out: &mut Out)
         return table.refuse(caller, service, ReturnCode::InvalidMode, &[], out);
     };
     match row.period {
-        Some(period) => table.wait_for_period(caller, row, period, out),
+        Some(period) => table.wait_for_period(caller, period, out),
         None => table.refuse(caller, service, ReturnCode::InvalidMode, &[], out),
     }
 }
@@ -143,5 +140,5 @@ pub fn replenish(
         return table.refuse(caller, service, ReturnCode::InvalidMode, &[], out);
     }
     table.answer(caller, service, ReturnCode::NoError, &[], out);
-    table.set_deadline(caller, row, deadline_in(at, budget));
+    table.set_deadline(caller, deadline_in(at, budget));
 }

@@ -97,9 +97,9 @@ impl ProcessTable {
         }
     }
 
-    /// It becomes ready and goes last. One that is suspended waits on until it is resumed.
+    /// With this record it becomes ready and goes last. One that is suspended waits on until it is resumed.
     #[tactic(auto, using(crate::proofs::Bounds::bounds))]
-    pub fn wake(&mut self, runner: Runner, row: ProcessStatus, out: &mut Out)
+    pub(crate) fn wake_as(&mut self, runner: Runner, row: ProcessStatus, out: &mut Out)
         requires runner { place_of runner < MOST_RUNNERS }
         requires bounded { IsBounded row }
         requires room { HasRoom 1 out.old }
@@ -124,9 +124,9 @@ impl ProcessTable {
         self.put_ready(runner, ready);
     }
 
-    /// It waits, until its due time if it has one. There is no line where it waited before.
+    /// With this record it waits, until its due time if it has one. There is no line where it waited before.
     #[tactic(auto, using(crate::proofs::Bounds::bounds))]
-    pub fn wait(
+    pub(crate) fn wait_as(
         &mut self,
         runner: Runner,
         row: ProcessStatus,
@@ -150,10 +150,10 @@ impl ProcessTable {
         self.put_unready(runner, waiting);
     }
 
-    /// It becomes dormant: it is in no list, has no due time, no deadline and nothing left to do, and
-    /// the lock is free if it held it.
+    /// With this record it becomes dormant: it is in no list, has no due time, no deadline and nothing
+    /// left to do, and the lock is free if it held it.
     #[tactic(auto, using(crate::proofs::Bounds::bounds))]
-    pub fn rest(&mut self, runner: Runner, row: ProcessStatus, out: &mut Out)
+    pub(crate) fn rest_as(&mut self, runner: Runner, row: ProcessStatus, out: &mut Out)
         requires bounded { IsBounded row }
         requires room { HasRoom 1 out.old }
         ensures step { IsMade (meaning.rests self.old runner row) self.new out.old out.new }
@@ -215,12 +215,18 @@ impl ProcessTable {
     {
         self.answer_wait(runner, &row, code, outputs, row.wait, out);
         self.leave_queues(runner);
-        self.wake(runner, row, out);
+        self.wake_as(runner, row, out);
     }
 
-    /// The service in which a process waits answers with outputs of 0, if it waits in one; then it is
-    /// ready.
-    pub fn release(&mut self, runner: Runner, row: ProcessStatus, code: ReturnCode, out: &mut Out)
+    /// With this record the service in which a process waits answers with outputs of 0, if it waits in
+    /// one; then it is ready.
+    pub(crate) fn release_as(
+        &mut self,
+        runner: Runner,
+        row: ProcessStatus,
+        code: ReturnCode,
+        out: &mut Out,
+    )
         requires runner { place_of runner < MOST_RUNNERS }
         requires bounded { IsBounded row }
         requires room { HasRoom 2 out.old }

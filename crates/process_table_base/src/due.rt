@@ -36,10 +36,10 @@ impl ProcessTable {
     {
         match due {
             Due::Release(tick) => {
-                self.release(runner, released_at(tick, row), ReturnCode::NoError, out);
+                self.release_as(runner, released_at(tick, row), ReturnCode::NoError, out);
             }
-            Due::Delay(_) => self.release(runner, row, ReturnCode::NoError, out),
-            Due::TimeOut(_) => self.release(runner, timed_out(row), ReturnCode::TimedOut, out),
+            Due::Delay(_) => self.release_as(runner, row, ReturnCode::NoError, out),
+            Due::TimeOut(_) => self.release_as(runner, timed_out(row), ReturnCode::TimedOut, out),
         }
     }
 

@@ -1,9 +1,10 @@
 //! Processes by the numbers that programs give.
 
-ghost use Rattle.std.specs.Prelude.{◌≡◌, ◌<◌, IfSome, true};
+ghost use Rattle.std.specs.Prelude.{◌≡◌, ◌<◌, IfSome, Some, true};
 ghost use Rattle.apex_types.specs.Runners.{place_of};
 ghost use Rattle.apex_meaning.specs.Processes as meaning;
 ghost use Rattle.process_table_base.specs.Bounds.{IsBounded};
+ghost use Rattle.process_table_base.specs.Own.{own_change};
 
 use crate::table::ProcessTable;
 use apex_types::{Lock, MOST_RUNNERS, ProcessIndex, ProcessState, ProcessStatus, Runner};
@@ -13,6 +14,7 @@ impl ProcessTable {
     #[tactic(auto, using(apex_meaning::proofs::Numbers::numbers))]
     pub fn process_at(&self, id: i64) -> Option<(Runner, ProcessStatus)>
         ensures found { result ≡ meaning.process_at self.now id }
+        ensures own { IfSome result (λ found. meaning.row_of self.now found.0 ≡ Some found.1) }
         ensures within { IfSome result (λ found. place_of found.0 < MOST_RUNNERS) }
         ensures bounded { IfSome result (λ found. IsBounded found.1) }
     {
@@ -40,26 +42,16 @@ impl ProcessTable {
     }
 
     /// A process is created in its record.
-    pub fn create(&mut self, process: Runner, row: ProcessStatus)
-        requires { IsBounded row }
-        ensures { self.new ≡ meaning.put_row self.old process (record row { created = true }) }
+    pub fn create(&mut self, process: Runner)
+        ensures { self.new ≡ own_change self.old process (λ r. meaning.put_row self.old process (record r { created = true })) }
     {
-        self.put_row(
-            process,
-            ProcessStatus {
+        if let Some(row) = self.row(process) {
+            let created = ProcessStatus {
                 created: true,
                 ..row
-            },
-        );
-    }
-
-    /// A ready process goes behind its equals.
-    pub fn go_last(&mut self, runner: Runner, row: ProcessStatus)
-        requires runner { place_of runner < MOST_RUNNERS }
-        requires bounded { IsBounded row }
-        ensures { self.new ≡ meaning.put_ready self.old runner row }
-    {
-        self.put_ready(runner, row);
+            };
+            self.put_row(process, created);
+        }
     }
 }
 

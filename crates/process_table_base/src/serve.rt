@@ -1,27 +1,29 @@
 //! What services change of one process: its priority, its suspension, its deadline.
 
-ghost use Rattle.std.specs.Prelude.{◌≡◌, ◌<◌, ◌≤◌, ◌+◌, ◌^◌, length, Some};
+ghost use Rattle.std.specs.Prelude.{◌≡◌, ◌<◌, ◌≤◌, ◌+◌, ◌^◌, length, true, Some};
 ghost use Rattle.apex_types.specs.Room.{HasRoom, Grows};
-ghost use Rattle.apex_types.specs.Runners.{place_of};
-ghost use Rattle.apex_meaning.specs.Processes.{put_row};
+ghost use Rattle.apex_meaning.specs.Durations.{is_duration};
+ghost use Rattle.apex_meaning.specs.Processes.{put_row, row_of};
 ghost use Rattle.apex_meaning.specs.ProcessServices as meaning;
 ghost use Rattle.apex_meaning.specs.Step.{IsMade};
 ghost use Rattle.apex_meaning.specs.TimeServices as time;
-ghost use Rattle.process_table_base.specs.Bounds.{IsAtMost, IsBounded};
+ghost use Rattle.process_table_base.specs.Bounds.{IsAtMost};
+ghost use Rattle.process_table_base.specs.Own.{own_change, own_step};
 
+use crate::duration::time_out;
 use crate::table::ProcessTable;
 use apex_types::{
-    Due, MOST_RUNNERS, Out, Priority, ProcessState, ProcessStatus, ReturnCode, Runner, Service,
-    Ticks, Wait,
+    At, Due, Out, Priority, ProcessState, ProcessStatus, ReturnCode, Runner, Service, Ticks, Wait,
 };
 
 impl ProcessTable {
     /// Another current priority. A ready process goes last among those that have it.
-    pub fn take_priority(&mut self, process: Runner, row: ProcessStatus, priority: Priority)
-        requires process { place_of process < MOST_RUNNERS }
-        requires bounded { IsBounded row }
-        ensures { self.new ≡ (meaning.takes_priority self.old priority process row).part }
+    pub fn take_priority(&mut self, process: Runner, priority: Priority)
+        ensures { self.new ≡ own_change self.old process (λ r. (meaning.takes_priority self.old priority process r).part) }
     {
+        let Some(row) = self.row(process) else {
+            return;
+        };
         let raised = ProcessStatus {
             current_priority: priority,
             ..row
@@ -33,36 +35,57 @@ impl ProcessTable {
     }
 
     /// A process waits for what it waited for, and until it is resumed.
-    pub fn suspend(&mut self, process: Runner, row: ProcessStatus, out: &mut Out)
-        requires bounded { IsBounded row }
-        requires room { HasRoom 1 out.old }
-        ensures step { IsMade (meaning.suspends self.old process row) self.new out.old out.new }
+    pub fn suspend(&mut self, process: Runner, out: &mut Out)
+        requires { HasRoom 1 out.old }
+        ensures step { IsMade (own_step self.old process (meaning.suspends self.old process)) self.new out.old out.new }
         ensures grows { Grows 1 out.old out.new }
     {
+        let Some(row) = self.row(process) else {
+            return;
+        };
         let suspended = ProcessStatus {
             suspended: true,
             ..row
         };
-        self.wait(process, suspended, row.wait, row.due, out);
+        self.wait_as(process, suspended, row.wait, row.due, out);
+    }
+
+    /// A process suspends itself: it waits until it is resumed, or for so long.
+    pub fn suspend_self(&mut self, at: At, process: Runner, limit: i64, out: &mut Out)
+        requires now { at.now.0 ≤ 2 ^ 40 }
+        requires limit { is_duration limit ≡ true }
+        requires room { HasRoom 1 out.old }
+        ensures step { IsMade (meaning.suspends_self at self.old process limit (row_of self.old process)) self.new out.old out.new }
+        ensures grows { Grows 1 out.old out.new }
+    {
+        if let Some(row) = self.row(process) {
+            let suspended = ProcessStatus {
+                suspended: true,
+                ..row
+            };
+            let reason = Wait::Service(Service::SuspendSelf);
+            self.wait_as(process, suspended, reason, time_out(at, limit), out);
+        }
     }
 
     /// A process is suspended no longer: its SUSPEND_SELF ends, and if it waits for nothing else it is
     /// ready.
-    pub fn resume(&mut self, process: Runner, row: ProcessStatus, out: &mut Out)
-        requires process { place_of process < MOST_RUNNERS }
-        requires bounded { IsBounded row }
-        requires room { HasRoom 2 out.old }
-        ensures step { IsMade (meaning.resumes self.old process row) self.new out.old out.new }
+    pub fn resume(&mut self, process: Runner, out: &mut Out)
+        requires { HasRoom 2 out.old }
+        ensures step { IsMade (own_step self.old process (meaning.resumes self.old process)) self.new out.old out.new }
         ensures grows { Grows 2 out.old out.new }
     {
+        let Some(row) = self.row(process) else {
+            return;
+        };
         let resumed = ProcessStatus {
             suspended: false,
             ..row
         };
         match row.wait {
-            Wait::Nothing => self.wake(process, resumed, out),
+            Wait::Nothing => self.wake_as(process, resumed, out),
             Wait::Service(Service::SuspendSelf) => {
-                self.release(process, resumed, ReturnCode::NoError, out)
+                self.release_as(process, resumed, ReturnCode::NoError, out)
             }
             _ => self.put_row(process, resumed),
         }
@@ -71,35 +94,32 @@ impl ProcessTable {
     /// A periodic process has kept its deadline, and waits for its next release, a period after the
     /// last.
     #[tactic(auto, using(crate::proofs::Bounds::bounds))]
-    pub fn wait_for_period(
-        &mut self,
-        process: Runner,
-        row: ProcessStatus,
-        period: Ticks,
-        out: &mut Out,
-    )
+    pub fn wait_for_period(&mut self, process: Runner, period: Ticks, out: &mut Out)
         requires period { period.0 ≤ 2 ^ 40 }
-        requires bounded { IsBounded row }
         requires room { HasRoom 1 out.old }
-        ensures step { IsMade (time.waits_for_period self.old process row (Some period)) self.new out.old out.new }
+        ensures step { IsMade (own_step self.old process (λ r. time.waits_for_period self.old process r (Some period))) self.new out.old out.new }
         ensures grows { Grows 1 out.old out.new }
     {
+        let Some(row) = self.row(process) else {
+            return;
+        };
         let kept = ProcessStatus {
             deadline: None,
             ..row
         };
         let next = Ticks(row.release.0 + period.0);
         let reason = Wait::Service(Service::PeriodicWait);
-        self.wait(process, kept, reason, Some(Due::Release(next)), out);
+        self.wait_as(process, kept, reason, Some(Due::Release(next)), out);
     }
 
     /// Another deadline.
     #[tactic(auto, using(crate::proofs::Bounds::bounds))]
-    pub fn set_deadline(&mut self, process: Runner, row: ProcessStatus, deadline: Option<Ticks>)
-        requires deadline { IsAtMost (2 ^ 41) deadline }
-        requires bounded { IsBounded row }
-        ensures { self.new ≡ put_row self.old process (record row { deadline = deadline }) }
+    pub fn set_deadline(&mut self, process: Runner, deadline: Option<Ticks>)
+        requires { IsAtMost (2 ^ 41) deadline }
+        ensures { self.new ≡ own_change self.old process (λ r. put_row self.old process (record r { deadline = deadline })) }
     {
-        self.put_row(process, ProcessStatus { deadline, ..row });
+        if let Some(row) = self.row(process) {
+            self.put_row(process, ProcessStatus { deadline, ..row });
+        }
     }
 }

@@ -7,6 +7,7 @@ ghost use Rattle.apex_meaning.specs.Processes.{row_of};
 ghost use Rattle.apex_meaning.specs.Starts as meaning;
 ghost use Rattle.apex_meaning.specs.Step.{IsMade};
 ghost use Rattle.process_table_base.specs.Bounds.{IsAtMost, IsBounded};
+ghost use Rattle.process_table_base.specs.Own.{own_step};
 
 use crate::table::ProcessTable;
 use apex_types::{
@@ -57,18 +58,18 @@ impl ProcessTable {
         points: Points,
         process: Runner,
         delay: Ticks,
-        row: ProcessStatus,
         out: &mut Out,
     )
         requires now { points.at.now.0 ≤ 2 ^ 40 }
         requires next { points.next.0 ≤ 2 ^ 41 }
         requires delay { delay.0 ≤ 2 ^ 40 }
-        requires process { place_of process < MOST_RUNNERS }
-        requires bounded { IsBounded row }
         requires room { HasRoom 2 out.old }
-        ensures step { IsMade (meaning.starts mode points.at points.next.0 self.old process delay row) self.new out.old out.new }
+        ensures step { IsMade (own_step self.old process (meaning.starts mode points.at points.next.0 self.old process delay)) self.new out.old out.new }
         ensures grows { Grows 1 out.old out.new }
     {
+        let Some(row) = self.row(process) else {
+            return;
+        };
         let fresh = ProcessStatus {
             current_priority: row.base_priority,
             ..row
@@ -77,7 +78,7 @@ impl ProcessTable {
         if mode == Mode::Normal {
             self.start_in_normal(points, process, delay, fresh, out);
         } else {
-            self.wait(process, fresh, Wait::NormalStart(delay), None, out);
+            self.wait_as(process, fresh, Wait::NormalStart(delay), None, out);
         }
     }
 
@@ -87,7 +88,7 @@ impl ProcessTable {
         ensures step { IsMade (meaning.waits_for_release self.old process row tick.0) self.new out.old out.new }
         ensures grows { Grows 1 out.old out.new }
     {
-        self.wait(
+        self.wait_as(
             process,
             row,
             Wait::FirstRelease,
@@ -119,7 +120,7 @@ impl ProcessTable {
         if row.period.is_some() {
             self.wait_for_release(process, row, Ticks(points.next.0 + delay.0), out);
         } else if delay.0 == 0 {
-            self.wake(process, released_at(now, row), out);
+            self.wake_as(process, released_at(now, row), out);
         } else {
             self.wait_for_release(process, row, Ticks(now.0 + delay.0), out);
         }

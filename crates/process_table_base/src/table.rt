@@ -15,9 +15,9 @@ use crate::announce::{announce, next_of, next_tick, renew};
 use crate::order::{self, Order};
 use apex_types::{
     Lock, MOST_PROCESSES, MOST_RUNNERS, Mode, Priority, ProcessIndex, ProcessRow, ProcessState,
-    ProcessStatus, Runner, Subject, Ticks, WAITING_LISTS, Wait, Words,
+    ProcessStatus, Runner, Subject, Ticks, Wait, Words,
 };
-use links::{DueList, Links};
+use links::{DueList, WaitingLists};
 use std::alloc::{AllocError, Global};
 use std::marker::Model;
 
@@ -31,7 +31,7 @@ pub struct ProcessTable {
     ready: Order,
     running: Option<Runner>,
     lock: Lock,
-    pub(crate) queues: Links,
+    pub(crate) queues: WaitingLists,
     pub(crate) handed: Vec<Words>,
     dues: DueList,
 }
@@ -122,7 +122,7 @@ impl ProcessTable {
             ready: Order::new(),
             running: None,
             lock: Lock::Free,
-            queues: Links::new(alloc, WAITING_LISTS)?,
+            queues: WaitingLists::new(alloc)?,
             handed: no_messages(alloc, processes)?,
             dues: DueList::new(),
         })

@@ -1,6 +1,6 @@
 //! Those that wait for an object or a port, and how they are released.
 
-ghost use Rattle.std.specs.Prelude.{◌≡◌, ◌<◌, ◌≤◌, ◌+◌, ◌*◌, ◌^◌, ◌++◌, length, true, IfSome, slice_set};
+ghost use Rattle.std.specs.Prelude.{◌≡◌, ◌<◌, ◌≤◌, ◌+◌, ◌*◌, ◌^◌, ◌++◌, length, true, IfSome, Some, slice_set};
 ghost use Rattle.apex_types.specs.Room.{HasRoom, Grows};
 ghost use Rattle.apex_types.specs.Runners.{place_of};
 ghost use Rattle.apex_meaning.specs.Durations.{is_duration};
@@ -13,7 +13,7 @@ use crate::change::zeros;
 use crate::duration::time_out;
 use crate::table::ProcessTable;
 use apex_types::{
-    Action, ArrayPlace, At, Entry, ListId, MOST_PROCESSES, MOST_RUNNERS, Out, ProcessIndex,
+    Action, ArrayPlace, At, Entry, ListKey, MOST_PROCESSES, MOST_RUNNERS, Out, ProcessIndex,
     ProcessStatus, ReturnCode, Runner, Wait, Waiting, Words,
 };
 use links::Entries;
@@ -62,6 +62,7 @@ impl ProcessTable {
     /// The process of an entry of a list, with its record.
     pub fn numbered(&self, process: ProcessIndex) -> Option<(Runner, ProcessStatus)>
         ensures found { result ≡ processes.numbered process (processes.row_of self.now (Runner.Process process)) }
+        ensures own { IfSome result (λ found. processes.row_of self.now found.0 ≡ Some found.1) }
         ensures within { IfSome result (λ found. place_of found.0 < MOST_RUNNERS) }
         ensures bounded { IfSome result (λ found. IsBounded found.1) }
     {
@@ -73,8 +74,9 @@ impl ProcessTable {
     }
 
     /// The first who waits in a list, with its record.
-    pub fn first_waiting(&self, list: ListId) -> Option<(Runner, ProcessStatus)>
-        ensures found { result ≡ meaning.first_waiting self.now list.0 }
+    pub fn first_waiting(&self, list: ListKey) -> Option<(Runner, ProcessStatus)>
+        ensures found { result ≡ meaning.first_waiting self.now list }
+        ensures own { IfSome result (λ found. processes.row_of self.now found.0 ≡ Some found.1) }
         ensures within { IfSome result (λ found. place_of found.0 < MOST_RUNNERS) }
         ensures bounded { IfSome result (λ found. IsBounded found.1) }
     {
@@ -85,15 +87,15 @@ impl ProcessTable {
     }
 
     /// Those who wait in a list, in its order.
-    pub fn waiting(&self, list: ListId) -> Entries
-        ensures { result.items ≡ meaning.waiting self.now list.0 }
+    pub fn waiting(&self, list: ListKey) -> Entries
+        ensures { result.items ≡ meaning.waiting self.now list }
     {
         self.queues.entries(list)
     }
 
     /// How many wait in a list.
-    pub fn waiting_count(&self, list: ListId) -> u8
-        ensures { result ≡ meaning.waiting_count self.now list.0 }
+    pub fn waiting_count(&self, list: ListKey) -> u8
+        ensures { result ≡ meaning.waiting_count self.now list }
     {
         self.queues.count(list)
     }
@@ -174,7 +176,7 @@ impl ProcessTable {
                 service,
                 array: waiting.array,
             };
-            self.wait(caller, row, reason, time_out(at, limit), out);
+            self.wait_as(caller, row, reason, time_out(at, limit), out);
         }
     }
 
@@ -185,7 +187,7 @@ impl ProcessTable {
         ensures grows { Grows 2 out.old out.new }
     {
         if let Some((runner, row)) = self.numbered(process) {
-            self.release(runner, row, ReturnCode::NoError, out);
+            self.release_as(runner, row, ReturnCode::NoError, out);
         }
     }
 
@@ -203,18 +205,24 @@ impl ProcessTable {
     }
 
     /// Releases all who wait in a list, in its order.
-    pub fn release_all(&mut self, list: ListId, out: &mut Out)
+    pub fn release_all(&mut self, list: ListKey, out: &mut Out)
         requires { HasRoom 62 out.old }
-        ensures step { IsMade (meaning.releases_all (meaning.waiting self.old list.0) self.old) self.new out.old out.new }
+        ensures step { IsMade (meaning.releases_all (meaning.waiting self.old list) self.old) self.new out.old out.new }
         ensures grows { Grows 62 out.old out.new }
     {
         let entries = self.waiting(list);
         self.release_each(entries.as_slice(), out);
     }
 
-    /// A receiver takes a message: the words go into its array, its call answers how many they are, and
-    /// it is ready.
-    pub fn give(&mut self, runner: Runner, row: ProcessStatus, message: &Words, out: &mut Out)
+    /// A receiver with this record takes a message: the words go into its array, its call answers how
+    /// many they are, and it is ready.
+    pub(crate) fn give_as(
+        &mut self,
+        runner: Runner,
+        row: ProcessStatus,
+        message: &Words,
+        out: &mut Out,
+    )
         requires runner { place_of runner < MOST_RUNNERS }
         requires bounded { IsBounded row }
         requires room { HasRoom 3 out.old }
@@ -233,7 +241,7 @@ impl ProcessTable {
         ensures grows { Grows 3 out.old out.new }
     {
         if let Some((runner, row)) = self.numbered(process) {
-            self.give(runner, row, message, out);
+            self.give_as(runner, row, message, out);
         }
     }
 
@@ -251,9 +259,9 @@ impl ProcessTable {
     }
 
     /// Gives a message to all who wait in a list, in its order.
-    pub fn give_all(&mut self, list: ListId, message: &Words, out: &mut Out)
+    pub fn give_all(&mut self, list: ListKey, message: &Words, out: &mut Out)
         requires { HasRoom 93 out.old }
-        ensures step { IsMade (meaning.gives_all (meaning.waiting self.old list.0) message.now self.old) self.new out.old out.new }
+        ensures step { IsMade (meaning.gives_all (meaning.waiting self.old list) message.now self.old) self.new out.old out.new }
         ensures grows { Grows 93 out.old out.new }
     {
         let entries = self.waiting(list);

@@ -12,12 +12,10 @@ ghost use Rattle.apex_meaning.specs.Sharing.{both};
 ghost use Rattle.sync_objects.specs.Both.{number_of_occupied};
 
 use apex_types::{
-    Action, ArrayPlace, At, Discipline, Mode, ObjectKind, Out, ReturnCode, Runner, Service,
-    Waiting, Words,
+    Action, ArrayPlace, At, Discipline, ListKey, Mode, Out, ReturnCode, Runner, Service, Waiting,
+    Words,
 };
-use process_table_base::{
-    ProcessTable, first_words, is_duration, is_large_enough, is_length, list_of,
-};
+use process_table_base::{ProcessTable, first_words, is_duration, is_large_enough, is_length};
 use sync_objects_base::Objects;
 
 /// CREATE_BLACKBOARD (ARINC 653 Part 1, intrapartition communication): the blackboard of that number
@@ -88,7 +86,7 @@ fn display(
 {
     let service = Service::DisplayBlackboard;
     table.answer(caller, service, ReturnCode::NoError, &[], out);
-    table.give_all(list_of(ObjectKind::Blackboard, place), &message, out);
+    table.give_all(ListKey::Blackboard(place), &message, out);
     objects.show(place, Some(message));
 }
 
@@ -171,7 +169,7 @@ fn read(
     }
     let waiting = Waiting {
         service,
-        list: list_of(ObjectKind::Blackboard, place),
+        list: ListKey::Blackboard(place),
         discipline: Discipline::Fifo,
         array: Some(array),
     };
@@ -237,7 +235,7 @@ pub fn get_blackboard_status(
         Some((place, blackboard)) if blackboard.created => {
             let occupied = indicator(blackboard.occupied);
             let words = i64::from(blackboard.row.words);
-            let waiting = table.waiting_count(list_of(ObjectKind::Blackboard, place));
+            let waiting = table.waiting_count(ListKey::Blackboard(place));
             let outputs = [occupied, words, i64::from(waiting)];
             table.answer(caller, service, ReturnCode::NoError, &outputs, out)
         }

@@ -12,12 +12,10 @@ ghost use Rattle.apex_meaning.specs.Sharing.{both};
 ghost use Rattle.sync_objects.specs.Both.{delivers};
 
 use apex_types::{
-    Action, ArrayPlace, At, Discipline, Mode, ObjectKind, Out, ReturnCode, Runner, Service,
-    Waiting, Words,
+    Action, ArrayPlace, At, Discipline, ListKey, Mode, Out, ReturnCode, Runner, Service, Waiting,
+    Words,
 };
-use process_table_base::{
-    ProcessTable, first_words, is_duration, is_large_enough, is_length, list_of,
-};
+use process_table_base::{ProcessTable, first_words, is_duration, is_large_enough, is_length};
 use sync_objects_base::{BufferStatus, Objects};
 
 /// CREATE_BUFFER (ARINC 653 Part 1, intrapartition communication): the buffer of that number exists,
@@ -93,7 +91,7 @@ fn send(
     ensures grows { Grows 4 out.old out.new }
 {
     let service = Service::SendBuffer;
-    let list = list_of(ObjectKind::Buffer, place);
+    let list = ListKey::Buffer(place);
     if buffer.messages >= buffer.row.depth {
         let waiting = Waiting {
             service,
@@ -105,7 +103,7 @@ fn send(
     }
     table.answer(caller, service, ReturnCode::NoError, &[], out);
     match table.first_waiting(list) {
-        Some((receiver, row)) => table.give(receiver, row, &message, out),
+        Some((receiver, _)) => table.give(receiver, &message, out),
         None => objects.push_message(place, message),
     }
 }
@@ -157,9 +155,9 @@ fn admit(table: &mut ProcessTable, objects: &mut Objects, place: u8, out: &mut O
     ensures step { IsMade (meaning.admits (both table.old objects.old) place (buffer_at objects.old place) (first_waiting table.old (meaning.list place))) (both table.new objects.new) out.old out.new }
     ensures grows { Grows 2 out.old out.new }
 {
-    if let Some((sender, row)) = table.first_waiting(list_of(ObjectKind::Buffer, place)) {
+    if let Some((sender, _)) = table.first_waiting(ListKey::Buffer(place)) {
         objects.push_message(place, table.handed_by(sender));
-        table.release(sender, row, ReturnCode::NoError, out);
+        table.release(sender, ReturnCode::NoError, out);
     }
 }
 
@@ -212,7 +210,7 @@ fn receive(
     }
     let waiting = Waiting {
         service: Service::ReceiveBuffer,
-        list: list_of(ObjectKind::Buffer, place),
+        list: ListKey::Buffer(place),
         discipline,
         array: Some(array),
     };
@@ -274,7 +272,7 @@ pub fn get_buffer_status(
             let messages = i64::from(buffer.messages);
             let depth = i64::from(buffer.row.depth);
             let words = i64::from(buffer.row.words);
-            let waiting = table.waiting_count(list_of(ObjectKind::Buffer, place));
+            let waiting = table.waiting_count(ListKey::Buffer(place));
             let outputs = [messages, depth, words, i64::from(waiting)];
             table.answer(caller, service, ReturnCode::NoError, &outputs, out)
         }

@@ -6,10 +6,8 @@ ghost use Rattle.apex_meaning.specs.EventServices as meaning;
 ghost use Rattle.apex_meaning.specs.Step.{IsMade};
 ghost use Rattle.apex_meaning.specs.Sharing.{both};
 
-use apex_types::{
-    At, Discipline, Mode, ObjectKind, Out, ReturnCode, Runner, Service, Waiting, Words,
-};
-use process_table_base::{ProcessTable, is_duration, list_of};
+use apex_types::{At, Discipline, ListKey, Mode, Out, ReturnCode, Runner, Service, Waiting, Words};
+use process_table_base::{ProcessTable, is_duration};
 use sync_objects_base::Objects;
 
 /// CREATE_EVENT (ARINC 653 Part 1, intrapartition communication): the event of that number exists,
@@ -81,7 +79,7 @@ pub fn set_event(
         Some((place, event)) if event.is_created() => {
             table.answer(caller, service, ReturnCode::NoError, &[], out);
             objects.put_event(place, event.with_state(true));
-            table.release_all(list_of(ObjectKind::Event, place), out)
+            table.release_all(ListKey::Event(place), out)
         }
         _ => table.refuse(caller, service, ReturnCode::InvalidParam, &[], out),
     }
@@ -140,7 +138,7 @@ pub fn wait_event(
     }
     let waiting = Waiting {
         service,
-        list: list_of(ObjectKind::Event, place),
+        list: ListKey::Event(place),
         discipline: Discipline::Fifo,
         array: None,
     };
@@ -171,7 +169,7 @@ pub fn get_event_status(
     match objects.event(id) {
         Some((place, event)) if event.is_created() => {
             let state = number_of_state(event.is_up());
-            let waiting = table.waiting_count(list_of(ObjectKind::Event, place));
+            let waiting = table.waiting_count(ListKey::Event(place));
             let outputs = [state, i64::from(waiting)];
             table.answer(caller, service, ReturnCode::NoError, &outputs, out)
         }

@@ -6,8 +6,8 @@ ghost use Rattle.apex_meaning.specs.SemaphoreServices as meaning;
 ghost use Rattle.apex_meaning.specs.Step.{IsMade};
 ghost use Rattle.apex_meaning.specs.Sharing.{both};
 
-use apex_types::{At, Mode, ObjectKind, Out, ReturnCode, Runner, Service, Waiting, Words};
-use process_table_base::{ProcessTable, is_duration, list_of};
+use apex_types::{At, ListKey, Mode, Out, ReturnCode, Runner, Service, Waiting, Words};
+use process_table_base::{ProcessTable, is_duration};
 use sync_objects_base::Objects;
 
 /// CREATE_SEMAPHORE (ARINC 653 Part 1, intrapartition communication): the semaphore of that number
@@ -94,7 +94,7 @@ pub fn wait_semaphore(
     }
     let waiting = Waiting {
         service,
-        list: list_of(ObjectKind::Semaphore, place),
+        list: ListKey::Semaphore(place),
         discipline: semaphore.discipline(),
         array: None,
     };
@@ -127,8 +127,8 @@ pub fn signal_semaphore(
         return table.refuse(caller, service, ReturnCode::NoAction, &[], out);
     }
     table.answer(caller, service, ReturnCode::NoError, &[], out);
-    match table.first_waiting(list_of(ObjectKind::Semaphore, place)) {
-        Some((first, row)) => table.release(first, row, ReturnCode::NoError, out),
+    match table.first_waiting(ListKey::Semaphore(place)) {
+        Some((first, _)) => table.release(first, ReturnCode::NoError, out),
         None => objects.put_semaphore(place, semaphore.with_value(value + 1)),
     }
 }
@@ -151,7 +151,7 @@ pub fn get_semaphore_status(
         Some((place, semaphore)) if semaphore.is_created() => {
             let value = i64::from(semaphore.value());
             let maximum = i64::from(semaphore.maximum());
-            let waiting = table.waiting_count(list_of(ObjectKind::Semaphore, place));
+            let waiting = table.waiting_count(ListKey::Semaphore(place));
             let outputs = [value, maximum, i64::from(waiting)];
             table.answer(caller, service, ReturnCode::NoError, &outputs, out)
         }

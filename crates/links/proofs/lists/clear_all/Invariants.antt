@@ -1,7 +1,7 @@
 use Rattle.std.proofs.Common.{◌≡◌, ◌≤◌, ◌++◌, length, map, take, drop}
-use Rattle.apex_meaning.specs.Queues.{emptied}
+use Rattle.links.specs.Lists.{emptied_each}
 use Rattle.links.specs.OneHome.{entries_of}
 use Rattle.links.proofs.lists.clear_all.Given as goal
 
 abbrev pub invariant-loop-entries : goal.invariant-loop-entries
-invariant-loop-entries l = (l.entries-index ≤ length l.entries-items) × (map entries_of (take l.entries-index l.entries-items) ++ emptied (map entries_of (drop l.entries-index l.entries-items)) ≡ emptied (map entries_of l.fn.lists.items))
+invariant-loop-entries l = (l.entries-index ≤ length l.entries-items) × (map entries_of (take l.entries-index l.entries-items) ++ emptied_each (map entries_of (drop l.entries-index l.entries-items)) ≡ emptied_each (map entries_of l.fn.lists.items))

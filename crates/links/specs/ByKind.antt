@@ -1,0 +1,41 @@
+-- The waiting lists by their keys, and where each of them stands among lists with numbers: sixteen of a kind,
+-- one kind behind another.
+use Rattle.std.specs.Prelude.{ℕ, ◌≡◌, ◌+◌, ◌*◌, nat_lt, List, length, take, drop, if◌then◌else◌}
+use Rattle.apex_types.specs.declared.identity.ListKey.{ListKey}
+use Rattle.apex_types.specs.declared.identity.ListKey.TheVariants as key
+use Rattle.apex_types.specs.declared.identity.TheConstants.{MOST_OBJECTS}
+use Rattle.apex_types.specs.declared.process.Entry.{Entry}
+use Rattle.apex_meaning.specs.Queues.{Queues}
+use Rattle.links.specs.declared.waiting_lists.TheConstants.{ALL_LISTS}
+use Rattle.links.specs.declared.waiting_lists.WaitingLists.TheInside.{Inside}
+
+-- the lists of a kind, of which this one is the first
+abbrev pub lists_from : ℕ → List (List Entry) → List (List Entry)
+lists_from first lists = take MOST_OBJECTS (drop first lists)
+
+abbrev pub by_kind : List (List Entry) → Queues
+by_kind lists = record {
+  semaphores = lists_from 0 lists;
+  events = lists_from 16 lists;
+  buffers = lists_from 32 lists;
+  blackboards = lists_from 48 lists;
+  ports = lists_from 64 lists;
+}
+
+-- the number of the list at a place; behind all lists where a kind has no such place
+abbrev pub number_from : ℕ → ℕ → ℕ
+number_from first place = if nat_lt place MOST_OBJECTS then first + place else ALL_LISTS
+
+abbrev pub number_of : ListKey → ℕ
+number_of (key.Semaphore place) = number_from 0 place
+number_of (key.Event place) = number_from 16 place
+number_of (key.Buffer place) = number_from 32 place
+number_of (key.Blackboard place) = number_from 48 place
+number_of (key.Port place) = number_from 64 place
+
+abbrev pub queues_of : Inside → Queues
+queues_of w = by_kind w.lists
+
+-- there are as many lists as objects and ports may be
+abbrev pub IsWhole : Inside → Type 0
+IsWhole w = length w.lists ≡ ALL_LISTS

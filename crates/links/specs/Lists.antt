@@ -1,0 +1,23 @@
+-- Lists by their numbers.
+use Rattle.std.specs.Prelude.{ℕ, List, map, slice_set}
+use Rattle.apex_types.specs.declared.codes.Discipline.{Discipline}
+use Rattle.apex_types.specs.declared.process.Entry.{Entry}
+use Rattle.apex_meaning.specs.Entries.{without}
+use Rattle.apex_meaning.specs.Queues.{list_in, joined, no_entries}
+
+abbrev pub put_in : List (List Entry) → ℕ → List Entry → List (List Entry)
+put_in lists number entries = slice_set lists number entries
+
+-- the process is in no list
+abbrev pub without_in_each : ℕ → List (List Entry) → List (List Entry)
+without_in_each p lists = map (without p) lists
+
+-- the entry's process leaves the list that it is in, and joins the one with this number
+abbrev pub joins_in : ℕ → Discipline → Entry → List (List Entry) → List (List Entry)
+joins_in number d e lists =
+    let others = without_in_each e.process.0 lists in
+    put_in others number (joined d e (list_in others number))
+
+-- all lists are empty
+abbrev pub emptied_each : List (List Entry) → List (List Entry)
+emptied_each lists = map no_entries lists

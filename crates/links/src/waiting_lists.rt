@@ -1,0 +1,116 @@
+//! The waiting lists of a partition, each by its key.
+
+ghost use Rattle.std.specs.Prelude.{◌≡◌, ◌<◌, ◌≤◌, length, slice_get, IfOk, IfSome};
+ghost use Rattle.apex_meaning.specs.Queues.{emptied, joins, list_at, without_in_all};
+ghost use Rattle.apex_meaning.specs.TwoMeanings.{fresh_queues};
+ghost use Rattle.links.specs.ByKind as by_kind;
+
+use crate::entries::Entries;
+use crate::links::Links;
+use crate::lists::ListId;
+use apex_types::{Discipline, Entry, ListKey, MOST_OBJECTS, MOST_PROCESSES, ProcessIndex};
+use std::alloc::{AllocError, Global};
+use std::marker::Model;
+
+/// One list for each semaphore, event, buffer, blackboard and port that a partition may have.
+const ALL_LISTS: u8 = 5 * MOST_OBJECTS;
+
+/// The waiting lists of a partition, one for each object and port that it may have. A process stands in
+/// one of them at most. A contract sees them as the queues of the definitions.
+#[derive(Drop)]
+pub struct WaitingLists {
+    lists: Links,
+}
+
+impl Model for WaitingLists {
+    ghost use Rattle.apex_meaning.specs.Queues.{Queues};
+
+    ghost Value = { Queues };
+
+    ghost use Rattle.links.specs.ByKind.{queues_of, IsWhole};
+
+    ghost view = { queues_of };
+
+    ghost invariant = { IsWhole };
+}
+
+/// The number of the list at a place of a kind; no list has it where there is no such place.
+fn number_from(first: u8, place: u8) -> ListId
+    requires { first ≤ 64 }
+    ensures { result.0 ≡ by_kind.number_from first place }
+{
+    if place < MOST_OBJECTS {
+        ListId(first + place)
+    } else {
+        ListId(ALL_LISTS)
+    }
+}
+
+/// The number of the list with a key.
+fn number_of(key: ListKey) -> ListId
+    ensures { result.0 ≡ by_kind.number_of key }
+{
+    match key {
+        ListKey::Semaphore(place) => number_from(0, place),
+        ListKey::Event(place) => number_from(MOST_OBJECTS, place),
+        ListKey::Buffer(place) => number_from(2 * MOST_OBJECTS, place),
+        ListKey::Blackboard(place) => number_from(3 * MOST_OBJECTS, place),
+        ListKey::Port(place) => number_from(4 * MOST_OBJECTS, place),
+    }
+}
+
+impl WaitingLists {
+    /// Nobody waits. An error is one of memory.
+    pub fn new(alloc: Global) -> Result<WaitingLists, AllocError>
+        ensures { IfOk result (λ lists. lists ≡ fresh_queues) }
+    {
+        Ok(WaitingLists {
+            lists: Links::new(alloc, ALL_LISTS)?,
+        })
+    }
+
+    /// The one of a list who is released next.
+    pub fn first(&self, list: ListKey) -> Option<Entry>
+        ensures value { result ≡ slice_get (list_at self.now list) 0 }
+        ensures below { IfSome result (λ entry. entry.process.0 < MOST_PROCESSES) }
+    {
+        self.lists.first(number_of(list))
+    }
+
+    /// How many stand in a list.
+    pub fn count(&self, list: ListKey) -> u8
+        ensures count { result ≡ length (list_at self.now list) }
+        ensures most { result ≤ MOST_PROCESSES }
+    {
+        self.lists.count(number_of(list))
+    }
+
+    /// A copy of a list.
+    pub fn entries(&self, list: ListKey) -> Entries
+        ensures { result.items ≡ list_at self.now list }
+    {
+        self.lists.entries(number_of(list))
+    }
+
+    /// Takes a process out of its list.
+    pub fn remove(&mut self, process: ProcessIndex)
+        ensures { self.new ≡ without_in_all process.0 self.old }
+    {
+        self.lists.remove(process);
+    }
+
+    /// A process leaves its list, and joins this one as its discipline says.
+    pub fn join(&mut self, list: ListKey, discipline: Discipline, entry: Entry)
+        requires { entry.process.0 < MOST_PROCESSES }
+        ensures { self.new ≡ joins list discipline entry self.old }
+    {
+        self.lists.join(number_of(list), discipline, entry);
+    }
+
+    /// Empties all lists.
+    pub fn clear(&mut self)
+        ensures { self.new ≡ emptied self.old }
+    {
+        self.lists.clear();
+    }
+}
