@@ -2,8 +2,12 @@
 //! flushed.
 #![tactic(auto)]
 
+mod names;
 mod stream;
 mod writer;
+mod writing;
 
-pub use stream::{Stream, write_bytes, write_line, write_text};
+pub use names::FailedNames;
+pub use stream::Stream;
 pub use writer::WriterStream;
+pub use writing::{tell_line, tell_text, write_bytes, write_line, write_text};

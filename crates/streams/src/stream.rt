@@ -1,9 +1,9 @@
-//! Streams, and texts that are written to them and flushed.
+//! Sinks that keep bytes back.
 
-ghost use Rattle.std.specs.Prelude.{◌≡◌, ℕ, ◌+◌, ◌-◌, ◌^◌, ◌<◌, ◌++◌, ◌∷◌, [], Bool, true, OnOk, OnErr, IfSome};
+ghost use Rattle.std.specs.Prelude.{◌≡◌, ◌+◌, ◌-◌, ◌^◌, ◌<◌, Bool, true, OnOk, OnErr, IfSome};
 ghost use Rattle.std.specs.Io.KnownBytes.{Appends, Keeps};
 
-use apex_types::{Sink, SinkFault, put_all};
+use apex_types::{Sink, SinkFault};
 use std::fmt::Display;
 
 /// A sink that may keep bytes back until it is flushed.
@@ -25,41 +25,4 @@ pub trait Stream: Sink {
         ensures flushed { OnOk result (is_flushed self.new ≡ true) }
         ensures quiet { OnOk result (Self.failures self.new ≡ Self.failures self.old) }
         ensures failed { OnErr result (Self.failures self.new ≡ Self.failures self.old + 1) };
-}
-
-/// Writes a text, and flushes it.
-pub fn write_text<S: Stream, D: Display + Drop>(stream: &mut S, text: D) -> Result<(), SinkFault>
-    requires { S.failures stream.old < 2 ^ 64 - 1 }
-    ensures bytes { OnOk result (IfSome (D.output text) (Appends (S.taken stream.old) (S.taken stream.new))) }
-    ensures flushed { OnOk result (S.is_flushed stream.new ≡ true) }
-    ensures quiet { OnOk result (S.failures stream.new ≡ S.failures stream.old) }
-    ensures failed { OnErr result (S.failures stream.new ≡ S.failures stream.old + 1) }
-{
-    stream.put_text(text)?;
-    stream.flush()
-}
-
-/// Writes a line, and flushes it.
-pub fn write_line<S: Stream, D: Display + Drop>(stream: &mut S, line: D) -> Result<(), SinkFault>
-    requires { S.failures stream.old < 2 ^ 64 - 1 }
-    ensures bytes { OnOk result (IfSome (D.output line) (λ text. Appends (S.taken stream.old) (S.taken stream.new) (text ++ 10 ∷ []))) }
-    ensures flushed { OnOk result (S.is_flushed stream.new ≡ true) }
-    ensures quiet { OnOk result (S.failures stream.new ≡ S.failures stream.old) }
-    ensures failed { OnErr result (S.failures stream.new ≡ S.failures stream.old + 1) }
-{
-    stream.put_text(line)?;
-    put_all(stream, b"\n")?;
-    stream.flush()
-}
-
-/// Writes bytes, and flushes them. After an error a beginning of them may be out.
-pub fn write_bytes<S: Stream>(stream: &mut S, bytes: &[u8]) -> Result<(), SinkFault>
-    requires { S.failures stream.old < 2 ^ 64 - 1 }
-    ensures bytes { OnOk result (Appends (S.taken stream.old) (S.taken stream.new) bytes.now) }
-    ensures flushed { OnOk result (S.is_flushed stream.new ≡ true) }
-    ensures quiet { OnOk result (S.failures stream.new ≡ S.failures stream.old) }
-    ensures failed { OnErr result (S.failures stream.new ≡ S.failures stream.old + 1) }
-{
-    put_all(stream, bytes)?;
-    stream.flush()
 }
