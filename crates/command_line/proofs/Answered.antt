@@ -1,5 +1,5 @@
 -- From what a command came to, to its status.
-use Rattle.std.proofs.Common.{◌≡◌, ◌≢◌, ◌⊎◌, inl, inr, ℕ, Bool, true, false, [], Result, Ok, Err, refl, sym, ap, subst, ◌∙◌, arith}
+use Rattle.std.proofs.Common.{◌≡◌, ◌≢◌, ◌⊎◌, inl, inr, ℕ, ◌+◌, ◌-◌, ◌^◌, ◌<◌, Bool, true, false, List, [], Result, Ok, Err, refl, sym, ap, subst, ◌∙◌, arith}
 use Rattle.std.specs.Prelude.{IsErr, IsErrAnd, IfErr, OnOk}
 use Rattle.clap.specs.Faults.{is_simple_and_free}
 use Rattle.clap.specs.Kinds.{Kinds, HasKind, IsAmong}
@@ -7,12 +7,14 @@ use Rattle.clap.specs.Values.{kind_of}
 use Rattle.clap.specs.declared.error.Error.{Error}
 use Rattle.clap.specs.declared.error.kind.ErrorKind.{ErrorKind}
 use Rattle.clap.specs.declared.error.kind.ErrorKind.TheVariants as kind
-use Rattle.command_line.specs.Answers.{AskForHelp, AreNoCommand, IsAnswer, IsHelp, IsMistake, IsTold, IsUsageTold}
+use Rattle.streams.specs.States.{HasFailed, IsFlushed, Seen, TakesLine}
+use Rattle.command_line.specs.Answers.{AskForHelp, AreNoCommand, CanTakeHelp, IsAnswer, IsHelp, IsMistake, IsTold, IsUsageTold}
 use Rattle.command_line.specs.Done.{IsDone}
 use Rattle.command_line.specs.Lines.{line_of}
 use Rattle.command_line.specs.Orders.{Order, First, Check, Build, Run, Cost, Dis}
 use Rattle.command_line.specs.Refusals.{IsFailure, IsFailureOfWords, IsRefused, IsWrongTicks}
-use Rattle.command_line.specs.States.{Seen, State, state, TakesLine}
+use Rattle.command_line.specs.States.{IsSilent, State, state}
+use Rattle.command_line.specs.Told.{IsOfFailed, IsOfFailedFile}
 use Rattle.command_line.specs.Words.{mb_app}
 use Rattle.command_line.specs.declared.explaining.Note.{Note}
 use Rattle.command_line.specs.declared.explaining.Note.TheVariants.{Unwanted}
@@ -67,12 +69,12 @@ help_or kind.OutOfMemory = inr ((λ e. cc), (λ e. cc))
 
 -- want of memory may come before anything is done
 memory_refused : (order : Order) (s : State) → IsRefused order s s refusal.Memory
-memory_refused First s = (refl, refl)
-memory_refused (Check table sources) s = ((refl, refl), tt)
-memory_refused (Build table image sources) s = (refl, inl (refl, tt))
-memory_refused (Run image devices ticks) s = (inr refl, (refl, refl))
-memory_refused (Cost table sources) s = ((refl, refl), tt)
-memory_refused (Dis image) s = ((refl, refl), tt)
+memory_refused First s = (refl, (refl, refl))
+memory_refused (Check table sources) s = ((refl, (refl, refl)), tt)
+memory_refused (Build table image sources) s = ((refl, refl), inl (refl, tt))
+memory_refused (Run image devices ticks) s = (inr refl, (refl, (refl, refl)))
+memory_refused (Cost table sources) s = ((refl, (refl, refl)), tt)
+memory_refused (Dis image) s = ((refl, (refl, refl)), tt)
 
 -- words that the library of command lines does not take
 pub words_failed : (kinds own : Kinds) (order : Order) (s : State) (e : Error) (answer : Result (Unit {0}) Failure) → own ≡ kinds → HasKind own e
@@ -87,7 +89,7 @@ words_failed kinds own order s e (Err f) same among h = go (memory_or (kind_of e
     go : (kind_of e ≡ kind.OutOfMemory) ⊎ (kind_of e ≢ kind.OutOfMemory) → HasKind own e → IsFailureOfWords kinds order s s f
     go (inl m) k = short m
     go (inr n) (inl m) = short m
-    go (inr n) (inr a) = subst (IsFailureOfWords kinds order s s) (sym (h.1.1 n)) ((refl, refl), inl (subst (IsAmong (kind_of e)) same a))
+    go (inr n) (inr a) = subst (IsFailureOfWords kinds order s s) (sym (h.1.1 n)) ((refl, (refl, refl)), inl (subst (IsAmong (kind_of e)) same a))
 
 -- words that it takes, whose order is not done
 pub order_failed : (kinds : Kinds) (own order : Order) (before after : State) (answer : Result (Unit {0}) Failure) → kinds ≡ [] → own ≡ order
@@ -107,23 +109,34 @@ pub on_ok : {A E P : Type 0} (answer : Result A E) → P → OnOk answer P
 on_ok (Ok x) p = p
 on_ok (Err e) p = tt
 
+-- words that the library of command lines does not take name no file
+pub words_named : (failed : List (List ℕ)) (e : Error) (answer : Result (Unit {0}) Failure)
+    → IsErr answer × IsErrAnd answer (λ f. (kind_of e ≡ kind.OutOfMemory → f ≡ Refused refusal.Memory) × (kind_of e ≢ kind.OutOfMemory → f ≡ Usage e))
+    → IfErr answer (λ f. IsOfFailedFile failed failed f)
+words_named failed e (Ok x) h = tt
+words_named failed e (Err f) h = go (memory_or (kind_of e))
+  where
+    go : (kind_of e ≡ kind.OutOfMemory) ⊎ (kind_of e ≢ kind.OutOfMemory) → IsOfFailedFile failed failed f
+    go (inl m) = subst (IsOfFailedFile failed failed) (sym (h.1.0 m)) refl
+    go (inr n) = subst (IsOfFailedFile failed failed) (sym (h.1.1 n)) refl
+
 -- ---- the status
 
-of_usage : (kinds : Kinds) (order : Order) (asked : Bool) (before mid : State) (new_out old_err new_err : Seen) (status : ℕ) (e : Error) → IsFailureOfWords kinds order before mid (Usage e) → IsUsageTold e mid.out new_out old_err new_err status
-    → IsHelp (kind_of e) ⊎ IsMistake (kind_of e) → IsAnswer kinds order asked before (state mid.files new_out) old_err new_err status
-of_usage kinds order asked before mid new_out old_err new_err status e (untouched, why) told (inr mistake) =
+of_usage : (kinds : Kinds) (order : Order) (asked : Bool) (before mid : State) (old_failed new_failed : List (List ℕ)) (new_out old_err new_err : Seen) (status : ℕ) (e : Error) → IsFailureOfWords kinds order before mid (Usage e) → new_failed ≡ old_failed → IsUsageTold e mid.out new_out old_err new_err status
+    → IsHelp (kind_of e) ⊎ IsMistake (kind_of e) → IsAnswer kinds order asked before (state mid.files new_out) old_failed new_failed old_err new_err status
+of_usage kinds order asked before mid old_failed new_failed new_out old_err new_err status e (untouched, why) unfailed told (inr mistake) =
     let it = told.mistake mistake in
     record {
       range = omega (arith, it.0);
       done = λ zero. absurd (omega (arith, it.0, zero));
       refused = λ one. absurd (omega (arith, it.0, one));
-      usage = λ two. ((untouched.0, ap (λ (s : Seen). s.bytes) it.1 ∙ untouched.1), no_command why);
+      usage = λ two. ((untouched.0, subst (IsSilent before.out) (sym it.1) untouched.1), unfailed, no_command why, it.2);
     }
   where
     no_command : IsAmong (kind_of e) kinds ⊎ ((kinds ≡ []) × IsWrongTicks order × (kind_of e ≡ kind.ValueValidation)) → AreNoCommand kinds order
     no_command (inl a) = inl (kind_of e, a, mistake)
     no_command (inr (none, wrong, is)) = inr (none, wrong)
-of_usage kinds order asked before mid new_out old_err new_err status e (untouched, why) told (inl help) = by (told.help help)
+of_usage kinds order asked before mid old_failed new_failed new_out old_err new_err status e (untouched, why) unfailed told (inl help) = by (told.help help)
   where
     no_ticks : (k : ErrorKind) → k ≡ kind.ValueValidation → IsHelp k → ⊥
     no_ticks k is (inl h) = cc
@@ -133,39 +146,46 @@ of_usage kinds order asked before mid new_out old_err new_err status e (untouche
     wants (inl a) = (kind_of e, a, help)
     wants (inr (none, wrong, is)) = absurd (no_ticks (kind_of e) is help)
 
-    by : ((status ≡ 0) × (new_out.flushed ≡ true) × (new_err ≡ old_err)) ⊎ ((status ≡ 1) × TakesLine old_err new_err (line_of refusal.Write)) → IsAnswer kinds order asked before (state mid.files new_out) old_err new_err status
+    by : ((status ≡ 0) × IsFlushed mid.out new_out × (new_err ≡ old_err)) ⊎ ((status ≡ 1) × HasFailed mid.out new_out × TakesLine old_err new_err (line_of refusal.Write)) → IsAnswer kinds order asked before (state mid.files new_out) old_failed new_failed old_err new_err status
     by (inl (zero, flushed, quiet)) = record {
       range = omega (arith, zero);
-      done = λ z. ((flushed, inr (wants why, untouched.0)), quiet);
+      done = λ z. (((flushed.0 ∙ untouched.1.1, flushed.1), inr (wants why, untouched.0)), unfailed, quiet);
       refused = λ one. absurd (omega (arith, zero, one));
       usage = λ two. absurd (omega (arith, zero, two));
     }
-    by (inr (one, line)) = record {
+    by (inr (one, failed, line)) = record {
       range = omega (arith, one);
       done = λ zero. absurd (omega (arith, zero, one));
-      refused = λ o. (refusal.Write, inr (refl, wants why, untouched.0), (false, Unwanted, (λ no. refl), line));
+      refused = λ o. (refusal.Write, inr (refl, wants why, failed ∙ ap (λ (n : ℕ). n + 1) untouched.1.1, untouched.0), unfailed, (false, Unwanted, (λ no. refl), line));
       usage = λ two. absurd (omega (arith, one, two));
     }
 
-pub answered : (kinds : Kinds) (order : Order) (asked explained : Bool) (note : Note) (before mid : State) (new_out old_err new_err : Seen) (status : ℕ) (outcome : Result (Unit {0}) Failure)
+pub answered : (kinds : Kinds) (order : Order) (asked explained : Bool) (note : Note) (before mid : State) (old_failed new_failed : List (List ℕ)) (new_out old_err new_err : Seen) (status : ℕ) (outcome : Result (Unit {0}) Failure)
     → (asked ≡ false → explained ≡ false)
-    → OnOk outcome (kinds ≡ []) → OnOk outcome (IsDone order before mid) → OnOk outcome (mid.out.flushed ≡ true) → IfErr outcome (λ f. IsFailureOfWords kinds order before mid f)
-    → IsTold outcome explained note mid.out new_out old_err new_err status → IsAnswer kinds order asked before (state mid.files new_out) old_err new_err status
-answered kinds order asked explained note before mid new_out old_err new_err status (Ok x) quiet_if none done flushed failed (zero, same, quiet) =
+    → OnOk outcome (kinds ≡ []) → OnOk outcome (IsDone order before mid) → OnOk outcome (IsFlushed before.out mid.out) → IfErr outcome (λ f. IsFailureOfWords kinds order before mid f)
+    → OnOk outcome (new_failed ≡ old_failed) → IfErr outcome (λ f. IsOfFailedFile old_failed new_failed f)
+    → IsTold outcome explained note mid.out new_out old_err new_err status → IsAnswer kinds order asked before (state mid.files new_out) old_failed new_failed old_err new_err status
+answered kinds order asked explained note before mid old_failed new_failed new_out old_err new_err status (Ok x) quiet_if none done flushed failed unfailed named (zero, same, quiet) =
     let same_state : mid ≡ state mid.files new_out = ap (state mid.files) (sym same) in
     record {
       range = omega (arith, zero);
-      done = λ z. ((subst (λ (s : State). s.out.flushed ≡ true) same_state flushed, inl (none, subst (IsDone order before) same_state done)), quiet);
+      done = λ z. ((subst (IsFlushed before.out) (sym same) flushed, inl (none, subst (IsDone order before) same_state done)), unfailed, quiet);
       refused = λ one. absurd (omega (arith, zero, one));
       usage = λ two. absurd (omega (arith, zero, two));
     }
-answered kinds order asked explained note before mid new_out old_err new_err status (Err (Refused r)) quiet_if none done flushed failed (one, same, line) =
+answered kinds order asked explained note before mid old_failed new_failed new_out old_err new_err status (Err (Refused r)) quiet_if none done flushed failed unfailed named (one, same, line) =
     let same_state : mid ≡ state mid.files new_out = ap (state mid.files) (sym same) in
     record {
       range = omega (arith, one);
       done = λ zero. absurd (omega (arith, zero, one));
-      refused = λ o. (r, inl (subst (λ s. IsFailureOfWords kinds order before s (Refused r)) same_state failed), (explained, note, quiet_if, line));
+      refused = λ o. (r, inl (subst (λ s. IsFailureOfWords kinds order before s (Refused r)) same_state failed), named, (explained, note, quiet_if, line));
       usage = λ two. absurd (omega (arith, one, two));
     }
-answered kinds order asked explained note before mid new_out old_err new_err status (Err (Usage e)) quiet_if none done flushed failed told =
-    of_usage kinds order asked before mid new_out old_err new_err status e failed told (help_or (kind_of e))
+answered kinds order asked explained note before mid old_failed new_failed new_out old_err new_err status (Err (Usage e)) quiet_if none done flushed failed unfailed named told =
+    of_usage kinds order asked before mid old_failed new_failed new_out old_err new_err status e failed named told (help_or (kind_of e))
+
+-- the help that is told was not yet written
+pub can_take_help : (kinds : Kinds) (order : Order) (before mid : State) (outcome : Result (Unit {0}) Failure) → IfErr outcome (λ f. IsFailureOfWords kinds order before mid f) → before.out.failures < 2 ^ 64 - 1 → CanTakeHelp outcome mid.out.failures
+can_take_help kinds order before mid (Ok x) failed low = tt
+can_take_help kinds order before mid (Err (Refused r)) failed low = tt
+can_take_help kinds order before mid (Err (Usage e)) failed low = subst (λ n. n < 2 ^ 64 - 1) (sym failed.0.1.1) low

@@ -1,5 +1,5 @@
 -- What runs have written.
-use Rattle.std.proofs.Common.{◌≡◌, ℕ, ◌≤◌, ◌<◌, ◌-◌, ◌^◌, List, [], ◌∷◌, Option, Result, Ok, Err, sym, subst, arith, min}
+use Rattle.std.proofs.Common.{◌≡◌, ◌≢◌, ℕ, ◌≤◌, ◌<◌, ◌+◌, ◌-◌, ◌^◌, List, [], ◌∷◌, Option, Result, Ok, Err, refl, sym, subst, arith, min}
 use Rattle.std.specs.Io.KnownBytes.{Keeps}
 use Rattle.std.proofs.KnownBytes.{Appends-kept}
 use Rattle.apex_types.specs.Line.{text_of}
@@ -9,11 +9,14 @@ use Rattle.apex_meaning.specs.TwoMeanings.{source_trace, machine_trace}
 use Rattle.module.specs.Promises.{Means, Runs}
 use Rattle.module.specs.declared.fault.RunFault.{RunFault}
 use Rattle.module.specs.declared.fault.RunFault.TheVariants.{Ticks, Image as NoImage, Device, Memory, Write, Failed}
-use Rattle.std.specs.Prelude.{IsErr, IsErrAnd, IfErr}
+use Rattle.std.specs.Prelude.{IsErr, IsErrAnd, IsErrOf, IfErr}
 use Rattle.apex_meaning.specs.ImageReading.{image_at}
 use Rattle.command_line.specs.Contents.{Contents, Holds}
 use Rattle.command_line.specs.Done.{Inputs, IsRunDone, IsFirstRun, is_ok}
-use Rattle.command_line.specs.Refusals.{IsRunRefused}
+use Rattle.streams.specs.States.{Seen}
+use Rattle.module.specs.declared.fault.BuildAndRunFault.{BuildAndRunFault}
+use Rattle.module.specs.declared.fault.BuildAndRunFault.TheVariants as both
+use Rattle.command_line.specs.Refusals.{HasFailedBy, HasFailedByBoth, IsRunRefused}
 use Rattle.command_line.specs.States.{State}
 use Rattle.command_line.specs.declared.first_run.TheConstants.{SOURCE, TABLE, TICKS}
 use Rattle.command_line.specs.declared.refusal.Refusal.{Refusal}
@@ -50,6 +53,26 @@ pub told_as : {A E : Type 0} (P : E → Type 0) (f : E) (answer : Result A E) �
 told_as P f (Ok x) h p = tt
 told_as P f (Err e) h p = subst P (sym h.1) p
 
+-- how often a run failed on its sink
+pub failed_by : (old new : Seen) (answer : Result (Unit {0}) RunFault) → (IsErrOf answer Write → new.failures ≡ old.failures + 1) → IfErr answer (λ f. f ≢ Write → new.failures ≡ old.failures) → IfErr answer (λ f. HasFailedBy f old new)
+failed_by old new (Ok x) write quiet = tt
+failed_by old new (Err Write) write quiet = write refl
+failed_by old new (Err Ticks) write quiet = quiet (λ e. cc)
+failed_by old new (Err (NoImage f)) write quiet = quiet (λ e. cc)
+failed_by old new (Err (Device f)) write quiet = quiet (λ e. cc)
+failed_by old new (Err Memory) write quiet = quiet (λ e. cc)
+failed_by old new (Err Failed) write quiet = quiet (λ e. cc)
+
+pub failed_by_both : (old new : Seen) (answer : Result (Unit {0}) BuildAndRunFault) → (IsErrOf answer (both.Run Write) → new.failures ≡ old.failures + 1) → IfErr answer (λ f. f ≢ both.Run Write → new.failures ≡ old.failures) → IfErr answer (λ f. HasFailedByBoth f old new)
+failed_by_both old new (Ok x) write quiet = tt
+failed_by_both old new (Err (both.Build fault)) write quiet = quiet (λ e. cc)
+failed_by_both old new (Err (both.Run Write)) write quiet = write refl
+failed_by_both old new (Err (both.Run Ticks)) write quiet = quiet (λ e. cc)
+failed_by_both old new (Err (both.Run (NoImage f))) write quiet = quiet (λ e. cc)
+failed_by_both old new (Err (both.Run (Device f))) write quiet = quiet (λ e. cc)
+failed_by_both old new (Err (both.Run Memory)) write quiet = quiet (λ e. cc)
+failed_by_both old new (Err (both.Run Failed)) write quiet = quiet (λ e. cc)
+
 -- ---- the runs of the commands
 
 pub kept_stored : (old mid new : Option (List ℕ)) → IsFirstRun old mid is_ok → Keeps mid new → IsFirstRun old new is_ok
@@ -67,12 +90,12 @@ inputs_of files now image devices bytes text given_bytes given_text same same_by
 
 pub run_done_by : (image devices : List ℕ) (n v : ℕ) (before after : State) → n ≡ min v (2 ^ 64 - 1) → IsRunDone image devices n before after → IsRunDone image devices v before after
 run_done_by image devices n v before after is (same, inputs, run) =
-    (same, inputs, runs_by (image_at inputs.image_bytes) inputs.device_text n v before.out.bytes after.out.bytes is_ok is run)
+    (same, inputs, runs_by (image_at inputs.image_bytes) inputs.device_text n v before.out.taken after.out.taken is_ok is run)
 
 pub run_refused_by : (image devices : List ℕ) (n v : ℕ) (before after : State) (r : Refusal) → n ≡ min v (2 ^ 64 - 1) → IsRunRefused image devices n before after r → IsRunRefused image devices v before after r
 run_refused_by image devices n v before after (refusal.File name) is h = h
 run_refused_by image devices n v before after (refusal.Run fault) is (failed, same, inputs, run) =
-    (failed, same, inputs, runs_by (image_at inputs.image_bytes) inputs.device_text n v before.out.bytes after.out.bytes (Err fault) is run)
+    (failed, same, inputs, runs_by (image_at inputs.image_bytes) inputs.device_text n v before.out.taken after.out.taken (Err fault) is run)
 run_refused_by image devices n v before after refusal.Memory is h = h
 run_refused_by image devices n v before after refusal.Write is (failed, done) = (failed, run_done_by image devices n v before after is done)
 run_refused_by image devices n v before after (refusal.Build fault) is h = absurd h

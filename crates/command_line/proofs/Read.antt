@@ -7,6 +7,8 @@ use Rattle.command_line.specs.Contents.{Contents, Holds, HoldAll}
 use Rattle.command_line.specs.Done.{AreCosted, IsBuilt}
 use Rattle.command_line.specs.Reading.{IsRefusedText, IsUncostedText}
 use Rattle.command_line.specs.Refusals.{IsNotBuilt, IsNotCosted}
+use Rattle.command_line.specs.Told.{IsOfFailed}
+use Rattle.std.specs.Prelude.{OnOk}
 use Rattle.command_line.specs.declared.refusal.Refusal.{Refusal}
 use Rattle.command_line.specs.declared.refusal.Refusal.TheVariants.{Build, Run, File, Memory, Write}
 
@@ -58,3 +60,27 @@ uncosted_named files now table sources table_text texts (Err (Run fault)) same i
 uncosted_named files now table sources table_text texts (Err (File name)) same in_table in_sources h = absurd h
 uncosted_named files now table sources table_text texts (Err Memory) same in_table in_sources h = tt
 uncosted_named files now table sources table_text texts (Err Write) same in_table in_sources h = absurd h
+
+-- ---- no file is named where texts are refused
+
+pub on_ok : {A E P : Type 0} (answer : Result A E) → P → OnOk answer P
+on_ok (Ok x) p = p
+on_ok (Err e) p = tt
+
+pub unnamed_text : {A : Type 0} (old new : List (List ℕ)) (table_text : List ℕ) (texts : List (List ℕ)) (answer : Result A Refusal)
+    → new ≡ old → IfErr answer (λ r. IsRefusedText table_text texts r) → IfErr answer (λ r. IsOfFailed old new r)
+unnamed_text old new table_text texts (Ok x) same h = tt
+unnamed_text old new table_text texts (Err (Build fault)) same h = same
+unnamed_text old new table_text texts (Err (Run fault)) same h = same
+unnamed_text old new table_text texts (Err (File name)) same h = absurd h
+unnamed_text old new table_text texts (Err Memory) same h = same
+unnamed_text old new table_text texts (Err Write) same h = same
+
+pub unnamed_costs : {A : Type 0} (old new : List (List ℕ)) (table_text : List ℕ) (texts : List (List ℕ)) (answer : Result A Refusal)
+    → new ≡ old → IfErr answer (λ r. IsUncostedText table_text texts r) → IfErr answer (λ r. IsOfFailed old new r)
+unnamed_costs old new table_text texts (Ok x) same h = tt
+unnamed_costs old new table_text texts (Err (Build fault)) same h = same
+unnamed_costs old new table_text texts (Err (Run fault)) same h = same
+unnamed_costs old new table_text texts (Err (File name)) same h = absurd h
+unnamed_costs old new table_text texts (Err Memory) same h = same
+unnamed_costs old new table_text texts (Err Write) same h = same

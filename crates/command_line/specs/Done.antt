@@ -75,17 +75,17 @@ is_ok = Ok tt
 -- an image was run for n ticks
 abbrev pub IsRunDone : List ℕ → List ℕ → ℕ → State → State → Type 0
 IsRunDone image devices n before after =
-    (after.files ≡ before.files) × (inputs : Inputs before.files image devices) × IsRunOf inputs n before.out.bytes after.out.bytes is_ok
+    (after.files ≡ before.files) × (inputs : Inputs before.files image devices) × IsRunOf inputs n before.out.taken after.out.taken is_ok
 
 abbrev pub IsDone : Order → State → State → Type 0
-IsDone First before after = (after.files ≡ before.files) × IsFirstRun before.out.bytes after.out.bytes is_ok
+IsDone First before after = (after.files ≡ before.files) × IsFirstRun before.out.taken after.out.taken is_ok
 IsDone (Check table sources) before after =
-    (after.files ≡ before.files) × ((image : List ℕ) × IsBuilt before.files table sources image) × Appends before.out.bytes after.out.bytes accepted_text
+    (after.files ≡ before.files) × ((image : List ℕ) × IsBuilt before.files table sources image) × Appends before.out.taken after.out.taken accepted_text
 IsDone (Build table name sources) before after =
     (image : List ℕ) × IsBuilt before.files table sources image × Holds after.files name image × Spares name before.files after.files
-    × Appends before.out.bytes after.out.bytes (size_text (length image))
+    × Appends before.out.taken after.out.taken (size_text (length image))
 IsDone (Run image devices ticks) before after = IsNumeral 10 ticks × IsRunDone image devices (digits_value 10 ticks) before after
 IsDone (Cost table sources) before after =
-    (after.files ≡ before.files) × (costs : List PartitionCosts) × AreCosted before.files table sources costs × Appends before.out.bytes after.out.bytes (costs_text costs)
+    (after.files ≡ before.files) × (costs : List PartitionCosts) × AreCosted before.files table sources costs × Appends before.out.taken after.out.taken (costs_text costs)
 IsDone (Dis name) before after =
-    (after.files ≡ before.files) × (image : Image) × IsImageIn before.files name image × Appends before.out.bytes after.out.bytes (code_text image)
+    (after.files ≡ before.files) × (image : Image) × IsImageIn before.files name image × Appends before.out.taken after.out.taken (code_text image)

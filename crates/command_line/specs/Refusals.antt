@@ -1,9 +1,10 @@
 -- Why a command is refused, and what it has left then.
-use Rattle.std.specs.Prelude.{◌≡◌, ◌⊎◌, ℕ, List, [], ◌∷◌, true, Option, Err, string_bytes}
+use Rattle.std.specs.Prelude.{◌≡◌, ◌⊎◌, ℕ, List, [], ◌∷◌, Option, Err, string_bytes}
 use Rattle.std.specs.Str.Parse.{IsNumeral, digits_value}
 use Rattle.clap.specs.Kinds.{Kinds, IsAmong}
 use Rattle.clap.specs.Values.{kind_of}
 use Rattle.clap.specs.declared.error.kind.ErrorKind.TheVariants.{ValueValidation}
+use Rattle.streams.specs.States.{HasFailed, Seen}
 use Rattle.apex_types.specs.Sink.{TakesBeginning}
 use Rattle.apex_meaning.specs.Image.{Image}
 use Rattle.apex_meaning.specs.ImageReading.{image_at}
@@ -15,11 +16,12 @@ use Rattle.module.specs.Promises as promises
 use Rattle.module.specs.declared.costing.PartitionCosts.{PartitionCosts}
 use Rattle.module.specs.declared.fault.BuildAndRunFault.{BuildAndRunFault}
 use Rattle.module.specs.declared.fault.BuildAndRunFault.TheVariants as both
+use Rattle.module.specs.declared.fault.RunFault.{RunFault}
 use Rattle.module.specs.declared.fault.RunFault.TheVariants as faults
 use Rattle.command_line.specs.Contents.{Contents, Holds, Spares}
 use Rattle.command_line.specs.Done.{Texts, IsBuilt, AreCosted, IsImageIn, Inputs, IsRunOf, IsRunDone, IsFirstRun, is_ok}
 use Rattle.command_line.specs.Orders.{Order, First as first, Check as check, Build as build, Run as run, Cost as cost, Dis as dis}
-use Rattle.command_line.specs.States.{Seen, State}
+use Rattle.command_line.specs.States.{IsSilent, IsUntouched, State}
 use Rattle.command_line.specs.declared.refusal.Refusal.{Refusal}
 use Rattle.command_line.specs.declared.refusal.Refusal.TheVariants.{Build, Run, File, Memory, Write}
 use Rattle.command_line.specs.declared.refusal.Failure.{Failure}
@@ -73,50 +75,55 @@ IsNotWritten table sources name before after r =
 
 -- ---- the commands; want of memory may come at every step
 
--- neither the files nor standard output were touched
-abbrev pub IsUntouched : State → State → Type 0
-IsUntouched before after = (after.files ≡ before.files) × (after.out.bytes ≡ before.out.bytes)
+-- standard output failed if a run says so, and else not
+abbrev pub HasFailedBy : RunFault → Seen → Seen → Type 0
+HasFailedBy faults.Write old new = HasFailed old new
+HasFailedBy _ old new = new.failures ≡ old.failures
+
+abbrev pub HasFailedByBoth : BuildAndRunFault → Seen → Seen → Type 0
+HasFailedByBoth (both.Build fault) old new = new.failures ≡ old.failures
+HasFailedByBoth (both.Run fault) old new = HasFailedBy fault old new
 
 abbrev pub IsCheckRefused : List ℕ → List (List ℕ) → State → State → Refusal → Type 0
-IsCheckRefused table sources before after Write = (after.out.failed ≡ true) × (after.files ≡ before.files) × ((image : List ℕ) × IsBuilt before.files table sources image)
+IsCheckRefused table sources before after Write = HasFailed before.out after.out × (after.files ≡ before.files) × ((image : List ℕ) × IsBuilt before.files table sources image)
 IsCheckRefused table sources before after r = IsUntouched before after × IsNotBuilt before.files table sources r
 
 abbrev pub IsBuildRefused : List ℕ → List ℕ → List (List ℕ) → State → State → Refusal → Type 0
 IsBuildRefused table name sources before after Write =
-    (after.out.failed ≡ true) × (image : List ℕ) × IsBuilt before.files table sources image × Holds after.files name image × Spares name before.files after.files
+    HasFailed before.out after.out × (image : List ℕ) × IsBuilt before.files table sources image × Holds after.files name image × Spares name before.files after.files
 IsBuildRefused table name sources before after r =
-    (after.out.bytes ≡ before.out.bytes)
+    IsSilent before.out after.out
     × (((after.files ≡ before.files) × IsNotBuilt before.files table sources r) ⊎ IsNotWritten table sources name before after r)
 
 -- of a run of n ticks
 abbrev pub IsRunRefused : List ℕ → List ℕ → ℕ → State → State → Refusal → Type 0
 IsRunRefused image devices n before after (File name) = IsUntouched before after × IsFirstUnread before.files (image ∷ devices ∷ []) (string_bytes name)
 IsRunRefused image devices n before after (Run fault) =
-    (fault ≡ faults.Write → after.out.failed ≡ true) × (after.files ≡ before.files)
-    × (inputs : Inputs before.files image devices) × IsRunOf inputs n before.out.bytes after.out.bytes (Err fault)
+    HasFailedBy fault before.out after.out × (after.files ≡ before.files)
+    × (inputs : Inputs before.files image devices) × IsRunOf inputs n before.out.taken after.out.taken (Err fault)
 IsRunRefused image devices n before after Memory = IsUntouched before after
-IsRunRefused image devices n before after Write = (after.out.failed ≡ true) × IsRunDone image devices n before after
+IsRunRefused image devices n before after Write = HasFailed before.out after.out × IsRunDone image devices n before after
 IsRunRefused image devices n before after (Build fault) = ⊥
 
 -- of the run of the stored module, over standard output
 abbrev pub IsStoredRefused : Seen → Seen → Refusal → Type 0
-IsStoredRefused old new (Build fault) = IsFirstRun old.bytes new.bytes (Err (both.Build fault))
-IsStoredRefused old new (Run fault) = (fault ≡ faults.Write → new.failed ≡ true) × IsFirstRun old.bytes new.bytes (Err (both.Run fault))
-IsStoredRefused old new Memory = new.bytes ≡ old.bytes
-IsStoredRefused old new Write = (new.failed ≡ true) × IsFirstRun old.bytes new.bytes is_ok
+IsStoredRefused old new (Build fault) = (new.failures ≡ old.failures) × IsFirstRun old.taken new.taken (Err (both.Build fault))
+IsStoredRefused old new (Run fault) = HasFailedBy fault old new × IsFirstRun old.taken new.taken (Err (both.Run fault))
+IsStoredRefused old new Memory = IsSilent old new
+IsStoredRefused old new Write = HasFailed old new × IsFirstRun old.taken new.taken is_ok
 IsStoredRefused old new (File name) = ⊥
 
 -- where standard output took no more, it has a beginning of the listing
 abbrev pub IsCostRefused : List ℕ → List (List ℕ) → State → State → Refusal → Type 0
 IsCostRefused table sources before after Write =
-    (after.out.failed ≡ true) × (after.files ≡ before.files)
-    × (costs : List PartitionCosts) × AreCosted before.files table sources costs × TakesBeginning before.out.bytes after.out.bytes (costs_text costs)
+    HasFailed before.out after.out × (after.files ≡ before.files)
+    × (costs : List PartitionCosts) × AreCosted before.files table sources costs × TakesBeginning before.out.taken after.out.taken (costs_text costs)
 IsCostRefused table sources before after r = IsUntouched before after × IsNotCosted before.files table sources r
 
 abbrev pub IsDisRefused : List ℕ → State → State → Refusal → Type 0
 IsDisRefused name before after Write =
-    (after.out.failed ≡ true) × (after.files ≡ before.files)
-    × (image : Image) × IsImageIn before.files name image × TakesBeginning before.out.bytes after.out.bytes (code_text image)
+    HasFailed before.out after.out × (after.files ≡ before.files)
+    × (image : Image) × IsImageIn before.files name image × TakesBeginning before.out.taken after.out.taken (code_text image)
 IsDisRefused name before after r = IsUntouched before after × IsNotLoaded before.files name r
 
 abbrev pub IsRefused : Order → State → State → Refusal → Type 0

@@ -1,18 +1,7 @@
 -- What a command can change, as it is seen at one time.
-use Rattle.std.specs.Prelude.{◌≡◌, ℕ, Bool, false, List, [], ◌∷◌, ◌++◌, Option}
-use Rattle.std.specs.Io.KnownBytes.{Appends}
+use Rattle.std.specs.Prelude.{◌≡◌, List, Option}
+use Rattle.streams.specs.States.{Seen}
 use Rattle.command_line.specs.Contents.{Contents}
-use Rattle.command_line.specs.declared.stream.Stream.{Stream}
-
--- The bytes that a stream has taken, where its writer tells them; whether it failed, and whether what it
--- took was flushed.
-pub record Seen : Type 0 where
-  pub bytes : Option (List ℕ)
-  pub failed : Bool
-  pub flushed : Bool
-
-abbrev pub seen : {W : Type 0} → (W → Option (List ℕ)) → Stream W → Seen
-seen contents s = record { bytes = contents s.sink.writer; failed = s.failed; flushed = s.flushed }
 
 -- The files and standard output.
 pub record State : Type 0 where
@@ -22,10 +11,10 @@ pub record State : Type 0 where
 abbrev pub state : Option Contents → Seen → State
 state files out = record { files = files; out = out }
 
--- the stream has taken this text, where it did not fail
-abbrev pub TakesText : Seen → Seen → List ℕ → Type 0
-TakesText old new text = new.failed ≡ false → Appends old.bytes new.bytes text
+-- a stream has taken nothing between the two times, and did not fail
+abbrev pub IsSilent : Seen → Seen → Type 0
+IsSilent old new = (new.taken ≡ old.taken) × (new.failures ≡ old.failures)
 
--- the stream has taken this line, where it did not fail
-abbrev pub TakesLine : Seen → Seen → List ℕ → Type 0
-TakesLine old new line = new.failed ≡ false → Appends old.bytes new.bytes (line ++ 10 ∷ [])
+-- neither the files nor standard output were touched
+abbrev pub IsUntouched : State → State → Type 0
+IsUntouched before after = (after.files ≡ before.files) × IsSilent before.out after.out

@@ -1,6 +1,6 @@
 //! What each command does.
 
-ghost use Rattle.std.specs.Prelude.{◌≡◌, [], map, true, false, IfErr, OnOk};
+ghost use Rattle.std.specs.Prelude.{◌≡◌, ◌-◌, ◌^◌, ◌<◌, [], map, false, IfErr, OnOk};
 ghost use Rattle.clap.specs.Faults.{fault_of};
 ghost use Rattle.clap.specs.Matches.{found_of};
 ghost use Rattle.clap.specs.Simple.{subcommand_of, subcommand_rows_of};
@@ -8,7 +8,9 @@ ghost use Rattle.clap.specs.Walk.{rows_of};
 ghost use Rattle.command_line.specs.Done.{IsDone};
 ghost use Rattle.command_line.specs.Orders.{Build, Check, asks, order_of, word_at};
 ghost use Rattle.command_line.specs.Refusals.{IsBuildRefused, IsCheckRefused, IsFailure, IsFailureOfWords};
-ghost use Rattle.command_line.specs.States.{seen, state};
+ghost use Rattle.command_line.specs.States.{state};
+ghost use Rattle.command_line.specs.Told.{IsOfFailed, IsOfFailedFile};
+ghost use Rattle.streams.specs.States.{IsFlushed, seen};
 ghost use Rattle.command_line.specs.Words.{mb_app};
 
 use crate::explaining::Note;
@@ -18,29 +20,31 @@ use crate::reading::build_named;
 use crate::refusal::{Failure, Refusal};
 use crate::running::{run, run_stored};
 use crate::showing::{cost, dis};
-use crate::stream::Stream;
 use clap::ArgMatches;
 use std::alloc::Global;
 use std::convert::AsStr;
-use std::io::Write;
+use streams::{Stream, write_line};
 
 /// Does what the words say. `asked` becomes true if they ask for an explanation of a refusal; `note`
 /// gets what is to be told of a refused source then.
-pub fn perform<S: AsStr, F: Files, O: Write>(
+pub fn perform<S: AsStr, F: Files, O: Stream>(
     alloc: Global,
     words: &[S],
     files: &mut F,
-    out: &mut Stream<O>,
+    out: &mut O,
     asked: &mut bool,
     note: &mut Note,
 ) -> Result<(), Failure>
+    requires { O.failures out.old < 2 ^ 64 - 1 }
     ensures asked { asked.old ≡ false → asks (subcommand_of mb_app (map S.text words.now)) ≡ false → asked.new ≡ false }
     ensures command { OnOk result (fault_of mb_app (map S.text words.now) ≡ []) }
     ensures done { OnOk result (IsDone (order_of (subcommand_of mb_app (map S.text words.now)))
-        (state (F.contents files.old) (seen O.contents out.old)) (state (F.contents files.new) (seen O.contents out.new))) }
-    ensures flushed { OnOk result (out.new.flushed ≡ true) }
+        (state (F.contents files.old) (seen O.taken O.failures O.is_flushed out.old)) (state (F.contents files.new) (seen O.taken O.failures O.is_flushed out.new))) }
+    ensures flushed { OnOk result (IsFlushed (seen O.taken O.failures O.is_flushed out.old) (seen O.taken O.failures O.is_flushed out.new)) }
     ensures failed { IfErr result (λ f. IsFailureOfWords (fault_of mb_app (map S.text words.now)) (order_of (subcommand_of mb_app (map S.text words.now)))
-        (state (F.contents files.old) (seen O.contents out.old)) (state (F.contents files.new) (seen O.contents out.new)) f) }
+        (state (F.contents files.old) (seen O.taken O.failures O.is_flushed out.old)) (state (F.contents files.new) (seen O.taken O.failures O.is_flushed out.new)) f) }
+    ensures noted { OnOk result (F.failed files.new ≡ F.failed files.old) }
+    ensures named { IfErr result (λ f. IsOfFailedFile (F.failed files.old) (F.failed files.new) f) }
 {
     let matches = grammar(alloc)?.try_get_matches_from(words)?;
     *asked = asks(&matches);
@@ -59,18 +63,21 @@ fn asks(matches: &ArgMatches<'_>) -> bool
 }
 
 /// Does what was found in the words.
-fn obey<F: Files, O: Write>(
+fn obey<F: Files, O: Stream>(
     alloc: Global,
     matches: &ArgMatches<'_>,
     files: &mut F,
-    out: &mut Stream<O>,
+    out: &mut O,
     note: &mut Note,
 ) -> Result<(), Failure>
+    requires { O.failures out.old < 2 ^ 64 - 1 }
     ensures done { OnOk result (IsDone (order_of (subcommand_rows_of matches.now))
-        (state (F.contents files.old) (seen O.contents out.old)) (state (F.contents files.new) (seen O.contents out.new))) }
-    ensures flushed { OnOk result (out.new.flushed ≡ true) }
+        (state (F.contents files.old) (seen O.taken O.failures O.is_flushed out.old)) (state (F.contents files.new) (seen O.taken O.failures O.is_flushed out.new))) }
+    ensures flushed { OnOk result (IsFlushed (seen O.taken O.failures O.is_flushed out.old) (seen O.taken O.failures O.is_flushed out.new)) }
     ensures failed { IfErr result (λ f. IsFailure (order_of (subcommand_rows_of matches.now))
-        (state (F.contents files.old) (seen O.contents out.old)) (state (F.contents files.new) (seen O.contents out.new)) f) }
+        (state (F.contents files.old) (seen O.taken O.failures O.is_flushed out.old)) (state (F.contents files.new) (seen O.taken O.failures O.is_flushed out.new)) f) }
+    ensures noted { OnOk result (F.failed files.new ≡ F.failed files.old) }
+    ensures named { IfErr result (λ f. IsOfFailedFile (F.failed files.old) (F.failed files.new) f) }
 {
     match matches.subcommand() {
         Some(("check", found)) => {
@@ -105,43 +112,50 @@ fn word<'a>(found: &ArgMatches<'a>, name: &str) -> &'a str
 }
 
 /// Builds, and drops the image.
-fn check<F: Files, O: Write>(
+fn check<F: Files, O: Stream>(
     alloc: Global,
     table: &str,
     sources: &[&str],
     files: &mut F,
-    out: &mut Stream<O>,
+    out: &mut O,
     note: &mut Note,
 ) -> Result<(), Refusal>
+    requires { O.failures out.old < 2 ^ 64 - 1 }
     ensures done { OnOk result (IsDone (Check table.now (map (λ s. s.now) sources.now))
-        (state (F.contents files.old) (seen O.contents out.old)) (state (F.contents files.new) (seen O.contents out.new))) }
-    ensures flushed { OnOk result (out.new.flushed ≡ true) }
+        (state (F.contents files.old) (seen O.taken O.failures O.is_flushed out.old)) (state (F.contents files.new) (seen O.taken O.failures O.is_flushed out.new))) }
+    ensures flushed { OnOk result (IsFlushed (seen O.taken O.failures O.is_flushed out.old) (seen O.taken O.failures O.is_flushed out.new)) }
     ensures refused { IfErr result (λ r. IsCheckRefused table.now (map (λ s. s.now) sources.now)
-        (state (F.contents files.old) (seen O.contents out.old)) (state (F.contents files.new) (seen O.contents out.new)) r) }
+        (state (F.contents files.old) (seen O.taken O.failures O.is_flushed out.old)) (state (F.contents files.new) (seen O.taken O.failures O.is_flushed out.new)) r) }
+    ensures noted { OnOk result (F.failed files.new ≡ F.failed files.old) }
+    ensures named { IfErr result (λ r. IsOfFailed (F.failed files.old) (F.failed files.new) r) }
 {
     build_named(alloc, table, sources, files, note)?;
-    Ok(out.line("accepted")?)
+    Ok(write_line(out, "accepted")?)
 }
 
 /// Builds, and writes the image.
-fn build<F: Files, O: Write>(
+fn build<F: Files, O: Stream>(
     alloc: Global,
     table: &str,
     name: &str,
     sources: &[&str],
     files: &mut F,
-    out: &mut Stream<O>,
+    out: &mut O,
     note: &mut Note,
 ) -> Result<(), Refusal>
+    requires { O.failures out.old < 2 ^ 64 - 1 }
     ensures done { OnOk result (IsDone (Build table.now name.now (map (λ s. s.now) sources.now))
-        (state (F.contents files.old) (seen O.contents out.old)) (state (F.contents files.new) (seen O.contents out.new))) }
-    ensures flushed { OnOk result (out.new.flushed ≡ true) }
+        (state (F.contents files.old) (seen O.taken O.failures O.is_flushed out.old)) (state (F.contents files.new) (seen O.taken O.failures O.is_flushed out.new))) }
+    ensures flushed { OnOk result (IsFlushed (seen O.taken O.failures O.is_flushed out.old) (seen O.taken O.failures O.is_flushed out.new)) }
     ensures refused { IfErr result (λ r. IsBuildRefused table.now name.now (map (λ s. s.now) sources.now)
-        (state (F.contents files.old) (seen O.contents out.old)) (state (F.contents files.new) (seen O.contents out.new)) r) }
+        (state (F.contents files.old) (seen O.taken O.failures O.is_flushed out.old)) (state (F.contents files.new) (seen O.taken O.failures O.is_flushed out.new)) r) }
+    ensures noted { OnOk result (F.failed files.new ≡ F.failed files.old) }
+    ensures named { IfErr result (λ r. IsOfFailed (F.failed files.old) (F.failed files.new) r) }
 {
     let image = build_named(alloc, table, sources, files, note)?;
+    let shown = String::from_str(alloc, name)?;
     if let Err(fault) = files.write(name, image.as_slice()) {
-        return Err(Refusal::of_file(alloc, name, fault));
+        return Err(Refusal::of_file(shown, fault));
     }
-    Ok(out.line(format_args!("built {} bytes", image.len()))?)
+    Ok(write_line(out, format_args!("built {} bytes", image.len()))?)
 }

@@ -1,12 +1,13 @@
 //! The command line of `mb`.
 #![tactic(auto)]
 
-ghost use Rattle.std.specs.Prelude.{◌≡◌, ◌≤◌, map};
+ghost use Rattle.std.specs.Prelude.{◌≡◌, ◌≤◌, ◌-◌, ◌^◌, ◌<◌, map};
 ghost use Rattle.clap.specs.Faults.{fault_of};
 ghost use Rattle.clap.specs.Simple.{subcommand_of};
 ghost use Rattle.command_line.specs.Answers.{IsAnswer};
 ghost use Rattle.command_line.specs.Orders.{asks, order_of};
-ghost use Rattle.command_line.specs.States.{seen, state};
+ghost use Rattle.command_line.specs.States.{state};
+ghost use Rattle.streams.specs.States.{seen};
 ghost use Rattle.command_line.specs.Words.{mb_app};
 
 mod commands;
@@ -18,7 +19,6 @@ mod reading;
 mod refusal;
 mod running;
 mod showing;
-mod stream;
 mod telling;
 
 use commands::perform;
@@ -27,8 +27,7 @@ pub use files::{FileFault, Files};
 pub use refusal::Refusal;
 use std::alloc::Global;
 use std::convert::AsStr;
-use std::io::Write;
-pub use stream::Stream;
+use streams::Stream;
 use telling::tell;
 
 /// Does what the words of a command line say, the program's name first, and answers the exit
@@ -39,16 +38,18 @@ use telling::tell;
 /// Faults are met in this order: the words, the files read in the order of the words, the build,
 /// the run or what is listed, the file written, the lines printed. An image is written only if it
 /// was built.
-pub fn command<S: AsStr, F: Files, O: Write, E: Write>(
+pub fn command<S: AsStr, F: Files, O: Stream, E: Stream>(
     alloc: Global,
     words: &[S],
     files: &mut F,
-    out: &mut Stream<O>,
-    err: &mut Stream<E>,
+    out: &mut O,
+    err: &mut E,
 ) -> u8
+    requires out { O.failures out.old < 2 ^ 64 - 1 }
+    requires err { E.failures err.old < 2 ^ 64 - 1 }
     ensures { IsAnswer (fault_of mb_app (map S.text words.now)) (order_of (subcommand_of mb_app (map S.text words.now))) (asks (subcommand_of mb_app (map S.text words.now)))
-        (state (F.contents files.old) (seen O.contents out.old)) (state (F.contents files.new) (seen O.contents out.new))
-        (seen E.contents err.old) (seen E.contents err.new) result }
+        (state (F.contents files.old) (seen O.taken O.failures O.is_flushed out.old)) (state (F.contents files.new) (seen O.taken O.failures O.is_flushed out.new))
+        (F.failed files.old) (F.failed files.new) (seen E.taken E.failures E.is_flushed err.old) (seen E.taken E.failures E.is_flushed err.new) result }
 {
     let mut asked = false;
     let mut note = Note::new(false);

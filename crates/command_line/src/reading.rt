@@ -1,6 +1,6 @@
 //! The texts of the files that the words name.
 
-ghost use Rattle.std.specs.Prelude.{◌≡◌, map, Ok, IfOk, IfErr};
+ghost use Rattle.std.specs.Prelude.{◌≡◌, map, Ok, IfOk, IfErr, OnOk};
 ghost use Rattle.apex_meaning.specs.ImageReading.{image_at};
 ghost use Rattle.image.specs.Views.{image_of};
 ghost use Rattle.command_line.specs.Contents.{HoldAll, Holds};
@@ -10,6 +10,7 @@ ghost use Rattle.module.specs.Building.{IsImageOf};
 ghost use Rattle.module.specs.Costs.{AreCosts};
 ghost use Rattle.module.specs.Promises.{IsRefused};
 ghost use Rattle.command_line.specs.Refusals.{IsNotBuilt, IsNotCosted, IsNotLoaded};
+ghost use Rattle.command_line.specs.Told.{IsOfFailed};
 
 use crate::explaining::Note;
 use crate::files::Files;
@@ -23,10 +24,13 @@ pub fn read<F: Files>(alloc: Global, name: &str, files: &mut F) -> Result<Vec<u8
     ensures held { IfOk result (λ bytes. Holds (F.contents files.old) name.now bytes.items) }
     ensures refused { IfErr result (λ r. IsUnread name.now r) }
     ensures unchanged { F.contents files.new ≡ F.contents files.old }
+    ensures noted { OnOk result (F.failed files.new ≡ F.failed files.old) }
+    ensures named { IfErr result (λ r. IsOfFailed (F.failed files.old) (F.failed files.new) r) }
 {
+    let shown = String::from_str(alloc, name)?;
     match files.read(alloc, name) {
         Ok(bytes) => Ok(bytes),
-        Err(fault) => Err(Refusal::of_file(alloc, name, fault)),
+        Err(fault) => Err(Refusal::of_file(shown, fault)),
     }
 }
 
@@ -35,6 +39,8 @@ fn read_all<F: Files>(alloc: Global, names: &[&str], files: &mut F) -> Result<Ve
     ensures held { IfOk result (λ texts. HoldAll (F.contents files.old) (map (λ s. s.now) names.now) (texts_of texts.items)) }
     ensures refused { IfErr result (λ r. IsUnreadAmong (F.contents files.old) (map (λ s. s.now) names.now) r) }
     ensures unchanged { F.contents files.new ≡ F.contents files.old }
+    ensures noted { OnOk result (F.failed files.new ≡ F.failed files.old) }
+    ensures named { IfErr result (λ r. IsOfFailed (F.failed files.old) (F.failed files.new) r) }
 {
     let mut texts = Vec::new(alloc);
     for name in names {
@@ -55,6 +61,8 @@ pub fn build_named<F: Files>(
     ensures built { IfOk result (λ image. IsBuilt (F.contents files.old) table.now (map (λ s. s.now) sources.now) image.items) }
     ensures refused { IfErr result (λ r. IsNotBuilt (F.contents files.old) table.now (map (λ s. s.now) sources.now) r) }
     ensures unchanged { F.contents files.new ≡ F.contents files.old }
+    ensures noted { OnOk result (F.failed files.new ≡ F.failed files.old) }
+    ensures named { IfErr result (λ r. IsOfFailed (F.failed files.old) (F.failed files.new) r) }
 {
     let table = read(alloc, table, files)?;
     let sources = read_all(alloc, sources, files)?;
@@ -93,6 +101,8 @@ pub fn costs_named<F: Files>(
     ensures costed { IfOk result (λ costs. AreCosted (F.contents files.old) table.now (map (λ s. s.now) sources.now) costs.items) }
     ensures refused { IfErr result (λ r. IsNotCosted (F.contents files.old) table.now (map (λ s. s.now) sources.now) r) }
     ensures unchanged { F.contents files.new ≡ F.contents files.old }
+    ensures noted { OnOk result (F.failed files.new ≡ F.failed files.old) }
+    ensures named { IfErr result (λ r. IsOfFailed (F.failed files.old) (F.failed files.new) r) }
 {
     let table = read(alloc, table, files)?;
     let sources = read_all(alloc, sources, files)?;
@@ -124,6 +134,8 @@ pub fn load_named<F: Files>(alloc: Global, name: &str, files: &mut F) -> Result<
     ensures loaded { IfOk result (λ image. IsImageIn (F.contents files.old) name.now (image_of image)) }
     ensures refused { IfErr result (λ r. IsNotLoaded (F.contents files.old) name.now r) }
     ensures unchanged { F.contents files.new ≡ F.contents files.old }
+    ensures noted { OnOk result (F.failed files.new ≡ F.failed files.old) }
+    ensures named { IfErr result (λ r. IsOfFailed (F.failed files.old) (F.failed files.new) r) }
 {
     let bytes = read(alloc, name, files)?;
     Ok(load(alloc, bytes.as_slice())?)

@@ -4,7 +4,8 @@ ghost use Rattle.std.specs.Prelude.{◌≡◌, ◌≢◌, Some};
 ghost use Rattle.clap.specs.Values.{kind_of};
 ghost use Rattle.clap.specs.declared.error.kind.ErrorKind.TheVariants.{OutOfMemory};
 ghost use Rattle.command_line.specs.Lines.{line_of};
-ghost use Rattle.command_line.specs.Refusals.{refusal_of_both, IsRefusalOfFile};
+ghost use Rattle.command_line.specs.Refusals.{refusal_of_both};
+ghost use Rattle.command_line.specs.Told.{of_file};
 ghost use Rattle.command_line.specs.declared.refusal.Refusal.TheVariants as refusal;
 ghost use Rattle.command_line.specs.declared.refusal.Failure.TheVariants as failure;
 
@@ -12,7 +13,7 @@ use crate::files::FileFault;
 use apex_types::SinkFault;
 use clap::error::ErrorKind;
 use module::{BuildAndRunFault, BuildFault, RunFault};
-use std::alloc::{AllocError, AllocFailed, Global};
+use std::alloc::{AllocError, AllocFailed};
 use std::fmt;
 
 /// A refused command. What it shows is its line on standard error.
@@ -29,14 +30,11 @@ pub enum Refusal {
 
 impl Refusal {
     /// The refusal where the file of that name was not read or not written.
-    pub fn of_file(alloc: Global, name: &str, fault: FileFault) -> Refusal
-        ensures { IsRefusalOfFile name.now result }
+    pub fn of_file(name: String, fault: FileFault) -> Refusal
+        ensures { result ≡ of_file name fault }
     {
         match fault {
-            FileFault::Unavailable => match String::from_str(alloc, name) {
-                Ok(name) => Refusal::File(name),
-                Err(_) => Refusal::Memory,
-            },
+            FileFault::Unavailable => Refusal::File(name),
             FileFault::Memory => Refusal::Memory,
         }
     }

@@ -1,37 +1,41 @@
 //! Runs, of an image and of the stored module.
 
-ghost use Rattle.std.specs.Prelude.{◌≡◌, true, IfErr, IsErrOf, OnOk};
+ghost use Rattle.std.specs.Prelude.{◌≡◌, ◌-◌, ◌^◌, ◌<◌, IfErr, OnOk};
 ghost use Rattle.apex_meaning.specs.ImageReading.{image_at};
 ghost use Rattle.module.specs.Promises.{Runs};
 ghost use Rattle.command_line.specs.Done.{IsDone, IsFirstRun, IsRunDone, is_ok};
 ghost use Rattle.command_line.specs.Orders.{Run};
-ghost use Rattle.command_line.specs.Refusals.{IsFailure, IsRunRefused, IsStoredRefused};
-ghost use Rattle.command_line.specs.States.{seen, state};
+ghost use Rattle.command_line.specs.Refusals.{HasFailedBy, HasFailedByBoth, IsFailure, IsRunRefused, IsStoredRefused};
+ghost use Rattle.command_line.specs.States.{state};
+ghost use Rattle.command_line.specs.Told.{IsOfFailed, IsOfFailedFile};
+ghost use Rattle.streams.specs.States.{IsFlushed, seen};
 
 use crate::files::Files;
 use crate::first_run::{SOURCE, TABLE, TICKS};
 use crate::grammar::{bad_ticks, ticks_of};
 use crate::reading::read;
 use crate::refusal::{Failure, Refusal};
-use crate::stream::Stream;
 use module::{BuildAndRunFault, RunFault};
 use std::alloc::Global;
-use std::io::Write;
+use streams::Stream;
 
 /// Runs an image for the ticks of a word.
-pub fn run<F: Files, O: Write>(
+pub fn run<F: Files, O: Stream>(
     alloc: Global,
     image: &str,
     devices: &str,
     ticks: &str,
     files: &mut F,
-    out: &mut Stream<O>,
+    out: &mut O,
 ) -> Result<(), Failure>
+    requires { O.failures out.old < 2 ^ 64 - 1 }
     ensures done { OnOk result (IsDone (Run image.now devices.now ticks.now)
-        (state (F.contents files.old) (seen O.contents out.old)) (state (F.contents files.new) (seen O.contents out.new))) }
-    ensures flushed { OnOk result (out.new.flushed ≡ true) }
+        (state (F.contents files.old) (seen O.taken O.failures O.is_flushed out.old)) (state (F.contents files.new) (seen O.taken O.failures O.is_flushed out.new))) }
+    ensures flushed { OnOk result (IsFlushed (seen O.taken O.failures O.is_flushed out.old) (seen O.taken O.failures O.is_flushed out.new)) }
     ensures failed { IfErr result (λ f. IsFailure (Run image.now devices.now ticks.now)
-        (state (F.contents files.old) (seen O.contents out.old)) (state (F.contents files.new) (seen O.contents out.new)) f) }
+        (state (F.contents files.old) (seen O.taken O.failures O.is_flushed out.old)) (state (F.contents files.new) (seen O.taken O.failures O.is_flushed out.new)) f) }
+    ensures noted { OnOk result (F.failed files.new ≡ F.failed files.old) }
+    ensures named { IfErr result (λ f. IsOfFailedFile (F.failed files.old) (F.failed files.new) f) }
 {
     let Some(number) = ticks_of(ticks) else {
         return Err(Failure::Usage(bad_ticks(alloc, ticks)?));
@@ -40,19 +44,22 @@ pub fn run<F: Files, O: Write>(
 }
 
 /// Runs an image for so many ticks.
-fn run_named<F: Files, O: Write>(
+fn run_named<F: Files, O: Stream>(
     alloc: Global,
     image: &str,
     devices: &str,
     ticks: u64,
     files: &mut F,
-    out: &mut Stream<O>,
+    out: &mut O,
 ) -> Result<(), Refusal>
+    requires { O.failures out.old < 2 ^ 64 - 1 }
     ensures done { OnOk result (IsRunDone image.now devices.now ticks
-        (state (F.contents files.old) (seen O.contents out.old)) (state (F.contents files.new) (seen O.contents out.new))) }
-    ensures flushed { OnOk result (out.new.flushed ≡ true) }
+        (state (F.contents files.old) (seen O.taken O.failures O.is_flushed out.old)) (state (F.contents files.new) (seen O.taken O.failures O.is_flushed out.new))) }
+    ensures flushed { OnOk result (IsFlushed (seen O.taken O.failures O.is_flushed out.old) (seen O.taken O.failures O.is_flushed out.new)) }
     ensures refused { IfErr result (λ r. IsRunRefused image.now devices.now ticks
-        (state (F.contents files.old) (seen O.contents out.old)) (state (F.contents files.new) (seen O.contents out.new)) r) }
+        (state (F.contents files.old) (seen O.taken O.failures O.is_flushed out.old)) (state (F.contents files.new) (seen O.taken O.failures O.is_flushed out.new)) r) }
+    ensures noted { OnOk result (F.failed files.new ≡ F.failed files.old) }
+    ensures named { IfErr result (λ r. IsOfFailed (F.failed files.old) (F.failed files.new) r) }
 {
     let image = read(alloc, image, files)?;
     let devices = read(alloc, devices, files)?;
@@ -61,47 +68,39 @@ fn run_named<F: Files, O: Write>(
 }
 
 /// Writes the trace of an image.
-fn trace<O: Write>(
+fn trace<O: Stream>(
     alloc: Global,
     image: &[u8],
     devices: &[u8],
     ticks: u64,
-    out: &mut Stream<O>,
+    out: &mut O,
 ) -> Result<(), RunFault>
-    ensures trace { Runs (image_at image.now) devices.now ticks (O.contents out.old.sink.writer) (O.contents out.new.sink.writer) result }
-    ensures failed { IsErrOf result RunFault.Write → out.new.failed ≡ true }
+    requires { O.failures out.old < 2 ^ 64 - 1 }
+    ensures trace { Runs (image_at image.now) devices.now ticks (O.taken out.old) (O.taken out.new) result }
+    ensures quiet { OnOk result (O.failures out.new ≡ O.failures out.old) }
+    ensures failed { IfErr result (λ f. HasFailedBy f (seen O.taken O.failures O.is_flushed out.old) (seen O.taken O.failures O.is_flushed out.new)) }
 {
-    out.open();
-    let outcome = module::run(alloc, image, devices, ticks, &mut out.sink);
-    out.close();
-    outcome
+    module::run(alloc, image, devices, ticks, out)
 }
 
 /// Runs the stored module.
-pub fn run_stored<O: Write>(alloc: Global, out: &mut Stream<O>) -> Result<(), Refusal>
-    ensures done { OnOk result (IsFirstRun (O.contents out.old.sink.writer) (O.contents out.new.sink.writer) is_ok) }
-    ensures flushed { OnOk result (out.new.flushed ≡ true) }
-    ensures refused { IfErr result (λ r. IsStoredRefused (seen O.contents out.old) (seen O.contents out.new) r) }
+pub fn run_stored<O: Stream>(alloc: Global, out: &mut O) -> Result<(), Refusal>
+    requires { O.failures out.old < 2 ^ 64 - 1 }
+    ensures done { OnOk result (IsFirstRun (O.taken out.old) (O.taken out.new) is_ok) }
+    ensures flushed { OnOk result (IsFlushed (seen O.taken O.failures O.is_flushed out.old) (seen O.taken O.failures O.is_flushed out.new)) }
+    ensures refused { IfErr result (λ r. IsStoredRefused (seen O.taken O.failures O.is_flushed out.old) (seen O.taken O.failures O.is_flushed out.new) r) }
 {
     trace_stored(alloc, out)?;
     Ok(out.flush()?)
 }
 
 /// Writes the trace of the stored module.
-fn trace_stored<O: Write>(alloc: Global, out: &mut Stream<O>) -> Result<(), BuildAndRunFault>
-    ensures trace { IsFirstRun (O.contents out.old.sink.writer) (O.contents out.new.sink.writer) result }
-    ensures failed { IsErrOf result (BuildAndRunFault.Run RunFault.Write) → out.new.failed ≡ true }
+fn trace_stored<O: Stream>(alloc: Global, out: &mut O) -> Result<(), BuildAndRunFault>
+    requires { O.failures out.old < 2 ^ 64 - 1 }
+    ensures trace { IsFirstRun (O.taken out.old) (O.taken out.new) result }
+    ensures quiet { OnOk result (O.failures out.new ≡ O.failures out.old) }
+    ensures failed { IfErr result (λ f. HasFailedByBoth f (seen O.taken O.failures O.is_flushed out.old) (seen O.taken O.failures O.is_flushed out.new)) }
 {
     let sources = [SOURCE.as_bytes()];
-    out.open();
-    let outcome = module::build_and_run(
-        alloc,
-        TABLE.as_bytes(),
-        &sources,
-        &[],
-        TICKS,
-        &mut out.sink,
-    );
-    out.close();
-    outcome
+    module::build_and_run(alloc, TABLE.as_bytes(), &sources, &[], TICKS, out)
 }

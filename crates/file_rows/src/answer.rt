@@ -1,10 +1,11 @@
 //! What a command answers.
 
-use command_line::{Stream, command};
+use command_line::command;
 use host::HostFiles;
 use std::alloc::AllocGlobal;
 use std::convert::AsStr;
 use std::rt::Files;
+use streams::WriterStream;
 
 /// The exit status of a command, and the bytes on the standard output and the standard error.
 #[derive(Drop)]
@@ -17,15 +18,13 @@ pub struct Answer {
 impl Answer {
     /// The answer to these words, over the files of the host.
     pub fn to<S: AsStr, R: Files + AllocGlobal>(rt: &R, words: &[S]) -> Self {
-        let mut out = Stream::new(Vec::new(rt.alloc()));
-        let mut err = Stream::new(Vec::new(rt.alloc()));
+        let mut out = Vec::new(rt.alloc());
+        let mut err = Vec::new(rt.alloc());
         let mut files = HostFiles::new(rt);
-        let status = command(rt.alloc(), words, &mut files, &mut out, &mut err);
-        Answer {
-            status,
-            out: out.into_writer(),
-            err: err.into_writer(),
-        }
+        let mut taken = WriterStream::new(&mut out);
+        let mut told = WriterStream::new(&mut err);
+        let status = command(rt.alloc(), words, &mut files, &mut taken, &mut told);
+        Answer { status, out, err }
     }
 
     /// Whether the command was done, without a line on the standard error.

@@ -1,33 +1,40 @@
 //! Shows the traces of modules.
 #![tactic(auto)]
 
+ghost use Rattle.std.specs.Prelude.{◌≡◌, ◌≢◌, ◌≤◌, ◌-◌, ◌^◌, ◌<◌, codes};
+ghost use Rattle.std.specs.declared.io.error.ErrorKind.TheVariants.{OutOfMemory};
+ghost use Rattle.streams.specs.States.{TakesLine, seen};
+
 mod sources;
 
 use sources::HostSources;
 use std::alloc::AllocGlobal;
 use std::env;
-use std::io::{self, BufWriter, ErrorKind, Write};
+use std::io::{self, BufWriter, ErrorKind};
 use std::process::ExitCode;
 use std::rt::Env;
-use view_command::{Stream, view};
+use streams::{Stream, WriterStream, tell_line};
+use view_command::view;
 
 fn main(rt: HostRuntime) -> ExitCode {
     ExitCode::from(status(&rt))
 }
 
 /// Does what the words of the process say, and answers the exit status.
-fn status(rt: &HostRuntime) -> u8 {
-    let mut err = Stream::new(rt.stderr());
+fn status(rt: &HostRuntime) -> u8
+    ensures { result ≤ 2 }
+{
+    let mut err = WriterStream::new(rt.stderr());
     let words = match words(rt) {
         Ok(words) => words,
-        Err(error) => return wordless(error.kind(), &mut err.into_writer()),
+        Err(error) => return wordless(error.kind(), &mut err),
     };
     // Tables, pictures and dumps go out by blocks.
-    let Ok(writer) = BufWriter::new(rt.alloc(), rt.stdout()) else {
-        return wordless(ErrorKind::OutOfMemory, &mut err.into_writer());
+    let Ok(mut writer) = BufWriter::new(rt.alloc(), rt.stdout()) else {
+        return wordless(ErrorKind::OutOfMemory, &mut err);
     };
     let mut sources = HostSources::new(rt);
-    let mut out = Stream::new(writer);
+    let mut out = WriterStream::new(&mut writer);
     let status = view(
         rt.alloc(),
         words.as_slice(),
@@ -36,7 +43,7 @@ fn status(rt: &HostRuntime) -> u8 {
         &mut err,
     );
     // What was not flushed was not taken, and is not written again.
-    let _ = out.into_writer().into_parts();
+    let _ = writer.into_parts();
     status
 }
 
@@ -45,16 +52,21 @@ fn words(rt: &(impl Env + AllocGlobal)) -> io::Result<Vec<String>> {
 }
 
 /// The status where the words of the command line are not to be had: they find no memory, or
-/// one is not UTF-8.
-fn wordless<E: Write>(kind: ErrorKind, err: &mut E) -> u8 {
-    // What cannot be shown is told by the status alone.
+/// one is not UTF-8. Its line goes to `err`; what cannot be shown is told by the status alone.
+fn wordless<E: Stream>(kind: ErrorKind, err: &mut E) -> u8
+    requires { E.failures err.old < 2 ^ 64 - 1 }
+    ensures memory { kind ≡ OutOfMemory → (result ≡ 1)
+        × TakesLine (seen E.taken E.failures E.is_flushed err.old) (seen E.taken E.failures E.is_flushed err.new) (codes "mbview: there is too little memory") }
+    ensures other { kind ≢ OutOfMemory → (result ≡ 2)
+        × TakesLine (seen E.taken E.failures E.is_flushed err.old) (seen E.taken E.failures E.is_flushed err.new) (codes "error: a word of the command line is not UTF-8") }
+{
     match kind {
         ErrorKind::OutOfMemory => {
-            let _ = writeln!(err, "mbview: there is too little memory");
+            tell_line(err, "mbview: there is too little memory");
             1
         }
         _ => {
-            let _ = writeln!(err, "error: a word of the command line is not UTF-8");
+            tell_line(err, "error: a word of the command line is not UTF-8");
             2
         }
     }

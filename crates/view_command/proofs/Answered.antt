@@ -1,5 +1,5 @@
 -- From what a command came to, to its status.
-use Rattle.std.proofs.Common.{◌≡◌, ◌⊎◌, inl, inr, ℕ, [], true, Option, Result, Ok, Err, refl, sym, subst, ◌∙◌, arith}
+use Rattle.std.proofs.Common.{◌≡◌, ◌⊎◌, inl, inr, ℕ, ◌<◌, ◌-◌, ◌^◌, true, [], Option, Result, Ok, Err, refl, sym, ap, subst, ◌∙◌, arith}
 use Rattle.std.specs.Prelude.{IfErr, OnOk}
 use Rattle.clap.specs.Faults.{is_simple_and_free}
 use Rattle.clap.specs.Kinds.{Kinds, IsAmong}
@@ -7,10 +7,11 @@ use Rattle.clap.specs.Values.{kind_of}
 use Rattle.clap.specs.declared.error.Error.{Error}
 use Rattle.clap.specs.declared.error.kind.ErrorKind.{ErrorKind}
 use Rattle.clap.specs.declared.error.kind.ErrorKind.TheVariants as kind
-use Rattle.view_command.specs.Answers.{AreNoCommand, AskForHelp, IsAnswer, IsFailure, IsHelp, IsMistake, IsRefused, IsRefusedFor, IsTold, IsUsageTold}
+use Rattle.view_command.specs.Answers.{AreNoCommand, AskForHelp, IsAnswer, IsFailure, IsHelp, IsMistake, IsRefused, IsRefusedFor, IsTold, IsUsageTold, CanTakeHelp}
 use Rattle.view_command.specs.Lines.{line_of}
 use Rattle.view_command.specs.Orders.{AsksForNothing, Entered, trace_of}
-use Rattle.view_command.specs.States.{Seen, TakesLine}
+use Rattle.streams.specs.States.{HasFailed, IsFlushed, Seen, TakesLine}
+use Rattle.view_command.specs.States.{IsUntouched, State, state}
 use Rattle.view_command.specs.Texts.{Texts, IsTraceIn}
 use Rattle.view_command.specs.Words.{view_app}
 use Rattle.view_command.specs.declared.refusal.Failure.{Failure}
@@ -39,15 +40,15 @@ help_or kind.Io = inr ((λ e. cc), (λ e. cc))
 help_or kind.Format = inr ((λ e. cc), (λ e. cc))
 help_or kind.OutOfMemory = inr ((λ e. cc), (λ e. cc))
 
-of_usage : (kinds : Kinds) (entered : Entered) (texts : Option Texts) (before mid new_out old_err new_err : Seen) (status : ℕ) (e : Error) → IsFailure kinds entered texts before mid (Usage e) → IsUsageTold e mid new_out old_err new_err status
-    → IsHelp (kind_of e) ⊎ IsMistake (kind_of e) → IsAnswer kinds entered texts before new_out old_err new_err status
+of_usage : (kinds : Kinds) (entered : Entered) (texts : Option Texts) (before mid : State) (new_out old_err new_err : Seen) (status : ℕ) (e : Error) → IsFailure kinds entered texts before mid (Usage e) → IsUsageTold e mid.out new_out old_err new_err status
+    → IsHelp (kind_of e) ⊎ IsMistake (kind_of e) → IsAnswer kinds entered texts before (state mid.unopened new_out) old_err new_err status
 of_usage kinds entered texts before mid new_out old_err new_err status e (same, why) told (inr mistake) =
     let it = told.mistake mistake in
     record {
       range = omega (arith, it.0);
       done = λ zero. absurd (omega (arith, it.0, zero));
       refused = λ one. absurd (omega (arith, it.0, one));
-      usage = λ two. (it.1 ∙ same, no_command why);
+      usage = λ two. ((same.0, it.1 ∙ same.1), no_command why, it.2);
     }
   where
     no_command : IsAmong (kind_of e) kinds ⊎ ((kinds ≡ []) × AsksForNothing entered × IsMistake (kind_of e)) → AreNoCommand kinds entered
@@ -63,38 +64,45 @@ of_usage kinds entered texts before mid new_out old_err new_err status e (same, 
     wants (inl a) = (kind_of e, a, help)
     wants (inr (none, nothing, mistake)) = absurd (no_help (kind_of e) mistake help)
 
-    by : ((status ≡ 0) × (new_out.flushed ≡ true) × (new_err ≡ old_err)) ⊎ ((status ≡ 1) × TakesLine old_err new_err (line_of refusal.Write)) → IsAnswer kinds entered texts before new_out old_err new_err status
+    by : ((status ≡ 0) × IsFlushed mid.out new_out × (new_err ≡ old_err)) ⊎ ((status ≡ 1) × HasFailed mid.out new_out × TakesLine old_err new_err (line_of refusal.Write)) → IsAnswer kinds entered texts before (state mid.unopened new_out) old_err new_err status
     by (inl (zero, flushed, quiet)) = record {
       range = omega (arith, zero);
-      done = λ z. ((flushed, inr (wants why)), quiet);
+      done = λ z. ((same.0, subst (λ s. IsFlushed s new_out) same.1 flushed, inr (wants why)), quiet);
       refused = λ one. absurd (omega (arith, zero, one));
       usage = λ two. absurd (omega (arith, zero, two));
     }
-    by (inr (one, line)) = record {
+    by (inr (one, failed, line)) = record {
       range = omega (arith, one);
       done = λ zero. absurd (omega (arith, zero, one));
-      refused = λ o. (refusal.Write, inr (inr (refl, wants why)), line);
+      refused = λ o. (refusal.Write, inr (inr (refl, wants why, subst (λ s. HasFailed s new_out) same.1 failed, same.0)), line);
       usage = λ two. absurd (omega (arith, one, two));
     }
 
-pub answered : (kinds : Kinds) (entered : Entered) (texts : Option Texts) (before mid new_out old_err new_err : Seen) (status : ℕ) (outcome : Result (Unit {0}) Failure)
-    → OnOk outcome (kinds ≡ []) → OnOk outcome (IsTraceIn texts (trace_of entered)) → OnOk outcome (mid.flushed ≡ true) → IfErr outcome (λ f. IsFailure kinds entered texts before mid f)
-    → IsTold outcome mid new_out old_err new_err status → IsAnswer kinds entered texts before new_out old_err new_err status
-answered kinds entered texts before mid new_out old_err new_err status (Ok x) none trace flushed failed (zero, same, quiet) = record {
+pub answered : (kinds : Kinds) (entered : Entered) (texts : Option Texts) (before mid : State) (new_out old_err new_err : Seen) (status : ℕ) (outcome : Result (Unit {0}) Failure)
+    → OnOk outcome (kinds ≡ []) → OnOk outcome (IsTraceIn texts (trace_of entered)) → OnOk outcome (mid.unopened ≡ before.unopened) → OnOk outcome (IsFlushed before.out mid.out) → IfErr outcome (λ f. IsFailure kinds entered texts before mid f)
+    → IsTold outcome mid.out new_out old_err new_err status → IsAnswer kinds entered texts before (state mid.unopened new_out) old_err new_err status
+answered kinds entered texts before mid new_out old_err new_err status (Ok x) none trace opened flushed failed (zero, same, quiet) = record {
   range = omega (arith, zero);
-  done = λ z. ((subst (λ (s : Seen). s.flushed ≡ true) (sym same) flushed, inl (none, trace)), quiet);
+  done = λ z. ((opened, subst (IsFlushed before.out) (sym same) flushed, inl (none, trace)), quiet);
   refused = λ one. absurd (omega (arith, zero, one));
   usage = λ two. absurd (omega (arith, zero, two));
 }
-answered kinds entered texts before mid new_out old_err new_err status (Err (Refused r)) none trace flushed failed (one, same, line) = record {
+answered kinds entered texts before mid new_out old_err new_err status (Err (Refused r)) none trace opened flushed failed (one, same, line) = record {
   range = omega (arith, one);
   done = λ zero. absurd (omega (arith, zero, one));
-  refused = λ o. (r, why failed, line);
+  refused = λ o. (r, subst (λ s. IsRefusedFor kinds entered texts before s r) (ap (state mid.unopened) (sym same)) (why failed), line);
   usage = λ two. absurd (omega (arith, one, two));
 }
   where
-    why : ((kinds ≡ []) × IsRefused texts (trace_of entered) before mid r) ⊎ ((r ≡ refusal.Memory) × (mid ≡ before)) → IsRefusedFor kinds entered texts before new_out r
-    why (inl (taken, refused)) = inl (taken, subst (λ s. IsRefused texts (trace_of entered) before s r) (sym same) refused)
-    why (inr (memory, untouched)) = inr (inl (memory, same ∙ untouched))
-answered kinds entered texts before mid new_out old_err new_err status (Err (Usage e)) none trace flushed failed told =
+    why : ((kinds ≡ []) × IsRefused texts (trace_of entered) before mid r) ⊎ ((r ≡ refusal.Memory) × IsUntouched before mid) → IsRefusedFor kinds entered texts before mid r
+    why (inl refused) = inl refused
+    why (inr memory) = inr (inl memory)
+answered kinds entered texts before mid new_out old_err new_err status (Err (Usage e)) none trace opened flushed failed told =
     of_usage kinds entered texts before mid new_out old_err new_err status e failed told (help_or (kind_of e))
+
+-- the help that is told was not yet written
+pub can_take_help : (kinds : Kinds) (entered : Entered) (texts : Option Texts) (before mid : State) (outcome : Result (Unit {0}) Failure)
+    → IfErr outcome (λ f. IsFailure kinds entered texts before mid f) → before.out.failures < 2 ^ 64 - 1 → CanTakeHelp outcome mid.out.failures
+can_take_help kinds entered texts before mid (Ok x) failed low = tt
+can_take_help kinds entered texts before mid (Err (Refused r)) failed low = tt
+can_take_help kinds entered texts before mid (Err (Usage e)) failed low = subst (λ (s : Seen). s.failures < 2 ^ 64 - 1) (sym failed.0.1) low

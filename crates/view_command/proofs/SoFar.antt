@@ -1,6 +1,9 @@
 -- A stream that was read so far.
-use Rattle.std.proofs.Common.{◌≡◌, ℕ, ◌+◌, ◌-◌, ◌^◌, ◌<◌, List, Option, Some, None, ◌∙◌, arith}
+use Rattle.std.proofs.Common.{◌≡◌, ℕ, ◌+◌, ◌-◌, ◌^◌, ◌<◌, List, Option, Some, None, refl, ◌∙◌, arith}
+use Rattle.std.specs.Prelude.{string_bytes}
 use Rattle.std.specs.Io.KnownBytes.{IsAtEnd}
+use Rattle.std.specs.declared.alloc.Global.{Global}
+use Rattle.std.specs.declared.string.String.{String}
 use Rattle.std.proofs.Math.Nat.{min-eq_left}
 use Rattle.apex_types.specs.declared.event.Event.{Event}
 use Rattle.apex_types.specs.declared.identity.Ticks.{Ticks}
@@ -9,10 +12,9 @@ use Rattle.trace_text.proofs.SoFar.{IsReadSoFar, all_read, next_read, nothing_re
 use Rattle.trace_text.specs.Stream.{IsStreamFault}
 use Rattle.trace_text.specs.declared.stream.StreamFault.{StreamFault}
 use Rattle.trace_text.specs.declared.stream.StreamFault.TheVariants as faults
-use Rattle.view_command.specs.Answers.{IsOfStream, IsUnread}
+use Rattle.view_command.specs.Answers.{IsUnread}
+use Rattle.view_command.specs.Faults.{of_stream}
 use Rattle.view_command.specs.Texts.{IsRefusedLine, IsTraceOf}
-use Rattle.view_command.specs.declared.refusal.Refusal.{Refusal}
-use Rattle.view_command.specs.declared.refusal.Refusal.TheVariants as refusal
 
 -- so many lines of a text were read, where it is known, and that is left of it
 abbrev pub IsSoFar : Option (List ℕ) → ℕ → ℕ → Option (List ℕ) → Type 0
@@ -46,22 +48,7 @@ so_far_refused (Some text) None before lines line low so number none = absurd so
 so_far_refused (Some text) (Some left) before lines line low so number none = refused_at text before lines left line so (number ∙ next_is lines low) none.0 none.1
 
 -- the refusal of a stream that has a fault
-pub unread_of : (text left : Option (List ℕ)) (before lines : ℕ) (name : List ℕ) (f : StreamFault) (r : Refusal) → lines < 2 ^ 64 - 1 → IsSoFar text before lines left → IsStreamFault before lines left f → IsOfStream name f r → IsUnread text name r
-unread_of text left before lines name (faults.Line at) (refusal.Open shown) low so fault told = absurd told
-unread_of text left before lines name (faults.Line at) (refusal.Read shown) low so fault told = told
-unread_of text left before lines name (faults.Line at) (refusal.Line number shown) low so fault told = (told.0, so_far_refused text left before lines number low so (told.1 ∙ fault.0) fault.1)
-unread_of text left before lines name (faults.Line at) refusal.TooMany low so fault told = absurd told
-unread_of text left before lines name (faults.Line at) refusal.Memory low so fault told = tt
-unread_of text left before lines name (faults.Line at) refusal.Write low so fault told = absurd told
-unread_of text left before lines name (faults.Read e) (refusal.Open shown) low so fault told = absurd told
-unread_of text left before lines name (faults.Read e) (refusal.Read shown) low so fault told = told
-unread_of text left before lines name (faults.Read e) (refusal.Line number shown) low so fault told = absurd told
-unread_of text left before lines name (faults.Read e) refusal.TooMany low so fault told = absurd told
-unread_of text left before lines name (faults.Read e) refusal.Memory low so fault told = tt
-unread_of text left before lines name (faults.Read e) refusal.Write low so fault told = absurd told
-unread_of text left before lines name faults.Memory (refusal.Open shown) low so fault told = absurd told
-unread_of text left before lines name faults.Memory (refusal.Read shown) low so fault told = told
-unread_of text left before lines name faults.Memory (refusal.Line number shown) low so fault told = absurd told
-unread_of text left before lines name faults.Memory refusal.TooMany low so fault told = absurd told
-unread_of text left before lines name faults.Memory refusal.Memory low so fault told = tt
-unread_of text left before lines name faults.Memory refusal.Write low so fault told = absurd told
+pub unread_of : (text left : Option (List ℕ)) (before lines : ℕ) (name : String Global) (f : StreamFault) → lines < 2 ^ 64 - 1 → IsSoFar text before lines left → IsStreamFault before lines left f → IsUnread text (string_bytes name) (of_stream name f)
+unread_of text left before lines name (faults.Line at) low so fault = (refl, so_far_refused text left before lines at.line low so fault.0 fault.1)
+unread_of text left before lines name (faults.Read e) low so fault = refl
+unread_of text left before lines name faults.Memory low so fault = tt

@@ -1,18 +1,15 @@
--- What is seen of a stream at one time.
-use Rattle.std.specs.Prelude.{◌≡◌, ℕ, Bool, false, List, [], ◌∷◌, ◌++◌, Option}
-use Rattle.std.specs.Io.KnownBytes.{Appends}
-use Rattle.view_command.specs.declared.stream.Stream.{Stream}
+-- What a command can change, beside standard error, as it is seen at one time.
+use Rattle.std.specs.Prelude.{◌≡◌, ℕ, List}
+use Rattle.streams.specs.States.{Seen}
 
--- The bytes that it has taken, where its writer tells them; whether it failed, and whether what it took was
--- flushed.
-pub record Seen : Type 0 where
-  pub bytes : Option (List ℕ)
-  pub failed : Bool
-  pub flushed : Bool
+-- The names of the texts that were not opened so far, and standard output.
+pub record State : Type 0 where
+  pub unopened : List (List ℕ)
+  pub out : Seen
 
-abbrev pub seen : {W : Type 0} → (W → Option (List ℕ)) → Stream W → Seen
-seen contents s = record { bytes = contents s.writer; failed = s.failed; flushed = s.flushed }
+abbrev pub state : List (List ℕ) → Seen → State
+state unopened out = record { unopened = unopened; out = out }
 
--- the stream has taken this line, where it did not fail
-abbrev pub TakesLine : Seen → Seen → List ℕ → Type 0
-TakesLine old new line = new.failed ≡ false → Appends old.bytes new.bytes (line ++ 10 ∷ [])
+-- no text was refused to be opened, and standard output is as it was
+abbrev pub IsUntouched : State → State → Type 0
+IsUntouched before after = (after.unopened ≡ before.unopened) × (after.out ≡ before.out)

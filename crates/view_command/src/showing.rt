@@ -1,54 +1,60 @@
 //! A trace is read to its end, and then shown.
 
-ghost use Rattle.std.specs.Prelude.{◌≡◌, true, IfErr, OnErr, OnOk, string_bytes};
-ghost use Rattle.view_command.specs.Answers.{IsOfStream, IsOfView, IsRefused, IsTorn, IsUnopened, IsUnread};
+ghost use Rattle.std.specs.Prelude.{◌≡◌, ◌-◌, ◌^◌, ◌<◌, IfErr, OnOk, string_bytes};
+ghost use Rattle.streams.specs.States.{IsFlushed, seen};
+ghost use Rattle.view_command.specs.Answers.{IsRefused, IsUnread};
+ghost use Rattle.view_command.specs.Faults as faults;
 ghost use Rattle.view_command.specs.Lines.{called};
-ghost use Rattle.view_command.specs.States.{seen};
+ghost use Rattle.view_command.specs.States.{state};
 ghost use Rattle.view_command.specs.Texts.{IsTraceIn, IsTraceOf};
 
 use crate::refusal::Refusal;
 use crate::request::Request;
 use crate::sources::{SourceFault, Sources};
-use crate::stream::Stream;
 use crate::views::{Shown, ViewFault};
 use std::alloc::Global;
-use std::io::{Read, Write};
+use std::io::Read;
+use streams::{Stream, write_bytes};
 use trace_text::{StreamFault, TraceStream};
 
 /// Reads the trace to its end, and then writes it as the request wants it.
-pub fn show<F: Sources, O: Write>(
+pub fn show<F: Sources, O: Stream>(
     alloc: Global,
     request: &Request,
     sources: &mut F,
-    out: &mut Stream<O>,
+    out: &mut O,
 ) -> Result<(), Refusal>
+    requires { O.failures out.old < 2 ^ 64 - 1 }
     ensures trace { OnOk result (IsTraceIn (F.texts sources.old) (string_bytes request.now.trace)) }
-    ensures flushed { OnOk result (out.new.flushed ≡ true) }
-    ensures refused { IfErr result (λ r. IsRefused (F.texts sources.old) (string_bytes request.now.trace) (seen O.contents out.old) (seen O.contents out.new) r) }
+    ensures opened { OnOk result (F.unopened sources.new ≡ F.unopened sources.old) }
+    ensures flushed { OnOk result (IsFlushed (seen O.taken O.failures O.is_flushed out.old) (seen O.taken O.failures O.is_flushed out.new)) }
+    ensures refused { IfErr result (λ r. IsRefused (F.texts sources.old) (string_bytes request.now.trace)
+        (state (F.unopened sources.old) (seen O.taken O.failures O.is_flushed out.old)) (state (F.unopened sources.new) (seen O.taken O.failures O.is_flushed out.new)) r) }
 {
     let trace = request.trace.as_str();
+    let name = String::from_str(alloc, called(trace))?;
     let reader = match sources.open(trace) {
         Ok(reader) => reader,
-        Err(fault) => return Err(unopened(alloc, trace, fault)),
+        Err(fault) => return Err(of_source(name, fault)),
     };
     let mut shown = Shown::new(alloc, request.view, request.from, request.to);
-    read_all(alloc, trace, reader, &mut shown)?;
+    read_all(alloc, name, reader, &mut shown)?;
     let bytes = match shown.into_bytes(alloc) {
         Ok(bytes) => bytes,
         Err(fault) => return Err(of_view(fault)),
     };
-    Ok(out.bytes(bytes.as_slice())?)
+    Ok(write_bytes(out, bytes.as_slice())?)
 }
 
-/// Reads every line of a trace.
+/// Reads every line of a trace, which is called so.
 fn read_all<R: Read + Drop>(
     alloc: Global,
-    trace: &str,
+    name: String,
     reader: R,
     shown: &mut Shown,
 ) -> Result<(), Refusal>
     ensures trace { OnOk result (IsTraceOf (R.remaining reader)) }
-    ensures refused { IfErr result (λ r. IsUnread (R.remaining reader) trace.now r) }
+    ensures refused { IfErr result (λ r. IsUnread (R.remaining reader) (string_bytes name) r) }
 {
     let mut stream = match TraceStream::new(alloc, reader) {
         Ok(stream) => stream,
@@ -62,54 +68,39 @@ fn read_all<R: Read + Drop>(
                 }
             }
             Ok(None) => return Ok(()),
-            Err(fault) => return Err(unread(alloc, trace, fault)),
+            Err(fault) => return Err(of_stream(name, fault)),
         }
     }
-    Err(torn(alloc, trace))
+    Err(Refusal::Read(name))
 }
 
 /// The refusal of a text that was not opened.
-fn unopened(alloc: Global, trace: &str, fault: SourceFault) -> Refusal
-    ensures { IsUnopened trace.now result }
+fn of_source(name: String, fault: SourceFault) -> Refusal
+    ensures { result ≡ faults.of_source name fault }
 {
     match fault {
-        SourceFault::Unavailable => match String::from_str(alloc, called(trace)) {
-            Ok(name) => Refusal::Open(name),
-            Err(_) => Refusal::Memory,
-        },
+        SourceFault::Unavailable => Refusal::Open(name),
         SourceFault::Memory => Refusal::Memory,
     }
 }
 
 /// The refusal of a text that is no trace, or was not read.
-fn unread(alloc: Global, trace: &str, fault: StreamFault) -> Refusal
-    ensures { IsOfStream trace.now fault result }
+fn of_stream(name: String, fault: StreamFault) -> Refusal
+    ensures { result ≡ faults.of_stream name fault }
 {
     match fault {
-        StreamFault::Line(fault) => match String::from_str(alloc, called(trace)) {
-            Ok(name) => Refusal::Line {
-                number: fault.line,
-                trace: name,
-            },
-            Err(_) => Refusal::Memory,
+        StreamFault::Line(fault) => Refusal::Line {
+            number: fault.line,
+            trace: name,
         },
-        StreamFault::Read(_) => torn(alloc, trace),
+        StreamFault::Read(_) => Refusal::Read(name),
         StreamFault::Memory => Refusal::Memory,
     }
 }
 
-/// The refusal of a text that was not read to its end.
-fn torn(alloc: Global, trace: &str) -> Refusal
-    ensures { IsTorn trace.now result }
-{
-    match String::from_str(alloc, called(trace)) {
-        Ok(name) => Refusal::Read(name),
-        Err(_) => Refusal::Memory,
-    }
-}
-
+/// The refusal of an event, or of all of them, that the view did not take.
 fn of_view(fault: ViewFault) -> Refusal
-    ensures { IsOfView result }
+    ensures { result ≡ faults.of_view fault }
 {
     match fault {
         ViewFault::Memory => Refusal::Memory,

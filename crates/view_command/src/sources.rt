@@ -1,6 +1,7 @@
 //! The texts that are shown, by name.
 
 ghost use Rattle.std.specs.Prelude.{◌≡◌, ℕ, List, Option, None, IfOk};
+ghost use Rattle.view_command.specs.Opening.{IsNoted};
 ghost use Rattle.view_command.specs.Texts.{Opens};
 
 use std::io::Read;
@@ -20,7 +21,12 @@ pub trait Sources {
     /// not told.
     ghost texts: { Self → Option (List ℕ → Option (List ℕ)) } = { λ _. None };
 
-    /// A reader at the front of the text of that name; `-` is the standard input.
+    /// The names of the texts that were not opened so far, one for each call that failed.
+    ghost unopened: { Self → List (List ℕ) };
+
+    /// A reader at the front of the text of that name; `-` is the standard input. Want of memory is
+    /// no failure of the text.
     fn open(&mut self, name: &str) -> Result<Self::Reader, SourceFault>
-        ensures { IfOk result (λ reader. Opens (texts self.old) name.now (Self.Reader.remaining reader)) };
+        ensures opened { IfOk result (λ reader. Opens (texts self.old) name.now (Self.Reader.remaining reader)) }
+        ensures noted { IsNoted name.now (unopened self.old) (unopened self.new) result };
 }

@@ -1,26 +1,25 @@
 //! What is told of what a command came to.
 
-ghost use Rattle.std.specs.Prelude.{◌≡◌};
-ghost use Rattle.view_command.specs.Answers.{IsTold, IsUsageTold};
+ghost use Rattle.std.specs.Prelude.{◌≡◌, ◌-◌, ◌^◌, ◌<◌};
+ghost use Rattle.streams.specs.States.{TakesLine, seen};
+ghost use Rattle.view_command.specs.Answers.{CanTakeHelp, IsTold, IsUsageTold};
 ghost use Rattle.view_command.specs.Lines.{line_of};
-ghost use Rattle.view_command.specs.States.{TakesLine, seen};
 
 use crate::refusal::{Failure, Refusal};
-use crate::stream::Stream;
-use std::io::Write;
+use streams::{Stream, tell_line, tell_text, write_text};
 
 /// Tells what a command came to, and answers its status.
-pub fn tell<O: Write, E: Write>(
-    outcome: Result<(), Failure>,
-    out: &mut Stream<O>,
-    err: &mut Stream<E>,
-) -> u8
-    ensures { IsTold outcome (seen O.contents out.old) (seen O.contents out.new) (seen E.contents err.old) (seen E.contents err.new) result }
+pub fn tell<O: Stream, E: Stream>(outcome: Result<(), Failure>, out: &mut O, err: &mut E) -> u8
+    requires out { CanTakeHelp outcome (O.failures out.old) }
+    requires err { E.failures err.old < 2 ^ 64 - 1 }
+    ensures { IsTold outcome (seen O.taken O.failures O.is_flushed out.old) (seen O.taken O.failures O.is_flushed out.new)
+        (seen E.taken E.failures E.is_flushed err.old) (seen E.taken E.failures E.is_flushed err.new) result }
 {
     match outcome {
         Ok(()) => 0,
         Err(Failure::Refused(refusal)) => {
-            refuse(refusal, err);
+            // What standard error does not take is told by the status alone.
+            tell_line(err, refusal);
             1
         }
         Err(Failure::Usage(error)) => usage(&error, out, err),
@@ -28,24 +27,19 @@ pub fn tell<O: Write, E: Write>(
 }
 
 /// Tells of words that are no command, or shows the help that they ask for.
-fn usage<O: Write, E: Write>(error: &clap::Error, out: &mut Stream<O>, err: &mut Stream<E>) -> u8
-    ensures { IsUsageTold error.now (seen O.contents out.old) (seen O.contents out.new) (seen E.contents err.old) (seen E.contents err.new) result }
+fn usage<O: Stream, E: Stream>(error: &clap::Error, out: &mut O, err: &mut E) -> u8
+    requires out { O.failures out.old < 2 ^ 64 - 1 }
+    requires err { E.failures err.old < 2 ^ 64 - 1 }
+    ensures { IsUsageTold error.now (seen O.taken O.failures O.is_flushed out.old) (seen O.taken O.failures O.is_flushed out.new)
+        (seen E.taken E.failures E.is_flushed err.old) (seen E.taken E.failures E.is_flushed err.new) result }
 {
     if error.use_stderr() {
-        // As in `refuse`.
-        let _ = err.text(error);
+        tell_text(err, error);
         return 2;
     }
-    if out.text(error).is_err() {
-        refuse(Refusal::Write, err);
+    if write_text(out, error).is_err() {
+        tell_line(err, Refusal::Write);
         return 1;
     }
     0
-}
-
-/// Writes the line of a refusal. What standard error does not take is told by the status alone.
-fn refuse<E: Write>(refusal: Refusal, err: &mut Stream<E>)
-    ensures { TakesLine (seen E.contents err.old) (seen E.contents err.new) (line_of refusal) }
-{
-    let _ = err.line(refusal);
 }

@@ -1,8 +1,7 @@
 //! The order in which faults are met: the words, the files, the call, the file written.
 
-use super::shelf::{Shelf, expect_command, smallest_shelf};
+use super::shelf::{Shelf, command_into, expect_command, smallest_shelf};
 use super::texts::TABLE;
-use command_line::{Stream, command};
 use std::alloc::Global;
 use std::process::Abort;
 
@@ -100,12 +99,11 @@ static NO_COMMANDS: [&[&str]; 22] = [
 
 fn expect_usage(rt: &impl Abort, alloc: Global, words: &[&str]) {
     let mut shelf = Shelf::new(alloc, TABLE, &[]);
-    let mut out = Stream::new(Vec::new(alloc));
-    let mut err = Stream::new(Vec::new(alloc));
-    let status = command(alloc, words, &mut shelf, &mut out, &mut err);
-    let err = err.into_writer();
+    let mut out = Vec::new(alloc);
+    let mut err = Vec::new(alloc);
+    let status = command_into(alloc, words, &mut shelf, &mut out, &mut err);
     assert_eq!(rt; status, 2);
-    assert!(rt; out.into_writer().is_empty());
+    assert!(rt; out.is_empty());
     assert!(rt; !err.is_empty());
     assert!(rt; !err.starts_with(b"mb: "));
     assert_eq!(rt; shelf.writes, 0);

@@ -1,8 +1,7 @@
 //! Writers that take nothing, and writers that take all bytes and fail to flush them.
 
-use super::shelf::{Shelf, smallest_shelf};
+use super::shelf::{Shelf, command_into, smallest_shelf};
 use super::texts::TABLE;
-use command_line::{Stream, command};
 use std::alloc::Global;
 use std::io::{self, ErrorKind, Write};
 use std::process::Abort;
@@ -41,11 +40,11 @@ static COMMANDS: [&[&str]; 7] = [
 /// Expects that an output that is not taken, or not flushed, is told.
 fn expect_fault(rt: &impl Abort, alloc: Global, is_taking: bool, words: &[&str]) {
     let mut shelf = smallest_shelf(rt, alloc);
-    let mut out = Stream::new(FailingWriter { is_taking });
-    let mut err = Stream::new(Vec::new(alloc));
-    let status = command(alloc, words, &mut shelf, &mut out, &mut err);
+    let mut out = FailingWriter { is_taking };
+    let mut err = Vec::new(alloc);
+    let status = command_into(alloc, words, &mut shelf, &mut out, &mut err);
     assert_eq!(rt; status, 1);
-    assert_eq!(rt; err.into_writer().as_slice(), b"mb: write\n".as_slice());
+    assert_eq!(rt; err.as_slice(), b"mb: write\n".as_slice());
 }
 
 #[test]
@@ -65,11 +64,11 @@ static REFUSED: [(&[&str], u8); 3] = [
 
 fn expect_status(rt: &impl Abort, alloc: Global, words: &[&str], wanted: u8) {
     let mut shelf = Shelf::new(alloc, TABLE, &[]);
-    let mut out = Stream::new(Vec::new(alloc));
-    let mut err = Stream::new(FailingWriter { is_taking: true });
-    let status = command(alloc, words, &mut shelf, &mut out, &mut err);
+    let mut out = Vec::new(alloc);
+    let mut err = FailingWriter { is_taking: true };
+    let status = command_into(alloc, words, &mut shelf, &mut out, &mut err);
     assert_eq!(rt; status, wanted);
-    assert!(rt; out.into_writer().is_empty());
+    assert!(rt; out.is_empty());
 }
 
 #[test]

@@ -1,8 +1,7 @@
 //! Texts as long as they may be, at half of that, and longer by one: sources and device texts.
 
-use super::shelf::{Shelf, expect_command};
+use super::shelf::{Shelf, command_into, expect_command};
 use super::texts::{SMALLEST_SOURCES, SMALLEST_TRACE, TABLE};
-use command_line::{Stream, command};
 use std::alloc::Global;
 use std::process::Abort;
 
@@ -27,10 +26,10 @@ fn text_of(rt: &impl Abort, alloc: Global, long: &LongText) -> String {
 /// Builds what lies on the shelf, expects that an image is written, and answers its length.
 fn built(rt: &impl Abort, alloc: Global, shelf: &mut Shelf<'_>) -> usize {
     let words = ["mb", "build", "table", "image", "source"];
-    let mut out = Stream::new(Vec::new(alloc));
-    let mut err = Stream::new(Vec::new(alloc));
-    let status = command(alloc, &words, shelf, &mut out, &mut err);
-    assert!(rt; err.into_writer().is_empty());
+    let mut out = Vec::new(alloc);
+    let mut err = Vec::new(alloc);
+    let status = command_into(alloc, &words, shelf, &mut out, &mut err);
+    assert!(rt; err.is_empty());
     assert_eq!(rt; status, 0);
     match &shelf.image {
         Some(image) => image.len(),

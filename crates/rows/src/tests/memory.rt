@@ -1,9 +1,8 @@
 //! What is answered when there is no memory left, and once there is memory again.
 
-use super::shelf::{Shelf, expect_command};
+use super::shelf::{Shelf, command_into, expect_command};
 use super::sinks::narrow_sink;
 use super::texts::{FIRST_TRACE, SMALLEST, SMALLEST_IMAGE, SMALLEST_TRACE, TABLE};
-use command_line::{Stream, command};
 use module::{BuildFault, RunFault, build, run};
 use std::alloc::Global;
 use std::process::Abort;
@@ -81,15 +80,15 @@ fn running(rt: HostRuntime) {
 fn commanding(rt: HostRuntime) {
     let words = ["mb"];
     let mut shelf = Shelf::new(rt.alloc(), "", &[]);
-    let mut out = Stream::new(Vec::with_capacity(rt.alloc(), 1024).expect(&rt, "memory"));
-    let mut err = Stream::new(Vec::with_capacity(rt.alloc(), 1024).expect(&rt, "memory"));
+    let mut out = Vec::with_capacity(rt.alloc(), 1024).expect(&rt, "memory");
+    let mut err = Vec::with_capacity(rt.alloc(), 1024).expect(&rt, "memory");
     expect_command(&rt, rt.alloc(), &mut shelf, &words, (0, FIRST_TRACE, ""));
     let mut held = no_blocks(&rt, rt.alloc());
     exhaust(rt.alloc(), &mut held);
-    let status = command(rt.alloc(), &words, &mut shelf, &mut out, &mut err);
+    let status = command_into(rt.alloc(), &words, &mut shelf, &mut out, &mut err);
     held.clear();
     assert_eq!(rt; status, 1);
-    assert!(rt; out.into_writer().is_empty());
-    assert_eq!(rt; err.into_writer().as_slice(), b"mb: memory\n".as_slice());
+    assert!(rt; out.is_empty());
+    assert_eq!(rt; err.as_slice(), b"mb: memory\n".as_slice());
     expect_command(&rt, rt.alloc(), &mut shelf, &words, (0, FIRST_TRACE, ""));
 }

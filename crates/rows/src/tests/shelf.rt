@@ -1,9 +1,15 @@
 //! A fake of the files, and commands over it.
 
+ghost use Rattle.std.specs.Prelude.{◌≡◌, IfErr};
+ghost use Rattle.command_line.specs.Noted.{IsNotedFault};
+ghost use Rattle.streams.specs.Names.{names_of};
+
 use super::texts::{SMALLEST_IMAGE, SMALLEST_SOURCES, TABLE};
-use command_line::{FileFault, Files, Stream, command};
+use command_line::{FileFault, Files, command};
 use std::alloc::Global;
+use std::io::Write;
 use std::process::Abort;
+use streams::{FailedNames, WriterStream};
 
 /// The files "table", "devices", "source" and "source2", as far as there are sources, and room for
 /// one that is named "image". No other file can be read or written.
@@ -16,6 +22,7 @@ pub struct Shelf<'a> {
     pub image: Option<Vec<u8>>,
     /// How often a file was to be written.
     pub writes: u64,
+    failed: FailedNames,
 }
 
 impl<'a> Shelf<'a> {
@@ -28,6 +35,7 @@ impl<'a> Shelf<'a> {
             devices: "",
             image: None,
             writes: 0,
+            failed: FailedNames::new(alloc),
         }
     }
 
@@ -47,6 +55,7 @@ impl<'a> Shelf<'a> {
             devices: "",
             image: Some(image),
             writes: 0,
+            failed: FailedNames::new(alloc),
         }
     }
 }
@@ -57,36 +66,63 @@ pub fn smallest_shelf(rt: &impl Abort, alloc: Global) -> Shelf<'static> {
 }
 
 impl<'a> Files for Shelf<'a> {
+    ghost failed = { λ shelf. names_of shelf.failed };
+
     fn read(&mut self, alloc: Global, name: &str) -> Result<Vec<u8>, FileFault> {
-        match name {
-            "table" => copy(alloc, Some(self.table.as_bytes())),
-            "devices" => copy(alloc, Some(self.devices.as_bytes())),
-            "source" => copy(alloc, self.sources.first().map(|text| text.as_bytes())),
-            "source2" => copy(alloc, self.sources.get(1).map(|text| text.as_bytes())),
-            "image" => copy(alloc, self.image.as_deref()),
-            _ => Err(FileFault::Unavailable),
+        let held = match name {
+            "table" => Some(self.table.as_bytes()),
+            "devices" => Some(self.devices.as_bytes()),
+            "source" => self.sources.first().map(|text| text.as_bytes()),
+            "source2" => self.sources.get(1).map(|text| text.as_bytes()),
+            "image" => self.image.as_deref(),
+            _ => None,
+        };
+        match held {
+            Some(bytes) => copy(alloc, bytes),
+            None => Err(unavailable(&mut self.failed, alloc, name)),
         }
     }
 
     fn write(&mut self, name: &str, bytes: &[u8]) -> Result<(), FileFault> {
         self.writes = self.writes.wrapping_add(1);
         if name != "image" {
-            return Err(FileFault::Unavailable);
+            return Err(unavailable(&mut self.failed, self.alloc, name));
         }
-        self.image = Some(copy(self.alloc, Some(bytes))?);
+        self.image = Some(copy(self.alloc, bytes)?);
         Ok(())
     }
 }
 
-/// A copy of what is there.
-fn copy(alloc: Global, bytes: Option<&[u8]>) -> Result<Vec<u8>, FileFault> {
-    let Some(bytes) = bytes else {
-        return Err(FileFault::Unavailable);
-    };
+/// The fault of a call on a file that is not there, which is noted if there is memory for it.
+fn unavailable(failed: &mut FailedNames, alloc: Global, name: &str) -> FileFault
+    ensures { IsNotedFault name.now (names_of failed.old) (names_of failed.new) result }
+{
+    match failed.note(alloc, name) {
+        Ok(()) => FileFault::Unavailable,
+        Err(_) => FileFault::Memory,
+    }
+}
+
+fn copy(alloc: Global, bytes: &[u8]) -> Result<Vec<u8>, FileFault>
+    ensures { IfErr result (λ fault. fault ≡ FileFault.Memory) }
+{
     match Vec::from_slice(alloc, bytes) {
         Ok(copied) => Ok(copied),
         Err(_) => Err(FileFault::Memory),
     }
+}
+
+/// Does what the words say, with these writers, and answers the status.
+pub fn command_into<O: Write, E: Write>(
+    alloc: Global,
+    words: &[&str],
+    shelf: &mut Shelf<'_>,
+    out: &mut O,
+    err: &mut E,
+) -> u8 {
+    let mut out = WriterStream::new(out);
+    let mut err = WriterStream::new(err);
+    command(alloc, words, shelf, &mut out, &mut err)
 }
 
 /// Does what the words say, and expects the status and the texts on the standard output and the
@@ -99,10 +135,10 @@ pub fn expect_command(
     wanted: (u8, &str, &str),
 ) {
     let (status, text, line) = wanted;
-    let mut out = Stream::new(Vec::new(alloc));
-    let mut err = Stream::new(Vec::new(alloc));
-    let found = command(alloc, words, shelf, &mut out, &mut err);
-    assert_eq!(rt; err.into_writer().as_slice(), line.as_bytes());
-    assert_eq!(rt; out.into_writer().as_slice(), text.as_bytes());
+    let mut out = Vec::new(alloc);
+    let mut err = Vec::new(alloc);
+    let found = command_into(alloc, words, shelf, &mut out, &mut err);
+    assert_eq!(rt; err.as_slice(), line.as_bytes());
+    assert_eq!(rt; out.as_slice(), text.as_bytes());
     assert_eq!(rt; found, status);
 }

@@ -2,11 +2,10 @@
 
 ghost use Rattle.std.specs.Prelude.{◌≡◌, Some};
 
-use super::shelf::smallest_shelf;
+use super::shelf::{command_into, smallest_shelf};
 use super::texts::{SMALLEST_IMAGE, SMALLEST_TRACE};
 use apex_types::{Sink, SinkFault, WriterSink};
 use arrayvec::ArrayVec;
-use command_line::{Stream, command};
 use module::{RunFault, run};
 use std::alloc::Global;
 use std::io::{self, ErrorKind, Write};
@@ -98,14 +97,13 @@ pub fn expect_beginning(
     (line, text): (&str, &str),
 ) {
     let mut shelf = smallest_shelf(rt, alloc);
-    let mut out = Stream::new(roomy_writer(room));
-    let mut err = Stream::new(Vec::new(alloc));
-    let status = command(alloc, words, &mut shelf, &mut out, &mut err);
+    let mut out = roomy_writer(room);
+    let mut err = Vec::new(alloc);
+    let status = command_into(alloc, words, &mut shelf, &mut out, &mut err);
     assert_eq!(rt; status, 1);
-    assert_eq!(rt; err.into_writer().as_slice(), line.as_bytes());
-    let writer = out.into_writer();
-    assert_eq!(rt; writer.taken.len(), room);
-    assert!(rt; text.as_bytes().starts_with(writer.taken.as_slice()));
+    assert_eq!(rt; err.as_slice(), line.as_bytes());
+    assert_eq!(rt; out.taken.len(), room);
+    assert!(rt; text.as_bytes().starts_with(out.taken.as_slice()));
     assert_eq!(rt; shelf.writes, 0);
 }
 
@@ -116,7 +114,7 @@ fn a_writer_that_fails_has_a_beginning(rt: HostRuntime) {
         let mut sink = WriterSink::new(roomy_writer(room));
         let found = run(rt.alloc(), &SMALLEST_IMAGE, &[], 128, &mut sink);
         assert!(rt; found == Err(RunFault::Write), "room for {room}");
-        assert_eq!(rt; sink.failures, 1);
+        assert_eq!(rt; sink.failures(), 1);
         assert_eq!(rt; sink.writer.taken.len(), room);
         assert!(rt; trace.starts_with(sink.writer.taken.as_slice()));
     }

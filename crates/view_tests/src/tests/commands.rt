@@ -1,9 +1,12 @@
 //! Command lines over texts in memory.
 
+ghost use Rattle.streams.specs.Names.{names_of};
+
 use std::alloc::Global;
 use std::io::{self, ErrorKind, Read, Write};
 use std::process::Abort;
-use view_command::{SourceFault, Sources, Stream, view};
+use streams::{FailedNames, WriterStream};
+use view_command::{SourceFault, Sources, view};
 
 const TRACE: &str = "0000000000000 a MODE COLD_START
 0000000000000 a STATE INIT READY
@@ -31,10 +34,15 @@ impl Read for Text {
 
 /// Texts by name.
 #[derive(Drop)]
-struct Texts;
+struct Texts {
+    alloc: Global,
+    unopened: FailedNames,
+}
 
 impl Sources for Texts {
     type Reader = Text;
+
+    ghost unopened = { λ texts. names_of texts.unopened };
 
     fn open(&mut self, name: &str) -> Result<Text, SourceFault> {
         let (text, fails): (&'static str, bool) = match name {
@@ -43,7 +51,12 @@ impl Sources for Texts {
             "torn.txt" => (TRACE, true),
             "other.txt" => ("0000000000000 a MODE COLD_START\nx\n", false),
             "memory.txt" => return Err(SourceFault::Memory),
-            _ => return Err(SourceFault::Unavailable),
+            _ => {
+                return match self.unopened.note(self.alloc, name) {
+                    Ok(()) => Err(SourceFault::Unavailable),
+                    Err(_) => Err(SourceFault::Memory),
+                };
+            }
         };
         Ok(Text {
             rest: text.as_bytes(),
@@ -158,15 +171,22 @@ struct Outcome {
     err: Vec<u8>,
 }
 
+/// Does what the words say, with these writers, and answers the status.
+fn view_into<O: Write, E: Write>(alloc: Global, words: &[&str], out: &mut O, err: &mut E) -> u8 {
+    let mut texts = Texts {
+        alloc,
+        unopened: FailedNames::new(alloc),
+    };
+    let mut out = WriterStream::new(out);
+    let mut err = WriterStream::new(err);
+    view(alloc, words, &mut texts, &mut out, &mut err)
+}
+
 fn said(alloc: Global, words: &[&str]) -> Outcome {
-    let mut out = Stream::new(Vec::new(alloc));
-    let mut err = Stream::new(Vec::new(alloc));
-    let status = view(alloc, words, &mut Texts, &mut out, &mut err);
-    Outcome {
-        status,
-        out: out.into_writer(),
-        err: err.into_writer(),
-    }
+    let mut out = Vec::new(alloc);
+    let mut err = Vec::new(alloc);
+    let status = view_into(alloc, words, &mut out, &mut err);
+    Outcome { status, out, err }
 }
 
 fn shown<'a>(rt: &impl Abort, bytes: &'a [u8]) -> &'a str {
@@ -235,12 +255,10 @@ fn help_and_usage(rt: HostRuntime) {
 
 #[test]
 fn output_that_takes_nothing(rt: HostRuntime) {
-    let mut out = Stream::new(Full);
-    let mut err = Stream::new(Vec::new(rt.alloc()));
+    let mut err = Vec::new(rt.alloc());
     let words = ["mbview", "summary", "trace.txt"];
-    let status = view(rt.alloc(), &words, &mut Texts, &mut out, &mut err);
+    let status = view_into(rt.alloc(), &words, &mut Full, &mut err);
     assert_eq!(rt; status, 1);
-    let err = err.into_writer();
     assert_eq!(rt;
         shown(&rt, err.as_slice()),
         "mbview: the output cannot be written\n"

@@ -6,7 +6,8 @@ use Rattle.clap.specs.Walk.{rows_of}
 use Rattle.command_line.specs.Done.{IsDone}
 use Rattle.command_line.specs.Orders.{First, order_of, words_at}
 use Rattle.command_line.specs.Refusals.{IsRefused}
-use Rattle.command_line.specs.States.{seen, state}
+use Rattle.streams.specs.States.{seen}
+use Rattle.command_line.specs.States.{state}
 use Rattle.command_line.specs.declared.refusal.Failure.TheVariants.{Refused}
 use Rattle.command_line.proofs.Found.{words_are, check_is, build_is, run_is, cost_is, dis_is, other_is, none_entered}
 use Rattle.command_line.proofs.Ran.{told_as}
@@ -15,8 +16,8 @@ use Rattle.command_line.proofs.commands.obey.Goals as goal
 
 pub returns-in_err-check-in-Some-check-default-clause-failed : goal.returns-in_err-check-in-Some-check-default-clause-failed
 returns-in_err-check-in-Some-check-default-clause-failed g c =
-    let before = state (g.F.Files.contents c.args.files.now) (seen g.O.Write.contents c.args.out.now) in
-    let after = state (g.F.Files.contents c.check.new.files) (seen g.O.Write.contents c.check.new.out) in
+    let before = state (g.F.Files.contents c.args.files.now) (seen g.O.Sink.taken g.O.Sink.failures g.O.Stream.is_flushed c.args.out.now) in
+    let after = state (g.F.Files.contents c.check.new.files) (seen g.O.Sink.taken g.O.Sink.failures g.O.Stream.is_flushed c.check.new.out) in
     let arm = c.in-Some-check-default in
     let rows = rows_of (found_of arm.found.now) in
     let sources : map (λ s. s.now) c.unwrap_or-sources.result.now ≡ words_at (codes "SOURCE") rows =
@@ -28,8 +29,8 @@ returns-in_err-check-in-Some-check-default-clause-failed g c =
 
 pub returns-in_err-build-in-Some-build-default-clause-failed : goal.returns-in_err-build-in-Some-build-default-clause-failed
 returns-in_err-build-in-Some-build-default-clause-failed g c =
-    let before = state (g.F.Files.contents c.args.files.now) (seen g.O.Write.contents c.args.out.now) in
-    let after = state (g.F.Files.contents c.build.new.files) (seen g.O.Write.contents c.build.new.out) in
+    let before = state (g.F.Files.contents c.args.files.now) (seen g.O.Sink.taken g.O.Sink.failures g.O.Stream.is_flushed c.args.out.now) in
+    let after = state (g.F.Files.contents c.build.new.files) (seen g.O.Sink.taken g.O.Sink.failures g.O.Stream.is_flushed c.build.new.out) in
     let arm = c.in-Some-build-default in
     let rows = rows_of (found_of arm.found.now) in
     let sources : map (λ s. s.now) c.unwrap_or-sources-in-Some-build-default.result.now ≡ words_at (codes "SOURCE") rows =
@@ -41,8 +42,8 @@ returns-in_err-build-in-Some-build-default-clause-failed g c =
 
 pub returns-in_err-cost-in-Some-cost-default-clause-failed : goal.returns-in_err-cost-in-Some-cost-default-clause-failed
 returns-in_err-cost-in-Some-cost-default-clause-failed g c =
-    let before = state (g.F.Files.contents c.args.files.now) (seen g.O.Write.contents c.args.out.now) in
-    let after = state (g.F.Files.contents c.cost.new.files) (seen g.O.Write.contents c.cost.new.out) in
+    let before = state (g.F.Files.contents c.args.files.now) (seen g.O.Sink.taken g.O.Sink.failures g.O.Stream.is_flushed c.args.out.now) in
+    let after = state (g.F.Files.contents c.cost.new.files) (seen g.O.Sink.taken g.O.Sink.failures g.O.Stream.is_flushed c.cost.new.out) in
     let arm = c.in-Some-cost-default in
     let rows = rows_of (found_of arm.found.now) in
     let sources : map (λ s. s.now) c.unwrap_or-sources-in-Some-cost-default.result.now ≡ words_at (codes "SOURCE") rows =
@@ -54,8 +55,8 @@ returns-in_err-cost-in-Some-cost-default-clause-failed g c =
 
 pub returns-in_err-dis-in-Some-dis-default-clause-failed : goal.returns-in_err-dis-in-Some-dis-default-clause-failed
 returns-in_err-dis-in-Some-dis-default-clause-failed g c =
-    let before = state (g.F.Files.contents c.args.files.now) (seen g.O.Write.contents c.args.out.now) in
-    let after = state (g.F.Files.contents c.dis.new.files) (seen g.O.Write.contents c.dis.new.out) in
+    let before = state (g.F.Files.contents c.args.files.now) (seen g.O.Sink.taken g.O.Sink.failures g.O.Stream.is_flushed c.args.out.now) in
+    let after = state (g.F.Files.contents c.dis.new.files) (seen g.O.Sink.taken g.O.Sink.failures g.O.Stream.is_flushed c.dis.new.out) in
     let arm = c.in-Some-dis-default in
     let rows = rows_of (found_of arm.found.now) in
     let order = dis_is c.args.matches.now arm.field-0-0.now rows c.word-in-Some-dis-default.result.now arm.ensures.name arm.ensures.rows arm.is-dis c.word-in-Some-dis-default.ensures in
@@ -65,8 +66,8 @@ returns-in_err-dis-in-Some-dis-default-clause-failed g c =
 
 pub returns-in_ok-check-in-Some-check-default-clause-done : goal.returns-in_ok-check-in-Some-check-default-clause-done
 returns-in_ok-check-in-Some-check-default-clause-done g c =
-    let before = state (g.F.Files.contents c.args.files.now) (seen g.O.Write.contents c.args.out.now) in
-    let after = state (g.F.Files.contents c.check.new.files) (seen g.O.Write.contents c.check.new.out) in
+    let before = state (g.F.Files.contents c.args.files.now) (seen g.O.Sink.taken g.O.Sink.failures g.O.Stream.is_flushed c.args.out.now) in
+    let after = state (g.F.Files.contents c.check.new.files) (seen g.O.Sink.taken g.O.Sink.failures g.O.Stream.is_flushed c.check.new.out) in
     let arm = c.in-Some-check-default in
     let rows = rows_of (found_of arm.found.now) in
     let sources : map (λ s. s.now) c.unwrap_or-sources.result.now ≡ words_at (codes "SOURCE") rows =
@@ -76,8 +77,8 @@ returns-in_ok-check-in-Some-check-default-clause-done g c =
 
 pub returns-in_ok-build-in-Some-build-default-clause-done : goal.returns-in_ok-build-in-Some-build-default-clause-done
 returns-in_ok-build-in-Some-build-default-clause-done g c =
-    let before = state (g.F.Files.contents c.args.files.now) (seen g.O.Write.contents c.args.out.now) in
-    let after = state (g.F.Files.contents c.build.new.files) (seen g.O.Write.contents c.build.new.out) in
+    let before = state (g.F.Files.contents c.args.files.now) (seen g.O.Sink.taken g.O.Sink.failures g.O.Stream.is_flushed c.args.out.now) in
+    let after = state (g.F.Files.contents c.build.new.files) (seen g.O.Sink.taken g.O.Sink.failures g.O.Stream.is_flushed c.build.new.out) in
     let arm = c.in-Some-build-default in
     let rows = rows_of (found_of arm.found.now) in
     let sources : map (λ s. s.now) c.unwrap_or-sources-in-Some-build-default.result.now ≡ words_at (codes "SOURCE") rows =
@@ -87,8 +88,8 @@ returns-in_ok-build-in-Some-build-default-clause-done g c =
 
 pub returns-in_ok-cost-in-Some-cost-default-clause-done : goal.returns-in_ok-cost-in-Some-cost-default-clause-done
 returns-in_ok-cost-in-Some-cost-default-clause-done g c =
-    let before = state (g.F.Files.contents c.args.files.now) (seen g.O.Write.contents c.args.out.now) in
-    let after = state (g.F.Files.contents c.cost.new.files) (seen g.O.Write.contents c.cost.new.out) in
+    let before = state (g.F.Files.contents c.args.files.now) (seen g.O.Sink.taken g.O.Sink.failures g.O.Stream.is_flushed c.args.out.now) in
+    let after = state (g.F.Files.contents c.cost.new.files) (seen g.O.Sink.taken g.O.Sink.failures g.O.Stream.is_flushed c.cost.new.out) in
     let arm = c.in-Some-cost-default in
     let rows = rows_of (found_of arm.found.now) in
     let sources : map (λ s. s.now) c.unwrap_or-sources-in-Some-cost-default.result.now ≡ words_at (codes "SOURCE") rows =
@@ -98,8 +99,8 @@ returns-in_ok-cost-in-Some-cost-default-clause-done g c =
 
 pub returns-in_ok-dis-in-Some-dis-default-clause-done : goal.returns-in_ok-dis-in-Some-dis-default-clause-done
 returns-in_ok-dis-in-Some-dis-default-clause-done g c =
-    let before = state (g.F.Files.contents c.args.files.now) (seen g.O.Write.contents c.args.out.now) in
-    let after = state (g.F.Files.contents c.dis.new.files) (seen g.O.Write.contents c.dis.new.out) in
+    let before = state (g.F.Files.contents c.args.files.now) (seen g.O.Sink.taken g.O.Sink.failures g.O.Stream.is_flushed c.args.out.now) in
+    let after = state (g.F.Files.contents c.dis.new.files) (seen g.O.Sink.taken g.O.Sink.failures g.O.Stream.is_flushed c.dis.new.out) in
     let arm = c.in-Some-dis-default in
     let rows = rows_of (found_of arm.found.now) in
     let order = dis_is c.args.matches.now arm.field-0-0.now rows c.word-in-Some-dis-default.result.now arm.ensures.name arm.ensures.rows arm.is-dis c.word-in-Some-dis-default.ensures in
@@ -107,8 +108,8 @@ returns-in_ok-dis-in-Some-dis-default-clause-done g c =
 
 pub returns-in-Some-run-default-clause-done : goal.returns-in-Some-run-default-clause-done
 returns-in-Some-run-default-clause-done g c =
-    let before = state (g.F.Files.contents c.args.files.now) (seen g.O.Write.contents c.args.out.now) in
-    let after = state (g.F.Files.contents c.run.new.files) (seen g.O.Write.contents c.run.new.out) in
+    let before = state (g.F.Files.contents c.args.files.now) (seen g.O.Sink.taken g.O.Sink.failures g.O.Stream.is_flushed c.args.out.now) in
+    let after = state (g.F.Files.contents c.run.new.files) (seen g.O.Sink.taken g.O.Sink.failures g.O.Stream.is_flushed c.run.new.out) in
     let arm = c.in-Some-run-default in
     let rows = rows_of (found_of arm.found.now) in
     let order = run_is c.args.matches.now arm.field-0-0.now rows c.word-image-in-Some-run-default.result.now c.word-devices.result.now c.word.result.now arm.ensures.name arm.ensures.rows arm.is-run
@@ -117,8 +118,8 @@ returns-in-Some-run-default-clause-done g c =
 
 pub returns-in_ok-run_stored-in_default-clause-done : goal.returns-in_ok-run_stored-in_default-clause-done
 returns-in_ok-run_stored-in_default-clause-done g c =
-    let before = state (g.F.Files.contents c.args.files.now) (seen g.O.Write.contents c.args.out.now) in
-    let after = state (g.F.Files.contents c.args.files.now) (seen g.O.Write.contents c.run_stored.new.out) in
+    let before = state (g.F.Files.contents c.args.files.now) (seen g.O.Sink.taken g.O.Sink.failures g.O.Stream.is_flushed c.args.out.now) in
+    let after = state (g.F.Files.contents c.args.files.now) (seen g.O.Sink.taken g.O.Sink.failures g.O.Stream.is_flushed c.run_stored.new.out) in
     let order : order_of (subcommand_rows_of c.args.matches.now) ≡ First = elim c.in_default.branch [
       | in_default-via-in-Some+in_default w ↦ other_is c.args.matches.now w.in_default.field-0.0.now (rows_of (found_of w.in_default.field-0.1.now)) (search (rules, c.subcommand.ensures.name)) (search (rules, c.subcommand.ensures.rows)) (search rules) (search rules) (search rules) (search rules) (search rules)
       | in_default-via-in_default w ↦ none_entered c.args.matches.now (search (rules, c.subcommand.ensures.name))

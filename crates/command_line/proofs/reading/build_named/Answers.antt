@@ -1,7 +1,7 @@
-use Rattle.std.proofs.Common.{rules, map, sym, subst}
+use Rattle.std.proofs.Common.{rules, map, sym, subst, ◌∙◌}
 use Rattle.command_line.specs.Contents.{Holds}
 use Rattle.command_line.specs.Reading.{texts_of}
-use Rattle.command_line.proofs.Read.{built_named, refused_named}
+use Rattle.command_line.proofs.Read.{on_ok, built_named, refused_named, unnamed_text}
 use Rattle.command_line.proofs.reading.build_named.Goals as goal
 
 pub returns-clause-built : goal.returns-clause-built
@@ -17,3 +17,10 @@ returns-clause-refused g c =
     let names = map (λ s. s.now) c.args.sources.now in
     let table : Holds files c.args.table.now c.as_slice.result.now = subst (Holds files c.args.table.now) (sym c.as_slice.ensures.value) c.in_ok-table.ensures.held in
     refused_named files (g.F.Files.contents c.read.new.files) c.args.table.now names c.as_slice.result.now (texts_of c.as_slice-2.result.now) c.build_texts.result c.in_ok-table.ensures.unchanged table (search rules) c.build_texts.ensures.refused
+
+pub returns-clause-noted : goal.returns-clause-noted
+returns-clause-noted g c = on_ok c.build_texts.result (c.in_ok-sources.ensures.noted ∙ c.in_ok-table.ensures.noted)
+
+pub returns-clause-named : goal.returns-clause-named
+returns-clause-named g c =
+    unnamed_text (g.F.Files.failed c.args.files.now) (g.F.Files.failed c.read_all-sources.new.files) c.as_slice.result.now (texts_of c.as_slice-2.result.now) c.build_texts.result (c.in_ok-sources.ensures.noted ∙ c.in_ok-table.ensures.noted) c.build_texts.ensures.refused

@@ -11,4 +11,5 @@ invariant-loop-name g l = record {
   unread : (name : List ℕ) → IsFirstUnread (g.F.Files.contents l.initial.files) (map (λ s. s.now) (drop l.name-index l.names)) name
       → IsFirstUnread (g.F.Files.contents l.initial.files) (map (λ s. s.now) l.names) name;
   unchanged : g.F.Files.contents l.files ≡ g.F.Files.contents l.initial.files;
+  noted : g.F.Files.failed l.files ≡ g.F.Files.failed l.initial.files;
 }

@@ -1,4 +1,4 @@
-use Rattle.std.proofs.Common.{rules, ◌∙◌}
+use Rattle.std.proofs.Common.{ℕ, ◌+◌, ap, ◌∙◌}
 use Rattle.apex_meaning.specs.ImageReading.{image_at}
 use Rattle.command_line.specs.declared.refusal.Refusal.TheVariants.{Run, Write}
 use Rattle.command_line.proofs.Ran.{inputs_of, kept_run, told_as}
@@ -11,32 +11,32 @@ returns-in_err-trace-clause-refused g c =
     c.in_ok-image.ensures.unchanged c.as_slice.ensures.value c.as_slice-2.ensures.value c.in_ok-image.ensures.held c.in_ok-devices.ensures.held in
     let same = c.in_ok-devices.ensures.unchanged ∙ c.in_ok-image.ensures.unchanged in
     told_as _ (Run c.in_err-trace.field-0.0) c.from_residual-in_err-trace.result c.from_residual-in_err-trace.ensures
-    ((λ e. c.in_err-trace.ensures.failed (search (rules, e))), same, inputs, c.in_err-trace.ensures.trace)
+    (c.in_err-trace.ensures.failed, same, inputs, c.in_err-trace.ensures.trace)
 
 pub returns-in_err-flush-clause-refused : goal.returns-in_err-flush-clause-refused
 returns-in_err-flush-clause-refused g c =
-    let contents = g.O.Write.contents in
+    let taken = g.O.Sink.taken in
     let files = g.F.Files.contents c.args.files.now in
     let inputs = inputs_of files (g.F.Files.contents c.read.new.files) c.args.image.now c.args.devices.now c.in_ok-image.image.items c.in_ok-devices.devices.items c.as_slice.result.now c.as_slice-2.result.now
     c.in_ok-image.ensures.unchanged c.as_slice.ensures.value c.as_slice-2.ensures.value c.in_ok-image.ensures.held c.in_ok-devices.ensures.held in
     let same = c.in_ok-devices.ensures.unchanged ∙ c.in_ok-image.ensures.unchanged in
     told_as _ Write c.from_residual-in_err-flush.result c.from_residual-in_err-flush.ensures (
-      c.in_err-flush.ensures.failed,
+      c.in_err-flush.ensures.failed ∙ ap (λ (n : ℕ). n + 1) c.in_ok-trace.ensures.quiet,
       (
         same,
         inputs,
-        kept_run (image_at c.as_slice.result.now) c.as_slice-2.result.now c.args.ticks (contents c.args.out.now.sink.writer) (contents c.trace.new.out.sink.writer) (contents c.flush.new.self.sink.writer) c.in_ok-trace.ensures.trace c.in_err-flush.ensures.kept,
+        kept_run (image_at c.as_slice.result.now) c.as_slice-2.result.now c.args.ticks (taken c.args.out.now) (taken c.trace.new.out) (taken c.flush.new.self) c.in_ok-trace.ensures.trace c.in_err-flush.ensures.kept,
       ),
     )
 
 pub returns-clause-done : goal.returns-clause-done
 returns-clause-done g c =
-    let contents = g.O.Write.contents in
+    let taken = g.O.Sink.taken in
     let files = g.F.Files.contents c.args.files.now in
     let inputs = inputs_of files (g.F.Files.contents c.read.new.files) c.args.image.now c.args.devices.now c.in_ok-image.image.items c.in_ok-devices.devices.items c.as_slice.result.now c.as_slice-2.result.now
     c.in_ok-image.ensures.unchanged c.as_slice.ensures.value c.as_slice-2.ensures.value c.in_ok-image.ensures.held c.in_ok-devices.ensures.held in
     let same = c.in_ok-devices.ensures.unchanged ∙ c.in_ok-image.ensures.unchanged in (
       same,
       inputs,
-      kept_run (image_at c.as_slice.result.now) c.as_slice-2.result.now c.args.ticks (contents c.args.out.now.sink.writer) (contents c.trace.new.out.sink.writer) (contents c.flush.new.self.sink.writer) c.in_ok-trace.ensures.trace c.in_ok-flush.ensures.kept,
+      kept_run (image_at c.as_slice.result.now) c.as_slice-2.result.now c.args.ticks (taken c.args.out.now) (taken c.trace.new.out) (taken c.flush.new.self) c.in_ok-trace.ensures.trace c.in_ok-flush.ensures.kept,
     )

@@ -6,5 +6,5 @@ use Rattle.command_line.proofs.showing.show_code.Goals as goal
 
 pub returns-clause-beginning : goal.returns-clause-beginning
 returns-clause-beginning g c =
-    let contents = g.O.Write.contents in
-    whole_is_begun (contents c.args.out.now.sink.writer) (contents c.close.new.self.sink.writer) (contents c.flush.new.self.sink.writer) (code_text (image_of c.args.image.now)) c.flush.result (search rules) c.flush.ensures.kept
+    let taken = g.O.Sink.taken in
+    whole_is_begun (taken c.args.out.now) (taken c.close.new.self) (taken c.flush.new.self) (code_text (image_of c.args.image.now)) c.flush.result (search rules) c.flush.ensures.kept

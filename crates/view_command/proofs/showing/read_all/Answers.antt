@@ -1,4 +1,6 @@
-use Rattle.std.proofs.Common.{rules, ◌≡◌, ◌+◌, ◌-◌, ◌^◌, ◌<◌, ℕ, ap, ◌∙◌, arith}
+use Rattle.std.proofs.Common.{rules, ◌≡◌, ◌+◌, ◌-◌, ◌^◌, ◌<◌, ℕ, ap, sym, subst, ◌∙◌, arith}
+use Rattle.std.specs.Prelude.{string_bytes}
+use Rattle.view_command.specs.Answers.{IsUnread}
 use Rattle.trace_text.specs.Stream.{NextIn, left, next_number}
 use Rattle.view_command.proofs.SoFar.{next_is, so_far_end, so_far_more, unread_of}
 use Rattle.view_command.proofs.showing.read_all.Goals as goal
@@ -12,7 +14,8 @@ pub returns-in-Err-next_event-clause-refused : goal.returns-in-Err-next_event-cl
 returns-in-Err-next_event-clause-refused g c =
     let s = c.loop.stream in
     let below : c.loop.counter < 2 ^ 64 - 1 = search rules in
-    unread_of (g.R.Read.remaining c.args.reader) (left g.R.Read.remaining s) s.before.0 s.lines c.args.trace.now c.in-Err-next_event.fault c.unread.result (omega (arith, below, c.loop.invariant.1)) c.loop.invariant.0 c.in-Err-next_event.ensures.refused c.unread.ensures
+    let it = unread_of (g.R.Read.remaining c.args.reader) (left g.R.Read.remaining s) s.before.0 s.lines c.args.name c.in-Err-next_event.fault (omega (arith, below, c.loop.invariant.1)) c.loop.invariant.0 c.in-Err-next_event.ensures.refused in
+    subst (IsUnread (g.R.Read.remaining c.args.reader) (string_bytes c.args.name)) (sym c.of_stream.ensures) it
 
 pub loop-preserved : goal.loop-preserved
 loop-preserved g c =

@@ -1,0 +1,27 @@
+-- The refusal that each fault of a file is, and what was noted where a command is refused.
+use Rattle.std.specs.Prelude.{◌≡◌, ℕ, List, [], ◌∷◌, ◌++◌, string_bytes}
+use Rattle.std.specs.declared.alloc.Global.{Global}
+use Rattle.std.specs.declared.string.String.{String}
+use Rattle.command_line.specs.declared.files.FileFault.{FileFault}
+use Rattle.command_line.specs.declared.files.FileFault.TheVariants as fault
+use Rattle.command_line.specs.declared.refusal.Failure.{Failure}
+use Rattle.command_line.specs.declared.refusal.Failure.TheVariants.{Refused, Usage}
+use Rattle.command_line.specs.declared.refusal.Refusal.{Refusal}
+use Rattle.command_line.specs.declared.refusal.Refusal.TheVariants.{Build, Run, File, Memory, Write}
+
+abbrev pub of_file : String Global → FileFault → Refusal
+of_file name fault.Unavailable = File name
+of_file name fault.Memory = Memory
+
+-- The file that a refusal names is the one that failed; where it names none, none did.
+abbrev pub IsOfFailed : List (List ℕ) → List (List ℕ) → Refusal → Type 0
+IsOfFailed old new (File name) = new ≡ old ++ string_bytes name ∷ []
+IsOfFailed old new (Build fault) = new ≡ old
+IsOfFailed old new (Run fault) = new ≡ old
+IsOfFailed old new Memory = new ≡ old
+IsOfFailed old new Write = new ≡ old
+
+-- the same of a command that is not done
+abbrev pub IsOfFailedFile : List (List ℕ) → List (List ℕ) → Failure → Type 0
+IsOfFailedFile old new (Refused r) = IsOfFailed old new r
+IsOfFailedFile old new (Usage error) = new ≡ old

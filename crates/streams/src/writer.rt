@@ -1,0 +1,59 @@
+//! A writer of the standard library as a stream, trusted to count its failures and to flush it.
+
+ghost use Rattle.std.specs.Prelude.{◌≡◌, true};
+
+use crate::stream::Stream;
+use apex_types::{Sink, SinkFault};
+use std::io::Write;
+
+/// A writer, with its failures so far, and whether all that it took was flushed.
+#[derive(Drop)]
+pub struct WriterStream<W: Write> {
+    writer: W,
+    failures: u64,
+    is_flushed: bool,
+}
+
+impl<W: Write> WriterStream<W> {
+    /// A stream over the writer, without a failure so far.
+    pub fn new(writer: W) -> Self
+        ensures { (result.writer ≡ writer) × (result.failures ≡ 0) × (result.is_flushed ≡ true) }
+    {
+        WriterStream {
+            writer,
+            failures: 0,
+            is_flushed: true,
+        }
+    }
+}
+
+impl<W: Write> Sink for WriterStream<W> {
+    ghost taken = { λ s. W.contents s.writer };
+
+    ghost failures = { λ s. s.failures };
+
+    fn put(&mut self, bytes: &[u8]) -> Result<usize, SinkFault> {
+        self.is_flushed = false;
+        let taken = self.writer.write(bytes).map_err(|_| SinkFault);
+        self.failures += u64::from(taken.is_err() || taken == Ok(0) && !bytes.is_empty());
+        taken
+    }
+}
+
+impl<W: Write> Stream for WriterStream<W> {
+    ghost is_flushed = { λ s. s.is_flushed };
+
+    fn put_text<D: std::fmt::Display + Drop>(&mut self, text: D) -> Result<(), SinkFault> {
+        self.is_flushed = false;
+        let outcome = write!(self.writer, "{text}");
+        self.failures += u64::from(outcome.is_err());
+        outcome.map_err(|_| SinkFault)
+    }
+
+    fn flush(&mut self) -> Result<(), SinkFault> {
+        let outcome = self.writer.flush();
+        self.failures += u64::from(outcome.is_err());
+        self.is_flushed = outcome.is_ok();
+        outcome.map_err(|_| SinkFault)
+    }
+}

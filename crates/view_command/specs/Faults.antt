@@ -1,0 +1,27 @@
+-- The refusal that each fault is.
+use Rattle.std.specs.declared.string.String.{String}
+use Rattle.std.specs.declared.alloc.Global.{Global}
+use Rattle.trace_text.specs.declared.stream.StreamFault.{StreamFault}
+use Rattle.trace_text.specs.declared.stream.StreamFault.TheVariants as stream
+use Rattle.view_command.specs.declared.refusal.Refusal.{Refusal}
+use Rattle.view_command.specs.declared.refusal.Refusal.TheVariants.{Open, Read, Line, TooMany, Memory}
+use Rattle.view_command.specs.declared.sources.SourceFault.{SourceFault}
+use Rattle.view_command.specs.declared.sources.SourceFault.TheVariants as source
+use Rattle.view_command.specs.declared.views.ViewFault.{ViewFault}
+use Rattle.view_command.specs.declared.views.ViewFault.TheVariants as view
+
+-- a text that is called so was not opened
+abbrev pub of_source : String Global → SourceFault → Refusal
+of_source called source.Unavailable = Open called
+of_source called source.Memory = Memory
+
+-- a text that is called so was not read on
+abbrev pub of_stream : String Global → StreamFault → Refusal
+of_stream called (stream.Line at) = Line at.line called
+of_stream called (stream.Read error) = Read called
+of_stream called stream.Memory = Memory
+
+-- an event was not taken
+abbrev pub of_view : ViewFault → Refusal
+of_view view.Memory = Memory
+of_view view.TooMany = TooMany
