@@ -139,12 +139,7 @@ fn draw_bar(
 }
 
 /// The attributes of a bar in the row with this top.
-pub fn bar_attributes(
-    bar: Bar,
-    left: Length,
-    top: Length,
-    wide: Length,
-) -> [Attribute<'static>; 5]
+pub fn bar_attributes(bar: Bar, left: Length, top: Length, wide: Length) -> [Attribute<'static>; 5]
     ensures { result ≡ bar_tag bar left top wide }
 {
     [

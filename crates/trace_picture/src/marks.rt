@@ -1,7 +1,7 @@
 //! Arrows, flags and marks.
 
 ghost use Rattle.std.specs.Prelude.{◌≡◌, ◌++◌, OnOk, string_bytes};
-ghost use Rattle.trace_picture.specs.Marks.{arrow_text, message_place};
+ghost use Rattle.trace_picture.specs.Marks.{arrow_text, end_of, message_class, message_place, start_of};
 
 use crate::axis::Axis;
 use crate::bars::subject_name;
@@ -70,6 +70,35 @@ fn message_place(axis: Axis, message: &Message) -> Length
     x.at_most(WIDE - ASIDE)
 }
 
+/// How the arrow of a message looks.
+fn message_class(is_lost: bool) -> &'static str
+    ensures { result.now ≡ message_class is_lost }
+{
+    if is_lost { "lost" } else { "message" }
+}
+
+/// Where an arrow begins in the row with the first top, on its way to the other.
+fn start_of(from: Length, to: Length) -> Length
+    ensures { result ≡ start_of from to }
+{
+    if to.0 < from.0 {
+        from + INTO
+    } else {
+        from + ROW - INTO
+    }
+}
+
+/// Where it ends in the row with the second top.
+fn end_of(from: Length, to: Length) -> Length
+    ensures { result ≡ end_of from to }
+{
+    if to.0 < from.0 {
+        to + ROW - INTO
+    } else {
+        to + INTO
+    }
+}
+
 /// Begins the arrow of a message from a row to a row; its title and its end follow.
 fn draw_arrow(
     page: &mut Page,
@@ -81,20 +110,14 @@ fn draw_arrow(
     ensures { OnOk result (string_bytes page.new.text ≡ string_bytes page.old.text ++ arrow_text axis.span message.now from to) }
 {
     let x = message_place(axis, message);
-    let (start, end) = if to.0 < from.0 {
-        (from + INTO, to + ROW - INTO)
-    } else {
-        (from + ROW - INTO, to + INTO)
-    };
-    let class = if message.lost { "lost" } else { "message" };
     page.open(
         Tag::Line,
         &[
-            set(Key::Class, class),
+            set(Key::Class, message_class(message.lost)),
             at(Key::X1, x),
-            at(Key::Y1, start),
+            at(Key::Y1, start_of(from, to)),
             at(Key::X2, x),
-            at(Key::Y2, end),
+            at(Key::Y2, end_of(from, to)),
         ],
     )
 }
