@@ -3,4 +3,5 @@ pub mod Lines
 pub mod Orders
 pub mod States
 pub mod Texts
+pub mod Views
 pub mod Words
