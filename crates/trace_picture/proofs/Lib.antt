@@ -1,3 +1,5 @@
+pub mod Multiples
 pub mod Pages
+pub mod Pieces
 pub mod Places
 pub mod Plain

@@ -77,3 +77,23 @@ empty_text t attributes = tag_text t attributes ++ codes "/>\n"
 
 abbrev pub end_text : Tag → List ℕ
 end_text t = codes "</" ++ tag_name t ++ codes ">\n"
+
+-- ---- the same, by the texts of its attributes
+
+abbrev pub class_text : List ℕ → List ℕ
+class_text class = codes " " ++ key_name key.Class ++ codes "=\"" ++ escaped class ++ codes "\""
+
+abbrev pub place_text : Key → Length → List ℕ
+place_text k place = codes " " ++ key_name k ++ codes "=\"" ++ length_text place ++ codes "\""
+
+-- a line of this class from one place to another
+abbrev pub line_tag : List ℕ → Length → Length → Length → Length → List ℕ
+line_tag class x1 y1 x2 y2 =
+    codes "<" ++ tag_name tag.Line ++ (class_text class ++ (place_text key.X1 x1 ++ (place_text key.Y1 y1 ++ (place_text key.X2 x2 ++ (place_text key.Y2 y2 ++ [])))))
+
+-- a text of this class, from this place on
+abbrev pub text_start : List ℕ → Length → Length → List ℕ
+text_start class x y = codes "<" ++ tag_name tag.Text ++ (class_text class ++ (place_text key.X x ++ (place_text key.Y y ++ []))) ++ codes ">"
+
+abbrev pub text_element : List ℕ → Length → Length → List ℕ → List ℕ
+text_element class x y text = text_start class x y ++ escaped text ++ end_text tag.Text

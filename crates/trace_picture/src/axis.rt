@@ -1,6 +1,7 @@
 //! The time axis.
 
-ghost use Rattle.std.specs.Prelude.{◌≡◌};
+ghost use Rattle.std.specs.Prelude.{◌≡◌, ◌<◌, ◌≤◌, ◌/◌};
+ghost use Rattle.trace_stays.specs.Stays.{ticks_of};
 ghost use Rattle.trace_picture.specs.Axis.{place};
 
 use crate::length::Length;
@@ -61,7 +62,10 @@ impl Axis {
 
     /// How many ticks two marks are apart: 1, 2 or 5 times a power of ten, the smallest with which
     /// there are few marks.
-    pub fn step(self) -> u64 {
+    pub fn step(self) -> u64
+        ensures some { 0 < result }
+        ensures few { ticks_of self.span / result ≤ 10 }
+    {
         let ticks = self.span.ticks();
         for power in &POWERS {
             for factor in [1, 2, 5] {

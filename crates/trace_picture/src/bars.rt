@@ -1,5 +1,9 @@
 //! The bars of modes and states.
 
+ghost use Rattle.std.specs.Prelude.{◌≡◌, ◌++◌, OnOk, string_bytes};
+ghost use Rattle.trace_picture.specs.Bars.{bar_tag, left_of, width_of};
+ghost use Rattle.trace_picture.specs.Element.{start_text, text_element};
+
 use crate::axis::Axis;
 use crate::element::{Attribute, Key, Tag, at, set};
 use crate::length::Length;
@@ -123,19 +127,21 @@ fn draw_bar(
     top: Length,
     bar: Bar,
     span: Span,
-) -> Result<(), AllocError> {
+) -> Result<(), AllocError>
+    ensures { OnOk result (string_bytes page.new.text ≡ string_bytes page.old.text ++ start_text Tag.Rect (bar_tag bar (left_of axis.span span) top (width_of axis.span span))) }
+{
     let left = axis.place(span.from);
     let wide = axis.place(span.until) - left;
-    page.open(Tag::Rect, &bar_attributes(bar, left, top, wide.max(LEAST)))
+    page.open(
+        Tag::Rect,
+        &bar_attributes(bar, left, top, wide.at_least(LEAST)),
+    )
 }
 
 /// The attributes of a bar in the row with this top.
-pub fn bar_attributes(
-    bar: Bar,
-    left: Length,
-    top: Length,
-    wide: Length,
-) -> [Attribute<'static>; 5] {
+pub fn bar_attributes(bar: Bar, left: Length, top: Length, wide: Length) -> [Attribute<'static>; 5]
+    ensures { result ≡ bar_tag bar left top wide }
+{
     [
         set(Key::Class, bar.class),
         at(Key::X, left),
@@ -174,11 +180,14 @@ pub fn draw_text(
     left: Length,
     line: Length,
     text: &str,
-) -> Result<(), AllocError> {
+) -> Result<(), AllocError>
+    ensures { OnOk result (string_bytes page.new.text ≡ string_bytes page.old.text ++ text_element class.now left line text.now) }
+{
     page.open(
         Tag::Text,
         &[set(Key::Class, class), at(Key::X, left), at(Key::Y, line)],
     )?;
     page.text(text)?;
-    page.close()
+    page.close()?;
+    Ok(())
 }

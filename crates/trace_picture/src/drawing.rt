@@ -34,6 +34,7 @@ pub struct Drawing {
     pub(crate) lanes: Lanes,
     pub(crate) shapes: Vec<Shape>,
     ghost few: { vec_len shapes ≤ 5000 },
+    ghost in_order: { axis.span.from.0 ≤ axis.span.until.0 },
 }
 
 impl Drawing {

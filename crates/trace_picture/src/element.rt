@@ -121,7 +121,9 @@ pub struct Attribute<'a> {
 }
 
 /// An attribute with a text.
-pub fn set(key: Key, text: &str) -> Attribute<'_> {
+pub fn set(key: Key, text: &str) -> Attribute<'_>
+    ensures { result ≡ record { key = key; value = Value.Text text.entry } }
+{
     Attribute {
         key,
         value: Value::Text(text),
@@ -129,7 +131,9 @@ pub fn set(key: Key, text: &str) -> Attribute<'_> {
 }
 
 /// An attribute with a length.
-pub fn at(key: Key, length: Length) -> Attribute<'static> {
+pub fn at(key: Key, length: Length) -> Attribute<'static>
+    ensures { result ≡ record { key = key; value = Value.Length length } }
+{
     Attribute {
         key,
         value: Value::Length(length),
@@ -137,7 +141,9 @@ pub fn at(key: Key, length: Length) -> Attribute<'static> {
 }
 
 /// The attribute that moves an element to this place.
-pub fn moved(x: Length, y: Length) -> Attribute<'static> {
+pub fn moved(x: Length, y: Length) -> Attribute<'static>
+    ensures { result ≡ record { key = Key.Transform; value = Value.Move x y } }
+{
     Attribute {
         key: Key::Transform,
         value: Value::Move(x, y),
@@ -145,7 +151,9 @@ pub fn moved(x: Length, y: Length) -> Attribute<'static> {
 }
 
 /// The attribute that shows everything from 0, 0 on, up to this width and height.
-pub fn view(width: Length, height: Length) -> Attribute<'static> {
+pub fn view(width: Length, height: Length) -> Attribute<'static>
+    ensures { result ≡ record { key = Key.ViewBox; value = Value.View width height } }
+{
     Attribute {
         key: Key::ViewBox,
         value: Value::View(width, height),

@@ -1,5 +1,10 @@
 //! What stands around the bars: names, the time axis and the legend.
 
+ghost use Rattle.std.specs.Prelude.{◌≡◌, ◌<◌, ◌≤◌, ◌/◌, ◌++◌, ℕ, OnOk, flat_map, string_bytes};
+ghost use Rattle.trace_picture.specs.Axis.{multiples_in};
+ghost use Rattle.trace_picture.specs.Marks.{HasMarks, mark_text};
+ghost use Rattle.trace_stays.specs.Stays.{ticks_of};
+
 use crate::axis::{Axis, LEFT, LONG};
 use crate::bars::{Bar, bar_attributes, bar_of_mode, bar_of_state, draw_text, subject_name};
 use crate::drawing::WIDE;
@@ -84,7 +89,9 @@ fn draw_ground(page: &mut Page, top: Length, bottom: Length) -> Result<(), Alloc
 }
 
 /// Draws the axis with its numbers, and a line down at each of these.
-pub fn draw_axis(page: &mut Page, axis: Axis, bottom: Length) -> Result<(), AllocError> {
+pub fn draw_axis(page: &mut Page, axis: Axis, bottom: Length) -> Result<(), AllocError>
+    ensures { OnOk result ((step : ℕ) × ((0 < step) × (ticks_of axis.span / step ≤ 10) × HasMarks axis.span bottom step (string_bytes page.old.text) (string_bytes page.new.text))) }
+{
     page.empty(
         Tag::Line,
         &[
@@ -96,19 +103,30 @@ pub fn draw_axis(page: &mut Page, axis: Axis, bottom: Length) -> Result<(), Allo
         ],
     )?;
     draw_text(page, "process", NAMES, AXIS - Length(90), "tick")?;
-    let step = axis.step();
-    let first = axis.span.from.0.div_ceil(step.max(1));
-    for count in 0..12 {
-        let tick = first.saturating_add(count).saturating_mul(step);
-        if tick <= axis.span.until.0 {
-            draw_mark(page, axis, Ticks(tick), bottom)?;
-        }
+    draw_marks(page, axis, axis.step(), bottom)
+}
+
+/// Draws a mark at each multiple of the step among the ticks of the axis, and at its end if that is
+/// one.
+fn draw_marks(page: &mut Page, axis: Axis, step: u64, bottom: Length) -> Result<(), AllocError>
+    requires { 0 < step }
+    ensures { OnOk result (string_bytes page.new.text ≡ string_bytes page.old.text ++ flat_map (mark_text axis.span bottom) (multiples_in step axis.span)) }
+{
+    let first = axis.span.from.0.div_ceil(step);
+    let last = axis.span.until.0 / step;
+    if last < first {
+        return Ok(());
+    }
+    for place in first..=last {
+        draw_mark(page, axis, Ticks(place * step), bottom)?;
     }
     Ok(())
 }
 
 /// Draws a number of the axis, and a line down from it.
-fn draw_mark(page: &mut Page, axis: Axis, tick: Ticks, bottom: Length) -> Result<(), AllocError> {
+fn draw_mark(page: &mut Page, axis: Axis, tick: Ticks, bottom: Length) -> Result<(), AllocError>
+    ensures { OnOk result (string_bytes page.new.text ≡ string_bytes page.old.text ++ mark_text axis.span bottom tick.0) }
+{
     let x = axis.place(tick);
     page.empty(
         Tag::Line,
@@ -120,16 +138,8 @@ fn draw_mark(page: &mut Page, axis: Axis, tick: Ticks, bottom: Length) -> Result
             at(Key::Y2, bottom + Length(40)),
         ],
     )?;
-    page.open(
-        Tag::Text,
-        &[
-            set(Key::Class, "tick"),
-            at(Key::X, x),
-            at(Key::Y, AXIS - Length(90)),
-        ],
-    )?;
-    page.number(tick.0)?;
-    page.close()
+    let mut buffer = itoa::Buffer::new();
+    draw_text(page, "tick", x, AXIS - Length(90), buffer.format(tick.0))
 }
 
 /// Draws what the bars and marks mean.

@@ -1,5 +1,8 @@
 //! Lengths and places in the picture.
 
+ghost use Rattle.std.specs.Prelude.{◌≡◌, max, min};
+ghost use Rattle.trace_picture.specs.Lengths.{behind, before, half_of, times_of};
+
 use std::ops::{Add, Sub};
 
 /// So many tenths of a pixel. A sum that is too great is the greatest length, and a difference below
@@ -9,18 +12,38 @@ pub struct Length(pub u64);
 
 impl Length {
     /// So many times this length.
-    pub fn times(self, count: u64) -> Length {
+    pub fn times(self, count: u64) -> Length
+        ensures { result ≡ times_of self count }
+    {
         Length(self.0.saturating_mul(count))
     }
 
     /// The half of this length.
-    pub fn half(self) -> Length {
+    pub fn half(self) -> Length
+        ensures { result ≡ half_of self }
+    {
         Length(self.0 / 2)
+    }
+
+    /// This length, or the other one if that is greater.
+    pub fn at_least(self, least: Length) -> Length
+        ensures { result.0 ≡ max self.0 least.0 }
+    {
+        Length(self.0.max(least.0))
+    }
+
+    /// This length, or the other one if that is less.
+    pub fn at_most(self, most: Length) -> Length
+        ensures { result.0 ≡ min self.0 most.0 }
+    {
+        Length(self.0.min(most.0))
     }
 }
 
 impl Add for Length {
     type Output = Length;
+
+    ghost add_gives = { λ one other sum. sum ≡ behind one other };
 
     fn add(self, other: Length) -> Length {
         Length(self.0.saturating_add(other.0))
@@ -29,6 +52,8 @@ impl Add for Length {
 
 impl Sub for Length {
     type Output = Length;
+
+    ghost sub_gives = { λ one other rest. rest ≡ before one other };
 
     fn sub(self, other: Length) -> Length {
         Length(self.0.saturating_sub(other.0))

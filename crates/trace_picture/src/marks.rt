@@ -1,5 +1,8 @@
 //! Arrows, flags and marks.
 
+ghost use Rattle.std.specs.Prelude.{◌≡◌, ◌++◌, OnOk, string_bytes};
+ghost use Rattle.trace_picture.specs.Marks.{arrow_text, end_of, message_class, message_place, start_of};
+
 use crate::axis::Axis;
 use crate::bars::subject_name;
 use crate::drawing::WIDE;
@@ -47,8 +50,7 @@ pub fn draw_message(
     let Some(to) = rows.stop(message.to) else {
         return Ok(());
     };
-    let x = axis.place(message.tick) + ASIDE.times(message.beside);
-    draw_arrow(page, x.min(WIDE - ASIDE), from, to, message.lost)?;
+    draw_arrow(page, axis, message, from, to)?;
     page.open(Tag::Title, &[])?;
     title_stop(page, lanes, message.from)?;
     page.text(" to ")?;
@@ -60,27 +62,62 @@ pub fn draw_message(
     page.close()
 }
 
-/// Begins an arrow from a row to a row; its title and its end follow.
+/// Where the arrow of a message stands: beside the others of its tick, as far as the picture goes.
+fn message_place(axis: Axis, message: &Message) -> Length
+    ensures { result ≡ message_place axis.span message.now }
+{
+    let x = axis.place(message.tick) + ASIDE.times(message.beside);
+    x.at_most(WIDE - ASIDE)
+}
+
+/// How the arrow of a message looks.
+fn message_class(is_lost: bool) -> &'static str
+    ensures { result.now ≡ message_class is_lost }
+{
+    if is_lost { "lost" } else { "message" }
+}
+
+/// Where an arrow begins in the row with the first top, on its way to the other.
+fn start_of(from: Length, to: Length) -> Length
+    ensures { result ≡ start_of from to }
+{
+    if to.0 < from.0 {
+        from + INTO
+    } else {
+        from + ROW - INTO
+    }
+}
+
+/// Where it ends in the row with the second top.
+fn end_of(from: Length, to: Length) -> Length
+    ensures { result ≡ end_of from to }
+{
+    if to.0 < from.0 {
+        to + ROW - INTO
+    } else {
+        to + INTO
+    }
+}
+
+/// Begins the arrow of a message from a row to a row; its title and its end follow.
 fn draw_arrow(
     page: &mut Page,
-    x: Length,
+    axis: Axis,
+    message: &Message,
     from: Length,
     to: Length,
-    lost: bool,
-) -> Result<(), AllocError> {
-    let (start, end) = if to < from {
-        (from + INTO, to + ROW - INTO)
-    } else {
-        (from + ROW - INTO, to + INTO)
-    };
+) -> Result<(), AllocError>
+    ensures { OnOk result (string_bytes page.new.text ≡ string_bytes page.old.text ++ arrow_text axis.span message.now from to) }
+{
+    let x = message_place(axis, message);
     page.open(
         Tag::Line,
         &[
-            set(Key::Class, if lost { "lost" } else { "message" }),
+            set(Key::Class, message_class(message.lost)),
             at(Key::X1, x),
-            at(Key::Y1, start),
+            at(Key::Y1, start_of(from, to)),
             at(Key::X2, x),
-            at(Key::Y2, end),
+            at(Key::Y2, end_of(from, to)),
         ],
     )
 }

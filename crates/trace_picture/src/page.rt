@@ -1,10 +1,11 @@
 //! The text of a picture while it is being written.
 
-ghost use Rattle.std.specs.Prelude.{◌≡◌, ◌-◌, ◌++◌, ◌∷◌, [], reverse, string_bytes, vec_len, IfOk, OnErr, OnOk};
+ghost use Rattle.std.specs.Prelude.{◌≡◌, ◌-◌, ◌++◌, ◌∷◌, [], List, reverse, string_bytes, vec_len, IfOk, OnErr, OnOk};
 ghost use Rattle.std.specs.Fmt.{decimal};
 ghost use Rattle.trace_picture.specs.Element.{empty_text, end_text, start_text};
 ghost use Rattle.trace_picture.specs.Escaped.{escaped};
 ghost use Rattle.trace_picture.specs.Page.{IsBegun, IsPicture};
+ghost use Rattle.trace_picture.specs.declared.element.Tag.{Tag};
 
 use crate::element::{Attribute, Tag, push_end, push_start};
 use crate::escaped::push_escaped;
@@ -111,6 +112,7 @@ impl Page {
     ///
     /// Memory ran out. Then the page is as it was.
     pub fn close(&mut self) -> Result<(), AllocError>
+        ensures text { OnOk result ((outer : List Tag) (tag : Tag) → self.old.unended.items ≡ outer ++ tag ∷ [] → string_bytes self.new.text ≡ string_bytes self.old.text ++ end_text tag) }
         ensures unended { OnOk result (vec_len self.new.unended ≡ vec_len self.old.unended - 1) }
         ensures kept { OnErr result (string_bytes self.new.text ≡ string_bytes self.old.text) }
         ensures kept_unended { OnErr result (self.new.unended.items ≡ self.old.unended.items) }

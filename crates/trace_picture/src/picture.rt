@@ -1,6 +1,6 @@
 //! What happened in the ticks of a picture.
 
-ghost use Rattle.std.specs.Prelude.{◌≡◌, ◌+◌, ◌<◌, ◌≤◌, ◌↔◌, ◌++◌, ◌∷◌, [], vec_len, IsErrOf, OnErr, OnOk};
+ghost use Rattle.std.specs.Prelude.{◌≡◌, ◌+◌, ◌<◌, ◌≤◌, ◌↔◌, ◌++◌, ◌∷◌, [], vec_len, IfOk, IsErrOf, OnErr, OnOk};
 
 use crate::axis::Axis;
 use crate::drawing::Drawing;
@@ -9,7 +9,7 @@ use crate::rows::Rows;
 use crate::shape::{Flag, MOST_SHAPES, Message, Owner, Report, Shape, Stop};
 use apex_types::{ErrorKind, Event, EventKind, Name, Response, Subject, Ticks, Words};
 use std::alloc::Global;
-use trace_stays::{Ended, Lanes, ModeStay, Span, Stay};
+use trace_stays::{Ended, Lanes, ModeStay, ShownTicks, Stay};
 
 /// The message that left a port last, until the next tick.
 #[derive(Clone, Copy, Debug, PartialEq, Eq)]
@@ -29,10 +29,8 @@ struct Beside {
 #[derive(Drop)]
 pub struct Picture {
     alloc: Global,
-    from: Ticks,
-    to: Option<Ticks>,
-    /// The tick behind the last line.
-    end: Ticks,
+    /// The ticks that the picture has.
+    shown: ShownTicks,
     lanes: Lanes,
     shapes: Vec<Shape>,
     sending: Option<Sending>,
@@ -42,14 +40,17 @@ pub struct Picture {
 }
 
 impl Picture {
+    ghost use Rattle.trace_stays.specs.Shown.{shown_from, shown_ticks, with_read};
+
     /// A picture of the ticks from the first one on and before the second; with none, up to the tick
     /// of the last line.
-    pub fn new(alloc: Global, from: Ticks, to: Option<Ticks>) -> Picture {
+    pub fn new(alloc: Global, from: Ticks, to: Option<Ticks>) -> Picture
+        ensures shown { result.shown ≡ shown_from from to }
+        ensures shapes { result.shapes.items ≡ [] }
+    {
         Picture {
             alloc,
-            from,
-            to,
-            end: from,
+            shown: ShownTicks::new(from, to),
             lanes: Lanes::new(alloc),
             shapes: Vec::new(alloc),
             sending: None,
@@ -63,16 +64,16 @@ impl Picture {
     ///
     /// Memory ran out, or the picture would have too many shapes.
     pub fn add(&mut self, event: &Event) -> Result<(), PictureFault>
-        ensures { IsErrOf result PictureFault.TooMany → vec_len self.new.shapes ≡ 5000 }
+        ensures many { IsErrOf result PictureFault.TooMany → vec_len self.new.shapes ≡ 5000 }
+        ensures shown { self.new.shown ≡ with_read event.now.tick.0 self.old.shown }
     {
-        if !self.is_before_end(event.tick) {
+        if !self.shown.read(event.tick) {
             return Ok(());
         }
-        self.end = Ticks(self.end.0.max(event.tick.0.saturating_add(1)));
         let mut ended = Vec::new(self.alloc);
         self.lanes.follow(event, &mut ended)?;
         self.keep_stays(ended)?;
-        if event.tick.0 < self.from.0 {
+        if event.tick.0 < self.shown.open().from.0 {
             return Ok(());
         }
         self.mark(event)
@@ -83,20 +84,14 @@ impl Picture {
     /// # Errors
     ///
     /// Memory ran out, or the picture would have too many shapes.
-    pub fn finish(mut self) -> Result<Drawing, PictureFault> {
-        let until = match self.to {
-            Some(to) => to,
-            None => self.end,
-        };
+    pub fn finish(mut self) -> Result<Drawing, PictureFault>
+        ensures { IfOk result (λ drawing. drawing.axis.span ≡ shown_ticks self.shown) }
+    {
+        let span = self.shown.span();
         let mut ended = Vec::new(self.alloc);
-        self.lanes.finish(until, &mut ended)?;
+        self.lanes.finish(span.until, &mut ended)?;
         self.keep_stays(ended)?;
-        let axis = Axis {
-            span: Span {
-                from: self.from,
-                until,
-            },
-        };
+        let axis = Axis { span };
         let rows = Rows::new(self.alloc, &self.lanes, &self.shapes)?;
         Ok(Drawing {
             alloc: self.alloc,
@@ -107,29 +102,12 @@ impl Picture {
         })
     }
 
-    fn is_before_end(&self, tick: Ticks) -> bool {
-        match self.to {
-            Some(to) => tick.0 < to.0,
-            None => true,
-        }
-    }
-
-    /// The ticks that are shown, as far as that is known.
-    fn shown(&self) -> Span {
-        Span {
-            from: self.from,
-            until: match self.to {
-                Some(to) => to,
-                None => Ticks(u64::MAX),
-            },
-        }
-    }
-
     /// Keeps a shape, if there are not too many.
     fn keep(&mut self, shape: Shape) -> Result<(), PictureFault>
         ensures many { IsErrOf result PictureFault.TooMany ↔ (5000 ≤ vec_len self.old.shapes) }
         ensures kept { OnOk result (self.new.shapes.items ≡ self.old.shapes.items ++ shape ∷ []) }
         ensures refused { OnErr result (self.new.shapes.items ≡ self.old.shapes.items) }
+        ensures shown { self.new.shown ≡ self.old.shown }
     {
         if self.shapes.len() >= MOST_SHAPES {
             return Err(PictureFault::TooMany);
@@ -139,7 +117,8 @@ impl Picture {
     }
 
     fn keep_stays(&mut self, ended: Vec<Ended>) -> Result<(), PictureFault>
-        ensures { IsErrOf result PictureFault.TooMany → vec_len self.new.shapes ≡ 5000 }
+        ensures many { IsErrOf result PictureFault.TooMany → vec_len self.new.shapes ≡ 5000 }
+        ensures shown { self.new.shown ≡ self.old.shown }
     {
         for one in ended {
             match one {
@@ -151,9 +130,10 @@ impl Picture {
     }
 
     fn keep_state(&mut self, process: usize, stay: Stay) -> Result<(), PictureFault>
-        ensures { IsErrOf result PictureFault.TooMany → vec_len self.new.shapes ≡ 5000 }
+        ensures many { IsErrOf result PictureFault.TooMany → vec_len self.new.shapes ≡ 5000 }
+        ensures shown { self.new.shown ≡ self.old.shown }
     {
-        let span = stay.span.within(self.shown());
+        let span = stay.span.within(self.shown.open());
         if span.ticks() == 0 {
             return Ok(());
         }
@@ -161,9 +141,10 @@ impl Picture {
     }
 
     fn keep_mode(&mut self, partition: usize, stay: ModeStay) -> Result<(), PictureFault>
-        ensures { IsErrOf result PictureFault.TooMany → vec_len self.new.shapes ≡ 5000 }
+        ensures many { IsErrOf result PictureFault.TooMany → vec_len self.new.shapes ≡ 5000 }
+        ensures shown { self.new.shown ≡ self.old.shown }
     {
-        let span = stay.span.within(self.shown());
+        let span = stay.span.within(self.shown.open());
         if span.ticks() == 0 {
             return Ok(());
         }
@@ -172,7 +153,8 @@ impl Picture {
 
     /// Keeps what an event of these ticks shows beside states and modes.
     fn mark(&mut self, event: &Event) -> Result<(), PictureFault>
-        ensures { IsErrOf result PictureFault.TooMany → vec_len self.new.shapes ≡ 5000 }
+        ensures many { IsErrOf result PictureFault.TooMany → vec_len self.new.shapes ≡ 5000 }
+        ensures shown { self.new.shown ≡ self.old.shown }
     {
         let tick = event.tick;
         let Some(name) = &event.partition else {
@@ -212,7 +194,8 @@ impl Picture {
 
     /// Keeps what an event of the module itself shows.
     fn mark_module(&mut self, event: &Event) -> Result<(), PictureFault>
-        ensures { IsErrOf result PictureFault.TooMany → vec_len self.new.shapes ≡ 5000 }
+        ensures many { IsErrOf result PictureFault.TooMany → vec_len self.new.shapes ≡ 5000 }
+        ensures shown { self.new.shown ≡ self.old.shown }
     {
         match &event.kind {
             EventKind::Error(error, who, response) => {
@@ -223,7 +206,8 @@ impl Picture {
     }
 
     fn owner(&mut self, partition: usize, who: &Option<Subject>) -> Result<Owner, PictureFault>
-        ensures { IsErrOf result PictureFault.TooMany → ⊥ }
+        ensures many { IsErrOf result PictureFault.TooMany → ⊥ }
+        ensures shown { self.new.shown ≡ self.old.shown }
     {
         match who {
             Some(who) => Ok(Owner::Process(self.lanes.process_place(partition, who)?)),
@@ -239,7 +223,8 @@ impl Picture {
         who: &Option<Subject>,
         response: Response,
     ) -> Result<(), PictureFault>
-        ensures { IsErrOf result PictureFault.TooMany → vec_len self.new.shapes ≡ 5000 }
+        ensures many { IsErrOf result PictureFault.TooMany → vec_len self.new.shapes ≡ 5000 }
+        ensures shown { self.new.shown ≡ self.old.shown }
     {
         self.keep(Shape::Flag(Flag {
             tick,
@@ -251,13 +236,17 @@ impl Picture {
     }
 
     /// A message leaves a port. What arrives in this tick behind this line is this message.
-    fn depart(&mut self, tick: Ticks, from: Stop) {
+    fn depart(&mut self, tick: Ticks, from: Stop)
+        ensures { self.new.shown ≡ self.old.shown }
+    {
         self.step_aside(tick);
         self.sending = Some(Sending { tick, from });
     }
 
     /// The next message of this tick stands beside the others.
-    fn step_aside(&mut self, tick: Ticks) {
+    fn step_aside(&mut self, tick: Ticks)
+        ensures { self.new.shown ≡ self.old.shown }
+    {
         let before = self.beside;
         let place = match before {
             Some(beside) if beside.tick == tick => beside.place.saturating_add(1),
@@ -268,7 +257,9 @@ impl Picture {
 
     /// Where the message of a line of this tick comes from: from the port that a message left last
     /// in this tick, or from outside.
-    fn source(&mut self, tick: Ticks) -> Stop {
+    fn source(&mut self, tick: Ticks) -> Stop
+        ensures { self.new.shown ≡ self.old.shown }
+    {
         let sending = self.sending;
         match sending {
             Some(sending) if sending.tick == tick => sending.from,
@@ -286,7 +277,8 @@ impl Picture {
         lost: bool,
         words: &Words,
     ) -> Result<(), PictureFault>
-        ensures { IsErrOf result PictureFault.TooMany → vec_len self.new.shapes ≡ 5000 }
+        ensures many { IsErrOf result PictureFault.TooMany → vec_len self.new.shapes ≡ 5000 }
+        ensures shown { self.new.shown ≡ self.old.shown }
     {
         let words = words.clone()?;
         let from = self.source(tick);

@@ -2,15 +2,17 @@
 //!
 //! A line of a trace says when a state or a mode begins. `Lanes` follows the events of a trace, and
 //! answers each stay when it is over. Each tick of a process counts for one state: `Stay` says
-//! which.
+//! which. `ShownTicks` are the ticks that a view of the trace shows.
 #![tactic(auto)]
 
 mod fault;
 mod lanes;
+mod shown;
 mod span;
 mod stay;
 
 pub use fault::MemoryFull;
 pub use lanes::{Ended, Lanes, PartitionLane, ProcessLane};
+pub use shown::ShownTicks;
 pub use span::Span;
 pub use stay::{ModeStay, ModeWatch, StateWatch, Stay};

@@ -2,4 +2,5 @@ pub mod Cells
 pub mod Counting
 pub mod Extents
 pub mod Tallies
+pub mod Traffic
 pub mod Turns

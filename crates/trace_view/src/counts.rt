@@ -1,24 +1,17 @@
 //! What was counted, by partitions, processes, ports and channels.
 
 ghost use Rattle.std.specs.Prelude.{◌≡◌, IfOk};
+ghost use Rattle.trace_view.specs.Traffic.{totals_from};
 
 use crate::extent::{Extent, has_tick};
-use crate::messages::{Messages, Route, route_of};
+use crate::messages::{Route, route_of};
 use crate::modes::ModeTicks;
 use crate::report::{PartitionTotal, ProcessTotal, Report, RouteTotal};
 use crate::tally::{Tally, Turn};
+use crate::traffic::Traffic;
 use apex_types::{ErrorKind, Event, EventKind, Name, ProcessState, ReturnCode, Subject, Ticks};
 use std::alloc::Global;
 use trace_stays::{Ended, Lanes, MemoryFull, Span};
-
-/// The messages of a port or a channel so far.
-#[derive(Clone, Copy)]
-struct Traffic {
-    /// The place of the partition.
-    partition: usize,
-    route: Route,
-    messages: Messages,
-}
 
 /// What was counted so far.
 #[derive(Drop)]
@@ -29,7 +22,7 @@ pub struct Counts {
     modes: Vec<ModeTicks>,
     /// By the places of the processes.
     tallies: Vec<Tally>,
-    traffic: Vec<Traffic>,
+    traffic: Traffic,
     /// The stays that the last event ended.
     ended: Vec<Ended>,
 }
@@ -42,7 +35,7 @@ impl Counts {
             lanes: Lanes::new(alloc),
             modes: Vec::new(alloc),
             tallies: Vec::new(alloc),
-            traffic: Vec::new(alloc),
+            traffic: Traffic::new(alloc),
             ended: Vec::new(alloc),
         }
     }
@@ -73,7 +66,8 @@ impl Counts {
     ///
     /// Memory ran out.
     pub fn finish(mut self, extent: Extent) -> Result<Report, MemoryFull>
-        ensures { IfOk result (λ report. report.extent ≡ extent) }
+        ensures extent { IfOk result (λ report. report.extent ≡ extent) }
+        ensures routes { IfOk result (λ report. report.routes.items ≡ totals_from 0 report.partitions.items self.traffic.passages.items) }
     {
         self.finish_stays(extent.window)?;
         let partitions = self.partition_totals()?;
@@ -88,7 +82,9 @@ impl Counts {
     }
 
     /// Counts the stays that are not over.
-    fn finish_stays(&mut self, window: Span) -> Result<(), MemoryFull> {
+    fn finish_stays(&mut self, window: Span) -> Result<(), MemoryFull>
+        ensures { self.new.traffic ≡ self.old.traffic }
+    {
         self.ended.clear();
         self.lanes.finish(window.until, &mut self.ended)?;
         self.make_room()?;
@@ -110,7 +106,9 @@ impl Counts {
     }
 
     /// Makes a place for each partition and each process that has a line.
-    fn make_room(&mut self) -> Result<(), MemoryFull> {
+    fn make_room(&mut self) -> Result<(), MemoryFull>
+        ensures { self.new.traffic ≡ self.old.traffic }
+    {
         self.modes
             .resize(self.lanes.partitions().len(), ModeTicks::new())?;
         self.tallies
@@ -215,23 +213,7 @@ impl Counts {
     /// Counts a message that passes.
     fn pass(&mut self, partition: &Name, route: Route, kind: &EventKind) -> Result<(), MemoryFull> {
         let partition = self.lanes.partition_place(partition)?;
-        let known = self
-            .traffic
-            .iter_mut()
-            .find(|one| one.partition == partition && one.route == route);
-        match known {
-            Some(traffic) => traffic.messages.count(kind),
-            None => {
-                let mut messages = Messages::new();
-                messages.count(kind);
-                self.traffic.push(Traffic {
-                    partition,
-                    route,
-                    messages,
-                })?;
-            }
-        }
-        Ok(())
+        self.traffic.count(partition, &route, kind)
     }
 
     fn partition_totals(&self) -> Result<Vec<PartitionTotal>, MemoryFull> {
@@ -266,18 +248,13 @@ impl Counts {
     }
 
     /// Those of the first partition, then those of the next one, and so on.
-    fn route_totals(&self, partitions: &[PartitionTotal]) -> Result<Vec<RouteTotal>, MemoryFull> {
+    #[tactic(auto, using(std::proofs::lemmas::List::drop_more))]
+    fn route_totals(&self, partitions: &[PartitionTotal]) -> Result<Vec<RouteTotal>, MemoryFull>
+        ensures { IfOk result (λ totals. totals.items ≡ totals_from 0 partitions.now self.now.traffic.passages.items) }
+    {
         let mut totals = Vec::new(self.alloc);
         for (place, partition) in partitions.iter().enumerate() {
-            for traffic in &self.traffic {
-                if traffic.partition == place {
-                    totals.push(RouteTotal {
-                        partition: partition.name,
-                        route: traffic.route,
-                        messages: traffic.messages,
-                    })?;
-                }
-            }
+            self.traffic.add_totals(place, partition, &mut totals)?;
         }
         Ok(totals)
     }

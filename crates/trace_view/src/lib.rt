@@ -22,6 +22,7 @@ mod states;
 mod summary;
 mod table;
 mod tally;
+mod traffic;
 mod writing;
 
 pub use extent::Extent;

@@ -5,4 +5,5 @@ pub mod Opening
 pub mod Orders
 pub mod States
 pub mod Texts
+pub mod Views
 pub mod Words

@@ -1,5 +1,9 @@
 //! The views of a trace: the one file that names the crates which make them.
 
+ghost use Rattle.std.specs.Prelude.{◌≡◌, IsErrOf};
+ghost use Rattle.view_command.specs.Views.{IsOfPicture, view_fault};
+ghost use Rattle.view_command.specs.declared.views.ViewFault.TheVariants as fault;
+
 use apex_types::{Event, Ticks};
 use std::alloc::Global;
 use std::io;
@@ -46,8 +50,10 @@ impl Shown {
         }
     }
 
-    /// Takes the next event.
-    pub fn add(&mut self, event: &Event) -> Result<(), ViewFault> {
+    /// Takes the next event. Only a picture may have too many elements.
+    pub fn add(&mut self, event: &Event) -> Result<(), ViewFault>
+        ensures { IsErrOf result ViewFault.TooMany → IsOfPicture self.old }
+    {
         match self {
             Shown::Table(summary) | Shown::Rows(summary) => summary.count(event)?,
             Shown::Picture(picture) => picture.add(event)?,
@@ -57,7 +63,9 @@ impl Shown {
     }
 
     /// What is shown of all events, as the bytes that are written.
-    pub fn into_bytes(self, alloc: Global) -> Result<Vec<u8>, ViewFault> {
+    pub fn into_bytes(self, alloc: Global) -> Result<Vec<u8>, ViewFault>
+        ensures { IsErrOf result ViewFault.TooMany → IsOfPicture self }
+    {
         let mut bytes = Vec::new(alloc);
         match self {
             Shown::Table(summary) => summary.finish()?.write_table(alloc, &mut bytes)?,
@@ -70,13 +78,17 @@ impl Shown {
 }
 
 /// Writes the waves that were gathered.
-fn write_waves(mut dump: Dump, bytes: &mut Vec<u8>) -> Result<(), ViewFault> {
+fn write_waves(mut dump: Dump, bytes: &mut Vec<u8>) -> Result<(), ViewFault>
+    ensures { IsErrOf result ViewFault.TooMany → ⊥ }
+{
     dump.finish()?;
     dump.write(bytes)?;
     Ok(())
 }
 
 impl From<MemoryFull> for ViewFault {
+    ghost from_gives = { λ _ f. f ≡ fault.Memory };
+
     fn from(_: MemoryFull) -> Self {
         ViewFault::Memory
     }
@@ -84,18 +96,24 @@ impl From<MemoryFull> for ViewFault {
 
 /// Bytes in memory take all that is written, unless memory runs out.
 impl From<io::Error> for ViewFault {
+    ghost from_gives = { λ _ f. f ≡ fault.Memory };
+
     fn from(_: io::Error) -> Self {
         ViewFault::Memory
     }
 }
 
 impl From<ReportFault> for ViewFault {
+    ghost from_gives = { λ _ f. f ≡ fault.Memory };
+
     fn from(_: ReportFault) -> Self {
         ViewFault::Memory
     }
 }
 
 impl From<PictureFault> for ViewFault {
+    ghost from_gives = { λ why f. f ≡ view_fault why };
+
     fn from(fault: PictureFault) -> Self {
         match fault {
             PictureFault::Memory => ViewFault::Memory,

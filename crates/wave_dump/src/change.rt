@@ -1,5 +1,8 @@
 //! Changes of variables.
 
+ghost use Rattle.std.specs.Prelude.{◌≡◌};
+ghost use Rattle.wave_dump.specs.Names.{digit_of};
+
 use crate::variable::Variable;
 use apex_types::Ticks;
 
@@ -14,7 +17,9 @@ pub enum Value {
 
 impl Value {
     /// The digit of this value in a dump.
-    pub fn digit(self) -> char {
+    pub fn digit(self) -> char
+        ensures { result ≡ digit_of self }
+    {
         match self {
             Value::Low => '0',
             Value::High => '1',

@@ -1,6 +1,6 @@
 //! The changes of a trace, gathered event by event.
 
-ghost use Rattle.std.specs.Prelude.{◌≡◌, ◌++◌, OnOk};
+ghost use Rattle.std.specs.Prelude.{◌≡◌, ◌++◌, [], OnOk};
 ghost use Rattle.std.specs.List.Sorted.{IsNonDecreasingBy};
 ghost use Rattle.wave_dump.specs.Dumps.{changes_of, pulse_at};
 
@@ -11,7 +11,7 @@ use crate::variable::Variable;
 use apex_types::{Event, Ticks};
 use std::alloc::Global;
 use std::io::{self, Write};
-use trace_stays::{Ended, Lanes, MemoryFull, Span};
+use trace_stays::{Ended, Lanes, MemoryFull, ShownTicks, Span};
 
 /// Brings changes into the order of their ticks. Those of one tick stay in their order.
 fn in_order(changes: &mut Vec<Change>) -> Result<(), MemoryFull>
@@ -61,10 +61,8 @@ fn push_pulse(changes: &mut Vec<Change>, variable: Variable, tick: Ticks) -> Res
 /// behind the last one, and can be written then.
 #[derive(Drop)]
 pub struct Dump {
-    from: Ticks,
-    to: Option<Ticks>,
-    /// The tick behind the last line's.
-    behind: Ticks,
+    /// The ticks that the dump has.
+    shown: ShownTicks,
     lanes: Lanes,
     pulses: Vec<PulseLane>,
     changes: Vec<Change>,
@@ -73,12 +71,15 @@ pub struct Dump {
 }
 
 impl Dump {
+    ghost use Rattle.trace_stays.specs.Shown.{shown_from, with_read};
+
     /// A dump of the ticks from `from` on and before `to`; without it, all to the end of the trace.
-    pub fn new(alloc: Global, from: Ticks, to: Option<Ticks>) -> Dump {
+    pub fn new(alloc: Global, from: Ticks, to: Option<Ticks>) -> Dump
+        ensures shown { result.shown ≡ shown_from from to }
+        ensures changes { result.changes.items ≡ [] }
+    {
         Dump {
-            from,
-            to,
-            behind: from,
+            shown: ShownTicks::new(from, to),
             lanes: Lanes::new(alloc),
             pulses: Vec::new(alloc),
             changes: Vec::new(alloc),
@@ -91,11 +92,12 @@ impl Dump {
     /// # Errors
     ///
     /// Memory ran out.
-    pub fn add(&mut self, event: &Event) -> Result<(), MemoryFull> {
-        if self.open_span().until.0 <= event.tick.0 {
+    pub fn add(&mut self, event: &Event) -> Result<(), MemoryFull>
+        ensures { self.new.shown ≡ with_read event.now.tick.0 self.old.shown }
+    {
+        if !self.shown.read(event.tick) {
             return Ok(());
         }
-        self.behind = Ticks(self.behind.0.max(event.tick.0.saturating_add(1)));
         self.lanes.follow(event, &mut self.ended)?;
         self.take_ended()?;
         self.add_pulse(event)
@@ -107,9 +109,10 @@ impl Dump {
     ///
     /// Memory ran out.
     pub fn finish(&mut self) -> Result<(), MemoryFull>
-        ensures { OnOk result (IsNonDecreasingBy (λ change. change.tick.0) self.new.changes.items) }
+        ensures in_order { OnOk result (IsNonDecreasingBy (λ change. change.tick.0) self.new.changes.items) }
+        ensures shown { self.new.shown ≡ self.old.shown }
     {
-        let until = self.span().until;
+        let until = self.shown.span().until;
         self.lanes.finish(until, &mut self.ended)?;
         self.take_ended()?;
         in_order(&mut self.changes)
@@ -121,7 +124,7 @@ impl Dump {
     ///
     /// The writer failed; then a beginning of the dump is out.
     pub fn write<W: Write>(&self, out: &mut W) -> io::Result<()> {
-        let span = self.span();
+        let span = self.shown.span();
         write_header(span, &self.lanes, &self.pulses, out)?;
         let mut now = span.from;
         for change in &self.changes {
@@ -137,25 +140,11 @@ impl Dump {
         Ok(())
     }
 
-    /// The ticks that the dump has.
-    fn span(&self) -> Span {
-        Span {
-            from: self.from,
-            until: self.to.unwrap_or(self.behind),
-        }
-    }
-
-    /// The ticks that are shown whatever follows.
-    fn open_span(&self) -> Span {
-        Span {
-            from: self.from,
-            until: self.to.unwrap_or(Ticks(u64::MAX)),
-        }
-    }
-
     /// Makes changes of the stays that are over.
-    fn take_ended(&mut self) -> Result<(), MemoryFull> {
-        let shown = self.open_span();
+    fn take_ended(&mut self) -> Result<(), MemoryFull>
+        ensures { self.new.shown ≡ self.old.shown }
+    {
+        let shown = self.shown.open();
         for ended in &self.ended {
             let (variable, span) = match ended {
                 Ended::State(place, stay) => (Variable::State(*place, stay.state), stay.span),
@@ -167,11 +156,13 @@ impl Dump {
         Ok(())
     }
 
-    fn add_pulse(&mut self, event: &Event) -> Result<(), MemoryFull> {
+    fn add_pulse(&mut self, event: &Event) -> Result<(), MemoryFull>
+        ensures { self.new.shown ≡ self.old.shown }
+    {
         let Some(pulse) = Pulse::of(&event.kind) else {
             return Ok(());
         };
-        if !self.open_span().has(event.tick) {
+        if !self.shown.open().has(event.tick) {
             return Ok(());
         }
         let partition = match &event.partition {
@@ -183,7 +174,9 @@ impl Dump {
     }
 
     /// The place of these pulses, which get one if they have none.
-    fn pulse_place(&mut self, lane: PulseLane) -> Result<usize, MemoryFull> {
+    fn pulse_place(&mut self, lane: PulseLane) -> Result<usize, MemoryFull>
+        ensures { self.new.shown ≡ self.old.shown }
+    {
         match self.pulses.iter().position(|known| *known == lane) {
             Some(place) => Ok(place),
             None => {

@@ -1,5 +1,9 @@
 //! What happens in one tick: messages, reports and errors.
 
+ghost use Rattle.std.specs.Prelude.{◌≡◌};
+ghost use Rattle.apex_types.specs.Line as line;
+ghost use Rattle.wave_dump.specs.Names.{group_of, group_word, pulse_of};
+
 use apex_types::{ErrorKind, EventKind, Name, Subject};
 use std::fmt::{self, Display, Formatter, Write};
 
@@ -33,7 +37,9 @@ pub static GROUPS: [Group; 3] = [Group::Messages, Group::Reports, Group::Errors]
 
 impl Group {
     /// The name of the group's scope. Names of a trace have lower-case letters, so none is like it.
-    pub fn word(self) -> &'static str {
+    pub fn word(self) -> &'static str
+        ensures { result.now ≡ group_word self }
+    {
         match self {
             Group::Messages => "MESSAGES",
             Group::Reports => "REPORTS",
@@ -51,7 +57,9 @@ pub struct PulseLane {
 
 impl Pulse {
     /// The pulse of an event; none for a state, a mode and the end of a service.
-    pub fn of(kind: &EventKind) -> Option<Pulse> {
+    pub fn of(kind: &EventKind) -> Option<Pulse>
+        ensures { result ≡ pulse_of kind.now }
+    {
         match kind {
             EventKind::Move(port, _) => Some(Pulse::Move(*port)),
             EventKind::Arrive(port, _) => Some(Pulse::Arrive(*port)),
@@ -64,7 +72,9 @@ impl Pulse {
     }
 
     /// The group to which this pulse belongs.
-    pub fn group(&self) -> Group {
+    pub fn group(&self) -> Group
+        ensures { result ≡ group_of self.now }
+    {
         match self {
             Pulse::Move(_) | Pulse::Arrive(_) | Pulse::Lost(_) | Pulse::Out(_) => Group::Messages,
             Pulse::Report(_) => Group::Reports,
@@ -75,6 +85,11 @@ impl Pulse {
 
 /// The name of the variable within its group.
 impl Display for Pulse {
+    ghost use Rattle.std.specs.Prelude.{Some};
+    ghost use Rattle.wave_dump.specs.Names.{pulse_name};
+
+    ghost output = { λ pulse. Some (pulse_name pulse) };
+
     fn fmt<W: Write>(&self, f: &mut Formatter<W>) -> fmt::Result {
         match self {
             Pulse::Move(port) => write!(f, "{}_MOVE", port.as_str()),
@@ -88,7 +103,9 @@ impl Display for Pulse {
 }
 
 /// The name of who it is, as a trace has it.
-pub fn subject_text(who: &Subject) -> &str {
+pub fn subject_text(who: &Subject) -> &str
+    ensures { result.now ≡ line.subject_text who.now }
+{
     match who {
         Subject::Init => "INIT",
         Subject::Handler => "HANDLER",

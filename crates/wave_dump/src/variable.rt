@@ -26,6 +26,11 @@ pub static STATES: [ProcessState; 4] = [
 pub static MODES: [Mode; 4] = [Mode::Idle, Mode::ColdStart, Mode::WarmStart, Mode::Normal];
 
 impl Display for Variable {
+    ghost use Rattle.std.specs.Prelude.{Some};
+    ghost use Rattle.wave_dump.specs.Names.{code_of};
+
+    ghost output = { λ variable. Some (code_of variable) };
+
     fn fmt<W: Write>(&self, f: &mut Formatter<W>) -> fmt::Result {
         match self {
             Variable::State(place, state) => write!(f, "s{}.{}", place, *state as u8),

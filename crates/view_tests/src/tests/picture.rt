@@ -1,6 +1,6 @@
 //! Pictures of traces.
 
-use apex_types::{Event, EventKind, Name, ProcessState, Subject, Ticks};
+use apex_types::{Event, EventKind, Name, ProcessState, Subject, Ticks, Words};
 use std::alloc::Global;
 use std::process::Abort;
 use trace_picture::{Drawing, MOST_SHAPES, Picture, PictureFault, push_escaped};
@@ -377,5 +377,161 @@ fn too_many(rt: HostRuntime) {
     for more in 1..4u64 {
         let fault = restless(rt.alloc(), name, most.saturating_add(more)).err();
         assert_eq!(rt; fault, Some(PictureFault::TooMany));
+    }
+}
+
+/// Whether this line begins an element of this class with this attribute.
+fn has_attribute(line: &str, class: &str, attribute: &str) -> bool {
+    class_of(line) == class && line.contains(attribute)
+}
+
+/// How many elements of this class have this attribute.
+fn count_with(svg: &str, class: &str, attribute: &str) -> usize {
+    let mut count = 0usize;
+    for line in svg.lines() {
+        if has_attribute(line, class, attribute) {
+            count = count.saturating_add(1);
+        }
+    }
+    count
+}
+
+/// Stays of one tick and of two, in two partitions.
+const SHORT: &str = "0000000000000 a MODE NORMAL
+0000000000000 b MODE NORMAL
+0000000000001 a STATE p READY
+0000000000002 a STATE p RUNNING
+0000000000002 a STATE p WAITING
+0000000000007 b STATE p RUNNING
+0000000000008 b STATE p WAITING
+";
+
+/// Of a million ticks each bar is a pixel wide at least. The places were worked out by hand: the rows
+/// of `a` begin at 58 and those of `b` at 120 pixels, and each row is 22 high.
+static NARROW: [(&str, &str); 3] = [
+    ("ready", "x=\"150\" y=\"91\" width=\"1\" height=\"8\""),
+    ("running", "x=\"150\" y=\"83\" width=\"1\" height=\"16\""),
+    ("running", "x=\"150\" y=\"145\" width=\"1\" height=\"16\""),
+];
+
+#[test]
+fn bars_are_a_pixel_wide(rt: HostRuntime) {
+    let drawing = drawn(&rt, rt.alloc(), SHORT, 0, Some(1_000_000));
+    let svg = drawing.text().expect(&rt, "memory");
+    for (class, attributes) in &NARROW {
+        assert_eq!(rt; count_with(svg.as_str(), class, attributes), 1, "{attributes}");
+    }
+}
+
+/// The event of a message that arrives at a port of this partition.
+fn arrival(partition: Name, tick: u64) -> Event {
+    Event {
+        tick: Ticks(tick),
+        partition: Some(partition),
+        kind: EventKind::Arrive(partition, Words::new()),
+    }
+}
+
+/// Adds so many messages in tick 9, by turns to one partition and the other.
+fn add_messages(picture: &mut Picture, a: Name, b: Name, pairs: u64) -> Result<(), PictureFault> {
+    for _ in 0..pairs {
+        picture.add(&arrival(a, 9))?;
+        picture.add(&arrival(b, 9))?;
+    }
+    Ok(())
+}
+
+/// Of ten ticks the last one begins at 1068 pixels, so the first 21 messages in it stand left of 1194, each
+/// 6 pixels from the one before, and all others at 1194. The picture is 1200 wide.
+#[test]
+fn messages_stand_in_the_picture(rt: HostRuntime) {
+    let a = Name::new(b"a").expect(&rt, "a name");
+    let b = Name::new(b"b").expect(&rt, "a name");
+    let mut picture = Picture::new(rt.alloc(), Ticks(0), Some(Ticks(10)));
+    add_messages(&mut picture, a, b, 100).expect(&rt, "memory");
+    let drawing = picture.finish().expect(&rt, "memory");
+    let svg = drawing.text().expect(&rt, "memory");
+    let svg = svg.as_str();
+    assert_eq!(rt; count(svg, "message", "outside to "), 200);
+    assert_eq!(rt; count_with(svg, "message", " x1=\"1068\""), 1);
+    assert_eq!(rt; count_with(svg, "message", " x1=\"1188\""), 1);
+    assert_eq!(rt; count_with(svg, "message", " x1=\"1194\""), 179);
+}
+
+/// Ticks, and the numbers on the axis of a picture of them, worked out by hand.
+static NUMBERS: [(u64, Option<u64>, &[&str]); 6] = [
+    (
+        0,
+        Some(10),
+        &["0", "1", "2", "3", "4", "5", "6", "7", "8", "9", "10"],
+    ),
+    (0, Some(11), &["0", "2", "4", "6", "8", "10"]),
+    (13, Some(38), &["15", "20", "25", "30", "35"]),
+    (7, Some(7), &["7"]),
+    (9, Some(3), &["9"]),
+    (
+        0,
+        Some(u64::MAX),
+        &[
+            "0",
+            "2000000000000000000",
+            "4000000000000000000",
+            "6000000000000000000",
+            "8000000000000000000",
+            "10000000000000000000",
+            "12000000000000000000",
+            "14000000000000000000",
+            "16000000000000000000",
+            "18000000000000000000",
+        ],
+    ),
+];
+
+/// The number that stands in this line, if it is one of the axis.
+fn axis_number(line: &str) -> Option<&str> {
+    let (tag, behind) = line.split_once('>')?;
+    if class_of(tag) != "tick" {
+        return None;
+    }
+    let (number, _) = behind.split_once('<')?;
+    Some(number)
+}
+
+/// Expects these numbers on the axis, in this order, and no others.
+fn expect_numbers(rt: &impl Abort, svg: &str, wanted: &[&str]) {
+    let mut rest = wanted;
+    for line in svg.lines() {
+        if let Some(number) = axis_number(line) {
+            let (next, others) = rest.split_first().expect(rt, "too many numbers");
+            assert_eq!(rt; number, *next);
+            rest = others;
+        }
+    }
+    assert!(rt; rest.is_empty(), "too few numbers");
+}
+
+#[test]
+fn numbers_of_the_axis(rt: HostRuntime) {
+    for (from, to, wanted) in &NUMBERS {
+        let drawing = drawn(&rt, rt.alloc(), "", *from, *to);
+        let svg = drawing.text().expect(&rt, "memory");
+        expect_numbers(&rt, svg.as_str(), wanted);
+    }
+}
+
+/// Ticks that begin behind the last line, or behind their end, and the title of a picture of them.
+static BEHIND: [(u64, Option<u64>, &str); 4] = [
+    (8, None, "A trace, from tick 8 to tick 9</title>"),
+    (9, None, "A trace, from tick 9 to tick 9</title>"),
+    (20_000, None, "A trace, from tick 20000 to tick 20000</title>"),
+    (9, Some(3), "A trace, from tick 9 to tick 9</title>"),
+];
+
+#[test]
+fn a_picture_ends_behind_its_beginning(rt: HostRuntime) {
+    for (from, to, title) in &BEHIND {
+        let drawing = drawn(&rt, rt.alloc(), SHORT, *from, *to);
+        let svg = drawing.text().expect(&rt, "memory");
+        assert_eq!(rt; count(svg.as_str(), "", title), 1, "{title}");
     }
 }

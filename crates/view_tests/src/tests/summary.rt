@@ -11,7 +11,7 @@ use std::io::{self, ErrorKind, Write};
 use std::process::Abort;
 use std::str;
 use trace_text::TraceReader;
-use trace_view::{Extremes, Report, ReportFault, Share, Summary};
+use trace_view::{Extremes, Report, ReportFault, Route, RouteTotal, Share, Summary};
 
 /// Counts the events of a trace.
 fn count_all(rt: &impl Abort, summary: &mut Summary, text: &str) {
@@ -153,6 +153,56 @@ fn errors_without_a_process(rt: HostRuntime) {
     assert!(rt; matches!(process.who, Subject::Process(_)));
     assert_eq!(rt; process.tally.deadlines_missed, 1);
     assert_eq!(rt; process.tally.activations, 0);
+}
+
+/// Three partitions with ports and channels of the same names. Of the messages of `b` two are lost.
+const SAME_NAMES: &str = "0000000000000 a MODE NORMAL
+0000000000001 b ARRIVE data 1
+0000000000001 a ARRIVE data 1
+0000000000002 b LOST data 2
+0000000000003 c MOVE data 3
+0000000000003 c OUT data 3
+0000000000003 a ARRIVE data 3
+0000000000004 a OUT data 4
+0000000000005 b LOST data 5
+0000000000006 b OUT data 6
+0000000000006 b OUT data 7
+";
+
+/// A partition, its port or channel, and how many messages moved, arrived, were lost and left the module.
+type Passed = (&'static str, bool, [u64; 4]);
+
+/// What passed, partition by partition, counted by hand.
+static PASSED: [Passed; 6] = [
+    ("a", true, [0, 2, 0, 0]),
+    ("a", false, [0, 0, 0, 1]),
+    ("b", true, [0, 1, 2, 0]),
+    ("b", false, [0, 0, 0, 2]),
+    ("c", true, [1, 0, 0, 0]),
+    ("c", false, [0, 0, 0, 1]),
+];
+
+/// Whether a total is this one.
+fn is_passed(total: &RouteTotal, wanted: &Passed) -> bool {
+    let (partition, is_port, numbers) = wanted;
+    let messages = total.messages;
+    total.partition.as_str() == *partition
+        && matches!(total.route, Route::Port(_)) == *is_port
+        && [
+            messages.moved,
+            messages.arrived,
+            messages.lost,
+            messages.out,
+        ] == *numbers
+}
+
+#[test]
+fn ports_of_one_name_are_counted_apart(rt: HostRuntime) {
+    let report = expect_report(&rt, rt.alloc(), SAME_NAMES, 0, None);
+    assert_eq!(rt; report.routes.len(), PASSED.len());
+    for (total, wanted) in report.routes.iter().zip(&PASSED) {
+        assert!(rt; is_passed(total, wanted), "{} {}", wanted.0, wanted.1);
+    }
 }
 
 /// The tables of a trace without lines.

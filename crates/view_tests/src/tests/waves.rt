@@ -199,3 +199,47 @@ fn no_lines(rt: HostRuntime) {
     assert!(rt; waves.variables.is_empty());
     assert!(rt; waves.changes.is_empty());
 }
+
+/// Two partitions, each with a port `in`, at which messages arrive and are lost.
+const PORTS: &str = "0000000000000 a MODE NORMAL
+0000000000000 b MODE NORMAL
+0000000000003 a ARRIVE in 5
+0000000000003 b LOST in 5
+0000000000004 b ARRIVE in 6
+0000000000009 a LOST in 7
+0000000000009 b LOST in 7
+";
+
+/// The times of their pulses.
+static LOST: [(&str, &[u64]); 4] = [
+    ("a.MESSAGES.in_ARRIVE", &[3]),
+    ("a.MESSAGES.in_LOST", &[9]),
+    ("b.MESSAGES.in_ARRIVE", &[4]),
+    ("b.MESSAGES.in_LOST", &[3, 9]),
+];
+
+#[test]
+fn a_lost_message_has_a_variable_of_its_own(rt: HostRuntime) {
+    let dump = dump_of(&rt, rt.alloc(), PORTS, 0, None);
+    let waves = read_waves(&rt, rt.alloc(), shown(&rt, &dump));
+    for (path, times) in &LOST {
+        waves.assert_times(&rt, path, 1, times);
+    }
+    // 2 partitions with 4 modes, and 4 pulses.
+    assert_eq!(rt; waves.variables.len(), 2 * 4 + 4);
+}
+
+/// Ticks that begin behind the last line of this trace, or behind their end: the dump has the tick where
+/// they begin, and no other.
+static BEHIND: [(u64, Option<u64>); 4] = [(10, None), (11, None), (20_000, None), (11, Some(5))];
+
+#[test]
+fn a_dump_ends_behind_its_beginning(rt: HostRuntime) {
+    for (from, to) in &BEHIND {
+        let dump = dump_of(&rt, rt.alloc(), PORTS, *from, *to);
+        let waves = read_waves(&rt, rt.alloc(), shown(&rt, &dump));
+        assert!(rt; waves.changes.is_empty());
+        assert_eq!(rt; waves.first, Some(*from));
+        assert_eq!(rt; waves.last, Some(*from));
+    }
+}

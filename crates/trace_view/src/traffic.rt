@@ -1,0 +1,124 @@
+//! The messages of ports and channels, partition by partition.
+
+ghost use Rattle.std.specs.Prelude.{◌≡◌, ◌<◌, ◌↔◌, ◌++◌, ◌∷◌, [], ℕ, Some, length, slice_get, IsTrue, MatchOption, OnErr, OnOk};
+ghost use Rattle.trace_view.specs.Traffic.{IsCounted, IsNoneOf, IsOf, totals_at};
+
+use crate::messages::{Messages, Route};
+use crate::report::{PartitionTotal, RouteTotal};
+use apex_types::EventKind;
+use std::alloc::Global;
+use trace_stays::MemoryFull;
+
+/// The messages of a port or a channel of a partition.
+#[derive(Clone, Copy, Debug, PartialEq, Eq)]
+pub struct Passage {
+    /// The place of the partition.
+    pub partition: usize,
+    pub route: Route,
+    pub messages: Messages,
+}
+
+impl Passage {
+    /// Whether these are the messages of this port or channel of the partition at this place.
+    fn is_of(&self, partition: usize, route: &Route) -> bool
+        ensures { IsTrue result ↔ IsOf partition route.now self.now }
+    {
+        self.partition == partition && is_same(&self.route, route)
+    }
+}
+
+/// Whether both are the same port, or the same channel.
+fn is_same(one: &Route, other: &Route) -> bool
+    ensures { IsTrue result ↔ (one.now ≡ other.now) }
+{
+    match (one, other) {
+        (Route::Port(one), Route::Port(other)) => one.as_bytes() == other.as_bytes(),
+        (Route::Channel(one), Route::Channel(other)) => one.as_bytes() == other.as_bytes(),
+        _ => false,
+    }
+}
+
+/// How many messages passed at each port and each channel of each partition, in the order of their
+/// first lines.
+#[derive(Drop)]
+pub struct Traffic {
+    passages: Vec<Passage>,
+}
+
+impl Traffic {
+    /// No messages.
+    pub fn new(alloc: Global) -> Traffic
+        ensures { result.passages.items ≡ [] }
+    {
+        Traffic {
+            passages: Vec::new(alloc),
+        }
+    }
+
+    /// Counts the message of a line at this port or channel of the partition at this place.
+    ///
+    /// # Errors
+    ///
+    /// Memory ran out. Then nothing is counted.
+    pub fn count(
+        &mut self,
+        partition: usize,
+        route: &Route,
+        kind: &EventKind,
+    ) -> Result<(), MemoryFull>
+        ensures counted { OnOk result (IsCounted partition route.now kind.now self.old.passages.items self.new.passages.items) }
+        ensures kept { OnErr result (self.new.passages.items ≡ self.old.passages.items) }
+    {
+        match self.place_of(partition, route) {
+            Some(place) => self.passages[place].messages.count(kind),
+            None => {
+                let mut messages = Messages::new();
+                messages.count(kind);
+                self.passages.push(Passage {
+                    partition,
+                    route: *route,
+                    messages,
+                })?;
+            }
+        }
+        Ok(())
+    }
+
+    /// The place where the messages of this port or channel are counted, if there is one.
+    fn place_of(&self, partition: usize, route: &Route) -> Option<usize>
+        ensures { MatchOption result (IsNoneOf partition route.now self.now.passages.items) (λ place. (one : Passage) × ((slice_get self.now.passages.items place ≡ Some one) × IsOf partition route.now one)) }
+    {
+        for (place, passage) in self.passages.iter().enumerate() {
+            if passage.is_of(partition, route) {
+                return Some(place);
+            }
+        }
+        None
+    }
+
+    /// Adds the totals of a partition, which is at this place.
+    ///
+    /// # Errors
+    ///
+    /// Memory ran out.
+    #[tactic(auto, using(std::proofs::lemmas::List::drop_more))]
+    pub fn add_totals(
+        &self,
+        place: usize,
+        partition: &PartitionTotal,
+        totals: &mut Vec<RouteTotal>,
+    ) -> Result<(), MemoryFull>
+        ensures { OnOk result (totals.new.items ≡ totals.old.items ++ totals_at place partition.now self.now.passages.items) }
+    {
+        for passage in &self.passages {
+            if passage.partition == place {
+                totals.push(RouteTotal {
+                    partition: partition.name,
+                    route: passage.route,
+                    messages: passage.messages,
+                })?;
+            }
+        }
+        Ok(())
+    }
+}
