@@ -1,0 +1,101 @@
+"""The ledger `edits.tried`: which wrong edits of each crate were refused, and on which state of the crate and of the crates below it."""
+
+import hashlib
+import re
+from pathlib import Path
+
+ROOT = Path(__file__).resolve().parent.parent
+FILE = ROOT / "edits.tried"
+FOLDERS = ("must-fail", "edits")
+HEAD = """\
+# The wrong edits that the prover refused, as `.ci/edits` writes them: a crate, the sum of its files, the sum of what its contracts rest
+# on in the crates below it, and the names of its edits. `.ci/programs` compares the sums.
+"""
+
+
+def crates():
+    """Each crate of `crates.txt`, with the names of the crates that it stands on."""
+    lines = [line.split("#")[0] for line in (ROOT / "crates.txt").read_text().splitlines()]
+    named = {name.strip(): words.split() for name, _, words in (line.partition(":") for line in lines if ":" in line)}
+    return {name: [word for word in words if word in named] for name, words in named.items()}
+
+
+def below(name, known):
+    """The names of all crates below this one."""
+    return {*known[name], *(it for dep in known[name] for it in below(dep, known))}
+
+
+def edits_of(name):
+    return sorted(it for folder in FOLDERS for it in (ROOT / "crates" / name / folder).glob("*.edit"))
+
+
+def files_of(name, folders):
+    return sorted(it for folder in folders for it in (ROOT / "crates" / name / folder).rglob("*") if it.is_file())
+
+
+def sum_of(texts):
+    return hashlib.sha256("\0".join(texts).encode()).hexdigest()[:16]
+
+
+def heads(source):
+    """The text of a source file without its comments and without the bodies of its functions, as `rt fmt` lays them out."""
+    kept, function, body = [], None, None
+    for line in source.splitlines():
+        indent = line[: len(line) - len(line.lstrip())]
+        if body is not None:
+            body = None if line == body + "}" else body
+        elif line.strip() and not line.lstrip().startswith("//"):
+            kept.append(line)
+            if re.search(r"\bfn \w", line):
+                function = indent
+            if function is not None and line.endswith("{"):
+                function, body = None, function
+            elif function == indent and line.endswith((";", "}")):
+                function = None
+    return "\n".join(kept)
+
+
+def own_sum(name):
+    """The sum of all that a crate's edits are tried on, and of the edits."""
+    files = files_of(name, ("src", "specs", "proofs", *FOLDERS))
+    return sum_of([f"{it.relative_to(ROOT)}\0{it.read_text()}" for it in files])
+
+
+def promises_sum(name, known):
+    """The sum of what the contracts of a crate rest on: the definitions and the clauses of the crates below it."""
+    texts = []
+    for dep in sorted(below(name, known)):
+        texts += [it.read_text() for it in files_of(dep, ("specs",))]
+        texts += [heads(it.read_text()) for it in files_of(dep, ("src",)) if it.suffix == ".rt"]
+    return sum_of(texts)
+
+
+def read():
+    """What the ledger says of each crate: the two sums, and the names of the edits."""
+    if not FILE.exists():
+        return {}
+    rows = (line.split() for line in FILE.read_text().splitlines() if not line.startswith("#"))
+    return {name: (own, promises, names) for name, own, promises, *names in rows}
+
+
+def write(rows):
+    lines = [" ".join([name, own, promises, *names]) for name, (own, promises, names) in sorted(rows.items())]
+    FILE.write_text(HEAD + "".join(f"{line}\n" for line in lines))
+
+
+def row_of(name, known):
+    return own_sum(name), promises_sum(name, known), [it.stem for it in edits_of(name)]
+
+
+def changed_and_stale():
+    """The crates that differ from what their edits were tried on, and those of which this is so only of what is below them."""
+    known, tried, changed, stale = crates(), read(), [], []
+    for name in known:
+        own, promises, names = row_of(name, known)
+        if names or name in tried:
+            was_own, was_promises, was_names = tried.get(name, ("", "", []))
+            if (was_own, was_names) != (own, names):
+                changed.append(name)
+            elif was_promises != promises:
+                stale.append(name)
+    return changed, stale
