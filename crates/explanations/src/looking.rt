@@ -1,7 +1,8 @@
 //! What was looked for at the line of a refusal.
 
 ghost use Rattle.std.specs.Prelude.{◌≡◌, IfOk};
-ghost use Rattle.explanations.specs.Looking.{IsLookedFor, text_choice};
+ghost use Rattle.std.specs.List.{list_any};
+ghost use Rattle.explanations.specs.Looking.{IsLookedFor, is_above_127, text_choice};
 
 use crate::reading::Reading;
 use crate::sought::{Choice, Sought};
@@ -33,11 +34,17 @@ pub fn looked_for(alloc: Global, source: &[u8], fault: PalFault) -> Result<Sough
 fn sought_of_text(source: &[u8]) -> Choice
     ensures { result ≡ text_choice source.now }
 {
-    if source.iter().any(|byte| 127 < *byte) {
+    if has_byte_above_127(source) {
         Choice::Ascii
     } else {
         Choice::Length
     }
+}
+
+fn has_byte_above_127(source: &[u8]) -> bool
+    ensures { result ≡ list_any is_above_127 source.now }
+{
+    source.iter().any(|byte| 127 < *byte)
 }
 
 /// What the grammar looks for at the first symbol that does not fit, if it stands in that line.
