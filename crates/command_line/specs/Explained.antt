@@ -1,11 +1,16 @@
 -- What is told of a refusal: its line and, where that is asked for, an explanation behind it.
-use Rattle.std.specs.Prelude.{ℕ, Bool, true, false, List, [], ◌∷◌, ◌++◌, string_bytes}
+use Rattle.std.specs.Prelude.{◌≡◌, ℕ, Bool, true, false, List, [], ◌∷◌, ◌++◌, if◌then◌else◌, Option, Some, None, string_bytes}
+use Rattle.std.specs.Str.{bytes_eq}
+use Rattle.apex_meaning.specs.Image.{Partition, Table}
+use Rattle.explanations.specs.Explanation.{IsExplanationOf}
 use Rattle.explanations.specs.Sentences.{command_sentence, device_sentence, image_sentence, source_sentence, table_sentence}
 use Rattle.explanations.specs.declared.sentences.CommandFault.TheVariants as command
+use Rattle.module.specs.Accepted.{IsTable}
 use Rattle.module.specs.declared.fault.BuildFault.{BuildFault}
 use Rattle.module.specs.declared.fault.BuildFault.TheVariants as build
 use Rattle.module.specs.declared.fault.RunFault.{RunFault}
 use Rattle.module.specs.declared.fault.RunFault.TheVariants as run
+use Rattle.pal_base.specs.declared.fault.PalFault.{PalFault}
 use Rattle.command_line.specs.Lines.{line_of}
 use Rattle.command_line.specs.declared.explaining.Note.{Note}
 use Rattle.command_line.specs.declared.explaining.Note.TheVariants.{Unwanted, Wanted, Source}
@@ -41,3 +46,23 @@ told_text false r note = line_of r ++ 10 ∷ []
 told_text true r Unwanted = line_of r ++ 10 ∷ sentence_of r ++ 10 ∷ []
 told_text true r Wanted = line_of r ++ 10 ∷ sentence_of r ++ 10 ∷ []
 told_text true r (Source text) = line_of r ++ 10 ∷ string_bytes text
+
+-- ---- what is noted of a refused source
+
+-- the source of the partition of this name, one source standing for each partition
+abbrev pub source_of : List Partition → List (List ℕ) → List ℕ → Option (List ℕ)
+source_of (row ∷ rows) (source ∷ sources) name = if bytes_eq row.name name then Some source else source_of rows sources name
+source_of _ _ name = None
+
+-- with this table the text explains the refusal of the source of the partition of this name
+abbrev pub IsExplainedWith : Table → List (List ℕ) → List ℕ → PalFault → List ℕ → Type 0
+IsExplainedWith t sources name fault text = (source : List ℕ) × (source_of t.partitions sources name ≡ Some source) × IsExplanationOf source fault text
+
+-- so it does with the table of this text, which is accepted
+abbrev pub IsExplained : List ℕ → List (List ℕ) → List ℕ → PalFault → List ℕ → Type 0
+IsExplained table sources name fault text = (t : Table) × IsTable table t × IsExplainedWith t sources name fault text
+
+-- Where an explanation was wanted, the refused source may be explained: that of the partition that the fault names.
+abbrev pub IsNoted : List ℕ → List (List ℕ) → BuildFault → Note → Note → Type 0
+IsNoted table sources (build.Pal name fault) Wanted (Source text) = IsExplained table sources name fault (string_bytes text)
+IsNoted table sources fault old new = new ≡ old

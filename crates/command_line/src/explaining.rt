@@ -1,7 +1,9 @@
 //! Explanations of refusals.
 
-ghost use Rattle.std.specs.Prelude.{◌≡◌, Some};
-ghost use Rattle.command_line.specs.Explained.{build_sentence, run_sentence, sentence_of, told_text};
+ghost use Rattle.std.specs.Prelude.{◌≡◌, Some, map, option_map, string_bytes, IfSome};
+ghost use Rattle.module.specs.Accepted.{IsTable};
+ghost use Rattle.window_table.specs.Views.{partition_view, table_of};
+ghost use Rattle.command_line.specs.Explained.{IsExplained, IsExplainedWith, IsNoted, build_sentence, run_sentence, sentence_of, source_of, told_text};
 
 use crate::refusal::Refusal;
 use apex_types::Name;
@@ -10,9 +12,10 @@ use explanations::{
     source_sentence, table_sentence,
 };
 use module::{BuildFault, RunFault};
+use pal_base::fault::PalFault;
 use std::alloc::Global;
 use std::fmt;
-use window_table::read_table;
+use window_table::{ModuleTable, PartitionRow, read_table};
 
 /// What is noted of a refused source, to be told behind the line of its refusal.
 #[derive(Drop)]
@@ -32,40 +35,81 @@ impl Note {
     }
 
     /// Notes the explanation of a refused source, if it is wanted and there is memory for it.
-    pub fn explain(&mut self, alloc: Global, table: &[u8], sources: &[&[u8]], fault: &BuildFault) {
+    pub fn explain(&mut self, alloc: Global, table: &[u8], sources: &[&[u8]], fault: &BuildFault)
+        ensures { IsNoted table.now (map (λ s. s.now) sources.now) fault.now self.old self.new }
+    {
         let Note::Wanted = self else {
             return;
         };
         let BuildFault::Pal { partition, fault } = fault else {
             return;
         };
-        let Some(source) = source_of(alloc, table, sources, *partition) else {
-            return;
-        };
-        if let Ok(text) = explain_source(alloc, source, *fault) {
+        if let Some(text) = explained(alloc, table, sources, partition, *fault) {
             *self = Note::Source(text);
         }
     }
 }
 
-/// The source of the partition of that name.
-fn source_of<'a>(
+/// The explanation of the source of the partition of that name, if the table is accepted and there
+/// is memory for it.
+fn explained(
     alloc: Global,
     table: &[u8],
-    sources: &'a [&'a [u8]],
-    partition: Name,
-) -> Option<&'a [u8]> {
-    let Ok(table) = read_table(alloc, table) else {
-        return None;
-    };
-    let mut place = 0usize;
-    for row in table.partitions.as_slice() {
-        if row.name == partition {
-            return sources.get(place).copied();
-        }
-        place = place.saturating_add(1);
+    sources: &[&[u8]],
+    partition: &Name,
+    fault: PalFault,
+) -> Option<String>
+    ensures { IfSome result (λ text. IsExplained table.now (map (λ s. s.now) sources.now) partition.now fault (string_bytes text)) }
+{
+    let table = accepted(alloc, table)?;
+    explained_with(alloc, &table, sources, partition, fault)
+}
+
+/// The table of a text, if it is accepted and there is memory for it.
+fn accepted(alloc: Global, text: &[u8]) -> Option<ModuleTable>
+    ensures { IfSome result (λ table. IsTable text.now (table_of table)) }
+{
+    match read_table(alloc, text) {
+        Ok(table) => Some(table),
+        Err(_) => None,
     }
-    None
+}
+
+/// The explanation of the source of the partition of that name in an accepted table.
+fn explained_with(
+    alloc: Global,
+    table: &ModuleTable,
+    sources: &[&[u8]],
+    partition: &Name,
+    fault: PalFault,
+) -> Option<String>
+    ensures { IfSome result (λ text. IsExplainedWith (table_of table.now) (map (λ s. s.now) sources.now) partition.now fault (string_bytes text)) }
+{
+    let source = source_of(table.partitions.as_slice(), sources, partition)?;
+    match explain_source(alloc, source, fault) {
+        Ok(text) => Some(text),
+        Err(_) => None,
+    }
+}
+
+/// The source of the partition of that name, one source standing for each partition.
+fn source_of<'a>(
+    partitions: &[PartitionRow],
+    sources: &'a [&'a [u8]],
+    name: &Name,
+) -> Option<&'a [u8]>
+    ensures { option_map (λ s. s.now) result ≡ source_of (map partition_view partitions.now) (map (λ s. s.now) sources.now) name.now }
+{
+    match (partitions.split_first(), sources.split_first()) {
+        (Some((partition, partitions)), Some((source, sources))) => {
+            if partition.name.as_bytes() == name.as_bytes() {
+                Some(*source)
+            } else {
+                source_of(partitions, sources, name)
+            }
+        }
+        _ => None,
+    }
 }
 
 /// The sentence of the rule by which a command is refused.

@@ -4,6 +4,7 @@ use Rattle.std.specs.Fmt.{decimal}
 use Rattle.pal_base.specs.declared.fault.PalFault.{PalFault}
 use Rattle.pal_base.specs.declared.fault.Refusal.{Refusal}
 use Rattle.pal_base.specs.declared.fault.Refusal.TheVariants.{Memory}
+use Rattle.explanations.specs.Looking.{IsLookedFor}
 use Rattle.explanations.specs.Phrases.{phrase}
 use Rattle.explanations.specs.Places.{line_at, shown}
 use Rattle.explanations.specs.Sentences.{source_sentence}
@@ -19,10 +20,10 @@ place_line source number sought =
     codes "line " ++ decimal number ++ codes ": \"" ++ shown (line_at number source) ++ codes "\", looked for " ++ phrase sought ++ 10 ∷ []
 
 -- the text explains this refusal: the sentence, and except for a lack of memory the refused line with
--- something that was looked for
+-- what the rule looks for in this source
 abbrev pub IsExplanation : List ℕ → ℕ → List ℕ → Refusal → Type 0
 IsExplanation source number text Memory = text ≡ sentence_line Memory
-IsExplanation source number text refusal = (sought : Sought) × (text ≡ sentence_line refusal ++ place_line source number sought)
+IsExplanation source number text refusal = (sought : Sought) × IsLookedFor source refusal sought × (text ≡ sentence_line refusal ++ place_line source number sought)
 
 abbrev pub IsExplanationOf : List ℕ → PalFault → List ℕ → Type 0
 IsExplanationOf source fault text = IsExplanation source fault.line text fault.refusal

@@ -1,4 +1,5 @@
 pub mod Explanation
+pub mod Looking
 pub mod Phrases
 pub mod Places
 pub mod Sentences

@@ -1,5 +1,9 @@
 //! What was looked for at the line of a refusal.
 
+ghost use Rattle.std.specs.Prelude.{◌≡◌, IfOk};
+ghost use Rattle.std.specs.List.{list_any};
+ghost use Rattle.explanations.specs.Looking.{IsLookedFor, is_above_127, text_choice};
+
 use crate::reading::Reading;
 use crate::sought::{Choice, Sought};
 use crate::symbols::{Symbol, behind_blanks, symbol_at};
@@ -11,7 +15,9 @@ use std::alloc::{AllocError, Global};
 /// # Errors
 ///
 /// Only where memory ran out.
-pub fn looked_for(alloc: Global, source: &[u8], fault: PalFault) -> Result<Sought, AllocError> {
+pub fn looked_for(alloc: Global, source: &[u8], fault: PalFault) -> Result<Sought, AllocError>
+    ensures { IfOk result (λ sought. IsLookedFor source.now fault.refusal sought) }
+{
     let choice = match fault.refusal {
         Refusal::Grammar => return sought_by_grammar(alloc, source, fault.line),
         Refusal::Text => sought_of_text(source),
@@ -25,13 +31,20 @@ pub fn looked_for(alloc: Global, source: &[u8], fault: PalFault) -> Result<Sough
 }
 
 /// What the first rule looks for: bytes that are ASCII, and not too many of them.
-fn sought_of_text(source: &[u8]) -> Choice {
-    for byte in source {
-        if 128 <= *byte {
-            return Choice::Ascii;
-        }
+fn sought_of_text(source: &[u8]) -> Choice
+    ensures { result ≡ text_choice source.now }
+{
+    if has_byte_above_127(source) {
+        Choice::Ascii
+    } else {
+        Choice::Length
     }
-    Choice::Length
+}
+
+fn has_byte_above_127(source: &[u8]) -> bool
+    ensures { result ≡ list_any is_above_127 source.now }
+{
+    source.iter().any(|byte| 127 < *byte)
 }
 
 /// What the grammar looks for at the first symbol that does not fit, if it stands in that line.

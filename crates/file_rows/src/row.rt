@@ -5,8 +5,8 @@ use std::alloc::{AllocError, AllocGlobal, Global};
 use std::rt::Files;
 use std::{fs, io};
 
-/// A table and its sources, or an image, which lie in a folder, maybe with a device text, and what is
-/// asked of them.
+/// What is asked of the files in a folder: a table with its sources, or an image, maybe with a device
+/// text; what is expected lies beside them.
 #[derive(Drop)]
 pub struct Row<'a> {
     pub folder: &'a str,
@@ -19,18 +19,19 @@ pub struct Row<'a> {
 enum Asked<'a> {
     /// The answer to `check`, which `build` repeats where it refuses.
     Verdict,
-    /// The trace of so many ticks of the image that is built of them.
+    /// The trace of so many ticks of the image that is built of the table and the sources.
     Trace(&'a str),
     /// The trace of so many ticks of the image that lies there.
     TraceOfImage(&'a str),
-    /// The refusal of a run of so many ticks.
+    /// The refusal of a run of so many ticks, of the image that is built or that lies there.
     Refusal(&'a str),
-    /// The answer to `build`, to `cost` or to `dis`, which lists the image that lies there.
+    /// The answer to `build` or `cost`, or to `dis` for the image that lies there.
     Answer(&'a str),
 }
 
 impl<'a> Row<'a> {
-    /// The row of a line of the list. A line that begins with no command is none.
+    /// The row of a line of the list. A line that begins with no command and folder is none, and
+    /// neither is one that lacks its ticks.
     pub fn of_line(alloc: Global, line: &'a str) -> Result<Option<Self>, AllocError> {
         let mut words = line.split_whitespace();
         let (Some(command), Some(folder)) = (words.next(), words.next()) else {

@@ -1,4 +1,5 @@
 mod commands;
+mod driven;
 mod explained;
 mod files;
 mod first_run;

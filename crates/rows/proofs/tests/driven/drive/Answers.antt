@@ -1,7 +1,7 @@
 use Rattle.std.proofs.Common.{rules, ◌≡◌, ◌+◌, sym, ap, subst, ◌∙◌, arith}
 use Rattle.module.specs.Machines.{Machine, machine_of}
 use Rattle.module.specs.Written.{AreFrom}
-use Rattle.mb_ticks.proofs.drive.Goals as goal
+use Rattle.rows.proofs.tests.driven.drive.Goals as goal
 
 pub loop-lines-init : goal.loop-lines-init
 loop-lines-init g c =
