@@ -2,7 +2,6 @@
 #![tactic(auto)]
 
 ghost use Rattle.std.specs.Prelude.{◌≡◌, ◌≢◌, ◌≤◌, ◌-◌, ◌^◌, ◌<◌, codes};
-ghost use Rattle.std.specs.declared.io.error.ErrorKind.TheVariants.{OutOfMemory};
 ghost use Rattle.streams.specs.States.{TakesLine, seen};
 
 mod sources;
@@ -55,9 +54,9 @@ fn words(rt: &(impl Env + AllocGlobal)) -> io::Result<Vec<String>> {
 /// one is not UTF-8. Its line goes to `err`; what cannot be shown is told by the status alone.
 fn wordless<E: Stream>(kind: ErrorKind, err: &mut E) -> u8
     requires { E.failures err.old < 2 ^ 64 - 1 }
-    ensures memory { kind ≡ OutOfMemory → (result ≡ 1)
+    ensures memory { kind ≡ ErrorKind.OutOfMemory → (result ≡ 1)
         × TakesLine (seen E.taken E.failures E.is_flushed err.old) (seen E.taken E.failures E.is_flushed err.new) (codes "mbview: there is too little memory") }
-    ensures other { kind ≢ OutOfMemory → (result ≡ 2)
+    ensures other { kind ≢ ErrorKind.OutOfMemory → (result ≡ 2)
         × TakesLine (seen E.taken E.failures E.is_flushed err.old) (seen E.taken E.failures E.is_flushed err.new) (codes "error: a word of the command line is not UTF-8") }
 {
     match kind {
