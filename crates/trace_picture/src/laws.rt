@@ -1,7 +1,8 @@
 //! Laws over what a picture is written with: each is the contract of a function with an empty body.
 
-ghost use Rattle.std.specs.Prelude.{◌≡◌, ℕ, ◌<◌, ◌≤◌, List, true};
-ghost use Rattle.trace_picture.specs.Axis.{place};
+ghost use Rattle.std.specs.Prelude.{◌≡◌, ℕ, ◌*◌, ◌<◌, ◌≤◌, List, nat_eq, true};
+ghost use Rattle.std.specs.List.{list_any};
+ghost use Rattle.trace_picture.specs.Axis.{multiples_in, place};
 ghost use Rattle.trace_picture.specs.Escaped.{escaped, is_plain};
 ghost use Rattle.trace_picture.specs.Marks.{message_place};
 ghost use Rattle.trace_picture.specs.declared.shape.Message.{Message};
@@ -25,4 +26,9 @@ pub fn ticks_stand_on_the_axis()
 /// right, and left of the right edge, which is at 12000.
 pub fn messages_stand_in_the_picture()
     ensures { (axis : Span) (m : Message) → (place axis m.tick.0 ≤ (message_place axis m).0) × ((message_place axis m).0 < 12000) }
+{}
+
+/// Each multiple of a step among the ticks of an axis, or at its end, is among those that get a mark.
+pub fn each_multiple_has_its_mark()
+    ensures { (axis : Span) (step k : ℕ) → 0 < step → axis.from.0 ≤ k * step → k * step ≤ axis.until.0 → list_any (nat_eq (k * step)) (multiples_in step axis) ≡ true }
 {}
