@@ -1,4 +1,3 @@
 pub mod Views
 pub mod Emitted
-pub mod Waiting
 pub mod Meaning
