@@ -1,3 +1,4 @@
 pub mod Views
 pub mod Emitted
 pub mod Meaning
+pub mod Accepted
