@@ -1,5 +1,6 @@
 -- Where the code does what is still to do, it does so once the front construct is unfolded.
-use Rattle.std.proofs.Common.{◌≡◌, ℕ, ◌+◌, ◌-◌, ◌≤◌, ◌<◌, List, [], ◌∷◌, ◌++◌, length, map, refl, subst, arith, length-append}
+use Rattle.std.proofs.Common.{◌≡◌, ℕ, ◌+◌, ◌-◌, ◌≤◌, ◌<◌, List, [], ◌∷◌, ◌++◌, length, map, Option, Some, None, refl, subst, arith, length-append}
+use Rattle.std.specs.Prelude.{option_map, slice_get}
 use Rattle.apex_types.specs.declared.instruction.Instr.TheVariants as instr
 use Rattle.apex_types.specs.declared.place.Place.{Place}
 use Rattle.apex_meaning.specs.Program.{Procedure, Expr, Links, Exprs, Stmt, Block}
@@ -14,6 +15,11 @@ use Rattle.apex_meaning.specs.Related.{Code, HasAt, Limits, ExprAt, StmtAt, Bloc
 use Rattle.apex_meaning.proofs.Counts.{element_size, unary_size, chain_size, apply_size, more_links_size, more_exprs_size, assign_size, assign_element_size, if_size, if_else_size, while_size, call_service_size, more_stmts_size}
 use Rattle.apex_meaning.proofs.Sizes.{expr_size, exprs_size, stmt_size, block_size}
 use Rattle.apex_meaning.proofs.Placed.{has_front, has_back}
+
+-- the procedure that is called, from how many parameters it has
+procedure_with : (o : Option Procedure) (n : ℕ) → option_map (λ (p : Procedure). p.parameters) o ≡ Some n → (p : Procedure) × (o ≡ Some p) × (p.parameters ≡ n)
+procedure_with None n h = absurd cc
+procedure_with (Some p) n h = (p, refl, cc)
 
 abbrev pub unfolded : Front → List Part
 unfolded f = Do f.construct ∷ f.rest
@@ -101,15 +107,16 @@ module _ (code : Code) (ps : List Procedure) (k : Limits) where
     front_expr (Apply f es) r pc n h g =
         let i = instr.Call f ∷ [] in
         let back = has_back code pc (size_of_exprs es) (exprs_code es) i (exprs_size es) h.has in
-        let p = h.fits.0.0 in
-        let arity : p.parameters ≡ count_of es = h.fits.0.2 in
+        let called = procedure_with (slice_get ps f) (count_of es) h.fits.0 in
+        let p = called.0 in
+        let arity : p.parameters ≡ count_of es = called.2 in
         let room = h.room in
         let room_es : n + operands_of_exprs es ≤ k.room = omega arith in
         let handed : p.parameters ≤ n + count_of es = omega arith in
         let new : n + count_of es - p.parameters < k.room = omega arith in
         let at : pc + size_of_expr (Apply f es) ≡ pc + size_of_exprs es + 1 = omega (arith, apply_size f es) in
         let left : n + 1 ≡ n + count_of es - p.parameters + 1 = omega arith in
-        front_exprs es (Open f) r pc n (has_front code pc (exprs_code es) i h.has) h.fits.1 room_es (back.0, (p, h.fits.0.1, handed, new, moved r _ _ _ _ at left g))
+        front_exprs es (Open f) r pc n (has_front code pc (exprs_code es) i h.has) h.fits.1 room_es (back.0, (p, called.1, handed, new, moved r _ _ _ _ at left g))
 
     pub front_exprs : (es : Exprs) (c : Simple) (r : List Part) (pc n : ℕ) → HasAt code pc (exprs_code es) → FitsExprs ps k.slots es → n + operands_of_exprs es ≤ k.room → Goes code ps k (pc + size_of_exprs es) (n + count_of es) (Do c ∷ r) → Goes code ps k pc n (unfolded (front_of_exprs es c r))
     front_exprs NoExpr c r pc n has fits room g =

@@ -35,6 +35,10 @@ pub mod Spelled
 pub mod Choosing
 pub mod WaitingOrder
 pub mod Counts
+pub mod FitsFact
+pub mod Operands
+pub mod ProgramSizes
+pub mod ProgramCosts
 pub mod Shaped
 pub mod Longer
 pub mod Followed

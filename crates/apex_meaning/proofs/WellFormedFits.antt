@@ -169,7 +169,7 @@ declared_procedure ports declared c name (written.Blackboard words) before rest 
 declared_procedure ports declared c name written.Port before rest at keeps = tt
 declared_procedure ports declared c name (written.Procedure parameters b) before rest at keeps =
     let few = and_parts _ _ (and_parts _ _ (and_parts _ _ keeps).0).0 in
-    (_, at_seam before _ rest c.procedures at, count_is 8 (length parameters) (leb-true (length parameters) 8 few.0))
+    ap (option_map (λ (q : program.Procedure). q.parameters)) (at_seam before _ rest c.procedures at) ∙ ap Some (count_is 8 (length parameters) (leb-true (length parameters) 8 few.0))
 
 declaration_procedures : (ports : List PortRow) (declared : List Entry) (c : Counts) (before : List program.Procedure) (ds : List written.Declaration) → length before ≡ c.procedures → keeps_counts c ds ≡ true → list_all (keeps_declaration declared) ds ≡ true
     → EachEntry (NamesProcedure (before ++ filter_map (λ d. procedure_of declared d.kind) ds)) (declaration_entries ports c ds)
@@ -205,7 +205,7 @@ module _ (scope : Scope) (procedures : List program.Procedure) (n : ℕ) (slots 
   takes_as_many (Some (denotation.Scalar place)) k names h = absurd cc
   takes_as_many (Some (denotation.Array place size)) k names h = absurd cc
   takes_as_many (Some (denotation.Object kind number)) k names h = absurd cc
-  takes_as_many (Some (denotation.Procedure f parameters)) k names h = (names.0, names.1, names.2 ∙ eqb-true parameters k h)
+  takes_as_many (Some (denotation.Procedure f parameters)) k names h = names ∙ ap Some (eqb-true parameters k h)
 
   mutual
     expr_fits : (e : written.Expr) → fits_expr scope e ≡ true → FitsExpr procedures n (resolve_expr scope e)

@@ -1,5 +1,5 @@
 -- What a checked program keeps to, as far as its compiled code depends on it.
-use Rattle.std.specs.Prelude.{◌≡◌, ℕ, ◌+◌, ◌≤◌, ◌<◌, Bool, true, false, List, [], ◌∷◌, Option, Some, None, length, slice_get}
+use Rattle.std.specs.Prelude.{◌≡◌, ℕ, ◌+◌, ◌≤◌, ◌<◌, Bool, true, false, List, [], ◌∷◌, Option, Some, None, length, slice_get, option_map}
 use Rattle.apex_types.specs.declared.place.Place.{Place}
 use Rattle.apex_types.specs.declared.place.Place.TheVariants.{Data, Slot}
 use Rattle.apex_meaning.specs.Program.{Program, Procedure, Body, Process, Expr, Links, Exprs, Stmt, Block}
@@ -24,7 +24,7 @@ ArePlacesWithin slots (place ∷ places) = IsPlaceWithin slots place × ArePlace
 
 -- there is a procedure of this number, and it has this many parameters
 abbrev pub HasParameters : List Procedure → ℕ → ℕ → Type 0
-HasParameters procedures f n = (p : Procedure) × (slice_get procedures f ≡ Some p) × (p.parameters ≡ n)
+HasParameters procedures f n = option_map (λ (p : Procedure). p.parameters) (slice_get procedures f) ≡ Some n
 
 -- in a body with this many slots: locals are slots, and a call has as many arguments as its procedure
 -- has parameters

@@ -47,6 +47,7 @@ pub mod ImageLimits
 pub mod LawfulFact
 pub mod CompiledCode
 pub mod Fits
+pub mod Bounds
 pub mod Related
 pub mod Lifting
 pub mod TableText

@@ -21,7 +21,7 @@ abbrev pub build_sentence : BuildFault → List ℕ
 build_sentence (build.Table fault) = table_sentence fault
 build_sentence build.Sources = command_sentence command.Sources
 build_sentence (build.Pal name fault) = source_sentence fault.refusal
-build_sentence (build.Compile name) = command_sentence command.Compile
+build_sentence (build.Compile name fault) = command_sentence command.Compile
 build_sentence build.Memory = command_sentence command.Memory
 
 abbrev pub run_sentence : RunFault → List ℕ

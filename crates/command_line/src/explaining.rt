@@ -132,7 +132,7 @@ fn build_sentence(fault: &BuildFault) -> &'static str
         BuildFault::Table(fault) => table_sentence(*fault),
         BuildFault::Sources => command_sentence(CommandFault::Sources),
         BuildFault::Pal { fault, .. } => source_sentence(fault.refusal),
-        BuildFault::Compile(_) => command_sentence(CommandFault::Compile),
+        BuildFault::Compile { .. } => command_sentence(CommandFault::Compile),
         BuildFault::Memory => command_sentence(CommandFault::Memory),
     }
 }

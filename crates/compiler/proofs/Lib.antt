@@ -1,4 +1,4 @@
 pub mod Views
 pub mod Emitted
-pub mod Waiting
 pub mod Meaning
+pub mod Accepted

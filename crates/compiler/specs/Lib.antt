@@ -1,2 +1,3 @@
 pub mod SectionView
 pub mod Faithful
+pub mod Numbers

@@ -1,15 +1,29 @@
 //! Why a program is not compiled.
 
-use std::alloc::AllocError;
+ghost use Rattle.std.specs.Prelude.{◌≡◌};
+ghost use Rattle.compiler.specs.Numbers.{number_of};
+
 use thiserror::Error;
 
-/// A program that is not compiled.
-#[derive(Debug, Drop, Error)]
+/// Why a program is not compiled.
+#[derive(Clone, Copy, Debug, PartialEq, Eq, Error)]
 pub enum CompileFault {
     /// It has more than 65,536 instructions.
     #[error("more than 65536 instructions")]
     TooLong,
-    /// There is no memory for it.
-    #[error(transparent)]
-    Memory(#[from(alloc)] AllocError),
+    /// Memory ran out.
+    #[error("out of memory")]
+    Memory,
+}
+
+impl CompileFault {
+    /// The fault's number, 1 or 2.
+    pub fn number(self) -> u8
+        ensures { result ≡ number_of self }
+    {
+        match self {
+            CompileFault::TooLong => 1,
+            CompileFault::Memory => 2,
+        }
+    }
 }

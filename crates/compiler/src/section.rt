@@ -14,6 +14,7 @@ use crate::bodies::{emit_body, emit_handler, emit_procedures, emit_processes};
 use crate::fault::CompileFault;
 use crate::size::size_of_program;
 use apex_types::{Instr, Section};
+use pal_base::checked::Checked;
 use pal_base::program::Program;
 use processor::encode;
 use std::alloc::{AllocError, Global};
@@ -21,26 +22,27 @@ use std::alloc::{AllocError, Global};
 /// The most instructions that a partition's code has.
 pub const MOST_INSTRUCTIONS: u32 = 65_536;
 
-/// The section of a program. Its code has one instruction for each construct.
+/// The section of a program. Its code has one instruction for each construct, and the processor over
+/// it cannot be told apart from the program's source.
 ///
 /// # Errors
 ///
 /// `TooLong` if the code would have more than 65,536 instructions; otherwise `Memory` if there is
 /// no memory for the section.
-pub fn compile_program(alloc: Global, program: &Program) -> Result<Section, CompileFault>
-    ensures section { IfOk result (λ section. section_view section ≡ code_of.section_of (program_of program.now)) }
-    ensures reads_back { IfOk result (λ section. map reading section.code.items ≡ map Some (code_of.code_of (program_of program.now))) }
+pub fn compile(alloc: Global, checked: &Checked) -> Result<Section, CompileFault>
+    ensures section { IfOk result (λ section. section_view section ≡ code_of.section_of (program_of checked.now.program)) }
+    ensures reads_back { IfOk result (λ section. map reading section.code.items ≡ map Some (code_of.code_of (program_of checked.now.program))) }
     ensures words { IfOk result (λ section. All (FitsSigned w64) section.initial.items) }
-    ensures size { IfOk result (λ section. length section.code.items ≡ cost.size_of (program_of program.now)) }
-    ensures means { IfOk result (λ section. Fits (program_of program.now) → IsFaithful (section_view section) (program_of program.now)) }
-    ensures too_long { result ≡ Err CompileFault.TooLong ↔ 65_536 < cost.size_of (program_of program.now) }
+    ensures size { IfOk result (λ section. length section.code.items ≡ cost.size_of (program_of checked.now.program)) }
+    ensures means { IfOk result (λ section. IsFaithful (section_view section) (program_of checked.now.program)) }
+    ensures too_long { result ≡ Err CompileFault.TooLong ↔ 65_536 < cost.size_of (program_of checked.now.program) }
 {
-    if size_of_program(program) > MOST_INSTRUCTIONS {
+    if size_of_program(checked) > MOST_INSTRUCTIONS {
         return Err(CompileFault::TooLong);
     }
-    match section_of(alloc, program) {
+    match section_of(alloc, &checked.program) {
         Ok(section) => Ok(section),
-        Err(fault) => Err(CompileFault::Memory(fault)),
+        Err(_) => Err(CompileFault::Memory),
     }
 }
 

@@ -1,5 +1,5 @@
-//! How many instructions a program's parts become. What does not fit 32 bits is the greatest number
-//! that does.
+//! How many instructions a program's parts become. Of parts alone, what does not fit 32 bits is the
+//! greatest number that does; a program that was accepted fits.
 
 ghost use Rattle.std.specs.Prelude.{◌≡◌, ◌+◌, min, map};
 ghost use Rattle.std.specs.List.{sum_by};
@@ -7,6 +7,7 @@ ghost use Rattle.std.specs.Option.{option_map};
 ghost use Rattle.apex_meaning.specs.Cost as cost;
 ghost use Rattle.pal_base.specs.ProgramView.{block_of, body_of, procedure_of, process_of, program_of};
 
+use pal_base::checked::Checked;
 use pal_base::cost::{cost_of_block, cost_of_body, cost_of_procedure};
 use pal_base::program::{Body, Procedure, Process, Program, Stmt};
 
@@ -67,12 +68,20 @@ fn size_of_procedures(procedures: &[Procedure]) -> u32
     size
 }
 
-/// How many instructions a program becomes. What does not fit 32 bits is the greatest number that does.
-pub fn size_of_program(program: &Program) -> u32
+/// How many instructions a program becomes, as 32 bits hold it.
+fn counted(program: &Program) -> u32
     ensures { result ≡ min (cost.size_of (program_of program.now)) u32.MAX }
 {
     size_of_body(&program.init)
         .saturating_add(size_of_handler(&program.handler))
         .saturating_add(size_of_processes(&program.processes))
         .saturating_add(size_of_procedures(&program.procedures))
+}
+
+/// How many instructions a program becomes.
+#[tactic(auto, using(crate::proofs::Accepted::counted_all))]
+pub fn size_of_program(checked: &Checked) -> u32
+    ensures { result ≡ cost.size_of (program_of checked.now.program) }
+{
+    counted(&checked.program)
 }

@@ -27,14 +27,6 @@ short_enough p h = ltb-false 65_536 (size_of p) h
 pub not_too_long : (p : Program) → is_too_long p ≡ false → 65_536 < size_of p → ⊥
 not_too_long p h long = let short = short_enough p h in omega (arith, long, short)
 
--- a size is longer as 32 bits hold it if it is longer itself
-pub held_is_longer : (n : ℕ) → nat_lt 65_536 (min n 4294967295) ≡ nat_lt 65_536 n
-held_is_longer n = by_case (nat_lt 65_536 n) refl
-  where
-    by_case : (b : Bool) → nat_lt 65_536 n ≡ b → nat_lt 65_536 (min n 4294967295) ≡ nat_lt 65_536 n
-    by_case true e = let long = ltb-true 65_536 n e in lt-ltb 65_536 (min n 4294967295) (omega (arith, long)) ∙ sym e
-    by_case false e = let short = ltb-false 65_536 n e in le-ltb 65_536 (min n 4294967295) (omega (arith, short)) ∙ sym e
-
 pub none_too_long : (rows : List Partition) (ps : List Program) → length ps ≡ length rows → first_too_long rows ps ≡ None → list_any is_too_long ps ≡ false
 none_too_long rows [] count h = refl
 none_too_long [] (p ∷ ps) count h = absurd (omega (arith, count))

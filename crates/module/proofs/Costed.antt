@@ -17,7 +17,7 @@ use Rattle.module.specs.Accepted.{IsTable}
 use Rattle.module.specs.Building.{AreSourceRefusals, IsTableRefusal}
 use Rattle.module.specs.Costs.{AreCosted, AreCosts, AreCostsOf, IsCosted, IsCostOf, IsCostRefusal, IsCostRefusedWith, cost_of_process, costs_of_handler, costs_of_procedures, costs_of_program}
 use Rattle.module.specs.Sources.{AreSources, IsSource}
-use Rattle.module.specs.declared.accepting.AcceptedSource.{AcceptedSource}
+use Rattle.pal_base.specs.declared.checked.Checked.{Checked}
 use Rattle.module.specs.declared.costing.PartitionCosts.{PartitionCosts}
 use Rattle.module.specs.declared.fault.BuildFault.{BuildFault}
 use Rattle.module.specs.declared.fault.BuildFault.TheVariants as fault
@@ -40,7 +40,7 @@ costs_of_code : (p : code_program.Program) → report.costs_of p ≡ costs_of_pr
 costs_of_code p =
     rw (sym (handler_costs p.handler), sym (process_costs p.processes.items), sym (procedure_costs p.procedures.items)) refl
 
-is_costed : (row : Partition) (source : List ℕ) (a : AcceptedSource) (c : PartitionCosts) → IsSource row source a → IsCostOf row a c → IsCosted row source c
+is_costed : (row : Partition) (source : List ℕ) (a : Checked) (c : PartitionCosts) → IsSource row source a → IsCostOf row a c → IsCosted row source c
 is_costed row source a c is of = record {
   partition = of.partition;
   tree = is.tree;
@@ -50,7 +50,7 @@ is_costed row source a c is of = record {
   bodies = of.bodies ∙ costs_of_code a.program ∙ ap (λ (names : List (List ℕ)). costs_of_program names (program_of a.program)) is.named;
 }
 
-pub are_costed : (rows : List Partition) (sources : List (List ℕ)) (given : List AcceptedSource) (costs : List PartitionCosts)
+pub are_costed : (rows : List Partition) (sources : List (List ℕ)) (given : List Checked) (costs : List PartitionCosts)
     → AreSources rows sources given → AreCostsOf rows given costs → AreCosted rows sources costs
 are_costed [] [] [] [] is of = tt
 are_costed [] [] [] (c ∷ costs) is of = absurd of
@@ -63,7 +63,7 @@ are_costed (row ∷ rows) (s ∷ sources) (a ∷ given) (c ∷ costs) is of = (i
 
 -- ---- programs one after the other
 
-one_more_costed : (rows : List Partition) (given : List AcceptedSource) (costs : List PartitionCosts) (row : Partition) (a : AcceptedSource) (c : PartitionCosts)
+one_more_costed : (rows : List Partition) (given : List Checked) (costs : List PartitionCosts) (row : Partition) (a : Checked) (c : PartitionCosts)
     → AreCostsOf rows given costs → IsCostOf row a c → AreCostsOf (rows ++ row ∷ []) (given ++ a ∷ []) (costs ++ c ∷ [])
 one_more_costed [] [] [] row a c h one = (one, tt)
 one_more_costed [] [] (d ∷ costs) row a c h one = absurd h
@@ -72,7 +72,7 @@ one_more_costed (r ∷ rows) [] costs row a c h one = absurd h
 one_more_costed (r ∷ rows) (b ∷ given) [] row a c h one = absurd h
 one_more_costed (r ∷ rows) (b ∷ given) (d ∷ costs) row a c h one = (h.0, one_more_costed rows given costs row a c h.1 one)
 
-pub next_costed : (rows : List PartitionRow) (place : ℕ) (given : List AcceptedSource) (a : AcceptedSource) (costs next : List PartitionCosts) (row : PartitionRow) (c : PartitionCosts)
+pub next_costed : (rows : List PartitionRow) (place : ℕ) (given : List Checked) (a : Checked) (costs next : List PartitionCosts) (row : PartitionRow) (c : PartitionCosts)
     → place < length rows → row ≡ get_or rows place row → next ≡ costs ++ c ∷ [] → IsCostOf (partition_of row) a c
     → AreCostsOf (map partition_of (take place rows)) given costs
     → AreCostsOf (map partition_of (take (place + 1) rows)) (given ++ a ∷ []) next
@@ -99,19 +99,19 @@ pub table_not_costed : (table : List ℕ) (sources : List (List ℕ)) (f : Build
 table_not_costed table sources (fault.Table f) h = h
 table_not_costed table sources fault.Sources h = absurd h
 table_not_costed table sources (fault.Pal name f) h = absurd h
-table_not_costed table sources (fault.Compile name) h = absurd h
+table_not_costed table sources (fault.Compile name f) h = absurd h
 table_not_costed table sources fault.Memory h = tt
 
 pub source_not_costed : (t : Table) (sources : List (List ℕ)) → length sources ≡ length t.partitions → (f : BuildFault) → AreSourceRefusals t.partitions sources f → IsCostRefusedWith t sources f
 source_not_costed t sources count (fault.Table f) h = absurd h
 source_not_costed t sources count fault.Sources h = absurd h
 source_not_costed t sources count (fault.Pal name f) h = (count, h)
-source_not_costed t sources count (fault.Compile name) h = absurd h
+source_not_costed t sources count (fault.Compile name f) h = absurd h
 source_not_costed t sources count fault.Memory h = tt
 
 pub not_costed_with : (table : List ℕ) (sources : List (List ℕ)) (t : Table) → IsTable table t → (f : BuildFault) → IsCostRefusedWith t sources f → IsCostRefusal table sources f
 not_costed_with table sources t is (fault.Table f) h = absurd h
 not_costed_with table sources t is fault.Sources h = (t, is, h)
 not_costed_with table sources t is (fault.Pal name f) h = (t, is, h)
-not_costed_with table sources t is (fault.Compile name) h = absurd h
+not_costed_with table sources t is (fault.Compile name f) h = absurd h
 not_costed_with table sources t is fault.Memory h = tt

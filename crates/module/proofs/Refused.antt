@@ -17,7 +17,7 @@ use Rattle.module.specs.Sources.{programs_of, IsSource, AreSources}
 use Rattle.std.proofs.lemmas.List.{append_assoc, length-map}
 use Rattle.image.specs.Items.{partition_of}
 use Rattle.window_table.specs.declared.table.PartitionRow.{PartitionRow}
-use Rattle.module.specs.declared.accepting.AcceptedSource.{AcceptedSource}
+use Rattle.pal_base.specs.declared.checked.Checked.{Checked}
 use Rattle.module.specs.declared.fault.BuildFault.{BuildFault}
 use Rattle.module.specs.declared.fault.BuildFault.TheVariants as fault
 
@@ -49,7 +49,7 @@ one_refused row source f h = by_case row source f.refusal f refl h
 
 -- ---- sources one after the other
 
-accepted_as : (row : Partition) (source : List ℕ) (a : AcceptedSource) → IsSource row source a → IsAccepted row source (program_of a.program)
+accepted_as : (row : Partition) (source : List ℕ) (a : Checked) → IsSource row source a → IsAccepted row source (program_of a.program)
 accepted_as row source a h = record { tree = h.tree; written = h.written; judged = h.judged }
 
 pub drop_next : {X : Type 0} (xs : List X) (i : ℕ) (x : X) → slice_get xs i ≡ Some x → drop i xs ≡ x ∷ drop (i + 1) xs
@@ -60,16 +60,16 @@ drop_next (y ∷ xs) (suc i) x e =
     drop_next xs i x e ∙ ap (λ k. x ∷ drop k (y ∷ xs)) (sym at)
 
 -- what the first sources are accepted as, whatever those from here on are accepted as
-abbrev pub AreBefore : List PartitionRow → List (List ℕ) → ℕ → List AcceptedSource → Type 0
+abbrev pub AreBefore : List PartitionRow → List (List ℕ) → ℕ → List Checked → Type 0
 AreBefore rows texts i given =
-    (more : List AcceptedSource) → AreSources (map partition_of (drop i rows)) (drop i texts) more → AreSources (map partition_of rows) texts (given ++ more)
+    (more : List Checked) → AreSources (map partition_of (drop i rows)) (drop i texts) more → AreSources (map partition_of rows) texts (given ++ more)
 
 -- the first refusal from here on is the first of all
 abbrev pub IsNoneBefore : List PartitionRow → List (List ℕ) → ℕ → Type 0
 IsNoneBefore rows texts i =
     (name : List ℕ) (r : Refusal) → IsFirstRefused (map partition_of (drop i rows)) (drop i texts) name r → IsFirstRefused (map partition_of rows) texts name r
 
-pub next_accepted : (rows : List PartitionRow) (texts : List (List ℕ)) (i : ℕ) (given next : List AcceptedSource) (row : PartitionRow) (source : List ℕ) (a : AcceptedSource)
+pub next_accepted : (rows : List PartitionRow) (texts : List (List ℕ)) (i : ℕ) (given next : List Checked) (row : PartitionRow) (source : List ℕ) (a : Checked)
     → drop i rows ≡ row ∷ drop (i + 1) rows → drop i texts ≡ source ∷ drop (i + 1) texts → next ≡ given ++ a ∷ [] → IsSource (partition_of row) source a
     → AreBefore rows texts i given → AreBefore rows texts (i + 1) next
 next_accepted rows texts i given next row source a rows_are texts_are pushed one before more rest =
@@ -79,7 +79,7 @@ next_accepted rows texts i given next row source a rows_are texts_are pushed one
     let one_by_one : given ++ a ∷ more ≡ next ++ more = sym (append_assoc given (a ∷ []) more) ∙ ap (λ l. l ++ more) (sym pushed) in
     subst (AreSources (map partition_of rows) texts) one_by_one (before (a ∷ more) here)
 
-pub next_refused : (rows : List PartitionRow) (texts : List (List ℕ)) (i : ℕ) (row : PartitionRow) (source : List ℕ) (a : AcceptedSource)
+pub next_refused : (rows : List PartitionRow) (texts : List (List ℕ)) (i : ℕ) (row : PartitionRow) (source : List ℕ) (a : Checked)
     → drop i rows ≡ row ∷ drop (i + 1) rows → drop i texts ≡ source ∷ drop (i + 1) texts → IsSource (partition_of row) source a
     → IsNoneBefore rows texts i → IsNoneBefore rows texts (i + 1)
 next_refused rows texts i row source a rows_are texts_are one before name r later =
@@ -97,11 +97,11 @@ here_refused rows texts i row source rows_are texts_are before (fault.Pal name f
     before name f.refusal
     (subst (λ (rs : List PartitionRow). IsFirstRefused (map partition_of rs) (drop i texts) name f.refusal) (sym rows_are)
     (subst (λ (ts : List (List ℕ)). IsFirstRefused (map partition_of (row ∷ drop (i + 1) rows)) ts name f.refusal) (sym texts_are) (inl h)))
-here_refused rows texts i row source rows_are texts_are before (fault.Compile name) h = absurd h
+here_refused rows texts i row source rows_are texts_are before (fault.Compile name f) h = absurd h
 here_refused rows texts i row source rows_are texts_are before fault.Memory h = tt
 
 -- all of them are accepted
-pub all_accepted : (rows : List PartitionRow) (texts : List (List ℕ)) (i : ℕ) (given : List AcceptedSource) → i ≡ length rows → length texts ≡ length rows → AreBefore rows texts i given → AreSources (map partition_of rows) texts given
+pub all_accepted : (rows : List PartitionRow) (texts : List (List ℕ)) (i : ℕ) (given : List Checked) → i ≡ length rows → length texts ≡ length rows → AreBefore rows texts i given → AreSources (map partition_of rows) texts given
 all_accepted rows texts i given at count before =
     let no_row : drop i rows ≡ [] = ap (λ k. drop k rows) at ∙ drop-all rows in
     let no_text : drop i texts ≡ [] = ap (λ k. drop k texts) (at ∙ sym count) ∙ drop-all texts in
@@ -112,7 +112,7 @@ all_accepted rows texts i given at count before =
     drop-all [] = refl
     drop-all (x ∷ xs) = drop-all xs
 
-pub are_accepted : (rows : List Partition) (sources : List (List ℕ)) (given : List AcceptedSource) → AreSources rows sources given → AreAccepted rows sources (programs_of given)
+pub are_accepted : (rows : List Partition) (sources : List (List ℕ)) (given : List Checked) → AreSources rows sources given → AreAccepted rows sources (programs_of given)
 are_accepted [] [] [] h = tt
 are_accepted [] [] (a ∷ given) h = absurd h
 are_accepted [] (s ∷ sources) given h = absurd h
@@ -121,12 +121,12 @@ are_accepted (r ∷ rows) (s ∷ sources) [] h = absurd h
 are_accepted (r ∷ rows) (s ∷ sources) (a ∷ given) h = (accepted_as r s a h.0, are_accepted rows sources given h.1)
 
 -- the same rows and sources, as they are lent
-pub same_sources : (other rows : List PartitionRow) (texts : List (List ℕ)) (given same : List AcceptedSource) → other ≡ rows → same ≡ given
+pub same_sources : (other rows : List PartitionRow) (texts : List (List ℕ)) (given same : List Checked) → other ≡ rows → same ≡ given
     → AreSources (map partition_of other) texts given → AreSources (map partition_of rows) texts same
 same_sources other rows texts given same e f h =
     subst (AreSources (map partition_of rows) texts) (sym f) (subst (λ (rs : List PartitionRow). AreSources (map partition_of rs) texts given) e h)
 
-pub as_many : (rows : List Partition) (sources : List (List ℕ)) (given : List AcceptedSource) → AreSources rows sources given → length given ≡ length rows
+pub as_many : (rows : List Partition) (sources : List (List ℕ)) (given : List Checked) → AreSources rows sources given → length given ≡ length rows
 as_many [] [] [] h = refl
 as_many [] [] (a ∷ given) h = absurd h
 as_many [] (s ∷ sources) given h = absurd h
@@ -135,15 +135,15 @@ as_many (r ∷ rows) (s ∷ sources) [] h = absurd h
 as_many (r ∷ rows) (s ∷ sources) (a ∷ given) h = ap suc (as_many rows sources given h.1)
 
 -- no program is too long where no partition is named
-pub all_short : (other rows : List PartitionRow) (texts : List (List ℕ)) (seen given : List AcceptedSource) → other ≡ rows → seen ≡ given → AreSources (map partition_of rows) texts given
+pub all_short : (other rows : List PartitionRow) (texts : List (List ℕ)) (seen given : List Checked) → other ≡ rows → seen ≡ given → AreSources (map partition_of rows) texts given
     → first_too_long (map partition_of other) (programs_of seen) ≡ None → list_any is_too_long (programs_of given) ≡ false
 all_short other rows texts seen given e f a none =
-    let count : length (programs_of given) ≡ length (map partition_of rows) = length-map given (λ (s : AcceptedSource). program_of s.program) ∙ as_many (map partition_of rows) texts given a in
+    let count : length (programs_of given) ≡ length (map partition_of rows) = length-map given (λ (s : Checked). program_of s.program) ∙ as_many (map partition_of rows) texts given a in
     none_too_long (map partition_of rows) (programs_of given) count
-    (subst (λ (rs : List PartitionRow). first_too_long (map partition_of rs) (programs_of given) ≡ None) e (subst (λ (ss : List AcceptedSource). first_too_long (map partition_of other) (programs_of ss) ≡ None) f none))
+    (subst (λ (rs : List PartitionRow). first_too_long (map partition_of rs) (programs_of given) ≡ None) e (subst (λ (ss : List Checked). first_too_long (map partition_of other) (programs_of ss) ≡ None) f none))
 
 -- the bytes of accepted sources that are compiled
-pub built_from : (t : Table) (sources : List (List ℕ)) (given : List AcceptedSource) (bytes : List ℕ)
+pub built_from : (t : Table) (sources : List (List ℕ)) (given : List Checked) (bytes : List ℕ)
     → AreSources t.partitions sources given → list_any is_too_long (programs_of given) ≡ false
     → bytes ≡ spelling (built_image t (programs_of given)) → AreCoded (programs_of given) → IsBuiltFrom t sources bytes
 built_from t sources given bytes a short spelled coded =
@@ -157,18 +157,18 @@ built_from t sources given bytes a short spelled coded =
 
 -- ---- with an accepted table
 
-pub length_refused : (t : Table) (sources : List (List ℕ)) (given : List AcceptedSource) → AreSources t.partitions sources given → (f : BuildFault) → IsLengthRefusal t.partitions (programs_of given) f → IsRefusedWith t sources f
+pub length_refused : (t : Table) (sources : List (List ℕ)) (given : List Checked) → AreSources t.partitions sources given → (f : BuildFault) → IsLengthRefusal t.partitions (programs_of given) f → IsRefusedWith t sources f
 length_refused t sources given a (fault.Table f) h = absurd h
 length_refused t sources given a fault.Sources h = absurd h
 length_refused t sources given a (fault.Pal name f) h = absurd h
-length_refused t sources given a (fault.Compile name) h = record { programs = programs_of given; accepted = are_accepted t.partitions sources given a; first = h }
+length_refused t sources given a (fault.Compile name f) h = (h.0, record { programs = programs_of given; accepted = are_accepted t.partitions sources given a; first = h.1 })
 length_refused t sources given a fault.Memory h = absurd h
 
 pub source_refused : (t : Table) (sources : List (List ℕ)) → length sources ≡ length t.partitions → (f : BuildFault) → AreSourceRefusals t.partitions sources f → IsRefusedWith t sources f
 source_refused t sources count (fault.Table f) h = absurd h
 source_refused t sources count fault.Sources h = absurd h
 source_refused t sources count (fault.Pal name f) h = (count, h)
-source_refused t sources count (fault.Compile name) h = absurd h
+source_refused t sources count (fault.Compile name f) h = absurd h
 source_refused t sources count fault.Memory h = tt
 
 -- ---- a module
@@ -177,12 +177,12 @@ pub table_refused : (table : List ℕ) (sources : List (List ℕ)) (f : BuildFau
 table_refused table sources (fault.Table f) h = h
 table_refused table sources fault.Sources h = absurd h
 table_refused table sources (fault.Pal name f) h = absurd h
-table_refused table sources (fault.Compile name) h = absurd h
+table_refused table sources (fault.Compile name f) h = absurd h
 table_refused table sources fault.Memory h = tt
 
 pub refused_with : (table : List ℕ) (sources : List (List ℕ)) (t : Table) → IsTable table t → (f : BuildFault) → IsRefusedWith t sources f → IsRefusal table sources f
 refused_with table sources t is (fault.Table f) h = absurd h
 refused_with table sources t is fault.Sources h = (t, is, h)
 refused_with table sources t is (fault.Pal name f) h = (t, is, h)
-refused_with table sources t is (fault.Compile name) h = (t, is, h)
+refused_with table sources t is (fault.Compile name f) h = (t, is, h)
 refused_with table sources t is fault.Memory h = tt

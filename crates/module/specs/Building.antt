@@ -3,6 +3,7 @@ use Rattle.std.specs.Prelude.{◌≡◌, ◌≢◌, ◌⊎◌, ℕ, Bool, false,
 use Rattle.std.specs.List.{list_any}
 use Rattle.apex_types.specs.declared.device.DeviceLine.{DeviceLine}
 use Rattle.apex_meaning.specs.Cost.{size_of}
+use Rattle.compiler.specs.declared.fault.CompileFault.TheVariants as compile
 use Rattle.apex_meaning.specs.DeviceText.{row_of_item}
 use Rattle.apex_meaning.specs.Image.{Partition, Table, Image}
 use Rattle.apex_meaning.specs.ImageReading.{image_at}
@@ -75,7 +76,7 @@ abbrev pub IsRefusedWith : Table → List (List ℕ) → BuildFault → Type 0
 IsRefusedWith t sources (fault.Table f) = ⊥
 IsRefusedWith t sources fault.Sources = length sources ≢ length t.partitions
 IsRefusedWith t sources (fault.Pal name f) = (length sources ≡ length t.partitions) × IsFirstRefused t.partitions sources name f.refusal
-IsRefusedWith t sources (fault.Compile name) = IsTooLong t sources name
+IsRefusedWith t sources (fault.Compile name f) = (f ≡ compile.TooLong) × IsTooLong t sources name
 IsRefusedWith t sources fault.Memory = Unit {0}
 
 -- Why a table and sources are refused: for the table; with an accepted table for the number of the
@@ -117,5 +118,5 @@ AreSourceRefusals rows sources _ = ⊥
 
 -- what accepted programs are refused for: the first that is too long
 abbrev pub IsLengthRefusal : List Partition → List Program → BuildFault → Type 0
-IsLengthRefusal rows ps (fault.Compile name) = first_too_long rows ps ≡ Some name
+IsLengthRefusal rows ps (fault.Compile name f) = (f ≡ compile.TooLong) × (first_too_long rows ps ≡ Some name)
 IsLengthRefusal rows ps _ = ⊥

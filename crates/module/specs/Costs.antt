@@ -11,10 +11,9 @@ use Rattle.pal.specs.declared.report.BodyCost.{BodyCost}
 use Rattle.pal.specs.declared.report.BodyName.{BodyName}
 use Rattle.pal.specs.declared.report.BodyName.TheVariants as body
 use Rattle.pal_base.specs.Answers.{IsProgramOf}
-use Rattle.pal_base.specs.Costs.{held}
 use Rattle.module.specs.Accepted.{IsTable}
 use Rattle.module.specs.Building.{IsRefusal, IsRefusedWith}
-use Rattle.module.specs.declared.accepting.AcceptedSource.{AcceptedSource}
+use Rattle.pal_base.specs.declared.checked.Checked.{Checked}
 use Rattle.module.specs.declared.costing.PartitionCosts.{PartitionCosts}
 use Rattle.module.specs.declared.fault.BuildFault.{BuildFault}
 use Rattle.module.specs.declared.fault.BuildFault.TheVariants as fault
@@ -23,10 +22,10 @@ use Rattle.module.specs.declared.fault.BuildFault.TheVariants as fault
 
 -- its instructions, its frame, and the sum of the costs of its constructs
 abbrev pub cost_of_body : BodyName → Body → BodyCost
-cost_of_body name b = record { name = name; instructions = held (cost.size_of_body b); frame = held (cost.frame_of_body b); cost = held (cost.cost_of_body b) }
+cost_of_body name b = record { name = name; instructions = cost.size_of_body b; frame = cost.frame_of_body b; cost = cost.cost_of_body b }
 
 abbrev pub cost_of_procedure : List ℕ → Procedure → BodyCost
-cost_of_procedure name p = record { name = body.Procedure name; instructions = held (cost.size_of_procedure p); frame = held (cost.frame_of_procedure p); cost = held (cost.cost_of_procedure p) }
+cost_of_procedure name p = record { name = body.Procedure name; instructions = cost.size_of_procedure p; frame = cost.frame_of_procedure p; cost = cost.cost_of_procedure p }
 
 abbrev pub cost_of_process : Process → BodyCost
 cost_of_process p = cost_of_body (body.Process p.name) p.body
@@ -69,11 +68,11 @@ pub record AreCosts (table : List ℕ) (sources : List (List ℕ)) (costs : List
 
 -- ---- the costs of accepted sources
 
-pub record IsCostOf (row : Partition) (a : AcceptedSource) (c : PartitionCosts) : Type 0 where
+pub record IsCostOf (row : Partition) (a : Checked) (c : PartitionCosts) : Type 0 where
   pub partition : c.partition ≡ row.name
   pub bodies : c.bodies.items ≡ costs_of a.program
 
-abbrev pub AreCostsOf : List Partition → List AcceptedSource → List PartitionCosts → Type 0
+abbrev pub AreCostsOf : List Partition → List Checked → List PartitionCosts → Type 0
 AreCostsOf [] [] [] = Unit {0}
 AreCostsOf (row ∷ rows) (a ∷ accepted) (c ∷ costs) = IsCostOf row a c × AreCostsOf rows accepted costs
 AreCostsOf _ _ _ = ⊥
@@ -81,9 +80,9 @@ AreCostsOf _ _ _ = ⊥
 -- ---- refusals: as of building, but no program is too long
 
 abbrev pub IsCostRefusedWith : Table → List (List ℕ) → BuildFault → Type 0
-IsCostRefusedWith t sources (fault.Compile name) = ⊥
+IsCostRefusedWith t sources (fault.Compile name f) = ⊥
 IsCostRefusedWith t sources f = IsRefusedWith t sources f
 
 abbrev pub IsCostRefusal : List ℕ → List (List ℕ) → BuildFault → Type 0
-IsCostRefusal table sources (fault.Compile name) = ⊥
+IsCostRefusal table sources (fault.Compile name f) = ⊥
 IsCostRefusal table sources f = IsRefusal table sources f

@@ -1,6 +1,8 @@
 -- What is shown of each fault of building and running.
 use Rattle.std.specs.Prelude.{ℕ, List, ◌++◌, codes}
 use Rattle.std.specs.Fmt.{decimal}
+use Rattle.compiler.specs.Numbers.{number_of as number_of_compile}
+use Rattle.compiler.specs.declared.fault.CompileFault.TheVariants as compile
 use Rattle.image.specs.Views.{number_of as number_of_image}
 use Rattle.module_base.specs.Refusals.{fault_number}
 use Rattle.pal_base.specs.Numbers.{refusal_number}
@@ -25,7 +27,8 @@ build_line (build.Table table.Memory) = codes "memory"
 build_line (build.Table fault) = codes "table " ++ decimal (number_of fault)
 build_line build.Sources = codes "sources"
 build_line (build.Pal partition fault) = source_line partition fault.refusal fault.line
-build_line (build.Compile partition) = codes "compile " ++ partition ++ codes " 1"
+build_line (build.Compile partition compile.Memory) = codes "memory"
+build_line (build.Compile partition fault) = codes "compile " ++ partition ++ codes " " ++ decimal (number_of_compile fault)
 build_line build.Memory = codes "memory"
 
 abbrev pub run_line : RunFault → List ℕ

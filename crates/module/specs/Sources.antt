@@ -7,19 +7,19 @@ use Rattle.apex_meaning.specs.WellFormed.{verdict}
 use Rattle.pal_base.specs.Answers.{IsProgramOf}
 use Rattle.pal_base.specs.ProgramView.{program_of}
 use Rattle.pal.specs.ProcedureNames.{names_of_procedures, procedure_names}
-use Rattle.module.specs.declared.accepting.AcceptedSource.{AcceptedSource}
+use Rattle.pal_base.specs.declared.checked.Checked.{Checked}
 
-abbrev pub programs_of : List AcceptedSource → List Program
-programs_of accepted = map (λ (a : AcceptedSource). program_of a.program) accepted
+abbrev pub programs_of : List Checked → List Program
+programs_of accepted = map (λ (a : Checked). program_of a.program) accepted
 
 -- The source is the text of a program, which is well formed for its partition; its procedures keep their names.
-pub record IsSource (row : Partition) (source : List ℕ) (a : AcceptedSource) : Type 0 where
+pub record IsSource (row : Partition) (source : List ℕ) (a : Checked) : Type 0 where
   pub tree : written.Program
   pub written : IsProgramOf source tree
   pub judged : verdict row.ports row.period tree ≡ Ok (program_of a.program)
   pub named : names_of_procedures a.program.procedures.items ≡ procedure_names tree.declarations
 
-abbrev pub AreSources : List Partition → List (List ℕ) → List AcceptedSource → Type 0
+abbrev pub AreSources : List Partition → List (List ℕ) → List Checked → Type 0
 AreSources [] [] [] = Unit {0}
 AreSources (row ∷ rows) (source ∷ sources) (a ∷ accepted) = IsSource row source a × AreSources rows sources accepted
 AreSources _ _ _ = ⊥

@@ -8,20 +8,12 @@ ghost use Rattle.module.specs.Sources.{IsSource, AreSources, programs_of};
 
 use crate::fault::BuildFault;
 use apex_types::Name;
-use compiler::{MOST_INSTRUCTIONS, size_of_program};
+use compiler::{CompileFault, MOST_INSTRUCTIONS, size_of_program};
 use pal::{Checked, check};
 use pal_base::fault::{PalFault, Refusal};
 use pal_base::parse::parse;
-use pal_base::program::Program;
 use std::alloc::Global;
 use window_table::PartitionRow;
-
-/// A source that is accepted.
-#[derive(Drop)]
-pub struct AcceptedSource {
-    /// Its program with the names resolved.
-    pub program: Program,
-}
 
 /// The sources of these partitions, in their order, if each is accepted; else the refusal of the
 /// first that is not.
@@ -29,7 +21,7 @@ pub fn accept_sources(
     alloc: Global,
     rows: &[PartitionRow],
     sources: &[&[u8]],
-) -> Result<Vec<AcceptedSource>, BuildFault>
+) -> Result<Vec<Checked>, BuildFault>
     requires { length sources.now ≡ length rows.now }
     ensures accepted { IfOk result (λ accepted. AreSources (map partition_of rows.now) (map (λ s. s.now) sources.now) accepted.items) }
     ensures refused { IfErr result (λ fault. AreSourceRefusals (map partition_of rows.now) (map (λ s. s.now) sources.now) fault) }
@@ -43,7 +35,7 @@ pub fn accept_sources(
 }
 
 /// The source of one partition, if it is accepted.
-fn accept(alloc: Global, row: &PartitionRow, source: &[u8]) -> Result<AcceptedSource, BuildFault>
+fn accept(alloc: Global, row: &PartitionRow, source: &[u8]) -> Result<Checked, BuildFault>
     ensures accepted { IfOk result (λ accepted. IsSource (partition_of row.now) source.now accepted) }
     ensures refused { IfErr result (λ fault. IsSourceRefusal (partition_of row.now) source.now fault) }
 {
@@ -54,13 +46,12 @@ fn accept(alloc: Global, row: &PartitionRow, source: &[u8]) -> Result<AcceptedSo
 }
 
 /// The source as a program that is well formed for its partition.
-fn judge(alloc: Global, row: &PartitionRow, source: &[u8]) -> Result<AcceptedSource, PalFault>
+fn judge(alloc: Global, row: &PartitionRow, source: &[u8]) -> Result<Checked, PalFault>
     ensures accepted { IfOk result (λ accepted. IsSource (partition_of row.now) source.now accepted) }
     ensures refused { IfErr result (λ fault. IsNotAccepted (partition_of row.now) source.now fault.refusal) }
 {
     let written = parse(alloc, source)?;
-    let Checked { program } = check(alloc, written, row)?;
-    Ok(AcceptedSource { program })
+    check(alloc, written, row)
 }
 
 /// The refusal of the source of the partition of that name.
@@ -74,23 +65,26 @@ fn refused(partition: Name, fault: PalFault) -> BuildFault
 }
 
 /// Refuses the first program that is too long, by the name of its partition.
-pub fn judge_lengths(rows: &[PartitionRow], sources: &[AcceptedSource]) -> Result<(), BuildFault>
+pub fn judge_lengths(rows: &[PartitionRow], sources: &[Checked]) -> Result<(), BuildFault>
     ensures none { IfOk result (λ _. first_too_long (map partition_of rows.now) (programs_of sources.now) ≡ None) }
     ensures refused { IfErr result (λ fault. IsLengthRefusal (map partition_of rows.now) (programs_of sources.now) fault) }
 {
     match first_too_long(rows, sources) {
-        Some(partition) => Err(BuildFault::Compile(partition)),
+        Some(partition) => Err(BuildFault::Compile {
+            partition,
+            fault: CompileFault::TooLong,
+        }),
         None => Ok(()),
     }
 }
 
 /// The name of the first partition whose program is too long.
-fn first_too_long(rows: &[PartitionRow], sources: &[AcceptedSource]) -> Option<Name>
+fn first_too_long(rows: &[PartitionRow], sources: &[Checked]) -> Option<Name>
     ensures { result ≡ first_too_long (map partition_of rows.now) (programs_of sources.now) }
 {
     match (rows.split_first(), sources.split_first()) {
         (Some((row, rows)), Some((source, sources))) => {
-            if is_too_long(&source.program) {
+            if is_too_long(source) {
                 Some(row.name)
             } else {
                 first_too_long(rows, sources)
@@ -101,9 +95,8 @@ fn first_too_long(rows: &[PartitionRow], sources: &[AcceptedSource]) -> Option<N
 }
 
 /// Whether a program would have more than 65,536 instructions.
-#[tactic(auto, using(crate::proofs::Built::held_is_longer))]
-fn is_too_long(program: &Program) -> bool
-    ensures { result ≡ is_too_long (program_of program.now) }
+fn is_too_long(source: &Checked) -> bool
+    ensures { result ≡ is_too_long (program_of source.now.program) }
 {
-    size_of_program(program) > MOST_INSTRUCTIONS
+    size_of_program(source) > MOST_INSTRUCTIONS
 }

@@ -13,12 +13,12 @@ ghost use Rattle.module.specs.Building.{IsImageOf, IsRefusal, IsRefusedWith, IsT
 ghost use Rattle.module.specs.Built.{BecomesLawful, IsBuiltFrom, IsCoded, AreCoded, built_image, built_item, built_items};
 ghost use Rattle.module.specs.Sources.{programs_of};
 
-use crate::accepting::{AcceptedSource, accept_sources, judge_lengths};
+use crate::accepting::{accept_sources, judge_lengths};
 use crate::fault::BuildFault;
 use apex_types::Section;
-use compiler::{CompileFault, compile_program};
+use compiler::{CompileFault, compile};
 use image::{Image, PartitionItem, write_image};
-use pal_base::program::Program;
+use pal::Checked;
 use std::alloc::{AllocError, Global};
 use window_table::{ModuleTable, PartitionRow, TableFault, read_table};
 
@@ -69,7 +69,7 @@ fn build_table(alloc: Global, table: ModuleTable, sources: &[&[u8]]) -> Result<V
 fn build_accepted(
     alloc: Global,
     table: ModuleTable,
-    sources: &[AcceptedSource],
+    sources: &[Checked],
 ) -> Result<Vec<u8>, AllocError>
     requires count { length sources.now ≡ length table.partitions.items }
     requires lawful { BecomesLawful (table_of table) (programs_of sources.now) }
@@ -88,7 +88,7 @@ fn build_accepted(
 fn build_image(
     alloc: Global,
     table: ModuleTable,
-    sources: &[AcceptedSource],
+    sources: &[Checked],
 ) -> Result<Image, AllocError>
     requires count { length sources.now ≡ length table.partitions.items }
     requires lawful { BecomesLawful (table_of table) (programs_of sources.now) }
@@ -115,7 +115,7 @@ fn build_image(
 fn build_items(
     alloc: Global,
     rows: Vec<PartitionRow>,
-    sources: &[AcceptedSource],
+    sources: &[Checked],
 ) -> Result<Vec<PartitionItem>, AllocError>
     requires count { length sources.now ≡ length rows.items }
     requires short { list_any is_too_long (programs_of sources.now) ≡ false }
@@ -126,7 +126,7 @@ fn build_items(
     let mut place = 0usize;
     for row in rows {
         let source = &sources[place];
-        items.push(build_item(alloc, row, &source.program)?)?;
+        items.push(build_item(alloc, row, source)?)?;
         place += 1;
     }
     Ok(items)
@@ -136,26 +136,26 @@ fn build_items(
 fn build_item(
     alloc: Global,
     row: PartitionRow,
-    program: &Program,
+    source: &Checked,
 ) -> Result<PartitionItem, AllocError>
-    requires { is_too_long (program_of program.now) ≡ false }
-    ensures item { IfOk result (λ item. item_of item ≡ built_item (partition_of row) (program_of program.now)) }
-    ensures coded { IfOk result (λ item. IsCoded (program_of program.now)) }
+    requires { is_too_long (program_of source.now.program) ≡ false }
+    ensures item { IfOk result (λ item. item_of item ≡ built_item (partition_of row) (program_of source.now.program)) }
+    ensures coded { IfOk result (λ item. IsCoded (program_of source.now.program)) }
 {
-    let section = compile(alloc, program)?;
+    let section = compiled(alloc, source)?;
     Ok(PartitionItem { row, section })
 }
 
-/// The section of a program.
+/// The section of a program that is not too long.
 #[tactic(auto, using(crate::proofs::Built::coded_section, crate::proofs::Built::short_enough))]
-fn compile(alloc: Global, program: &Program) -> Result<Section, AllocError>
-    requires { is_too_long (program_of program.now) ≡ false }
-    ensures section { IfOk result (λ section. section_of section ≡ code_of.section_of (program_of program.now)) }
-    ensures coded { IfOk result (λ section. IsCoded (program_of program.now)) }
+fn compiled(alloc: Global, source: &Checked) -> Result<Section, AllocError>
+    requires { is_too_long (program_of source.now.program) ≡ false }
+    ensures section { IfOk result (λ section. section_of section ≡ code_of.section_of (program_of source.now.program)) }
+    ensures coded { IfOk result (λ section. IsCoded (program_of source.now.program)) }
 {
-    match compile_program(alloc, program) {
+    match compile(alloc, source) {
         Ok(section) => Ok(section),
-        Err(CompileFault::Memory(fault)) => Err(fault),
+        Err(CompileFault::Memory) => Err(AllocError),
         Err(CompileFault::TooLong) => unreachable!(),
     }
 }

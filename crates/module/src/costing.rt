@@ -5,7 +5,7 @@ ghost use Rattle.image.specs.Items.{partition_of};
 ghost use Rattle.window_table.specs.Views.{table_of};
 ghost use Rattle.module.specs.Costs.{AreCosted, AreCosts, AreCostsOf, IsCostOf, IsCostRefusal, IsCostRefusedWith};
 
-use crate::accepting::{AcceptedSource, accept_sources};
+use crate::accepting::accept_sources;
 use crate::building::read;
 use crate::fault::BuildFault;
 use apex_types::Name;
@@ -60,7 +60,7 @@ fn costs_with(
 fn costs_of_sources(
     alloc: Global,
     rows: &[PartitionRow],
-    sources: Vec<AcceptedSource>,
+    sources: Vec<Checked>,
 ) -> Result<Vec<PartitionCosts>, AllocError>
     requires { length sources.items ≡ length rows.now }
     ensures { IfOk result (λ costs. AreCostsOf (map partition_of rows.now) sources.items costs.items) }
@@ -79,15 +79,15 @@ fn costs_of_sources(
 fn partition_costs(
     alloc: Global,
     row: &PartitionRow,
-    source: AcceptedSource,
+    source: Checked,
 ) -> Result<PartitionCosts, AllocError>
     ensures { IfOk result (λ costs. IsCostOf (partition_of row.now) source costs) }
 {
-    let checked = Checked {
-        program: source.program,
-    };
-    Ok(PartitionCosts {
-        partition: row.name,
-        bodies: cost_report(alloc, &checked)?,
-    })
+    match cost_report(alloc, &source) {
+        Ok(bodies) => Ok(PartitionCosts {
+            partition: row.name,
+            bodies,
+        }),
+        Err(_) => Err(AllocError),
+    }
 }

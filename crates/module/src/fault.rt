@@ -8,6 +8,7 @@ ghost use Rattle.module.specs.declared.fault.RunFault.TheVariants as run;
 ghost use Rattle.module.specs.Lines.{build_line, line_of_both, run_line};
 
 use apex_types::{DeviceFault, Name};
+use compiler::CompileFault;
 use image::ImageFault;
 use module_base::fault_number;
 use pal_base::fault::{PalFault, Refusal};
@@ -26,9 +27,12 @@ pub enum BuildFault {
     Sources,
     /// The source of the partition of that name is refused.
     Pal { partition: Name, fault: PalFault },
-    /// The sources are accepted, and the program of the partition of that name would have more than
-    /// 65,536 instructions.
-    Compile(Name),
+    /// The sources are accepted, and the program of the partition of that name is not compiled: it would
+    /// have more than 65,536 instructions.
+    Compile {
+        partition: Name,
+        fault: CompileFault,
+    },
     Memory,
 }
 
@@ -54,7 +58,13 @@ impl fmt::Display for BuildFault {
                 fault.number(),
                 fault.line
             ),
-            BuildFault::Compile(partition) => write!(f, "compile {} 1", partition.as_str()),
+            BuildFault::Compile {
+                fault: CompileFault::Memory,
+                ..
+            } => { write!(f, "memory") }
+            BuildFault::Compile { partition, fault } => {
+                write!(f, "compile {} {}", partition.as_str(), fault.number())
+            }
         }
     }
 }

@@ -3,3 +3,4 @@ pub mod Tables
 pub mod Tests
 pub mod Counted
 pub mod Resolved
+pub mod Held

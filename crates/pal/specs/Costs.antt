@@ -7,7 +7,6 @@ use Rattle.pal_base.specs.declared.program.Procedure as code_procedure
 use Rattle.pal_base.specs.declared.program.Process as code_process
 use Rattle.pal_base.specs.declared.program.Program.{Program}
 use Rattle.pal_base.specs.ProgramView.{body_of, procedure_of}
-use Rattle.pal_base.specs.Costs.{held}
 use Rattle.pal.specs.declared.report.BodyCost.{BodyCost}
 use Rattle.pal.specs.declared.report.BodyName.{BodyName}
 use Rattle.pal.specs.declared.report.BodyName.TheVariants as name
@@ -16,9 +15,9 @@ use Rattle.pal.specs.declared.report.BodyName.TheVariants as name
 abbrev pub cost_of_body : BodyName → Body → BodyCost
 cost_of_body n b = record {
   name = n;
-  instructions = held (cost.size_of_body (body_of b));
-  frame = held (cost.frame_of_body (body_of b));
-  cost = held (cost.cost_of_body (body_of b));
+  instructions = cost.size_of_body (body_of b);
+  frame = cost.frame_of_body (body_of b);
+  cost = cost.cost_of_body (body_of b);
 }
 
 abbrev pub cost_of_handler : Option Body → List BodyCost
@@ -31,9 +30,9 @@ cost_of_process p = cost_of_body (name.Process p.name) p.body
 abbrev pub cost_of_procedure_body : BodyName → code_procedure.Procedure → BodyCost
 cost_of_procedure_body n p = record {
   name = n;
-  instructions = held (cost.size_of_procedure (procedure_of p));
-  frame = held (cost.frame_of_procedure (procedure_of p));
-  cost = held (cost.cost_of_procedure (procedure_of p));
+  instructions = cost.size_of_procedure (procedure_of p);
+  frame = cost.frame_of_procedure (procedure_of p);
+  cost = cost.cost_of_procedure (procedure_of p);
 }
 
 abbrev pub cost_of_procedure : code_procedure.Procedure → BodyCost

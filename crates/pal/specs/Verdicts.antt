@@ -9,7 +9,8 @@ use Rattle.pal_base.specs.declared.fault.PalFault.{PalFault}
 use Rattle.pal_base.specs.declared.fault.Refusal.{Refusal}
 use Rattle.pal_base.specs.declared.fault.Refusal.TheVariants as refusal
 use Rattle.pal.specs.Parts.{limits_hold_among, resolve_among}
-use Rattle.pal.specs.declared.verdict.Checked.{Checked}
+use Rattle.pal_base.specs.declared.checked.Checked.{Checked}
+use Rattle.pal_base.specs.declared.program.Program.{Program}
 
 -- a refusal has the number of the verdict; want of memory says nothing of it
 abbrev pub Refuses : Refusal → Result tree.Program Refused → Type 0
@@ -20,6 +21,11 @@ Refuses refusal.Kind verdict = verdict ≡ Err ByKind
 Refuses refusal.Limit verdict = verdict ≡ Err ByLimit
 Refuses refusal.Period verdict = verdict ≡ Err ByPeriod
 Refuses refusal.Memory verdict = Unit {0}
+
+-- the program with its names resolved is that of the verdict
+abbrev pub AnswersWith : Result Program PalFault → Result tree.Program Refused → Type 0
+AnswersWith (Ok program) verdict = verdict ≡ Ok (program_of program)
+AnswersWith (Err fault) verdict = Refuses fault.refusal verdict
 
 abbrev pub Answers : Result Checked PalFault → Result tree.Program Refused → Type 0
 Answers (Ok checked) verdict = verdict ≡ Ok (program_of checked.program)

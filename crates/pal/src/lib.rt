@@ -15,5 +15,6 @@ mod scope;
 mod table;
 mod verdict;
 
+pub use pal_base::checked::Checked;
 pub use report::{BodyCost, BodyName, cost_report};
-pub use verdict::{Checked, check};
+pub use verdict::check;

@@ -6,7 +6,8 @@ ghost use Rattle.apex_meaning.specs.Resolve.{Entry, declared_entries, declaratio
 ghost use Rattle.apex_meaning.specs.WellFormed.{are_new};
 ghost use Rattle.std.specs.Str.{bytes_eq};
 ghost use Rattle.pal_base.specs.View as view;
-ghost use Rattle.pal_base.specs.View.{texts, declaration_of, declared_of, process_of, program_of};
+ghost use Rattle.pal_base.specs.View.{texts, declaration_of, declared_of, process_of};
+ghost use Rattle.pal_base.specs.WrittenView.{program_of};
 ghost use Rattle.pal.specs.Tables.{entries_of, counts_of};
 
 use crate::lines::{Check, check_that, earliest};

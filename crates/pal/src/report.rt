@@ -1,15 +1,17 @@
 //! What the bodies of a program cost.
 
-ghost use Rattle.std.specs.Prelude.{◌≡◌, ◌++◌, ◌∷◌, [], min, map, option_map, IfOk, OnOk};
-ghost use Rattle.apex_meaning.specs.Cost as cost;
-ghost use Rattle.pal_base.specs.ProgramView.{body_of, procedure_of};
+ghost use Rattle.std.specs.Prelude.{◌≡◌, ◌++◌, map, option_map, IfOk, IfErr, OnOk};
+ghost use Rattle.apex_meaning.specs.Bounds.{AreCostsHeld, AreProceduresHeld, AreProcessesHeld, IsBodyHeld, IsHandlerHeld, IsProcedureHeld};
+ghost use Rattle.pal_base.specs.ProgramView.{body_of, procedure_of, process_of, program_of};
+ghost use Rattle.pal_base.specs.declared.fault.Refusal.TheVariants.{Memory};
 ghost use Rattle.pal.specs.Costs.{costs_of, cost_of_body, cost_of_handler, cost_of_process, cost_of_procedure, cost_of_procedure_body};
 
-use crate::verdict::Checked;
 use apex_types::Name;
+use pal_base::checked::Checked;
 use pal_base::cost::{Cost, cost_of_body, cost_of_procedure};
+use pal_base::fault::PalFault;
 use pal_base::frames::{frame_of_body, frame_of_procedure};
-use pal_base::program::{Body, Procedure, Process};
+use pal_base::program::{Body, Procedure, Process, Program};
 use std::alloc::{AllocError, Global};
 
 /// A body of a program.
@@ -22,8 +24,7 @@ pub enum BodyName {
 }
 
 /// What a body costs: its instructions, the words of stack of its frame, and the ticks of its
-/// constructs, each construct once and its end included. A number that does not fit 64 bits is the
-/// greatest number of 64 bits.
+/// constructs, each construct once and its end included.
 #[derive(Clone, Copy, Debug, PartialEq, Eq)]
 pub struct BodyCost {
     pub name: BodyName,
@@ -33,10 +34,22 @@ pub struct BodyCost {
 }
 
 /// The costs of the bodies of a program: INIT, the handler, the processes, the procedures.
-pub fn cost_report(alloc: Global, checked: &Checked) -> Result<Vec<BodyCost>, AllocError>
-    ensures { IfOk result (λ report. report.items ≡ costs_of checked.now.program) }
+///
+/// # Errors
+///
+/// 7 if memory ran out.
+#[tactic(auto, using(crate::proofs::Held::checked_costs))]
+pub fn cost_report(alloc: Global, checked: &Checked) -> Result<Vec<BodyCost>, PalFault>
+    ensures costs { IfOk result (λ report. report.items ≡ costs_of checked.now.program) }
+    ensures memory { IfErr result (λ fault. fault.refusal ≡ Memory) }
 {
-    let program = &checked.program;
+    Ok(report_program(alloc, &checked.program)?)
+}
+
+fn report_program(alloc: Global, program: &Program) -> Result<Vec<BodyCost>, AllocError>
+    requires { AreCostsHeld (program_of program.now) }
+    ensures { IfOk result (λ report. report.items ≡ costs_of program.now) }
+{
     let mut report = Vec::new(alloc);
     report.push(body_cost(BodyName::Init, &program.init))?;
     report_handler(&mut report, &program.handler)?;
@@ -46,6 +59,7 @@ pub fn cost_report(alloc: Global, checked: &Checked) -> Result<Vec<BodyCost>, Al
 }
 
 fn report_handler(report: &mut Vec<BodyCost>, handler: &Option<Body>) -> Result<(), AllocError>
+    requires { IsHandlerHeld (option_map body_of handler.now) }
     ensures { OnOk result (report.new.items ≡ report.old.items ++ cost_of_handler handler.now) }
 {
     if let Some(handler) = handler {
@@ -54,7 +68,9 @@ fn report_handler(report: &mut Vec<BodyCost>, handler: &Option<Body>) -> Result<
     Ok(())
 }
 
+#[tactic(auto, using(crate::proofs::Held::next_process))]
 fn report_processes(report: &mut Vec<BodyCost>, processes: &[Process]) -> Result<(), AllocError>
+    requires { AreProcessesHeld (map process_of processes.now) }
     ensures { OnOk result (report.new.items ≡ report.old.items ++ map cost_of_process processes.now) }
 {
     for process in processes {
@@ -63,7 +79,9 @@ fn report_processes(report: &mut Vec<BodyCost>, processes: &[Process]) -> Result
     Ok(())
 }
 
+#[tactic(auto, using(crate::proofs::Held::next_procedure))]
 fn report_procedures(report: &mut Vec<BodyCost>, procedures: &[Procedure]) -> Result<(), AllocError>
+    requires { AreProceduresHeld (map procedure_of procedures.now) }
     ensures { OnOk result (report.new.items ≡ report.old.items ++ map cost_of_procedure procedures.now) }
 {
     for procedure in procedures {
@@ -73,7 +91,9 @@ fn report_procedures(report: &mut Vec<BodyCost>, procedures: &[Procedure]) -> Re
     Ok(())
 }
 
+#[tactic(auto, using(crate::proofs::Held::body_is))]
 fn body_cost(name: BodyName, body: &Body) -> BodyCost
+    requires { IsBodyHeld (body_of body.now) }
     ensures { result ≡ cost_of_body name body.now }
 {
     let Cost { size, ticks } = cost_of_body(body);
@@ -85,7 +105,9 @@ fn body_cost(name: BodyName, body: &Body) -> BodyCost
     }
 }
 
+#[tactic(auto, using(crate::proofs::Held::procedure_is))]
 fn procedure_cost(name: BodyName, procedure: &Procedure) -> BodyCost
+    requires { IsProcedureHeld (procedure_of procedure.now) }
     ensures { result ≡ cost_of_procedure_body name procedure.now }
 {
     let Cost { size, ticks } = cost_of_procedure(procedure);

@@ -9,6 +9,7 @@ ghost use Rattle.apex_meaning.specs.Resolve as meant;
 ghost use Rattle.apex_meaning.specs.Resolve.{no_counts, counts_of, words_of, array_words, semaphore_of, buffer_of, blackboard_of, resolve_expr, resolve_exprs, resolve_links, resolve_stmt, resolve_block};
 ghost use Rattle.apex_meaning.specs.WellFormed.{keeps_declaration, keeps_process};
 ghost use Rattle.pal_base.specs.View as view;
+ghost use Rattle.pal_base.specs.WrittenView as written;
 ghost use Rattle.pal_base.specs.View.{texts, name_of, number_of, integer_of};
 ghost use Rattle.pal_base.specs.ProgramView as shown;
 ghost use Rattle.pal.specs.Tables.{entries_of};
@@ -37,9 +38,9 @@ pub fn resolve(
     declared: &NameTable,
     program: &Program,
 ) -> Result<program::Program, AllocError>
-    requires { limits_hold_among (entries_of declared.now) (view.program_of program.now) ≡ true }
-    ensures resolved { IfOk result (λ resolved. shown.program_of resolved ≡ resolve_among (entries_of declared.now) (view.program_of program.now)) }
-    ensures named { IfOk result (λ resolved. names_of_procedures resolved.procedures.items ≡ procedure_names (view.program_of program.now).declarations) }
+    requires { limits_hold_among (entries_of declared.now) (written.program_of program.now) ≡ true }
+    ensures resolved { IfOk result (λ resolved. shown.program_of resolved ≡ resolve_among (entries_of declared.now) (written.program_of program.now)) }
+    ensures named { IfOk result (λ resolved. names_of_procedures resolved.procedures.items ≡ procedure_names (written.program_of program.now).declarations) }
 {
     let names = &program.names;
     let declarations = &program.declarations;

@@ -2,10 +2,10 @@
 
 ghost use Rattle.std.specs.Prelude.{◌≡◌, is_ok, IfErr, IfOk};
 ghost use Rattle.apex_meaning.specs.WellFormed as well_formed;
-ghost use Rattle.pal_base.specs.View.{program_of};
+ghost use Rattle.pal_base.specs.WrittenView.{program_of};
 ghost use Rattle.pal.specs.ProcedureNames.{names_of_procedures, procedure_names};
 ghost use Rattle.pal.specs.Tables.{entries_of};
-ghost use Rattle.pal.specs.Verdicts.{Answers, verdict_among};
+ghost use Rattle.pal.specs.Verdicts.{Answers, AnswersWith, verdict_among};
 
 use crate::kinds::check_kinds;
 use crate::limits::check_limits;
@@ -15,18 +15,12 @@ use crate::names::check_names;
 use crate::periods::check_periods;
 use crate::resolving::resolve;
 use crate::table::NameTable;
+use pal_base::checked::Checked;
 use pal_base::fault::{PalFault, Refusal};
 use pal_base::program;
 use pal_base::syntax::Program;
 use std::alloc::Global;
 use window_table::PartitionRow;
-
-/// A program that is well formed for its partition.
-#[derive(Drop)]
-pub struct Checked {
-    /// The program with its names resolved.
-    pub program: program::Program,
-}
 
 /// The program with its names resolved, if it is well formed for a partition. Otherwise the refusal
 /// with the lowest number, and the first line that breaks this rule. The procedures stand in the order
@@ -35,13 +29,18 @@ pub fn check(alloc: Global, program: Program, row: &PartitionRow) -> Result<Chec
     ensures verdict { Answers result (well_formed.verdict row.now.ports.items row.now.period (program_of program)) }
     ensures named { IfOk result (λ checked. names_of_procedures checked.program.procedures.items ≡ procedure_names (program_of program).declarations) }
 {
-    judged(alloc, &program, row)
+    let resolved = judged(alloc, &program, row)?;
+    Ok(Checked { program: resolved })
 }
 
 /// As [`check`], but keeps the program.
-fn judged(alloc: Global, program: &Program, row: &PartitionRow) -> Result<Checked, PalFault>
-    ensures verdict { Answers result (well_formed.verdict row.now.ports.items row.now.period (program_of program.now)) }
-    ensures named { IfOk result (λ checked. names_of_procedures checked.program.procedures.items ≡ procedure_names (program_of program.now).declarations) }
+fn judged(
+    alloc: Global,
+    program: &Program,
+    row: &PartitionRow,
+) -> Result<program::Program, PalFault>
+    ensures verdict { AnswersWith result (well_formed.verdict row.now.ports.items row.now.period (program_of program.now)) }
+    ensures named { IfOk result (λ resolved. names_of_procedures resolved.procedures.items ≡ procedure_names (program_of program.now).declarations) }
 {
     let declared = declared_names(alloc, program, &row.ports)?;
     let names = check_names(alloc, &declared.table, program)?;
@@ -55,9 +54,9 @@ fn well_formed(
     declared: &NameTable,
     program: &Program,
     period: u32,
-) -> Result<Checked, PalFault>
-    ensures verdict { Answers result (verdict_among (entries_of declared.now) period (program_of program.now)) }
-    ensures named { IfOk result (λ checked. names_of_procedures checked.program.procedures.items ≡ procedure_names (program_of program.now).declarations) }
+) -> Result<program::Program, PalFault>
+    ensures verdict { AnswersWith result (verdict_among (entries_of declared.now) period (program_of program.now)) }
+    ensures named { IfOk result (λ resolved. names_of_procedures resolved.procedures.items ≡ procedure_names (program_of program.now).declarations) }
 {
     let kinds = check_kinds(alloc, declared, program)?;
     refused_by(Refusal::Kind, kinds)?;
@@ -65,8 +64,7 @@ fn well_formed(
     refused_by(Refusal::Limit, limits)?;
     let periods = check_periods(&program.processes, period);
     refused_by(Refusal::Period, periods)?;
-    let program = resolve(alloc, declared, program)?;
-    Ok(Checked { program })
+    Ok(resolve(alloc, declared, program)?)
 }
 
 /// The answer of a check, and for which rule it refuses.

@@ -15,6 +15,10 @@ IsText text = IsAscii text × (length text ≤ 1048576)
 abbrev pub IsProgramOf : List ℕ → tree.Program → Type 0
 IsProgramOf text program = IsText text × IsWritten (words_of text) program
 
+-- there is a text of the program
+abbrev pub HasText : tree.Program → Type 0
+HasText program = (text : List ℕ) × IsProgramOf text program
+
 -- where each refusal is answered; memory may run out on each source text
 abbrev pub IsRefused : Refusal → List ℕ → Type 0
 IsRefused Text text = IsText text → ⊥

@@ -1,4 +1,5 @@
 pub mod View
+pub mod WrittenView
 pub mod ProgramView
 pub mod Marks
 pub mod Seen
@@ -7,6 +8,7 @@ pub mod WordView
 pub mod Rows
 pub mod Reads
 pub mod Answers
+pub mod Accepted
 pub mod Numbers
 pub mod Parts
 pub mod Costs

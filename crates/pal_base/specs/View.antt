@@ -19,7 +19,6 @@ use Rattle.pal_base.specs.declared.syntax.DeclarationKind.TheVariants.{Variable,
 use Rattle.pal_base.specs.declared.syntax.Declaration.{Declaration}
 use Rattle.pal_base.specs.declared.syntax.StackBody.{StackBody}
 use Rattle.pal_base.specs.declared.syntax.Process.{Process}
-use Rattle.pal_base.specs.declared.syntax.Program.{Program}
 use Rattle.apex_meaning.specs.Syntax as tree
 
 -- the text of the name of that number, where there is one
@@ -130,10 +129,11 @@ process_of names p = record {
 abbrev pub texts : List (String Global) → List (List ℕ)
 texts ks = map string_bytes ks
 
-abbrev pub program_of : Program → tree.Program
-program_of p = let names = texts p.names.keys in record {
-  declarations = map (declaration_of names) p.declarations.items;
-  init = stack_body_of names p.init;
-  handler = option_map (stack_body_of names) p.handler;
-  processes = map (process_of names) p.processes.items;
+-- a program of these names and parts
+abbrev pub program_from : List (String Global) → List Declaration → StackBody → Option StackBody → List Process → tree.Program
+program_from keys declarations init handler processes = let names = texts keys in record {
+  declarations = map (declaration_of names) declarations;
+  init = stack_body_of names init;
+  handler = option_map (stack_body_of names) handler;
+  processes = map (process_of names) processes;
 }

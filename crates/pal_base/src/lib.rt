@@ -1,6 +1,7 @@
 //! Pal's trees: the program as it is written, and the program with its names resolved.
 #![tactic(auto)]
 
+pub mod checked;
 pub mod cost;
 mod declaration;
 mod expression;

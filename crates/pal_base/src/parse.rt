@@ -8,7 +8,8 @@ ghost use Rattle.pal_base.specs.Answers.{IsText, IsProgramOf, IsRefused};
 ghost use Rattle.pal_base.specs.Marks.{mark_text};
 ghost use Rattle.pal_base.specs.Parts.{parts_of};
 ghost use Rattle.pal_base.specs.Seen.{seen, names_of, Gives};
-ghost use Rattle.pal_base.specs.View.{stack_body_of, process_of, program_of};
+ghost use Rattle.pal_base.specs.View.{stack_body_of, process_of};
+ghost use Rattle.pal_base.specs.WrittenView.{program_of};
 
 use crate::fault::{PalFault, Refusal};
 use crate::mark::Mark;

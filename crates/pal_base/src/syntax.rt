@@ -1,5 +1,8 @@
 //! A program as it is written: names stand as names, each with the line of its word.
 
+ghost use Rattle.pal_base.specs.Answers.{HasText};
+ghost use Rattle.pal_base.specs.View.{program_from};
+
 use apex_types::{BinaryOperator, Discipline, Service, UnaryOperator};
 use indexmap::IndexSet;
 
@@ -135,7 +138,7 @@ pub struct Process {
     pub body: Body,
 }
 
-/// A program as it is written.
+/// A program as it is written in a source text.
 #[derive(Drop)]
 pub struct Program {
     pub names: IndexSet<String>,
@@ -143,4 +146,5 @@ pub struct Program {
     pub init: StackBody,
     pub handler: Option<StackBody>,
     pub processes: Vec<Process>,
+    pub ghost written: { ∥ HasText (program_from names.keys declarations.items init handler processes.items) ∥₁ },
 }

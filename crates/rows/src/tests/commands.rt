@@ -3,6 +3,7 @@
 use super::shelf::{Shelf, expect_command};
 use apex_types::{DeviceFault, Name};
 use command_line::Refusal;
+use compiler::CompileFault;
 use image::ImageFault;
 use module::{BuildFault, RunFault};
 use pal_base::fault::{PalFault, Refusal as SourceRefusal};
@@ -117,6 +118,8 @@ fn lines_that_name_a_partition(rt: HostRuntime) {
     let line = "mb: pal engine_1 3 line 1048577";
     expect_source_line(&rt, rt.alloc(), fault, line);
     expect_source_line(&rt, rt.alloc(), PalFault::MEMORY, "mb: memory");
-    let refusal = Refusal::Build(BuildFault::Compile(engine(&rt)));
+    let partition = engine(&rt);
+    let fault = CompileFault::TooLong;
+    let refusal = Refusal::Build(BuildFault::Compile { partition, fault });
     expect_line(&rt, rt.alloc(), &refusal, "mb: compile engine_1 1");
 }

@@ -6,7 +6,7 @@ use Rattle.std.proofs.lemmas.Option.{slice_get-map, slice_get-get_or}
 use Rattle.image.specs.Items.{partition_of}
 use Rattle.window_table.specs.declared.table.PartitionRow.{PartitionRow}
 use Rattle.module.specs.Sources.{AreSources}
-use Rattle.module.specs.declared.accepting.AcceptedSource.{AcceptedSource}
+use Rattle.pal_base.specs.declared.checked.Checked.{Checked}
 use Rattle.module.proofs.Built.{one_longer}
 use Rattle.module.proofs.Refused.{passed_on, drop_next, next_accepted, next_refused, here_refused, all_accepted}
 use Rattle.module.proofs.accepting.accept_sources.Goals as goal
@@ -15,7 +15,7 @@ pub loop-row-init : goal.loop-row-init
 loop-row-init c =
     record {
       place = ap length c.in_ok-accepted.ensures.items;
-      accepted = λ more h. subst (λ (given : List AcceptedSource). AreSources (map partition_of c.args.rows.now) (map (λ s. s.now) c.args.sources.now) (given ++ more)) (sym c.in_ok-accepted.ensures.items) h;
+      accepted = λ more h. subst (λ (given : List Checked). AreSources (map partition_of c.args.rows.now) (map (λ s. s.now) c.args.sources.now) (given ++ more)) (sym c.in_ok-accepted.ensures.items) h;
       refused = λ name r h. h;
     }
 

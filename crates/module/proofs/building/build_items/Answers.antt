@@ -5,7 +5,7 @@ use Rattle.std.proofs.lemmas.Option.{slice_get-map, slice_get_read}
 use Rattle.pal_base.specs.ProgramView.{program_of}
 use Rattle.window_table.specs.declared.table.PartitionRow.{PartitionRow}
 use Rattle.module.specs.Sources.{programs_of}
-use Rattle.module.specs.declared.accepting.AcceptedSource.{AcceptedSource}
+use Rattle.pal_base.specs.declared.checked.Checked.{Checked}
 use Rattle.module.proofs.Built.{one_is_short, one_longer, one_more_item, one_more_program}
 use Rattle.module.proofs.building.build_items.Goals as goal
 
@@ -25,7 +25,7 @@ build_item-requires c =
     let p = program_of source.program in
     let within : c.loop-row.place < length c.args.sources.now = stands_within c.loop-row.place c.in-Some.row _ _ _ c.in-Some.ensures.steps.0 c.loop-row.invariant.left in
     let got : slice_get (programs_of c.args.sources.now) c.loop-row.place ≡ Some p =
-    slice_get-map _ c.args.sources.now c.loop-row.place ∙ ap (option_map (λ (a : AcceptedSource). program_of a.program)) (slice_get_read c.args.sources.now _ c.loop-row.place source refl within c.index-sources-place.is) in
+    slice_get-map _ c.args.sources.now c.loop-row.place ∙ ap (option_map (λ (a : Checked). program_of a.program)) (slice_get_read c.args.sources.now _ c.loop-row.place source refl within c.index-sources-place.is) in
     one_is_short (programs_of c.args.sources.now) c.loop-row.place p c.requires.short got
 
 pub loop-row-preserved : goal.loop-row-preserved
@@ -35,7 +35,7 @@ loop-row-preserved c =
     let p = program_of source.program in
     let within : c.loop-row.place < length c.args.sources.now = stands_within c.loop-row.place c.in-Some.row _ _ _ c.in-Some.ensures.steps.0 c.loop-row.invariant.left in
     let got : slice_get (programs_of c.args.sources.now) c.loop-row.place ≡ Some p =
-    slice_get-map _ c.args.sources.now c.loop-row.place ∙ ap (option_map (λ (a : AcceptedSource). program_of a.program)) (slice_get_read c.args.sources.now _ c.loop-row.place source refl within c.index-sources-place.is) in
+    slice_get-map _ c.args.sources.now c.loop-row.place ∙ ap (option_map (λ (a : Checked). program_of a.program)) (slice_get_read c.args.sources.now _ c.loop-row.place source refl within c.index-sources-place.is) in
     record {
       place = one_longer c.loop-row.yielded c.in-Some.row c.loop-row.place c.loop-row.invariant.place;
       left = one_on c.loop-row.place c.in-Some.row _ _ _ c.in-Some.ensures.steps.0 c.loop-row.invariant.left;

@@ -1,6 +1,8 @@
 use Rattle.std.proofs.Common.{◌≡◌, ◌++◌, map, drop}
+use Rattle.apex_meaning.specs.Bounds.{AreProcessesHeld}
+use Rattle.pal_base.specs.ProgramView.{process_of}
 use Rattle.pal.specs.Costs.{cost_of_process}
 use Rattle.pal.proofs.report.report_processes.Given as goal
 
 abbrev pub invariant-loop-process : goal.invariant-loop-process
-invariant-loop-process l = l.report.items ++ map cost_of_process (drop l.process-index l.processes) ≡ l.fn.report.items ++ map cost_of_process l.processes
+invariant-loop-process l = (l.report.items ++ map cost_of_process (drop l.process-index l.processes) ≡ l.fn.report.items ++ map cost_of_process l.processes) × AreProcessesHeld (map process_of (drop l.process-index l.processes))

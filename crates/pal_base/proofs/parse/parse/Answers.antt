@@ -20,3 +20,10 @@ returns-clause-tree c =
     let view = token_of (texts c.in_ok-names.field-0.names.keys) in
     let words : map view c.as_slice.result.now ≡ grammar.words_of text = ap (map view) c.as_slice.ensures.value ∙ c.in_ok-names.ensures.words in
     (c.in_ok-judge_text.ensures.text, written_so text (map view c.as_slice.result.now) _ words c.in_ok-parts.ensures.exact)
+
+pub invariant_of-result : goal.invariant_of-result
+invariant_of-result c =
+    let text = c.args.text.now in
+    let view = token_of (texts c.in_ok-names.field-0.names.keys) in
+    let words : map view c.as_slice.result.now ≡ grammar.words_of text = ap (map view) c.as_slice.ensures.value ∙ c.in_ok-names.ensures.words in
+    record { written = ∣ (text, (c.in_ok-judge_text.ensures.text, written_so text (map view c.as_slice.result.now) _ words c.in_ok-parts.ensures.exact)) ∣₁ }
