@@ -4,7 +4,7 @@ ghost use Rattle.std.specs.Prelude.{◌≡◌, ◌≤◌, ◌+◌, ◌^◌, leng
 ghost use Rattle.apex_types.specs.Room.{HasRoom, Grows};
 ghost use Rattle.apex_meaning.specs.Kernel.{of_processes};
 ghost use Rattle.apex_meaning.specs.PartitionServices as meaning;
-ghost use Rattle.apex_meaning.specs.Processes.{row_of};
+ghost use Rattle.apex_meaning.specs.Processes.{rests_found, row_of};
 ghost use Rattle.apex_meaning.specs.Step.{IsMade, IsTold};
 
 use crate::kernel::Kernel;
@@ -43,7 +43,7 @@ impl Kernel {
     /// This one becomes dormant.
     pub(crate) fn rest(&mut self, runner: Runner, out: &mut Out)
         requires { HasRoom 1 out.old }
-        ensures step { IsMade (of_processes self.old (meaning.rests_found self.old.processes runner (row_of self.old.processes runner))) self.new out.old out.new }
+        ensures step { IsMade (of_processes self.old (rests_found self.old.processes runner (row_of self.old.processes runner))) self.new out.old out.new }
         ensures grows { Grows 1 out.old out.new }
     {
         if let Some(row) = self.processes.row(runner) {

@@ -19,7 +19,7 @@ pub struct Partition<E: Executor> {
     pub(crate) out: Out,
 }
 
-impl<E: Executor> Partition<E> {
+impl<E: Executor + Drop> Partition<E> {
     /// The partition of a section with these ports, in idle mode: no process, object or port is created, no
     /// message is there, and no error waits. Its processes run on the executor, on which what was begun
     /// stays so. An error is one of memory.
@@ -40,7 +40,9 @@ impl<E: Executor> Partition<E> {
             out: Out::new(),
         })
     }
+}
 
+impl<E: Executor> Partition<E> {
     /// The kernel's state, to be read.
     pub fn kernel(&self) -> &Kernel
         ensures { result.now ≡ self.now.kernel }
