@@ -5,6 +5,7 @@ use Rattle.std.specs.Prelude.{slice_get, slice_set, option_map}
 use Rattle.std.specs.List.{flat_map}
 use Rattle.apex_types.specs.Runners.{place_of}
 use Rattle.apex_types.specs.declared.event.Event.{Event}
+use Rattle.apex_types.specs.declared.codes.Mode.{Mode}
 use Rattle.apex_types.specs.declared.codes.Mode.TheVariants as mode
 use Rattle.apex_types.specs.declared.codes.ModuleAction.{ModuleAction}
 use Rattle.apex_types.specs.declared.codes.ModuleAction.TheVariants as reaction
@@ -25,10 +26,10 @@ use Rattle.apex_types.specs.declared.identity.Runner.{Runner}
 use Rattle.apex_types.specs.declared.process.Action.{Action}
 use Rattle.apex_types.specs.declared.process.Action.TheVariants as action
 use Rattle.apex_meaning.specs.Engine.{Engine, Ticked, Asks, Simulates}
-use Rattle.apex_meaning.specs.Kernel.{Kernel, of_ports, of_ports_alone, with_ports}
-use Rattle.apex_meaning.specs.HealthServices.{breaks}
+use Rattle.apex_meaning.specs.Kernel.{Kernel, of_processes, of_ports, of_ports_alone, with_ports}
+use Rattle.apex_meaning.specs.HealthServices.{breaks, then_clears}
 use Rattle.apex_meaning.specs.PartitionServices.{clears}
-use Rattle.apex_meaning.specs.Partition.{World, Member, Moved, control_at, replied, no_control, written, with_error, without_errors, act, act_all, moved, followed_by, ticked, chooses_with_handler, spends, spends_chosen, spending_phase, given, treats_asked, treats_due, due_phase, choice_phase, prepares, tick, cold_start, breaks_down, advances, arrives, leaves, leaving, admits, goes_out, place_of_port, messages_to_move}
+use Rattle.apex_meaning.specs.Partition.{World, Member, Moved, control_at, replied, no_control, written, with_error, act, act_all, moved, followed_by, ticked, chooses_with_handler, spends, spends_chosen, spending_phase, given, treats_asked, treats_due, treating_phase, clearing_phase, due_phase, choice_phase, prepares, tick, cold_start, breaks_down, advances, arrives, leaves, leaving, admits, goes_out, place_of_port, messages_to_move}
 use Rattle.apex_meaning.specs.Step.{Step}
 use Rattle.apex_meaning.specs.Windows.{owner, ended}
 use Rattle.apex_meaning.specs.Module.{Plan, Advanced, Course, goes_on, unless_down, then_runs, still, then_goes, steps, steps_member, of_member, ports_of, ports_from, delivers, delivers_all, goes_by, inputs, inputs_all, of_tick, channel_from, moves_found, moves_message, moves_messages, moves_so_many, moves_port, moves_ports, moves_ended, first_tick, next_tick, start_lines, starts_all, starts, tells_fault, as_origin, breaks_module, ticks_owner, moves_and_ticks, module_tick, trace_from, trace}
@@ -82,7 +83,7 @@ module _ {C D : Type 0} (R : C → D → Type 0) where
     same_act : (a : Action) (k : Kernel) (f : List (Option C)) (g : List (Option D)) (ws i : List ℤ) → SameControls R f g → SameWorld R (act c a (world k f ws i)) (act d a (world k g ws i))
     same_act (action.Begin p) k f g ws i h = same_world k _ _ ws i (same_set f g (place_of p) (Some (c.start p)) (Some (d.start p)) h (s.start p))
     same_act (action.Stop p) k f g ws i h = same_world k _ _ ws i (same_set f g (place_of p) None None h tt)
-    same_act action.StopAll k f g ws i h = same_world (without_errors k) _ _ ws i (same_none f g h)
+    same_act action.StopAll k f g ws i h = same_world k _ _ ws i (same_none f g h)
     same_act (action.Reply p answer) k f g ws i h = same_world k _ _ ws i (same_set f g (place_of p) (replied c (control_at f (place_of p)) answer.items) (replied d (control_at g (place_of p)) answer.items) h (same_replied (control_at f (place_of p)) (control_at g (place_of p)) answer.items (same_get f g (place_of p) h)))
     same_act action.Restore k f g ws i h = same_world k f g i i h
     same_act (action.Write place array) k f g ws i h = same_world k f g (written place array.items ws) i h
@@ -104,8 +105,14 @@ module _ {C D : Type 0} (R : C → D → Type 0) where
         let then_same : SameMoved R (p m.world) (q n.world) = shared (λ v w. SameMoved R (p v) (q w)) m.world n.world rest h.world in
         record { world = then_same.world; lines = ap (λ (xs : List Event). xs ++ (p m.world).lines) h.lines ∙ ap (λ (xs : List Event). n.lines ++ xs) then_same.lines }
 
+    same_treating : (at : At) (k : Kernel) (f : List (Option C)) (g : List (Option D)) (ws i : List ℤ) → SameControls R f g → SameMoved R (treating_phase c at (world k f ws i)) (treating_phase d at (world k g ws i))
+    same_treating at k f g ws i h = same_step at (of_processes k (treats_due at k).step) k f g ws i h
+
+    same_clearing : (at : At) (clears : Option Mode) (k : Kernel) (f : List (Option C)) (g : List (Option D)) (ws i : List ℤ) → SameControls R f g → SameMoved R (clearing_phase c at clears (world k f ws i)) (clearing_phase d at clears (world k g ws i))
+    same_clearing at clears k f g ws i h = same_step at (then_clears k clears) k f g ws i h
+
     same_due : (at : At) (k : Kernel) (f : List (Option C)) (g : List (Option D)) (ws i : List ℤ) → SameControls R f g → SameMoved R (due_phase c at (world k f ws i)) (due_phase d at (world k g ws i))
-    same_due at k f g ws i h = same_step at (treats_due at k) k f g ws i h
+    same_due at k f g ws i h = same_followed _ _ (clearing_phase c at (treats_due at k).clears) (clearing_phase d at (treats_due at k).clears) (same_treating at k f g ws i h) (same_clearing at (treats_due at k).clears)
 
     same_choice : (at : At) (k : Kernel) (f : List (Option C)) (g : List (Option D)) (ws i : List ℤ) → SameControls R f g → SameMoved R (choice_phase c at (world k f ws i)) (choice_phase d at (world k g ws i))
     same_choice at k f g ws i h = same_step at (chooses_with_handler k) k f g ws i h

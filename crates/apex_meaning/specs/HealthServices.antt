@@ -3,10 +3,12 @@ use Rattle.std.specs.Prelude.{ℕ, ◌+◌, ◌-◌, ℤ, pos, Bool, true, false
 use Rattle.std.specs.Ordering.{int_eq}
 use Rattle.apex_types.specs.declared.codes.ErrorKind.{ErrorKind}
 use Rattle.apex_types.specs.declared.codes.ErrorKind.TheVariants as error
+use Rattle.apex_types.specs.declared.codes.ErrorLevel.{ErrorLevel}
+use Rattle.apex_types.specs.declared.codes.ErrorLevel.TheVariants as level
 use Rattle.apex_types.specs.declared.codes.Mode.{Mode}
 use Rattle.apex_types.specs.declared.codes.PartitionAction.{PartitionAction}
 use Rattle.apex_types.specs.declared.codes.Response.{Response}
-use Rattle.apex_types.specs.declared.codes.Response.TheVariants as level
+use Rattle.apex_types.specs.declared.codes.Response.TheVariants as response
 use Rattle.apex_types.specs.declared.codes.Mode.TheVariants as mode
 use Rattle.apex_types.specs.declared.codes.ReturnCode.TheVariants as code
 use Rattle.apex_types.specs.declared.codes.StartCondition.TheVariants as condition
@@ -24,12 +26,12 @@ use Rattle.apex_types.specs.declared.service.Service.TheVariants as service
 use Rattle.apex_meaning.specs.Due.{mode_of_action}
 use Rattle.apex_meaning.specs.Errors.{Errors}
 use Rattle.apex_meaning.specs.Kernel.{Kernel, of_processes, with_errors}
-use Rattle.apex_meaning.specs.PartitionServices.{clears, rests_found}
-use Rattle.apex_meaning.specs.Processes.{Processes, row_of, put_row, subject, answers, refuses, wakes, is_created, is_dormant, is_normal, is_same}
+use Rattle.apex_meaning.specs.PartitionServices.{clears}
+use Rattle.apex_meaning.specs.Processes.{Processes, row_of, put_row, rests_found, subject, answers, refuses, wakes, is_created, is_dormant, is_normal, is_same}
 use Rattle.apex_meaning.specs.Sharing as sharing
 use Rattle.apex_meaning.specs.Sharing.{Sharing, becomes, is_large_enough}
 use Rattle.apex_meaning.specs.Starts.{begins}
-use Rattle.apex_meaning.specs.Step.{Step, nothing, after, message, first_words, row}
+use Rattle.apex_meaning.specs.Step.{Step, nothing, after, lifted, message, first_words, row}
 use Rattle.apex_meaning.specs.Waiting.{fills}
 
 -- ---- REPORT_APPLICATION_MESSAGE
@@ -136,20 +138,57 @@ action_of h error.HardwareFault = h.hardware_fault
 abbrev pub free_places : Mode → Sharing Errors → ℕ
 free_places m b = if is_normal m && is_handler_created b.processes then MOST_ERRORS - length b.shared.waiting else 0
 
--- an error of a process waits for the handler, where there is room
-abbrev pub may_wait : Mode → Sharing Errors → Runner → Bool
-may_wait m b (runner.Process p) = nat_lt 0 (free_places m b)
-may_wait m b _ = false
+-- the level of an error of p: that of the process where it may wait for the handler, else the partition's
+abbrev pub level_of : Mode → Sharing Errors → Runner → ErrorLevel
+level_of m b (runner.Process p) = if nat_lt 0 (free_places m b) then level.Process else level.Partition
+level_of m b _ = level.Partition
 
--- any other error is handled by the partition's action for it
+-- at the level of a process the handler takes it, at the partition's this action
+abbrev pub response_at : ErrorLevel → PartitionAction → Response
+response_at level.Process action = response.Handler
+response_at _ action = response.Partition action
+
 abbrev pub response_of : HealthTable → Mode → Sharing Errors → Runner → ErrorKind → Response
-response_of h m b p e = if may_wait m b p then level.Handler else level.Partition (action_of h e)
+response_of h m b p e = response_at (level_of m b p) (action_of h e)
 
 -- the line of an error, of this one if it is of a process, and how it is handled
-abbrev pub tells_error : Kernel → ErrorKind → Option Subject → Response → Step Kernel
-tells_error k e who response = record { part = k; lines = event.Error e who response ∷ []; actions = [] }
+abbrev pub tells_error : {P : Type 0} → P → ErrorKind → Option Subject → Response → Step P
+tells_error part e who response = record { part = part; lines = event.Error e who response ∷ []; actions = [] }
 
--- ---- what is done on an error
+-- the error of a process waits, with its message
+abbrev pub queues : Runner → ErrorKind → List ℤ → Step (Option PartitionAction)
+queues (runner.Process p) e words = record { part = None; lines = []; actions = asks.Queue (record { kind = e; process = p; words = message words }) ∷ [] }
+queues _ e words = nothing None
+
+-- the error waits for the handler, or an action of the partition is left to be done
+abbrev pub waits_or_leaves : Runner → ErrorKind → List ℤ → Response → Step (Option PartitionAction)
+waits_or_leaves p e words response.Handler = queues p e words
+waits_or_leaves p e words (response.Partition action) = nothing (Some action)
+waits_or_leaves p e words (response.Module action) = nothing None
+
+-- An error of p: its line, then it waits for the handler, or the partition's action for it is left to be done.
+abbrev pub raises : HealthTable → Mode → Sharing Errors → Runner → ErrorKind → List ℤ → Step (Option PartitionAction)
+raises h m b p e words =
+    let how = response_of h m b p e in
+    after (tells_error None e (Some (subject b.processes p)) how) (waits_or_leaves p e words how)
+
+-- ---- RAISE_APPLICATION_ERROR
+
+-- what a service does, with no action of the partition left to be done
+abbrev pub leaves_none : Step Processes → Step (Option PartitionAction)
+leaves_none s = lifted (λ (t : Processes). None) s
+
+-- The caller's error APPLICATION_ERROR, with the first words of those that the call hands in.
+abbrev pub raise_application_error : HealthTable → Mode → Sharing Errors → Runner → ℤ → ArrayPlace → ℤ → List ℤ → Step (Option PartitionAction)
+raise_application_error h m b p e array length words =
+    row (λ c. leaves_none (refuses b.processes p service.RaiseApplicationError c))
+    ((not (int_eq e (pos 1)), code.InvalidParam)
+    ∷ (not (is_message_length array.size length), code.InvalidParam)
+    ∷ [])
+    (after (leaves_none (answers b.processes p service.RaiseApplicationError code.NoError []))
+    (raises h m b p error.ApplicationError (first_words length words)))
+
+-- ---- what the partition does on an error
 
 -- an error in what a process executes, after which it does not go on
 abbrev pub is_fault : ErrorKind → Bool
@@ -165,25 +204,22 @@ goes_on k runner.Init e = if is_fault e then clears k mode.Idle condition.HmPart
 goes_on k _ e = nothing k
 
 -- the partition enters the mode that its action for the error leads to, if it leads to one
-abbrev pub acts_on_error : Kernel → Runner → ErrorKind → Option Mode → Step Kernel
-acts_on_error k p e None = goes_on k p e
-acts_on_error k p e (Some m) = clears k m condition.HmPartitionRestart
+abbrev pub enters_mode : Kernel → Runner → ErrorKind → Option Mode → Step Kernel
+enters_mode k p e None = goes_on k p e
+enters_mode k p e (Some m) = clears k m condition.HmPartitionRestart
 
--- the error of a process waits, with its message
-abbrev pub queues : Kernel → Runner → ErrorKind → List ℤ → Step Kernel
-queues k (runner.Process p) e words = record { part = k; lines = []; actions = asks.Queue (record { kind = e; process = p; words = message words }) ∷ [] }
-queues k _ e words = nothing k
+-- the partition's action for an error of p, if one is left to be done
+abbrev pub acts_on_error : Kernel → Runner → ErrorKind → Option PartitionAction → Step Kernel
+acts_on_error k p e None = nothing k
+acts_on_error k p e (Some action) = enters_mode k p e (mode_of_action action)
 
-abbrev pub responds : Kernel → Runner → ErrorKind → List ℤ → Response → Step Kernel
-responds k p e words level.Handler = queues k p e words
-responds k p e words (level.Partition action) = acts_on_error k p e (mode_of_action action)
-responds k p e words (level.Module action) = nothing k
+-- a step on an error of p, then the action that it leaves to be done
+abbrev pub then_acts : Kernel → Runner → ErrorKind → Step (Option PartitionAction) → Step Kernel
+then_acts k p e s = after (lifted (λ (left : Option PartitionAction). k) s) (acts_on_error k p e s.part)
 
 -- the line of an error of p, then what is done
 abbrev pub handles : Kernel → Runner → ErrorKind → List ℤ → Step Kernel
-handles k p e words =
-    let response = response_of k.fixed.health k.mode (with_errors k) p e in
-    after (tells_error k e (Some (subject k.processes p)) response) (responds k p e words response)
+handles k p e words = then_acts k p e (raises k.fixed.health k.mode (with_errors k) p e words)
 
 -- one with a fault becomes dormant first
 abbrev pub faults : Kernel → Runner → ErrorKind → Step Kernel
@@ -198,15 +234,8 @@ then_clears k (Some m) = clears k m condition.HmPartitionRestart
 abbrev pub breaks : Kernel → Step Kernel
 breaks k =
     let action = action_of k.fixed.health error.HardwareFault in
-    after (tells_error k error.HardwareFault None (level.Partition action)) (then_clears k (mode_of_action action))
+    after (tells_error k error.HardwareFault None (response.Partition action)) (then_clears k (mode_of_action action))
 
--- ---- RAISE_APPLICATION_ERROR
-
--- The caller's error APPLICATION_ERROR, with the first words of those that the call hands in.
-abbrev pub raise_application_error : Kernel → Runner → ℤ → ArrayPlace → ℤ → List ℤ → Step Kernel
-raise_application_error k p e array length words =
-    row (λ c. of_processes k (refuses k.processes p service.RaiseApplicationError c))
-    ((not (int_eq e (pos 1)), code.InvalidParam)
-    ∷ (not (is_message_length array.size length), code.InvalidParam)
-    ∷ [])
-    (after (of_processes k (answers k.processes p service.RaiseApplicationError code.NoError [])) (handles k p error.ApplicationError (first_words length words)))
+-- RAISE_APPLICATION_ERROR, with the action that it leaves to be done
+abbrev pub raises_application_error : Kernel → Runner → ℤ → ArrayPlace → ℤ → List ℤ → Step Kernel
+raises_application_error k p e array length words = then_acts k p error.ApplicationError (raise_application_error k.fixed.health k.mode (with_errors k) p e array length words)

@@ -26,8 +26,8 @@ use Rattle.apex_types.specs.declared.service.Call.{Call}
 use Rattle.apex_types.specs.declared.service.Call.TheVariants as call
 use Rattle.apex_meaning.specs.Due.{Treated, due}
 use Rattle.apex_meaning.specs.Engine.{Engine, Ticked, Asks, Nothing, Calls, Faults, Ends}
-use Rattle.apex_meaning.specs.Errors.{queued, emptied_errors}
-use Rattle.apex_meaning.specs.HealthServices.{action_of, breaks, create_error_handler, faults, free_places, get_error_status, raise_application_error, report, starts_handler, then_clears}
+use Rattle.apex_meaning.specs.Errors.{queued}
+use Rattle.apex_meaning.specs.HealthServices.{action_of, breaks, create_error_handler, faults, free_places, get_error_status, raises_application_error, report, starts_handler, then_clears}
 use Rattle.apex_meaning.specs.Kernel.{Kernel, of_processes, of_errors, of_objects, of_ports, of_ports_alone, with_errors, with_objects, with_ports}
 use Rattle.apex_meaning.specs.ObjectServices as objects
 use Rattle.apex_meaning.specs.Arrival as arrival
@@ -98,11 +98,8 @@ chooses_with_handler k = of_processes k (let s = starts_handler k.mode (with_err
 
 -- ---- what is due
 
-abbrev pub ends_due : Kernel → Treated → Step Kernel
-ends_due k d = let s = of_processes k d.step in after s (then_clears s.part d.clears)
-
-abbrev pub treats_due : At → Kernel → Step Kernel
-treats_due at k = ends_due k (due at (free_places k.mode (with_errors k)) (action_of k.fixed.health DeadlineMissed) k.processes)
+abbrev pub treats_due : At → Kernel → Treated
+treats_due at k = due at (free_places k.mode (with_errors k)) (action_of k.fixed.health DeadlineMissed) k.processes
 
 -- ---- what a process asks for
 
@@ -162,7 +159,7 @@ serves at k p call.StopSelf words = ends_body k p
 serves at k p (call.ReportApplicationMessage array length) words = of_processes k (report k.processes p array length words)
 serves at k p call.CreateErrorHandler words = of_errors k (create_error_handler k.mode (with_errors k) p)
 serves at k p (call.GetErrorStatus array) words = of_errors k (get_error_status (with_errors k) p array)
-serves at k p (call.RaiseApplicationError error array length) words = raise_application_error k p error array length words
+serves at k p (call.RaiseApplicationError error array length) words = raises_application_error k p error array length words
 serves at k p c words = serves_processes at k p c words
 
 abbrev pub treats_asked : At → Kernel → Runner → Asks → List ℤ → Step Kernel
@@ -206,18 +203,15 @@ abbrev pub written : ℤ → List ℤ → List ℤ → List ℤ
 written (pos place) array words = put_words words place array
 written (negsuc n) array words = words
 
--- the kernel with one more error that waits, and with none
+-- the kernel with one more error that waits
 abbrev pub with_error : Kernel → WaitingError → Kernel
 with_error k e = record k { errors = queued k.errors e }
-
-abbrev pub without_errors : Kernel → Kernel
-without_errors k = record k { errors = emptied_errors k.errors }
 
 -- What the kernel asks is done.
 abbrev pub act : {C : Type 0} → Engine C → Action → World C → World C
 act e (action.Begin p) w = record w { controls = slice_set w.controls (place_of p) (Some (e.start p)) }
 act e (action.Stop p) w = record w { controls = slice_set w.controls (place_of p) None }
-act e action.StopAll w = record w { controls = map no_control w.controls; kernel = without_errors w.kernel }
+act e action.StopAll w = record w { controls = map no_control w.controls }
 act e (action.Reply p answer) w = record w { controls = slice_set w.controls (place_of p) (replied e (control_at w.controls (place_of p)) answer.items) }
 act e action.Restore w = record w { words = w.initial }
 act e (action.Write place array) w = record w { words = written place array.items w.words }
@@ -267,8 +261,16 @@ abbrev pub spends_chosen : {C : Type 0} → Engine C → At → Option Runner �
 spends_chosen e at None w = record { world = w; lines = [] }
 spends_chosen e at (Some p) w = spends e at p w
 
+-- due times and deadlines of the processes
+abbrev pub treating_phase : {C : Type 0} → Engine C → At → World C → Moved C
+treating_phase e at w = moved at e (of_processes w.kernel (treats_due at w.kernel).step) w
+
+-- the Clear that a missed deadline leads to
+abbrev pub clearing_phase : {C : Type 0} → Engine C → At → Option Mode → World C → Moved C
+clearing_phase e at clears w = moved at e (then_clears w.kernel clears) w
+
 abbrev pub due_phase : {C : Type 0} → Engine C → At → World C → Moved C
-due_phase e at w = moved at e (treats_due at w.kernel) w
+due_phase e at w = followed_by (treating_phase e at w) (clearing_phase e at (treats_due at w.kernel).clears)
 
 abbrev pub choice_phase : {C : Type 0} → Engine C → At → World C → Moved C
 choice_phase e at w = moved at e (chooses_with_handler w.kernel) w

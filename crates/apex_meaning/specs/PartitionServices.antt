@@ -18,12 +18,13 @@ use Rattle.apex_types.specs.declared.process.Lock.TheVariants as lock
 use Rattle.apex_types.specs.declared.process.ProcessStatus.{ProcessStatus}
 use Rattle.apex_types.specs.declared.process.Wait.TheVariants as wait
 use Rattle.apex_types.specs.declared.service.Service.TheVariants as service
+use Rattle.apex_meaning.specs.Errors.{emptied_errors}
 use Rattle.apex_meaning.specs.Kernel.{Kernel, of_processes}
 use Rattle.apex_meaning.specs.Objects.{cleared_objects}
 use Rattle.apex_meaning.specs.Ports.{cleared_ports}
 use Rattle.apex_meaning.specs.Queues.{emptied}
-use Rattle.apex_meaning.specs.Processes.{Processes, row_of, rests, answers, refuses, is_normal}
-use Rattle.apex_meaning.specs.ProcessServices.{level_of}
+use Rattle.apex_meaning.specs.Processes.{Processes, row_of, rests_found, answers, refuses, is_normal}
+use Rattle.apex_meaning.specs.ProcessServices.{level_of, stop_self}
 use Rattle.apex_meaning.specs.Starts.{start_all_waiting}
 use Rattle.apex_meaning.specs.Step.{Step, nothing, after, row}
 use Rattle.apex_meaning.specs.Windows.{next_release}
@@ -52,7 +53,7 @@ abbrev pub cleared_processes : Mode → Processes → Processes
 cleared_processes m s = record { rows = started_rows m (map forgotten s.rows); ready = []; running = None; lock = lock.Free; queues = emptied s.queues; handed = s.handed }
 
 abbrev pub cleared : Kernel → Mode → StartCondition → Kernel
-cleared k m c = record k { mode = m; condition = c; processes = cleared_processes m k.processes; objects = cleared_objects k.objects; ports = cleared_ports k.ports }
+cleared k m c = record k { mode = m; condition = c; processes = cleared_processes m k.processes; objects = cleared_objects k.objects; ports = cleared_ports k.ports; errors = emptied_errors k.errors }
 
 abbrev pub clear_actions : Mode → List Action
 clear_actions mode.Idle = action.StopAll ∷ []
@@ -72,10 +73,6 @@ clears k m c = record { part = cleared k m c; lines = clear_lines m; actions = c
 
 abbrev pub enters_normal : Kernel → Step Kernel
 enters_normal k = record { part = record k { mode = mode.Normal }; lines = event.Mode mode.Normal ∷ []; actions = [] }
-
-abbrev pub rests_found : Processes → Runner → Option ProcessStatus → Step Processes
-rests_found s p None = nothing s
-rests_found s p (Some r) = rests s p r
 
 -- the next release point of the partition
 abbrev pub next_release_of : At → Kernel → ℕ
@@ -146,4 +143,4 @@ set_partition_mode at k p m =
 -- partition idle.
 abbrev pub ends_body : Kernel → Runner → Step Kernel
 ends_body k runner.Init = clears k mode.Idle condition.PartitionRestart
-ends_body k p = of_processes k (rests_found k.processes p (row_of k.processes p))
+ends_body k p = of_processes k (stop_self k.processes p)

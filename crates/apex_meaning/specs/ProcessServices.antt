@@ -20,7 +20,7 @@ use Rattle.apex_types.specs.declared.service.Service.{Service}
 use Rattle.apex_types.specs.declared.service.Service.TheVariants as service
 use Rattle.apex_meaning.specs.Durations.{is_delay, is_duration, amount}
 use Rattle.apex_meaning.specs.Operators.{is_zero}
-use Rattle.apex_meaning.specs.Processes.{Processes, row_of, put_row, put_ready, wakes, waits, rests, answers, refuses, released, process_at, has, on, is_created, is_dormant, is_held, is_periodic, is_same, is_suspended, is_unknown, is_no_other, is_busy, is_normal}
+use Rattle.apex_meaning.specs.Processes.{Processes, row_of, put_row, put_ready, wakes, waits, rests, rests_found, answers, refuses, released, process_at, has, on, is_created, is_dormant, is_held, is_periodic, is_same, is_suspended, is_unknown, is_no_other, is_busy, is_normal}
 use Rattle.apex_meaning.specs.Starts.{starts, ticks}
 use Rattle.apex_meaning.specs.Step.{Step, nothing, after, row}
 
@@ -174,6 +174,13 @@ stop s p id =
     ∷ (has (process_at s id) is_dormant, code.NoAction)
     ∷ [])
     (after (answers s p service.Stop code.NoError []) (on (process_at s id) s (rests s)))
+
+-- ---- STOP_SELF
+
+-- The caller becomes dormant, and gets no answer. At INIT's end nothing is done here: the partition clears.
+abbrev pub stop_self : Processes → Runner → Step Processes
+stop_self s runner.Init = nothing s
+stop_self s p = rests_found s p (row_of s p)
 
 -- ---- START and DELAYED_START; `next` is the partition's next release point
 

@@ -154,6 +154,10 @@ rests s p r = record {
   actions = action.Stop p ∷ [];
 }
 
+abbrev pub rests_found : Processes → Runner → Option ProcessStatus → Step Processes
+rests_found s p None = nothing s
+rests_found s p (Some r) = rests s p r
+
 -- ---- answers
 
 abbrev pub answers : Processes → Runner → Service → ReturnCode → List ℤ → Step Processes

@@ -99,7 +99,7 @@ pub enum Action {
     Begin(Runner),
     /// The process has nothing left to do.
     Stop(Runner),
-    /// No process has anything left to do, and no error waits for the error handler.
+    /// No process has anything left to do.
     #[default]
     StopAll,
     /// The answer to a service call: the code, then the outputs.

@@ -4,10 +4,12 @@
 
 mod errors;
 mod handler;
+mod raise;
 mod respond;
 mod tell;
 
 pub use errors::Errors;
 pub use handler::{create_error_handler, get_error_status, start_handler};
-pub use respond::{action_of, free_places, response_of};
+pub use raise::raise_application_error;
+pub use respond::{action_of, free_places, level_of, raise_error};
 pub use tell::{is_message_length, report_application_message};

@@ -1,11 +1,16 @@
-//! How an error is handled: by the error handler, or by the partition's action for it.
+//! Errors, and how they are handled: by the error handler, or by the partition's action for them.
 
 ghost use Rattle.std.specs.Prelude.{◌≡◌};
+ghost use Rattle.apex_types.specs.Room.{HasRoom, Grows};
 ghost use Rattle.apex_meaning.specs.HealthServices as meaning;
 ghost use Rattle.apex_meaning.specs.Sharing.{both};
+ghost use Rattle.apex_meaning.specs.Step.{IsMade, IsTold};
 
 use crate::errors::Errors;
-use apex_types::{ErrorKind, HealthTable, Mode, PartitionAction, Response, Runner};
+use apex_types::{
+    Action, ErrorKind, ErrorLevel, EventKind, HealthTable, Mode, Out, PartitionAction, Response, Runner,
+    WaitingError, Words,
+};
 use process_table_base::ProcessTable;
 
 /// Whether the error handler was created since the last Clear.
@@ -45,31 +50,85 @@ pub fn action_of(table: HealthTable, error: ErrorKind) -> PartitionAction
     }
 }
 
-/// An error of a process waits for the handler, where there is room.
-fn may_wait(mode: Mode, table: &ProcessTable, errors: &Errors, runner: Runner) -> bool
-    ensures { result ≡ meaning.may_wait mode (both table.now errors.now) runner }
+/// The level of an error of this one: process level, if it is the error of a process and may wait for
+/// the error handler; else partition level.
+pub fn level_of(mode: Mode, table: &ProcessTable, errors: &Errors, runner: Runner) -> ErrorLevel
+    ensures { result ≡ meaning.level_of mode (both table.now errors.now) runner }
 {
     match runner {
-        Runner::Process(_) => free_places(table, errors, mode) > 0,
-        _ => false,
+        Runner::Process(_) if free_places(table, errors, mode) > 0 => ErrorLevel::Process,
+        _ => ErrorLevel::Partition,
     }
 }
 
-/// How an error of this one is handled: at process level, by the error handler, if it is the error of
-/// a process and the handler has room for it; else at partition level, by the partition's action for it.
-pub fn response_of(
+/// How an error of a level is handled: at process level by the error handler, else by this action of
+/// the partition.
+fn response_at(level: ErrorLevel, action: PartitionAction) -> Response
+    ensures { result ≡ meaning.response_at level action }
+{
+    match level {
+        ErrorLevel::Process => Response::Handler,
+        _ => Response::Partition(action),
+    }
+}
+
+/// The error of a process waits for the handler, with its message.
+fn queue(runner: Runner, error: ErrorKind, words: Words, out: &mut Out)
+    requires { HasRoom 1 out.old }
+    ensures step { IsTold (meaning.queues runner error words.items) out.old out.new }
+    ensures grows { Grows 1 out.old out.new }
+{
+    if let Runner::Process(process) = runner {
+        out.actions.push(Action::Queue(WaitingError {
+            kind: error,
+            process,
+            words,
+        }));
+    }
+}
+
+/// The error waits for the handler with its message, or the partition's action for it is left to be
+/// done.
+fn wait_or_leave(
+    runner: Runner,
+    error: ErrorKind,
+    words: Words,
+    response: Response,
+    out: &mut Out,
+) -> Option<PartitionAction>
+    requires { HasRoom 1 out.old }
+    ensures step { IsMade (meaning.waits_or_leaves runner error words.items response) result out.old out.new }
+    ensures grows { Grows 1 out.old out.new }
+{
+    match response {
+        Response::Handler => {
+            queue(runner, error, words, out);
+            None
+        }
+        Response::Partition(action) => Some(action),
+        Response::Module(_) => None,
+    }
+}
+
+/// An error of this one, with its message: its line, then at process level it waits for the error
+/// handler. At partition level the partition's action for it is left to be done, and is answered.
+pub fn raise_error(
     health: HealthTable,
     mode: Mode,
     table: &ProcessTable,
     errors: &Errors,
     runner: Runner,
     error: ErrorKind,
-) -> Response
-    ensures { result ≡ meaning.response_of health mode (both table.now errors.now) runner error }
+    words: Words,
+    out: &mut Out,
+) -> Option<PartitionAction>
+    requires { HasRoom 2 out.old }
+    ensures step { IsMade (meaning.raises health mode (both table.now errors.now) runner error words.items) result out.old out.new }
+    ensures grows { Grows 2 out.old out.new }
 {
-    if may_wait(mode, table, errors, runner) {
-        Response::Handler
-    } else {
-        Response::Partition(action_of(health, error))
-    }
+    let level = level_of(mode, table, errors, runner);
+    let response = response_at(level, action_of(health, error));
+    let who = Some(table.subject(runner));
+    out.lines.push(EventKind::Error(error, who, response));
+    wait_or_leave(runner, error, words, response, out)
 }

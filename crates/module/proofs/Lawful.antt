@@ -1,6 +1,6 @@
 -- The partitions of a lawful image fit the processor, and are idle with nothing to do.
 use Rattle.std.proofs.Common.{◌≡◌, ℕ, zero, suc, ◌+◌, ◌≤◌, List, [], ◌∷◌, ◌++◌, length, map, replicate, Option, Some, None, refl, ap, subst, ◌∙◌, arith, append_assoc}
-use Rattle.std.specs.Prelude.{ℤ, ◌^◌, is_some}
+use Rattle.std.specs.Prelude.{ℤ, ◌^◌}
 use Rattle.std.specs.Option.{option_map}
 use Rattle.std.proofs.lemmas.List.{length-map}
 use Rattle.std.proofs.lemmas.Option.{none-some, same_Some}
@@ -15,22 +15,22 @@ use Rattle.apex_meaning.specs.Engine.{Engine}
 use Rattle.apex_meaning.specs.Image.{Item}
 use Rattle.apex_meaning.specs.Kernel.{Fixed, Kernel}
 use Rattle.apex_meaning.specs.Partition.{Member}
-use Rattle.apex_meaning.specs.Ports.{fresh_ports, refresh_of}
+use Rattle.apex_meaning.specs.Ports.{refresh_of}
 use Rattle.apex_meaning.specs.SourceControl.{or_init}
 use Rattle.apex_meaning.specs.Windows.{Schedule}
-use Rattle.apex_meaning.specs.ImageLimits.{IsPortKind, IsPort, IsPartition, AreObjects, EachBeside, IsRoutine, IsBody, IsHandler, IsDuration, IsProcess, IsSection, IsItem}
-use Rattle.apex_meaning.specs.ImageSpelling.{objects_in}
+use Rattle.apex_meaning.specs.ImageLimits.{IsPortKind, IsPort, IsPartition, EachBeside, IsRoutine, IsBody, IsHandler, IsDuration, IsProcess, IsSection, IsItem}
 use Rattle.apex_meaning.specs.MachineControl.{MachineControl}
-use Rattle.apex_meaning.specs.TwoMeanings.{ticks, body_of_row, init_row, handler_row, machine_row, no_control_for, section_engine, fresh_kernel, fixed_of, machine_member, machine_members, section_objects}
+use Rattle.apex_meaning.specs.TwoMeanings.{ticks, body_of_row, init_row, handler_row, machine_row, no_control_for, section_engine, fixed_of, machine_member, machine_members}
 use Rattle.image.specs.declared.value.Image.{Image}
 use Rattle.image.specs.declared.item.PartitionItem.{PartitionItem}
 use Rattle.image.specs.Items.{item_of, items_of, partition_of, section_of}
 use Rattle.ports.specs.Bounds as ports
+use Rattle.partition.specs.Fresh.{AreWithinLimits, idle_kernel}
 use Rattle.partition_base.specs.Sections.{IsFittingSection, engine_of_section}
 use Rattle.partition_base.specs.Slots.{AreFittingBodies}
 use Rattle.processor.specs.Fitting.{IsFittingRoutine, AreFitting, IsFittingBody}
 use Rattle.process_table_base.specs.Bounds.{IsAtMost, IsShort, AreShort}
-use Rattle.module.specs.Loading.{AreFewObjects, IsFittingItem, AreFittingItems}
+use Rattle.module.specs.Loading.{IsFittingItem, AreFittingItems}
 
 routines_fit : (before rows : List RoutineRow) → EachBeside (λ _. IsRoutine) before rows → AreFitting rows
 routines_fit before [] h place row e = absurd (none-some row e)
@@ -70,9 +70,6 @@ all_short : (unit : ℕ) (before rows : List ProcessRow) → EachBeside (IsProce
 all_short unit before [] h = tt
 all_short unit before (r ∷ rows) h = (short r h.0.period h.0.capacity, all_short unit (before ++ r ∷ []) rows h.1)
 
-few_objects : (s : Section) → AreObjects (objects_in (section_of s)) → AreFewObjects s
-few_objects s h = record { semaphores = h.semaphore_count.most; events = h.events.most; buffers = h.buffer_count.most; blackboards = h.blackboard_count.most }
-
 short_port : (row : PortRow) (kind : PortKind) → IsPortKind kind → refresh_of kind ≤ 2 ^ 40
 short_port row (kinds.Sampling refresh) h = h.most
 short_port row (kinds.Queuing depth discipline) h = omega arith
@@ -82,13 +79,22 @@ short_ports before [] h place row e = absurd (none-some row e)
 short_ports before (r ∷ rows) h zero row e = subst (λ (p : PortRow). refresh_of p.kind ≤ 2 ^ 40) (same_Some r row e) (short_port r r.kind h.0.kind)
 short_ports before (r ∷ rows) h (suc place) row e = short_ports (before ++ r ∷ []) rows h.1 place row e
 
+rows_fit : (frame : ℕ) (before : List Item) (i : PartitionItem) → IsPartition frame before (partition_of i.row) → IsSection i.row.period (section_of i.section) → AreWithinLimits i.row.ports.items i.section
+rows_fit frame before i r h = record {
+  processes = h.bodies.process_count.most;
+  times = all_short i.row.period [] i.section.processes.items h.bodies.processes;
+  semaphores = h.objects.semaphore_count.most;
+  events = h.objects.events.most;
+  buffers = h.objects.buffer_count.most;
+  blackboards = h.objects.blackboard_count.most;
+  port_count = r.port_count.most;
+  refresh = short_ports [] i.row.ports.items r.ports;
+}
+
 item_fits : (frame : ℕ) (before : List Item) (i : PartitionItem) → IsPartition frame before (partition_of i.row) → IsSection i.row.period (section_of i.section) → IsFittingItem i
 item_fits frame before i r h = record {
   section = section_fits i.row.period i.section h;
-  times = all_short i.row.period [] i.section.processes.items h.bodies.processes;
-  objects = few_objects i.section h.objects;
-  few_ports = r.port_count.most;
-  refresh = short_ports [] i.row.ports.items r.ports;
+  rows = rows_fit frame before i r h;
 }
 
 items_fit : (frame : ℕ) (before : List Item) (items : List PartitionItem) → EachBeside (IsItem frame) before (items_of items) → AreFittingItems items
@@ -114,22 +120,19 @@ all_idle rows =
     let count : 2 + length rows ≡ suc (suc (length rows)) = omega arith in
     ap (λ n. replicate n None) count ∙ ap (λ l. None ∷ None ∷ l) (idle_processes rows)
 
-abbrev idle : Fixed → List PortRow → Section → Kernel
-idle fixed ports s = fresh_kernel fixed (map machine_row s.processes.items) (section_objects (section_of s)) (fresh_ports ports) (is_some s.handler)
-
 abbrev member : Engine MachineControl → Kernel → List (Option MachineControl) → List ℤ → List ℤ → Member MachineControl
 member engine k controls words initial = record { engine = engine; world = record { kernel = k; controls = controls; words = words; initial = initial } }
 
 pub loaded_member : (fixed : Fixed) (ports : List PortRow) (s : Section) (engine : Engine MachineControl) (k : Kernel) (controls : List (Option MachineControl)) (words initial : List ℤ)
-    → engine ≡ engine_of_section s → k ≡ idle fixed ports s → controls ≡ replicate (2 + length s.processes.items) None → words ≡ initial → initial ≡ s.initial.items
+    → engine ≡ engine_of_section s → k ≡ idle_kernel fixed ports s → controls ≡ replicate (2 + length s.processes.items) None → words ≡ initial → initial ≡ s.initial.items
     → member engine k controls words initial ≡ machine_member fixed ports (section_of s)
 loaded_member fixed ports s engine k controls words initial e f g h i =
     let its = s.initial.items in
     ap (λ e. member e k controls words initial) e
     ∙ ap (λ k. member (section_engine (section_of s)) k controls words initial) f
-    ∙ ap (λ c. member (section_engine (section_of s)) (idle fixed ports s) c words initial) (g ∙ all_idle s.processes.items)
-    ∙ ap (λ w. member (section_engine (section_of s)) (idle fixed ports s) (map no_control_for (idle fixed ports s).processes.rows) w initial) (h ∙ i)
-    ∙ ap (λ i. member (section_engine (section_of s)) (idle fixed ports s) (map no_control_for (idle fixed ports s).processes.rows) its i) i
+    ∙ ap (λ c. member (section_engine (section_of s)) (idle_kernel fixed ports s) c words initial) (g ∙ all_idle s.processes.items)
+    ∙ ap (λ w. member (section_engine (section_of s)) (idle_kernel fixed ports s) (map no_control_for (idle_kernel fixed ports s).processes.rows) w initial) (h ∙ i)
+    ∙ ap (λ i. member (section_engine (section_of s)) (idle_kernel fixed ports s) (map no_control_for (idle_kernel fixed ports s).processes.rows) its i) i
 
 -- ---- the partitions one after the other
 

@@ -186,7 +186,7 @@ impl<E: Executor<Mem = PartitionMem>> Members<E> {
         if place >= self.partitions.len() {
             return None;
         }
-        Some(&self.partitions[place].kernel)
+        Some(self.partitions[place].kernel())
     }
 
     /// The kernel of the partition with a number, if there is one.

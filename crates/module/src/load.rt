@@ -1,28 +1,26 @@
 //! From an image to its partitions, ready to start.
 
 ghost use Rattle.std.specs.Prelude.{◌≡◌, ◌≤◌, length, map, IfOk};
-ghost use Rattle.apex_meaning.specs.TwoMeanings.{fixed_of, machine_member, machine_members, machine_module, section_objects};
+ghost use Rattle.apex_meaning.specs.TwoMeanings.{fixed_of, machine_member, machine_members, machine_module};
 ghost use Rattle.image.specs.Items.{items_of, partition_of, section_of};
 ghost use Rattle.image.specs.Views.{image_of};
 ghost use Rattle.partition.specs.View.{fixed_of as view};
 ghost use Rattle.partition_base.specs.contracts.machine.MachineExecutor.TheImpl.{ghosts as machine};
 ghost use Rattle.partition.specs.Members.{member_of};
 ghost use Rattle.partition_base.specs.Machines.{laid_of, layout_of};
-ghost use Rattle.module.specs.Loading.{AreFewObjects, AreFittingItems, IsFittingItem, fresh_item};
+ghost use Rattle.module.specs.Loading.{AreFittingItems, IsFittingItem, fresh_item};
 ghost use Rattle.module.specs.Members.{members_of, AreFitting};
 ghost use Rattle.module.specs.Standing.{at_first};
 ghost use Rattle.module.specs.Views.{standing_of};
 ghost use Rattle.window_table.specs.Schedules.{schedule_of};
 
 use crate::member::{Members, Module};
-use apex_types::{Events, PartitionId, Section, Ticks};
+use apex_types::{Events, PartitionId, Ticks};
 use image::{Image, PartitionItem};
-use partition::{Fixed, Kernel, Partition};
+use partition::{Fixed, Partition};
 use partition_base::{Machine, memory_plan};
-use ports::Ports;
 use regions::Memory;
 use std::alloc::{AllocError, Global};
-use sync_objects_base::Objects;
 use window_table::{PartitionRow, Schedule};
 
 impl Module<Machine> {
@@ -96,20 +94,6 @@ fn fixed(
     })
 }
 
-/// The objects that a section declares, none of them created.
-fn load_objects(alloc: Global, section: &Section) -> Result<Objects, AllocError>
-    requires { AreFewObjects section.now }
-    ensures { IfOk result (λ objects. objects ≡ section_objects (section_of section.now)) }
-{
-    Objects::new(
-        alloc,
-        &section.semaphores,
-        section.events,
-        &section.buffers,
-        &section.blackboards,
-    )
-}
-
 /// A partition, idle; its memory is to be the one that its section asks for.
 fn load_partition(
     alloc: Global,
@@ -120,18 +104,6 @@ fn load_partition(
     ensures member { IfOk result (λ partition. member_of machine partition (fresh_item item.now) ≡ machine_member (view fixed) item.now.row.ports.items (section_of item.now.section)) }
     ensures fits { IfOk result (λ partition. laid_of (fresh_item item.now) ≡ layout_of partition.executor) }
 {
-    let section = &item.section;
-    let executor = Machine::new(alloc, section)?;
-    let objects = load_objects(alloc, section)?;
-    let ports = Ports::new(alloc, &item.row.ports)?;
-    let has_handler = section.handler.is_some();
-    let kernel = Kernel::new(
-        alloc,
-        fixed,
-        &section.processes,
-        objects,
-        ports,
-        has_handler,
-    )?;
-    Ok(Partition::new(kernel, executor))
+    let executor = Machine::new(alloc, &item.section)?;
+    Partition::new(alloc, fixed, &item.row.ports, &item.section, executor)
 }

@@ -13,11 +13,12 @@ ghost use Rattle.module.specs.Promises.{AreRefused, RunsImage};
 ghost use Rattle.module.specs.Written.{AreFrom};
 
 use crate::fault::RunFault;
+use crate::load_fault::LoadFault;
 use crate::member::Module;
 use apex_types::{DeviceLine, Sink, SinkFault};
 use image::Image;
 use module_base::{DeviceTextFault, read_devices};
-use std::alloc::{AllocError, Global};
+use std::alloc::Global;
 
 /// The most ticks of a run, 2^40.
 pub const MOST_TICKS: u64 = 1_099_511_627_776;
@@ -34,8 +35,12 @@ pub struct Machine {
 }
 
 impl Machine {
-    /// The machine of an image, before its first tick. An error is one of memory.
-    pub fn load(alloc: Global, image: Image) -> Result<Machine, AllocError>
+    /// The machine of an image, before its first tick.
+    ///
+    /// # Errors
+    ///
+    /// [`LoadFault::Memory`], and nothing of the image is left.
+    pub fn load(alloc: Global, image: Image) -> Result<Machine, LoadFault>
         ensures { IfOk result (λ machine. machine_of machine ≡ fresh_machine (image_of image)) }
     {
         let module = Module::load(alloc, image)?;

@@ -1,6 +1,6 @@
 //! The partitions of a module and the memory of all of them, over any executor.
 
-ghost use Rattle.std.specs.Prelude.{◌≤◌, ◌^◌};
+ghost use Rattle.std.specs.Prelude.{◌≤◌, ◌^◌, length};
 ghost use Rattle.module.specs.Members.{AreFitting};
 ghost use Rattle.module.specs.Standing.{origin_or_zero};
 
@@ -16,6 +16,7 @@ use regions::{Memory, PartitionMem};
 pub struct Members<E: Executor<Mem = PartitionMem>> {
     pub partitions: Vec<Partition<E>>,
     pub memory: Memory,
+    ghost few: { length partitions.items ≤ 16 },
     ghost fit: { AreFitting E.Executor partitions.items memory },
 }
 

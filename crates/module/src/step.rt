@@ -1,11 +1,12 @@
 //! A step of one partition, the others stay as they are.
 
-ghost use Rattle.std.specs.Prelude.{◌≡◌, ◌≢◌, ◌≤◌, ◌+◌, ◌^◌, ℕ, None, [], length, slice_get};
+ghost use Rattle.std.specs.Prelude.{◌≡◌, ◌≢◌, ◌<◌, ◌≤◌, ◌+◌, ◌^◌, ℕ, None, [], length, slice_get};
 ghost use Rattle.apex_meaning.specs.Image.{at_number};
 ghost use Rattle.apex_meaning.specs.Module as meaning;
 ghost use Rattle.apex_meaning.specs.Partition.{with_world};
 ghost use Rattle.partition.specs.Members.{member_of};
 ghost use Rattle.module.specs.Views.{members_in};
+ghost use Rattle.regions.specs.Parts.{place_of};
 ghost use Rattle.module.specs.Written.{step_of, leaving_in};
 
 use crate::member::Members;
@@ -54,15 +55,24 @@ fn step_member<E: Executor>(
     match step {
         Step::Start(condition) => partition.clear(mem, at, *condition, events),
         Step::Arrive(port, message) => partition.arrive(mem, at, *port, copied(message), events),
-        Step::Leave(port) => return partition.leave(mem, at, *port, events),
+        Step::Leave(port) => return partition.move_one(mem, at, *port, events),
         Step::Admit(port) => partition.admit(mem, at, *port, events),
         Step::GoOut(channel, message) => {
             partition.go_out(mem, at, *channel, copied(message), events)
         }
-        Step::BreakDown => partition.break_down(mem, at, events),
+        Step::BreakDown => partition.fault(mem, at, events),
         Step::Tick => partition.tick(mem, at, events),
     }
     None
+}
+
+/// The number of the partition at a place.
+fn number_at(place: usize) -> PartitionId
+    requires { place < 16 }
+    ensures number { result.0 ≡ place + 1 }
+    ensures place { place_of result ≡ place }
+{
+    PartitionId(place as u8 + 1)
 }
 
 impl<E: Executor<Mem = PartitionMem>> Members<E> {
@@ -88,7 +98,7 @@ impl<E: Executor<Mem = PartitionMem>> Members<E> {
         if place >= self.partitions.len() {
             return None;
         }
-        let mem = self.memory.lend(place);
+        let mem = self.memory.lend(number_at(place));
         step_member(&mut self.partitions[place], mem, at, step, events)
     }
 

@@ -15,12 +15,9 @@ fn act<E: Executor>(kernel: &mut Kernel, executor: &mut E, mem: &mut E::Mem, act
     ensures member { member_at E.Executor kernel.new executor.new mem.new ≡ acts action.now (member_at E.Executor kernel.old executor.old mem.old) }
 {
     match action {
-        Action::Begin(runner) => executor.begin(mem, *runner),
+        Action::Begin(runner) => executor.start(mem, *runner),
         Action::Stop(runner) => executor.stop(mem, *runner),
-        Action::StopAll => {
-            executor.stop_all(mem);
-            kernel.errors.clear();
-        }
+        Action::StopAll => executor.stop_all(mem),
         Action::Reply(runner, answer) => executor.reply(mem, *runner, answer),
         Action::Restore => executor.restore(mem),
         Action::Write(place, words) => executor.write(mem, *place, words),

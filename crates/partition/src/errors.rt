@@ -1,23 +1,20 @@
 //! The errors of a partition and of its processes, and the services on them.
 
-ghost use Rattle.std.specs.Prelude.{◌≡◌, ◌≤◌, ◌+◌, [], ◌∷◌, length, not, pos};
-ghost use Rattle.std.specs.Ordering.{int_eq};
+ghost use Rattle.std.specs.Prelude.{◌≡◌, ◌+◌};
 ghost use Rattle.apex_types.specs.Room.{HasRoom, Grows};
 ghost use Rattle.apex_meaning.specs.HealthServices as meaning;
 ghost use Rattle.apex_meaning.specs.Kernel.{of_errors, of_processes, with_errors};
-ghost use Rattle.apex_meaning.specs.Processes.{answers, refuses};
-ghost use Rattle.apex_meaning.specs.Step.{IsMade, after, first_words, row};
+ghost use Rattle.apex_meaning.specs.Step.{IsMade};
 
 use crate::kernel::Kernel;
 use apex_types::{
-    Action, ArrayPlace, ErrorKind, EventKind, Mode, Out, PartitionAction, Response, ReturnCode,
-    Runner, Service, StartCondition, WaitingError, Words,
+    ArrayPlace, ErrorKind, EventKind, Mode, Out, PartitionAction, Response, Runner, StartCondition, Words,
 };
 use health::{
-    action_of, create_error_handler, get_error_status, is_message_length,
-    report_application_message, response_of,
+    action_of, create_error_handler, get_error_status, raise_application_error, raise_error,
+    report_application_message,
 };
-use process_table_base::{first_words, mode_of_action};
+use process_table_base::mode_of_action;
 
 impl Kernel {
     /// The partition's action for an error.
@@ -25,21 +22,6 @@ impl Kernel {
         ensures { result ≡ meaning.action_of self.now.fixed.health error }
     {
         action_of(self.fixed.health, error)
-    }
-
-    /// How an error of this one is handled.
-    fn response_of(&self, runner: Runner, error: ErrorKind) -> Response
-        ensures { result ≡ meaning.response_of self.now.fixed.health self.now.mode (with_errors self.now) runner error }
-    {
-        let table = &self.processes;
-        response_of(
-            self.fixed.health,
-            self.mode,
-            table,
-            &self.errors,
-            runner,
-            error,
-        )
     }
 
     /// An ignored fault of INIT leaves the partition idle.
@@ -56,9 +38,9 @@ impl Kernel {
     }
 
     /// The partition enters the mode that its action for the error leads to, if it leads to one.
-    fn act_on_error(&mut self, runner: Runner, error: ErrorKind, mode: Option<Mode>, out: &mut Out)
+    fn enter_mode(&mut self, runner: Runner, error: ErrorKind, mode: Option<Mode>, out: &mut Out)
         requires { HasRoom 3 out.old }
-        ensures step { IsMade (meaning.acts_on_error self.old runner error mode) self.new out.old out.new }
+        ensures step { IsMade (meaning.enters_mode self.old runner error mode) self.new out.old out.new }
         ensures grows { Grows 3 out.old out.new }
     {
         match mode {
@@ -67,61 +49,49 @@ impl Kernel {
         }
     }
 
-    /// The error of a process waits for the handler, with its message.
-    fn queue(&mut self, runner: Runner, error: ErrorKind, words: Words, out: &mut Out)
-        requires { HasRoom 1 out.old }
-        ensures step { IsMade (meaning.queues self.old runner error words.items) self.new out.old out.new }
-        ensures grows { Grows 1 out.old out.new }
-    {
-        if let Runner::Process(process) = runner {
-            out.actions.push(Action::Queue(WaitingError {
-                kind: error,
-                process,
-                words,
-            }));
-        }
-    }
-
-    /// What is done on an error: it waits for the handler with its message, or the partition's action
-    /// for it is done.
-    fn respond(
+    /// The partition's action for an error is done, if one is left to be done.
+    fn act_on_error(
         &mut self,
         runner: Runner,
         error: ErrorKind,
-        words: Words,
-        response: Response,
+        left: Option<PartitionAction>,
         out: &mut Out,
     )
         requires { HasRoom 3 out.old }
-        ensures step { IsMade (meaning.responds self.old runner error words.items response) self.new out.old out.new }
+        ensures step { IsMade (meaning.acts_on_error self.old runner error left) self.new out.old out.new }
         ensures grows { Grows 3 out.old out.new }
     {
-        match response {
-            Response::Handler => self.queue(runner, error, words, out),
-            Response::Partition(action) => {
-                self.act_on_error(runner, error, mode_of_action(action), out)
-            }
-            Response::Module(_) => {}
+        if let Some(action) = left {
+            self.enter_mode(runner, error, mode_of_action(action), out);
         }
     }
 
     /// The line of an error with how it is handled, then what is done. `words` are its message.
     fn handle(&mut self, runner: Runner, error: ErrorKind, words: Words, out: &mut Out)
-        requires { HasRoom 4 out.old }
+        requires { HasRoom 5 out.old }
         ensures step { IsMade (meaning.handles self.old runner error words.items) self.new out.old out.new }
-        ensures grows { Grows 4 out.old out.new }
+        ensures grows { Grows 5 out.old out.new }
     {
-        let response = self.response_of(runner, error);
-        let who = Some(self.subject(runner));
-        out.lines.push(EventKind::Error(error, who, response));
-        self.respond(runner, error, words, response, out);
+        let health = self.fixed.health;
+        let table = &self.processes;
+        let left = raise_error(
+            health,
+            self.mode,
+            table,
+            &self.errors,
+            runner,
+            error,
+            words,
+            out,
+        );
+        self.act_on_error(runner, error, left, out);
     }
 
     /// One with a fault becomes dormant first; then its error is handled.
     pub(crate) fn fault(&mut self, runner: Runner, error: ErrorKind, out: &mut Out)
-        requires { HasRoom 5 out.old }
+        requires { HasRoom 6 out.old }
         ensures step { IsMade (meaning.faults self.old runner error) self.new out.old out.new }
-        ensures grows { Grows 5 out.old out.new }
+        ensures grows { Grows 6 out.old out.new }
     {
         self.rest(runner, out);
         self.handle(runner, error, Words::new(), out);
@@ -186,42 +156,8 @@ impl Kernel {
         get_error_status(&self.processes, &mut self.errors, caller, array, out);
     }
 
-    /// The answer to a caller, then its error APPLICATION_ERROR with its message.
-    fn raise(&mut self, caller: Runner, message: Words, out: &mut Out)
-        requires { HasRoom 5 out.old }
-        ensures step { IsMade (after (of_processes self.old (answers self.old.processes caller Service.RaiseApplicationError ReturnCode.NoError [])) (meaning.handles self.old caller ErrorKind.ApplicationError message.items)) self.new out.old out.new }
-        ensures grows { Grows 5 out.old out.new }
-    {
-        let service = Service::RaiseApplicationError;
-        self.processes
-            .answer(caller, service, ReturnCode::NoError, &[], out);
-        self.handle(caller, ErrorKind::ApplicationError, message, out);
-    }
-
-    /// The error is one that a process may raise; its message may have a wrong length.
-    fn raise_message(
-        &mut self,
-        caller: Runner,
-        array: ArrayPlace,
-        length: i64,
-        words: Words,
-        out: &mut Out,
-    )
-        requires { HasRoom 5 out.old }
-        ensures step { IsMade (row (λ c. of_processes self.old (refuses self.old.processes caller Service.RaiseApplicationError c)) ((not (meaning.is_message_length array.size length), ReturnCode.InvalidParam) ∷ []) (after (of_processes self.old (answers self.old.processes caller Service.RaiseApplicationError ReturnCode.NoError [])) (meaning.handles self.old caller ErrorKind.ApplicationError (first_words length words.items)))) self.new out.old out.new }
-        ensures grows { Grows 5 out.old out.new }
-    {
-        let service = Service::RaiseApplicationError;
-        if !is_message_length(array.size, length) {
-            let processes = &self.processes;
-            return processes.refuse(caller, service, ReturnCode::InvalidParam, &[], out);
-        }
-        self.raise(caller, first_words(length, &words), out);
-    }
-
-    /// RAISE_APPLICATION_ERROR (ARINC 653 Part 1, health monitoring): the caller's error
-    /// APPLICATION_ERROR with a message, which is the first words of those that the call hands in.
-    /// INVALID_PARAM: the error is not 1, or a length below 1, above 16, or above the array's size.
+    /// RAISE_APPLICATION_ERROR (ARINC 653 Part 1, health monitoring), with the partition's action that it
+    /// leaves to be done.
     pub(crate) fn raise_application_error(
         &mut self,
         caller: Runner,
@@ -231,24 +167,26 @@ impl Kernel {
         words: Words,
         out: &mut Out,
     )
-        requires { HasRoom 5 out.old }
-        ensures step { IsMade (meaning.raise_application_error self.old caller error array length words.items) self.new out.old out.new }
-        ensures grows { Grows 5 out.old out.new }
+        requires { HasRoom 6 out.old }
+        ensures step { IsMade (meaning.raises_application_error self.old caller error array length words.items) self.new out.old out.new }
+        ensures grows { Grows 6 out.old out.new }
     {
-        let service = Service::RaiseApplicationError;
-        if !is_application_error(error) {
-            let processes = &self.processes;
-            return processes.refuse(caller, service, ReturnCode::InvalidParam, &[], out);
-        }
-        self.raise_message(caller, array, length, words, out);
+        let health = self.fixed.health;
+        let table = &self.processes;
+        let left = raise_application_error(
+            health,
+            self.mode,
+            table,
+            &self.errors,
+            caller,
+            error,
+            array,
+            length,
+            words,
+            out,
+        );
+        self.act_on_error(caller, ErrorKind::ApplicationError, left, out);
     }
-}
-
-/// Whether it is the number of the error that a process may raise.
-fn is_application_error(error: i64) -> bool
-    ensures { result ≡ int_eq error (pos 1) }
-{
-    error == 1
 }
 
 /// Whether it is an error in what a process executes, after which it does not go on.

@@ -1,18 +1,18 @@
 //! The kernel's state of one partition, in parts with an owner each.
 
-ghost use Rattle.std.specs.Prelude.{◌≡◌, ◌≤◌, ◌+◌, ◌^◌, length, map, IfOk};
+ghost use Rattle.std.specs.Prelude.{◌≡◌, ◌≤◌, ◌+◌, ◌^◌, IfOk};
 ghost use Rattle.apex_types.specs.Room.{HasRoom, Grows};
+ghost use Rattle.apex_meaning.specs.Kernel.{of_processes};
 ghost use Rattle.apex_meaning.specs.Partition as tick;
 ghost use Rattle.apex_meaning.specs.PartitionServices.{next_release_of};
 ghost use Rattle.apex_meaning.specs.Processes.{subject};
 ghost use Rattle.apex_meaning.specs.Step.{IsMade};
-ghost use Rattle.apex_meaning.specs.TwoMeanings.{fresh_kernel, machine_row};
+ghost use Rattle.partition.specs.Fresh.{AreWithinLimits, idle_kernel};
 ghost use Rattle.partition.specs.View.{fixed_of};
-ghost use Rattle.process_table_base.specs.Bounds.{AreShort};
 
 use crate::fixed::Fixed;
 use apex_types::{
-    At, ErrorKind, MOST_PROCESSES, Mode, Name, Out, ProcessRow, Runner, StartCondition, Subject,
+    At, ErrorKind, Mode, Name, Out, PortRow, Runner, Section, StartCondition, Subject,
 };
 use health::{Errors, free_places, start_handler};
 use ports::Ports;
@@ -45,28 +45,31 @@ impl Model for Kernel {
 }
 
 impl Kernel {
-    /// A partition in idle mode with nothing created, of these processes, objects and ports. It has an
-    /// error handler, or none. An error is one of memory.
+    /// The kernel of a section's partition with these ports, in idle mode: no process, object or port is
+    /// created, no message is there, and no error waits. An error is one of memory.
     pub fn new(
         alloc: Global,
         fixed: Fixed,
-        processes: &[ProcessRow],
-        objects: Objects,
-        ports: Ports,
-        has_handler: bool,
+        ports: &[PortRow],
+        section: &Section,
     ) -> Result<Kernel, AllocError>
-        requires few { length processes.now ≤ MOST_PROCESSES }
-        requires short { AreShort processes.now }
-        ensures { IfOk result (λ kernel. kernel ≡ fresh_kernel (fixed_of fixed) (map machine_row processes.now) objects ports has_handler) }
+        requires { AreWithinLimits ports.now section.now }
+        ensures { IfOk result (λ kernel. kernel ≡ idle_kernel (fixed_of fixed) ports.now section.now) }
     {
         Ok(Kernel {
-            processes: ProcessTable::new(alloc, processes)?,
-            errors: Errors::new(alloc, has_handler)?,
             fixed,
             mode: Mode::Idle,
             condition: StartCondition::NormalStart,
-            objects,
-            ports,
+            processes: ProcessTable::new(alloc, &section.processes)?,
+            objects: Objects::new(
+                alloc,
+                &section.semaphores,
+                section.events,
+                &section.buffers,
+                &section.blackboards,
+            )?,
+            ports: Ports::new(alloc, ports)?,
+            errors: Errors::new(alloc, section.handler.is_some())?,
         })
     }
 
@@ -113,16 +116,17 @@ impl Kernel {
         self.processes.choose(mode, out);
     }
 
-    /// What is due; a missed deadline may lead to a Clear.
-    pub(crate) fn treat_due(&mut self, at: At, out: &mut Out)
+    /// Due times and deadlines are treated; the mode of the Clear that a missed deadline leads to, if it
+    /// leads to one.
+    pub(crate) fn treat_due(&mut self, at: At, out: &mut Out) -> Option<Mode>
         requires now { at.now.0 ≤ 2 ^ 40 }
-        requires room { HasRoom 96 out.old }
-        ensures step { IsMade (tick.treats_due at self.old) self.new out.old out.new }
-        ensures grows { Grows 96 out.old out.new }
+        requires room { HasRoom 93 out.old }
+        ensures step { IsMade (of_processes self.old (tick.treats_due at self.old).step) self.new out.old out.new }
+        ensures clears { result ≡ (tick.treats_due at self.old).clears }
+        ensures grows { Grows 93 out.old out.new }
     {
         let action = self.action_of(ErrorKind::DeadlineMissed);
         let free = free_places(&self.processes, &self.errors, self.mode);
-        let treated = self.processes.due(at, free, action, out);
-        self.then_clear(treated.clears, out);
+        self.processes.due(at, free, action, out).clears
     }
 }

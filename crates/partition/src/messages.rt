@@ -35,13 +35,13 @@ impl Kernel {
     }
 
     /// The first message of a port leaves it, if it holds one.
-    fn leave(&mut self, port: PortId, out: &mut Out) -> Option<Words>
+    fn move_one(&mut self, port: PortId, out: &mut Out) -> Option<Words>
         requires { HasRoom 1 out.old }
         ensures message { result ≡ arrival.first_message (port_at self.old.ports (meaning.place_of_port port)) }
         ensures step { IsMade (of_ports_alone self.old (arrival.leaves self.old.ports (meaning.place_of_port port))) self.new out.old out.new }
         ensures grows { Grows 1 out.old out.new }
     {
-        self.ports.leave(place_of(port), out)
+        self.ports.move_one(place_of(port), out)
     }
 
     /// The senders that wait at a port enter it in their order, as long as there is room.
@@ -100,7 +100,7 @@ impl<E: Executor> Partition<E> {
 
     /// The first message of a source port leaves it, if it holds one (ARINC 653 Part 1, interpartition
     /// communication).
-    pub fn leave(
+    pub fn move_one(
         &mut self,
         mem: &mut E::Mem,
         at: At,
@@ -115,7 +115,7 @@ impl<E: Executor> Partition<E> {
     {
         let name = self.kernel.name();
         self.out.clear();
-        let message = self.kernel.leave(port, &mut self.out);
+        let message = self.kernel.move_one(port, &mut self.out);
         self.finish(mem, name, at, events);
         message
     }

@@ -4,18 +4,19 @@ ghost use Rattle.std.specs.Prelude.{◌≡◌, ◌≤◌, ◌+◌, ◌^◌, leng
 ghost use Rattle.apex_types.specs.Room.{HasRoom, Grows};
 ghost use Rattle.apex_meaning.specs.Kernel.{of_processes};
 ghost use Rattle.apex_meaning.specs.PartitionServices as meaning;
-ghost use Rattle.apex_meaning.specs.Processes.{row_of};
+ghost use Rattle.apex_meaning.specs.Processes.{rests_found, row_of};
 ghost use Rattle.apex_meaning.specs.Step.{IsMade, IsTold};
 
 use crate::kernel::Kernel;
+use process_table::stop_self;
 use apex_types::{
     Action, At, EventKind, Mode, Out, ProcessState, ReturnCode, Runner, Service, StartCondition,
     Subject,
 };
 
 impl Kernel {
-    /// All processes and objects go, and the ports are empty; a cold start restores the data; unless the mode is idle, INIT
-    /// starts.
+    /// All processes and objects go, no error waits, and the ports are empty and no longer created; a
+    /// cold start restores the data; unless the mode is idle, INIT starts.
     pub(crate) fn clear(&mut self, mode: Mode, condition: StartCondition, out: &mut Out)
         requires { HasRoom 3 out.old }
         ensures step { IsMade (meaning.clears self.old mode condition) self.new out.old out.new }
@@ -36,12 +37,13 @@ impl Kernel {
         self.processes.clear(mode);
         self.objects.clear();
         self.ports.clear();
+        self.errors.clear();
     }
 
     /// This one becomes dormant.
     pub(crate) fn rest(&mut self, runner: Runner, out: &mut Out)
         requires { HasRoom 1 out.old }
-        ensures step { IsMade (of_processes self.old (meaning.rests_found self.old.processes runner (row_of self.old.processes runner))) self.new out.old out.new }
+        ensures step { IsMade (of_processes self.old (rests_found self.old.processes runner (row_of self.old.processes runner))) self.new out.old out.new }
         ensures grows { Grows 1 out.old out.new }
     {
         self.processes.rest(runner, out);
@@ -88,7 +90,7 @@ impl Kernel {
     /// GET_PARTITION_STATUS (ARINC 653 Part 1, partition management): the partition's number, its
     /// period and duration in ticks, the level of the preemption lock, the mode, and the start
     /// condition.
-    pub(crate) fn get_partition_status(&self, caller: Runner, out: &mut Out)
+    pub fn get_partition_status(&self, caller: Runner, out: &mut Out)
         requires { HasRoom 1 out.old }
         ensures step { IsTold (meaning.get_partition_status self.now caller) out.old out.new }
         ensures grows { Grows 1 out.old out.new }
@@ -102,7 +104,7 @@ impl Kernel {
     /// SET_PARTITION_MODE (ARINC 653 Part 1, partition management): the partition enters a mode.
     /// INVALID_PARAM: the number is no mode's; NO_ACTION: normal mode in normal mode; INVALID_MODE: a
     /// warm start in a cold start.
-    pub(crate) fn set_partition_mode(&mut self, at: At, caller: Runner, mode: i64, out: &mut Out)
+    pub fn set_partition_mode(&mut self, at: At, caller: Runner, mode: i64, out: &mut Out)
         requires past { at.origin.0 ≤ at.now.0 }
         requires now { at.now.0 ≤ 2 ^ 40 }
         requires room { HasRoom 34 out.old }
@@ -135,7 +137,7 @@ impl Kernel {
     {
         match runner {
             Runner::Init => self.clear(Mode::Idle, StartCondition::PartitionRestart, out),
-            other => self.rest(other, out),
+            other => stop_self(&mut self.processes, other, out),
         }
     }
 }

@@ -2,33 +2,18 @@
 
 ghost use Rattle.std.specs.Prelude.{◌≡◌, ◌≤◌, ◌+◌, ◌++◌, ◌^◌, [], length};
 ghost use Rattle.apex_types.specs.Room.{IsEmpty};
-ghost use Rattle.apex_meaning.specs.Kernel.{of_processes};
 ghost use Rattle.apex_meaning.specs.Partition as meaning;
-ghost use Rattle.apex_meaning.specs.PartitionServices.{clears};
 ghost use Rattle.apex_meaning.specs.Step.{IsMade};
 ghost use Rattle.partition.specs.Members.{member_of, acts_all, IsMoved};
 ghost use Rattle.processor.specs.Views.{asks_of};
 
 use crate::acting::{act_all, tell};
-use crate::kernel::Kernel;
 use crate::partition::Partition;
-use apex_types::{At, Events, Mode, Name, Out, Runner, StartCondition, Words, array_of};
+use apex_types::{At, Events, Mode, Name, Runner, StartCondition, Words, array_of};
 use partition_base::Executor;
 use processor::Outcome;
 
 impl<E: Executor> Partition<E> {
-    /// A partition of a kernel over an executor.
-    pub fn new(kernel: Kernel, executor: E) -> Partition<E>
-        ensures kernel { result.kernel ≡ kernel }
-        ensures executor { result.executor ≡ executor }
-    {
-        Partition {
-            kernel,
-            executor,
-            out: Out::new(),
-        }
-    }
-
     /// What a step asked for is done, and what happened is told.
     pub(crate) fn finish(&mut self, mem: &mut E::Mem, name: Name, at: At, events: &mut Events)
         requires fits { E.laid mem.old ≡ E.layout self.old.executor }
@@ -69,7 +54,7 @@ impl<E: Executor> Partition<E> {
 
     /// A fault of the partition's hardware (ARINC 653 Part 1, health monitoring): its line, then what
     /// the partition's action for it does.
-    pub fn break_down(&mut self, mem: &mut E::Mem, at: At, events: &mut Events)
+    pub fn fault(&mut self, mem: &mut E::Mem, at: At, events: &mut Events)
         requires fits { E.laid mem.old ≡ E.layout self.old.executor }
         requires empty { events.old.items ≡ [] }
         ensures fits { E.laid mem.new ≡ E.layout self.new.executor }
@@ -81,7 +66,43 @@ impl<E: Executor> Partition<E> {
         self.finish(mem, name, at, events);
     }
 
-    /// What is due is treated.
+    /// Due times and deadlines are treated; the mode of the Clear that a missed deadline leads to, if it
+    /// leads to one.
+    fn treat(&mut self, mem: &mut E::Mem, at: At, events: &mut Events) -> Option<Mode>
+        requires now { at.now.0 ≤ 2 ^ 40 }
+        requires fits { E.laid mem.old ≡ E.layout self.old.executor }
+        requires idle { IsEmpty self.old.out }
+        requires room { length events.old.items + 93 ≤ 256 }
+        ensures fits { E.laid mem.new ≡ E.layout self.new.executor }
+        ensures idle { IsEmpty self.new.out }
+        ensures clears { result ≡ (meaning.treats_due at (member_of E.Executor self.old mem.old).world.kernel).clears }
+        ensures moved { let x = member_of E.Executor self.old mem.old in IsMoved (meaning.treating_phase x.engine at x.world) x (member_of E.Executor self.new mem.new) events.old.items events.new.items }
+        ensures few { length events.new.items ≤ length events.old.items + 93 }
+    {
+        let name = self.kernel.name();
+        let clears = self.kernel.treat_due(at, &mut self.out);
+        self.finish(mem, name, at, events);
+        clears
+    }
+
+    /// The Clear that a missed deadline leads to, if it leads to one.
+    fn then_clear(&mut self, mem: &mut E::Mem, at: At, clears: Option<Mode>, events: &mut Events)
+        requires fits { E.laid mem.old ≡ E.layout self.old.executor }
+        requires idle { IsEmpty self.old.out }
+        requires room { length events.old.items + 3 ≤ 256 }
+        ensures fits { E.laid mem.new ≡ E.layout self.new.executor }
+        ensures idle { IsEmpty self.new.out }
+        ensures moved { let x = member_of E.Executor self.old mem.old in IsMoved (meaning.clearing_phase x.engine at clears x.world) x (member_of E.Executor self.new mem.new) events.old.items events.new.items }
+        ensures few { length events.new.items ≤ length events.old.items + 3 }
+    {
+        if clears.is_some() {
+            let name = self.kernel.name();
+            self.kernel.then_clear(clears, &mut self.out);
+            self.finish(mem, name, at, events);
+        }
+    }
+
+    /// What is due is treated; a missed deadline may lead to a Clear.
     fn treat_due(&mut self, mem: &mut E::Mem, at: At, events: &mut Events)
         requires now { at.now.0 ≤ 2 ^ 40 }
         requires fits { E.laid mem.old ≡ E.layout self.old.executor }
@@ -92,9 +113,8 @@ impl<E: Executor> Partition<E> {
         ensures moved { let x = member_of E.Executor self.old mem.old in IsMoved (meaning.due_phase x.engine at x.world) x (member_of E.Executor self.new mem.new) events.old.items events.new.items }
         ensures few { length events.new.items ≤ length events.old.items + 96 }
     {
-        let name = self.kernel.name();
-        self.kernel.treat_due(at, &mut self.out);
-        self.finish(mem, name, at, events);
+        let clears = self.treat(mem, at, events);
+        self.then_clear(mem, at, clears, events);
     }
 
     /// The choice of who runs.

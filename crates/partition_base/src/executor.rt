@@ -33,7 +33,7 @@ pub trait Executor {
     ghost laid: { Self.Mem → List ℕ };
 
     /// The runner begins its body afresh.
-    fn begin(&mut self, mem: &mut Self::Mem, runner: Runner)
+    fn start(&mut self, mem: &mut Self::Mem, runner: Runner)
         requires { laid mem.old ≡ layout self.old }
         ensures fits { laid mem.new ≡ layout self.new }
         ensures engine { engine self.new ≡ engine self.old }

@@ -188,7 +188,7 @@ impl Executor for Machine {
     ghost laid = { laid_of };
 
     #[tactic(auto, using(crate::proofs::Layouts::layouts))]
-    fn begin(&mut self, mem: &mut PartitionMem, runner: Runner) {
+    fn start(&mut self, mem: &mut PartitionMem, runner: Runner) {
         let body = self.body(runner);
         slot::begin_at(&mut self.slots, runner.place(), mem, &body);
     }

@@ -261,7 +261,7 @@ impl Ports {
 
     /// The first message of the port at a place leaves it, if it holds one.
     #[tactic(auto, using(crate::proofs::Moving::moving))]
-    pub fn leave(&mut self, place: u8, out: &mut Out) -> Option<Words>
+    pub fn move_one(&mut self, place: u8, out: &mut Out) -> Option<Words>
         requires { HasRoom 1 out.old }
         ensures message { result ≡ arrival.first_message (meaning.port_at self.old place) }
         ensures step { IsMade (arrival.leaves self.old place) self.new out.old out.new }

@@ -10,6 +10,7 @@ mod time;
 pub use lock::{get_my_id, lock_preemption, unlock_preemption};
 pub use processes::{
     create_process, delayed_start, get_process_id, get_process_status, set_priority, start, stop,
+    stop_self,
 };
 pub use suspension::{resume, suspend, suspend_self};
 pub use time::{get_time, periodic_wait, replenish, timed_wait};

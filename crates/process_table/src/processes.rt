@@ -130,6 +130,21 @@ pub fn stop(table: &mut ProcessTable, caller: Runner, id: i64, out: &mut Out)
     table.rest(process, out);
 }
 
+/// STOP_SELF (ARINC 653 Part 1, process management), and the end of a body: the caller becomes dormant,
+/// and gets no answer. At the end of INIT nothing is done here: the partition's Clear is left to be done.
+pub fn stop_self(table: &mut ProcessTable, caller: Runner, out: &mut Out)
+    requires { HasRoom 1 out.old }
+    ensures step { IsMade (meaning.stop_self table.old caller) table.new out.old out.new }
+    ensures grows { Grows 1 out.old out.new }
+{
+    if let Runner::Init = caller {
+        return;
+    }
+    if let Some(row) = table.row(caller) {
+        table.rest(caller, row, out);
+    }
+}
+
 /// START (ARINC 653 Part 1, process management): a dormant process starts its body with a fresh stack
 /// and its base priority; before normal mode it waits for it. INVALID_PARAM: no process of this
 /// number was created; NO_ACTION: it is not dormant.

@@ -2,6 +2,7 @@
 
 use crate::partition_mem::PartitionMem;
 use crate::plan::MemoryPlan;
+use apex_types::PartitionId;
 use std::alloc::{AllocError, Global};
 use std::marker::Model;
 
@@ -21,8 +22,9 @@ impl Model for Memory {
 }
 
 impl Memory {
-    ghost use Rattle.std.specs.Prelude.{◌≡◌, ◌<◌, IfOk, Some, length, map, slice_get, slice_set};
+    ghost use Rattle.std.specs.Prelude.{◌≡◌, IfOk, Some, map, slice_get, slice_set};
     ghost use Rattle.std.specs.Borrow.{sem, Lends};
+    ghost use Rattle.regions.specs.Parts.{HasPart, place_of};
     ghost use Rattle.regions.specs.Space.{planned};
     ghost use Rattle.regions.specs.contracts.memory.Memory.{the_row};
     ghost use Rattle.regions.specs.contracts.partition_mem.PartitionMem.{the_row as part_row};
@@ -39,13 +41,13 @@ impl Memory {
         Ok(Memory { parts })
     }
 
-    /// The words of the partition at a place, from 0. After the loan these are as the borrower left
-    /// them, and all others are as they were.
-    pub fn lend(&mut self, place: usize) -> &mut PartitionMem
-        requires { place < length self.old }
-        ensures* back { sem 𝓛 (Lends the_row part_row self.entry result (λ w. slice_set self.entry.now place w)) }
-        ensures lent { slice_get self.old place ≡ Some result.now }
+    /// The words of a partition, one of those of the plan, which are numbered from 1. After the loan these
+    /// are as the borrower left them, and all others are as they were.
+    pub fn lend(&mut self, partition: PartitionId) -> &mut PartitionMem
+        requires { HasPart self.old partition }
+        ensures* back { sem 𝓛 (Lends the_row part_row self.entry result (λ w. slice_set self.entry.now (place_of partition) w)) }
+        ensures lent { slice_get self.old (place_of partition) ≡ Some result.now }
     {
-        &mut self.parts[place]
+        &mut self.parts[usize::from(partition.0) - 1]
     }
 }

@@ -50,7 +50,7 @@ impl Executor for Scripted {
     ghost laid = { laid_of };
 
     #[tactic(auto, using(crate::proofs::Parts::views))]
-    fn begin(&mut self, _mem: &mut PartitionMem, runner: Runner) {
+    fn start(&mut self, _mem: &mut PartitionMem, runner: Runner) {
         if let Some(part) = self.parts.get_mut(runner.place()) {
             part.begin();
         }

@@ -3,13 +3,13 @@
 ghost use Rattle.apex_types.specs.Room.{HasRoom};
 
 use apex_types::{
-    Action, ArrayPlace, BodyRow, ErrorKind, Event, HealthTable, Mode, Name, Out, PartitionAction,
+    Action, ArrayPlace, BodyRow, ErrorKind, ErrorLevel, Event, HealthTable, Mode, Name, Out, PartitionAction,
     Priority, ProcessIndex, ProcessRow, Response, Runner, Ticks, WaitingError, Words, WriterSink,
     write_event,
 };
 use health::{
     Errors, action_of, create_error_handler, free_places, get_error_status, is_message_length,
-    report_application_message, response_of, start_handler,
+    level_of, report_application_message, start_handler,
 };
 use process_table_base::ProcessTable;
 use std::alloc::Global;
@@ -135,7 +135,10 @@ fn response(rt: &impl Abort, alloc: Global, waiting: u8, runner: Runner) -> Resp
     let mut out = Out::new();
     let table = with_handler(rt, alloc, &mut out);
     let errors = errors(rt, alloc, waiting);
-    response_of(HEALTH, Mode::Normal, &table, &errors, runner, NUMERIC)
+    match level_of(Mode::Normal, &table, &errors, runner) {
+        ErrorLevel::Process => Response::Handler,
+        _ => Response::Partition(action_of(HEALTH, NUMERIC)),
+    }
 }
 
 /// How many more errors may wait, if the handler is created and so many wait.

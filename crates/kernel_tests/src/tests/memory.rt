@@ -2,7 +2,7 @@
 
 ghost use Rattle.std.specs.Prelude.{◌≡◌, IfOk, length};
 
-use apex_types::ErrorKind;
+use apex_types::{ErrorKind, PartitionId};
 use bitflags::Flags;
 use regions::{Memory, MemoryPlan, PartitionMem, Region, Rights};
 use std::alloc::{AllocError, Global};
@@ -69,7 +69,7 @@ fn regions_have_numbers_and_rights(rt: HostRuntime) {
 #[test]
 fn a_load_gives_the_last_store(rt: HostRuntime) {
     let mut memory = memory(rt.alloc()).expect(&rt, "memory");
-    let part = memory.lend(0);
+    let part = memory.lend(PartitionId(1));
     expect_load(&rt, part, Region::Data, 1, Ok(6));
     expect_store(&rt, part, Region::Data, 1, -8, Ok(()));
     expect_load(&rt, part, Region::Data, 1, Ok(-8));
@@ -81,7 +81,7 @@ fn a_load_gives_the_last_store(rt: HostRuntime) {
 #[test]
 fn each_process_has_its_own_stack(rt: HostRuntime) {
     let mut memory = memory(rt.alloc()).expect(&rt, "memory");
-    let part = memory.lend(0);
+    let part = memory.lend(PartitionId(1));
     expect_store(&rt, part, Region::Stack, 0, 4, Ok(()));
     expect_select(&rt, part, 1, true);
     assert_eq!(rt; part.stack_len(), 3);
@@ -106,18 +106,18 @@ fn restore(rt: &impl Abort, part: &mut PartitionMem, words: &[i64]) {
 #[test]
 fn a_loan_leaves_the_other_partitions(rt: HostRuntime) {
     let mut memory = memory(rt.alloc()).expect(&rt, "memory");
-    restore(&rt, memory.lend(0), &[1, 2]);
-    expect_data(&rt, memory.lend(0), &[1, 2]);
-    expect_data(&rt, memory.lend(1), &[7]);
-    expect_store(&rt, memory.lend(1), Region::Data, 0, 3, Ok(()));
-    expect_data(&rt, memory.lend(0), &[1, 2]);
+    restore(&rt, memory.lend(PartitionId(1)), &[1, 2]);
+    expect_data(&rt, memory.lend(PartitionId(1)), &[1, 2]);
+    expect_data(&rt, memory.lend(PartitionId(2)), &[7]);
+    expect_store(&rt, memory.lend(PartitionId(2)), Region::Data, 0, 3, Ok(()));
+    expect_data(&rt, memory.lend(PartitionId(1)), &[1, 2]);
 }
 
 #[test]
 fn a_refused_access_changes_nothing(rt: HostRuntime) {
     let refused = ErrorKind::MemoryViolation;
     let mut memory = memory(rt.alloc()).expect(&rt, "memory");
-    let part = memory.lend(0);
+    let part = memory.lend(PartitionId(1));
     expect_load(&rt, part, Region::Code, 0, Err(refused));
     expect_load(&rt, part, Region::Data, 2, Err(refused));
     expect_load(&rt, part, Region::Stack, 2, Err(refused));

@@ -1,20 +1,19 @@
 //! A partition of INIT and one process that play scripts: the lines of its ticks.
 
 ghost use Rattle.std.specs.Prelude.{◌≡◌, [], ◌∷◌, length, map, IfOk};
+ghost use Rattle.partition.specs.Fresh.{AreWithinLimits};
 ghost use Rattle.scripted.specs.Plays.{laid_of, layout_of};
 
 use apex_types::{
     At, BodyRow, Call, ErrorKind, Events, HealthTable, Name, PartitionAction, PartitionId,
-    Priority, ProcessRow, StartCondition, Ticks, WriterSink, write_events,
+    Priority, ProcessRow, Section, StartCondition, Ticks, WriterSink, write_events,
 };
-use partition::{Fixed, Kernel, Partition};
-use ports::Ports;
+use partition::{Fixed, Partition};
 use processor::Outcome;
 use regions::{Memory, MemoryPlan, PartitionMem};
 use scripted::{Part, Scripted};
 use std::alloc::{AllocError, Global};
 use std::process::Abort;
-use sync_objects_base::Objects;
 use window_table::{Schedule, read_table};
 
 const TABLE: &str = "frame = 20
@@ -105,22 +104,6 @@ fn partition(rt: &impl Abort, alloc: Global) -> Partition<Scripted>
     ensures { layout_of result.executor ≡ 0 ∷ [] }
 {
     let executor = scripted(alloc).expect(rt, "memory");
-    Partition::new(kernel(rt, alloc), executor)
-}
-
-fn kernel(rt: &impl Abort, alloc: Global) -> Kernel {
-    let rows = [ProcessRow {
-        name: name(rt, b"p"),
-        priority: Priority(5),
-        period: None,
-        capacity: None,
-        body: BodyRow {
-            stack: 2,
-            entry: 0,
-            slots: 0,
-            frame: 2,
-        },
-    }];
     let fixed = Fixed {
         name: name(rt, b"flight"),
         number: PartitionId(1),
@@ -129,9 +112,40 @@ fn kernel(rt: &impl Abort, alloc: Global) -> Kernel {
         schedule: schedule(rt, alloc),
         health: HEALTH,
     };
-    let objects = Objects::new(alloc, &[], 0, &[], &[]).expect(rt, "memory");
-    let ports = Ports::new(alloc, &[]).expect(rt, "memory");
-    Kernel::new(alloc, fixed, &rows, objects, ports, false).expect(rt, "memory")
+    let section = section(alloc, name(rt, b"p")).expect(rt, "memory");
+    Partition::new(alloc, fixed, &[], &section, executor).expect(rt, "memory")
+}
+
+const BODY: BodyRow = BodyRow {
+    stack: 2,
+    entry: 0,
+    slots: 0,
+    frame: 2,
+};
+
+/// The section of INIT and a process of the name, without code.
+fn section(alloc: Global, name: Name) -> Result<Section, AllocError>
+    ensures { IfOk result (λ section. AreWithinLimits [] section) }
+{
+    let process = ProcessRow {
+        name,
+        priority: Priority(5),
+        period: None,
+        capacity: None,
+        body: BODY,
+    };
+    Ok(Section {
+        initial: Vec::new(alloc),
+        semaphores: Vec::new(alloc),
+        events: 0,
+        buffers: Vec::new(alloc),
+        blackboards: Vec::new(alloc),
+        routines: Vec::new(alloc),
+        processes: vec![in alloc; process]?,
+        init: BODY,
+        handler: None,
+        code: Vec::new(alloc),
+    })
 }
 
 fn name(rt: &impl Abort, text: &[u8]) -> Name {
@@ -178,7 +192,7 @@ fn scripts_are_played(rt: HostRuntime) {
     let alloc = rt.alloc();
     let mut partition = partition(&rt, alloc);
     let mut memory = memory(alloc).expect(&rt, "memory");
-    let mem = memory.lend(0);
+    let mem = memory.lend(PartitionId(1));
     let mut events = Events::new();
     let start = At {
         now: Ticks(0),

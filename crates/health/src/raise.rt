@@ -1,0 +1,98 @@
+//! RAISE_APPLICATION_ERROR.
+
+ghost use Rattle.std.specs.Prelude.{◌≡◌, ◌+◌, ◌∷◌, [], not, pos};
+ghost use Rattle.std.specs.Ordering.{int_eq};
+ghost use Rattle.apex_types.specs.Room.{HasRoom, Grows};
+ghost use Rattle.apex_meaning.specs.HealthServices as meaning;
+ghost use Rattle.apex_meaning.specs.HealthServices.{leaves_none};
+ghost use Rattle.apex_meaning.specs.Processes.{answers, refuses};
+ghost use Rattle.apex_meaning.specs.Sharing.{both};
+ghost use Rattle.apex_meaning.specs.Step.{IsMade, after, first_words, row};
+
+use crate::errors::Errors;
+use crate::respond::raise_error;
+use crate::tell::is_message_length;
+use apex_types::{
+    ArrayPlace, ErrorKind, HealthTable, Mode, Out, PartitionAction, ReturnCode, Runner, Service, Words,
+};
+use process_table_base::{ProcessTable, first_words};
+
+/// The answer to a caller, then its error APPLICATION_ERROR with its message.
+fn raise(
+    health: HealthTable,
+    mode: Mode,
+    table: &ProcessTable,
+    errors: &Errors,
+    caller: Runner,
+    message: Words,
+    out: &mut Out,
+) -> Option<PartitionAction>
+    requires { HasRoom 3 out.old }
+    ensures step { IsMade (after (leaves_none (answers table.now caller Service.RaiseApplicationError ReturnCode.NoError [])) (meaning.raises health mode (both table.now errors.now) caller ErrorKind.ApplicationError message.items)) result out.old out.new }
+    ensures grows { Grows 3 out.old out.new }
+{
+    let service = Service::RaiseApplicationError;
+    table.answer(caller, service, ReturnCode::NoError, &[], out);
+    let error = ErrorKind::ApplicationError;
+    raise_error(health, mode, table, errors, caller, error, message, out)
+}
+
+/// The error is one that a process may raise; its message may have a wrong length.
+fn raise_message(
+    health: HealthTable,
+    mode: Mode,
+    table: &ProcessTable,
+    errors: &Errors,
+    caller: Runner,
+    array: ArrayPlace,
+    length: i64,
+    words: Words,
+    out: &mut Out,
+) -> Option<PartitionAction>
+    requires { HasRoom 3 out.old }
+    ensures step { IsMade (row (λ c. leaves_none (refuses table.now caller Service.RaiseApplicationError c)) ((not (meaning.is_message_length array.size length), ReturnCode.InvalidParam) ∷ []) (after (leaves_none (answers table.now caller Service.RaiseApplicationError ReturnCode.NoError [])) (meaning.raises health mode (both table.now errors.now) caller ErrorKind.ApplicationError (first_words length words.items)))) result out.old out.new }
+    ensures grows { Grows 3 out.old out.new }
+{
+    if !is_message_length(array.size, length) {
+        let service = Service::RaiseApplicationError;
+        table.refuse(caller, service, ReturnCode::InvalidParam, &[], out);
+        return None;
+    }
+    let message = first_words(length, &words);
+    raise(health, mode, table, errors, caller, message, out)
+}
+
+/// RAISE_APPLICATION_ERROR (ARINC 653 Part 1, health monitoring): the caller's error
+/// APPLICATION_ERROR with a message, which is the first words of those that the call hands in. At
+/// partition level the partition's action for it is left to be done, and is answered.
+/// INVALID_PARAM: the error is not 1, or a length below 1, above 16, or above the array's size.
+pub fn raise_application_error(
+    health: HealthTable,
+    mode: Mode,
+    table: &ProcessTable,
+    errors: &Errors,
+    caller: Runner,
+    error: i64,
+    array: ArrayPlace,
+    length: i64,
+    words: Words,
+    out: &mut Out,
+) -> Option<PartitionAction>
+    requires { HasRoom 3 out.old }
+    ensures step { IsMade (meaning.raise_application_error health mode (both table.now errors.now) caller error array length words.items) result out.old out.new }
+    ensures grows { Grows 3 out.old out.new }
+{
+    if !is_application_error(error) {
+        let service = Service::RaiseApplicationError;
+        table.refuse(caller, service, ReturnCode::InvalidParam, &[], out);
+        return None;
+    }
+    raise_message(health, mode, table, errors, caller, array, length, words, out)
+}
+
+/// Whether it is the number of the error that a process may raise.
+fn is_application_error(error: i64) -> bool
+    ensures { result ≡ int_eq error (pos 1) }
+{
+    error == 1
+}
