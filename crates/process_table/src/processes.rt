@@ -140,9 +140,7 @@ pub fn stop_self(table: &mut ProcessTable, caller: Runner, out: &mut Out)
     if let Runner::Init = caller {
         return;
     }
-    if let Some(row) = table.row(caller) {
-        table.rest(caller, row, out);
-    }
+    table.rest(caller, out);
 }
 
 /// START (ARINC 653 Part 1, process management): a dormant process starts its body with a fresh stack
