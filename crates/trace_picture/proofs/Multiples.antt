@@ -42,4 +42,4 @@ each axis step k some low high =
     let above : k ≤ axis.until.0 / step = le-div k axis.until.0 step some high in
     let n = axis.until.0 / step + 1 - first in
     list_any_at (nat_eq (k * step)) (so_many step first n) (k - first) 0 (rw (length-map-range_with_len (λ j. j * step) first n) (omega arith))
-        (rw (get_or-map-range_with_len (λ j. j * step) first n (k - first) k 0 (omega arith) (omega arith)) (search rules))
+    (rw (get_or-map-range_with_len (λ j. j * step) first n (k - first) k 0 (omega arith) (omega arith)) (search rules))

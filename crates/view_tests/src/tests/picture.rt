@@ -419,7 +419,11 @@ fn bars_are_a_pixel_wide(rt: HostRuntime) {
     let drawing = drawn(&rt, rt.alloc(), SHORT, 0, Some(1_000_000));
     let svg = drawing.text().expect(&rt, "memory");
     for (class, attributes) in &NARROW {
-        assert_eq!(rt; count_with(svg.as_str(), class, attributes), 1, "{attributes}");
+        assert_eq!(rt;
+            count_with(svg.as_str(), class, attributes),
+            1,
+            "{attributes}"
+        );
     }
 }
 
@@ -523,7 +527,11 @@ fn numbers_of_the_axis(rt: HostRuntime) {
 static BEHIND: [(u64, Option<u64>, &str); 4] = [
     (8, None, "A trace, from tick 8 to tick 9</title>"),
     (9, None, "A trace, from tick 9 to tick 9</title>"),
-    (20_000, None, "A trace, from tick 20000 to tick 20000</title>"),
+    (
+        20_000,
+        None,
+        "A trace, from tick 20000 to tick 20000</title>",
+    ),
     (9, Some(3), "A trace, from tick 9 to tick 9</title>"),
 ];
 
