@@ -40,8 +40,9 @@ pub struct PortRow {
     pub words: u8,
 }
 
-/// A window of the major frame: the partition runs from `offset` on for `length` ticks. At the
-/// start of a window marked release the partition's periodic processes are released.
+/// A window of the major frame: the partition runs from `offset` on for `length` ticks. The start of
+/// a window marked release is where a periodic process that was started is released first; its later
+/// releases follow a period apart.
 #[derive(Clone, Copy, Debug, PartialEq, Eq)]
 pub struct WindowRow {
     pub partition: PartitionId,

@@ -63,6 +63,6 @@ abbrev pub IsExplained : List ℕ → List (List ℕ) → List ℕ → PalFault 
 IsExplained table sources name fault text = (t : Table) × IsTable table t × IsExplainedWith t sources name fault text
 
 -- Where an explanation was wanted, the refused source may be explained: that of the partition that the fault names.
-abbrev pub IsNoted : List ℕ → List (List ℕ) → BuildFault → Note → Note → Type 0
-IsNoted table sources (build.Pal name fault) Wanted (Source text) = IsExplained table sources name fault (string_bytes text)
-IsNoted table sources fault old new = new ≡ old
+abbrev pub IsNoteOf : List ℕ → List (List ℕ) → BuildFault → Note → Note → Type 0
+IsNoteOf table sources (build.Pal name fault) Wanted (Source text) = IsExplained table sources name fault (string_bytes text)
+IsNoteOf table sources fault old new = new ≡ old

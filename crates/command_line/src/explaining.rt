@@ -3,7 +3,7 @@
 ghost use Rattle.std.specs.Prelude.{◌≡◌, Some, map, option_map, string_bytes, IfSome};
 ghost use Rattle.module.specs.Accepted.{IsTable};
 ghost use Rattle.window_table.specs.Views.{partition_view, table_of};
-ghost use Rattle.command_line.specs.Explained.{IsExplained, IsExplainedWith, IsNoted, build_sentence, run_sentence, sentence_of, source_of, told_text};
+ghost use Rattle.command_line.specs.Explained.{IsExplained, IsExplainedWith, IsNoteOf, build_sentence, run_sentence, sentence_of, source_of, told_text};
 
 use crate::refusal::Refusal;
 use apex_types::Name;
@@ -36,7 +36,7 @@ impl Note {
 
     /// Notes the explanation of a refused source, if it is wanted and there is memory for it.
     pub fn explain(&mut self, alloc: Global, table: &[u8], sources: &[&[u8]], fault: &BuildFault)
-        ensures { IsNoted table.now (map (λ s. s.now) sources.now) fault.now self.old self.new }
+        ensures { IsNoteOf table.now (map (λ s. s.now) sources.now) fault.now self.old self.new }
     {
         let Note::Wanted = self else {
             return;
