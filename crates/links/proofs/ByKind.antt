@@ -1,6 +1,6 @@
 -- The waiting lists by their keys stand among the lists with numbers.
 use Rattle.std.proofs.Common.{◌≡◌, ◌∙◌, ◌⊎◌, inl, inr, ℕ, ◌+◌, ◌-◌, ◌<◌, ◌≤◌, true, false, List, [], length, map, refl, sym, ap, arith}
-use Rattle.std.specs.Prelude.{nat_lt, take, drop, replicate, slice_set, if◌then◌else◌}
+use Rattle.std.specs.Prelude.{nat_lt, take, drop, slice_set}
 use Rattle.std.proofs.lemmas.Bool.Decides.{nat_tests}
 use Rattle.std.proofs.lemmas.Bool.{cases_lt}
 use Rattle.std.proofs.lemmas.List.{take-map, drop-map, get_or_past, get_or-take, get_or-drop, drop-set-lt, drop-set-add, take-set-le, set_past, length-map, length-take}
