@@ -64,6 +64,7 @@ fn load_partitions(
     requires few { length items.now ≤ 16 }
     ensures members { IfOk result (λ partitions. members_of machine partitions.items (map fresh_item items.now) ≡ machine_members (schedule_of schedule.now) 1 (items_of items.now)) }
     ensures fit { IfOk result (λ partitions. AreFitting machine partitions.items (map fresh_item items.now)) }
+    ensures few { IfOk result (λ partitions. length partitions.items ≤ 16) }
 {
     let mut partitions = Vec::with_capacity(alloc, items.len())?;
     let mut number = 1u8;
@@ -105,5 +106,6 @@ fn load_partition(
     ensures fits { IfOk result (λ partition. laid_of (fresh_item item.now) ≡ layout_of partition.executor) }
 {
     let executor = Machine::new(alloc, &item.section)?;
-    Partition::new(alloc, fixed, &item.row.ports, &item.section, executor)
+    let partition = Partition::new(alloc, fixed, &item.row.ports, &item.section, executor)?;
+    Ok(partition)
 }

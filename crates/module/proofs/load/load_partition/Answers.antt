@@ -5,4 +5,5 @@ use Rattle.module.proofs.load.load_partition.Goals as goal
 
 pub returns-clause-member : goal.returns-clause-member
 returns-clause-member c =
-    loaded_member (view c.args.fixed) c.args.item.now.row.ports.items c.args.item.now.section _ _ _ _ _ c.in_ok-executor.ensures.engine c.new.ensures.kernel c.in_ok-executor.ensures.controls (sym c.in_ok-executor.ensures.initial) c.in_ok-executor.ensures.initial
+    rw c.in_ok-partition.ensures.executor
+    (loaded_member (view c.args.fixed) c.args.item.now.row.ports.items c.args.item.now.section _ _ _ _ _ c.in_ok-executor.ensures.engine c.in_ok-partition.ensures.kernel c.in_ok-executor.ensures.controls (sym c.in_ok-executor.ensures.initial) c.in_ok-executor.ensures.initial)

@@ -1,4 +1,4 @@
-use Rattle.std.proofs.Common.{rules, ◌≡◌, ◌+◌, ◌++◌, ◌∷◌, [], drop, take, map, ap, subst, sym, ◌∙◌, arith}
+use Rattle.std.proofs.Common.{rules, ◌≡◌, ◌+◌, ◌++◌, ◌∷◌, [], drop, take, length, map, ap, subst, sym, ◌∙◌, arith}
 use Rattle.std.specs.Prelude.{Some}
 use Rattle.std.proofs.lemmas.List.{drop_more, take_more, map-append}
 use Rattle.std.proofs.lemmas.Option.{slice_get-get_or}
@@ -10,6 +10,7 @@ use Rattle.partition_base.specs.contracts.machine.MachineExecutor.TheImpl.{ghost
 use Rattle.window_table.specs.Schedules.{schedule_of}
 use Rattle.module.specs.Loading.{fresh_item}
 use Rattle.module.specs.Members.{members_of, AreFitting}
+use Rattle.module.proofs.Built.{one_longer}
 use Rattle.module.proofs.Lawful.{one_more_loaded}
 use Rattle.module.proofs.Members.{one_more_member, one_more_fits}
 use Rattle.module.proofs.load.load_partitions.Goals as goal
@@ -39,6 +40,7 @@ loop-item-preserved c =
     let same : member_of machine p (fresh_item item) ≡ machine_member (fixed_of (schedule_of c.args.schedule.now) c.loop-item.number (partition_of item.row)) item.row.ports.items (section_of item.section) = search rules in
     record {
       number = omega arith;
+      count = one_longer before p i c.loop-item.invariant.count ∙ ap length (sym next);
       fit = subst (λ ps. AreFitting machine ps (map fresh_item (take (i + 1) items))) (sym next) (subst (λ ss. AreFitting machine (before ++ p ∷ []) ss) (sym more) fits);
       members = one_more_loaded (schedule_of c.args.schedule.now) c.loop-item.number (members_of machine before fresh) (members_of machine c.push.new.self.items (map fresh_item (take (i + 1) items))) (machine_members (schedule_of c.args.schedule.now) 1 (items_of items)) (member_of machine p (fresh_item item)) (item_of item) (items_of (drop (i + 1) items)) pushed same so_far;
     }

@@ -1,4 +1,4 @@
-use Rattle.std.proofs.Common.{◌≡◌, ◌+◌, ◌++◌, drop, map, take}
+use Rattle.std.proofs.Common.{◌≡◌, ◌+◌, ◌++◌, drop, length, map, take}
 use Rattle.apex_meaning.specs.TwoMeanings.{machine_members}
 use Rattle.image.specs.Items.{items_of}
 use Rattle.partition_base.specs.contracts.machine.MachineExecutor.TheImpl.{ghosts as machine}
@@ -10,6 +10,7 @@ use Rattle.module.proofs.load.load_partitions.Given as goal
 abbrev pub invariant-loop-item : goal.invariant-loop-item
 invariant-loop-item l = record {
   number : l.number ≡ l.item-index + 1;
+  count : l.item-index ≡ length l.partitions.items;
   fit : AreFitting machine l.partitions.items (map fresh_item (take l.item-index l.items));
   members : members_of machine l.partitions.items (map fresh_item (take l.item-index l.items)) ++ machine_members (schedule_of l.schedule) l.number (items_of (drop l.item-index l.items)) ≡ machine_members (schedule_of l.schedule) 1 (items_of l.fn.items);
 }
