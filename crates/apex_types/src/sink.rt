@@ -30,7 +30,7 @@ pub trait Sink {
 #[derive(Drop)]
 pub struct WriterSink<W: Write> {
     pub writer: W,
-    pub failures: u64,
+    failures: u64,
 }
 
 impl<W: Write> WriterSink<W> {
@@ -43,6 +43,13 @@ impl<W: Write> WriterSink<W> {
             writer,
             failures: 0,
         }
+    }
+
+    /// The failures so far.
+    pub fn failures(&self) -> u64
+        ensures { result ≡ self.now.failures }
+    {
+        self.failures
     }
 }
 

@@ -23,4 +23,4 @@ returns-clause-noted g c = on_ok c.build_texts.result (c.in_ok-sources.ensures.n
 
 pub returns-clause-named : goal.returns-clause-named
 returns-clause-named g c =
-    unnamed_text (g.F.Files.failed c.args.files.now) (g.F.Files.failed c.read_all-sources.new.files) c.as_slice.result.now (texts_of c.as_slice-2.result.now) c.build_texts.result (c.in_ok-sources.ensures.noted ∙ c.in_ok-table.ensures.noted) c.build_texts.ensures.refused
+    unnamed_text (g.F.Files.failed c.args.files.now) (g.F.Files.failed c.read_all.new.files) c.as_slice.result.now (texts_of c.as_slice-2.result.now) c.build_texts.result (c.in_ok-sources.ensures.noted ∙ c.in_ok-table.ensures.noted) c.build_texts.ensures.refused

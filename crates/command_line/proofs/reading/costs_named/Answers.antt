@@ -23,4 +23,4 @@ returns-clause-noted g c = on_ok c.costs_of_texts.result (c.in_ok-sources.ensure
 
 pub returns-clause-named : goal.returns-clause-named
 returns-clause-named g c =
-    unnamed_costs (g.F.Files.failed c.args.files.now) (g.F.Files.failed c.read_all-sources.new.files) c.as_slice.result.now (texts_of c.as_slice-2.result.now) c.costs_of_texts.result (c.in_ok-sources.ensures.noted ∙ c.in_ok-table.ensures.noted) c.costs_of_texts.ensures.refused
+    unnamed_costs (g.F.Files.failed c.args.files.now) (g.F.Files.failed c.read_all.new.files) c.as_slice.result.now (texts_of c.as_slice-2.result.now) c.costs_of_texts.result (c.in_ok-sources.ensures.noted ∙ c.in_ok-table.ensures.noted) c.costs_of_texts.ensures.refused
