@@ -85,11 +85,7 @@ fn build_accepted(
 }
 
 /// The image of a table and the programs of its partitions.
-fn build_image(
-    alloc: Global,
-    table: ModuleTable,
-    sources: &[Checked],
-) -> Result<Image, AllocError>
+fn build_image(alloc: Global, table: ModuleTable, sources: &[Checked]) -> Result<Image, AllocError>
     requires count { length sources.now ≡ length table.partitions.items }
     requires lawful { BecomesLawful (table_of table) (programs_of sources.now) }
     requires short { list_any is_too_long (programs_of sources.now) ≡ false }

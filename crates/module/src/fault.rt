@@ -26,7 +26,10 @@ pub enum BuildFault {
     /// There are fewer or more sources than partitions.
     Sources,
     /// The source of the partition of that name is refused.
-    Pal { partition: Name, fault: PalFault },
+    Pal {
+        partition: Name,
+        fault: PalFault,
+    },
     /// The sources are accepted, and the program of the partition of that name is not compiled: it would
     /// have more than 65,536 instructions.
     Compile {

@@ -4,3 +4,4 @@ pub mod Tests
 pub mod Counted
 pub mod Resolved
 pub mod Held
+pub mod Accepting
