@@ -13,7 +13,8 @@ use crate::errors::Errors;
 use crate::respond::raise_error;
 use crate::tell::is_message_length;
 use apex_types::{
-    ArrayPlace, ErrorKind, HealthTable, Mode, Out, PartitionAction, ReturnCode, Runner, Service, Words,
+    ArrayPlace, ErrorKind, HealthTable, Mode, Out, PartitionAction, ReturnCode, Runner, Service,
+    Words,
 };
 use process_table_base::{ProcessTable, first_words};
 
@@ -87,7 +88,9 @@ pub fn raise_application_error(
         table.refuse(caller, service, ReturnCode::InvalidParam, &[], out);
         return None;
     }
-    raise_message(health, mode, table, errors, caller, array, length, words, out)
+    raise_message(
+        health, mode, table, errors, caller, array, length, words, out,
+    )
 }
 
 /// Whether it is the number of the error that a process may raise.

@@ -8,8 +8,8 @@ ghost use Rattle.apex_meaning.specs.Step.{IsMade, IsTold};
 
 use crate::errors::Errors;
 use apex_types::{
-    Action, ErrorKind, ErrorLevel, EventKind, HealthTable, Mode, Out, PartitionAction, Response, Runner,
-    WaitingError, Words,
+    Action, ErrorKind, ErrorLevel, EventKind, HealthTable, Mode, Out, PartitionAction, Response,
+    Runner, WaitingError, Words,
 };
 use process_table_base::ProcessTable;
 

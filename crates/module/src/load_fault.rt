@@ -27,7 +27,7 @@ impl LoadFault {
 }
 
 impl fmt::Display for LoadFault {
-    ghost output = { λ _ . Some (codes "memory") };
+    ghost output = { λ _. Some (codes "memory") };
 
     fn fmt<W: fmt::Write>(&self, f: &mut fmt::Formatter<W>) -> fmt::Result {
         match self {

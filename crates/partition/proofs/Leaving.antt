@@ -15,7 +15,8 @@ pub then_acted : (k : Kernel) (p : Runner) (e : ErrorKind) (s : Step (Option Par
 then_acted k p e s left next a b c h i =
     let then : Step Kernel = acts_on_error k p e s.part in
     let same : acts_on_error k p e left ≡ then = ap (λ (o : Option PartitionAction). acts_on_error k p e o) h.0 in
-    let j : IsMade then next b c = subst (λ (t : Step Kernel). IsMade t next b c) same i in
-    (j.0,
-    j.1 ∙ ap (λ (xs : List EventKind). xs ++ then.lines) h.1 ∙ append_assoc a.lines.items s.lines then.lines,
-    j.2 ∙ ap (λ (xs : List Action). xs ++ then.actions) h.2 ∙ append_assoc a.actions.items s.actions then.actions)
+    let j : IsMade then next b c = subst (λ (t : Step Kernel). IsMade t next b c) same i in (
+      j.0,
+      j.1 ∙ ap (λ (xs : List EventKind). xs ++ then.lines) h.1 ∙ append_assoc a.lines.items s.lines then.lines,
+      j.2 ∙ ap (λ (xs : List Action). xs ++ then.actions) h.2 ∙ append_assoc a.actions.items s.actions then.actions,
+    )

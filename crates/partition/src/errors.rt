@@ -8,7 +8,8 @@ ghost use Rattle.apex_meaning.specs.Step.{IsMade};
 
 use crate::kernel::Kernel;
 use apex_types::{
-    ArrayPlace, ErrorKind, EventKind, Mode, Out, PartitionAction, Response, Runner, StartCondition, Words,
+    ArrayPlace, ErrorKind, EventKind, Mode, Out, PartitionAction, Response, Runner, StartCondition,
+    Words,
 };
 use health::{
     action_of, create_error_handler, get_error_status, raise_application_error, raise_error,

@@ -8,11 +8,11 @@ ghost use Rattle.apex_meaning.specs.Processes.{rests_found, row_of};
 ghost use Rattle.apex_meaning.specs.Step.{IsMade, IsTold};
 
 use crate::kernel::Kernel;
-use process_table::stop_self;
 use apex_types::{
     Action, At, EventKind, Mode, Out, ProcessState, ReturnCode, Runner, Service, StartCondition,
     Subject,
 };
+use process_table::stop_self;
 
 impl Kernel {
     /// All processes and objects go, no error waits, and the ports are empty and no longer created; a

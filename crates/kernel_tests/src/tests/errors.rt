@@ -3,9 +3,9 @@
 ghost use Rattle.apex_types.specs.Room.{HasRoom};
 
 use apex_types::{
-    Action, ArrayPlace, BodyRow, ErrorKind, ErrorLevel, Event, HealthTable, Mode, Name, Out, PartitionAction,
-    Priority, ProcessIndex, ProcessRow, Response, Runner, Ticks, WaitingError, Words, WriterSink,
-    write_event,
+    Action, ArrayPlace, BodyRow, ErrorKind, ErrorLevel, Event, HealthTable, Mode, Name, Out,
+    PartitionAction, Priority, ProcessIndex, ProcessRow, Response, Runner, Ticks, WaitingError,
+    Words, WriterSink, write_event,
 };
 use health::{
     Errors, action_of, create_error_handler, free_places, get_error_status, is_message_length,
