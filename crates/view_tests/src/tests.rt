@@ -1,7 +1,7 @@
 mod commands;
 mod picture;
 mod reading;
-mod streams;
+mod pieces;
 mod summaries;
 mod summary;
 mod traces;
