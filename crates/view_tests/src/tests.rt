@@ -1,7 +1,7 @@
 mod commands;
 mod picture;
-mod reading;
 mod pieces;
+mod reading;
 mod summaries;
 mod summary;
 mod traces;
