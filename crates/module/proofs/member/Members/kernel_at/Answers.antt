@@ -1,4 +1,4 @@
-use Rattle.std.proofs.Common.{◌≡◌, ◌≤◌, length, Option, Some, ap, sym, rules}
+use Rattle.std.proofs.Common.{◌≡◌, ◌∙◌, ◌≤◌, length, Option, Some, ap, sym, rules}
 use Rattle.std.proofs.lemmas.Option.{slice_get-get_or}
 use Rattle.std.specs.Prelude.{slice_get, option_map}
 use Rattle.apex_meaning.specs.Partition.{Member}
@@ -16,4 +16,4 @@ pub returns : goal.returns
 returns g c =
     let ps = c.args.self.now.partitions.items in
     let here : slice_get ps c.args.place ≡ Some c.index.result.now = search (rules, slice_get-get_or) in
-    kernel_there g.E.Executor ps c.args.self.now.memory c.args.place c.index.result.now c.args.self.now.fit here
+    ap Some c.kernel.ensures ∙ kernel_there g.E.Executor ps c.args.self.now.memory c.args.place c.index.result.now c.args.self.now.fit here
