@@ -87,15 +87,18 @@ def row_of(name, known):
     return own_sum(name), promises_sum(name, known), [it.stem for it in edits_of(name)]
 
 
-def changed_and_stale():
-    """The crates that differ from what their edits were tried on, and those of which this is so only of what is below them."""
-    known, tried, changed, stale = crates(), read(), [], []
-    for name in known:
-        own, promises, names = row_of(name, known)
-        if names or name in tried:
-            was_own, was_promises, was_names = tried.get(name, ("", "", []))
-            if (was_own, was_names) != (own, names):
-                changed.append(name)
-            elif was_promises != promises:
-                stale.append(name)
-    return changed, stale
+class Compared:
+    """The crates that differ from what their edits were tried on, those of which this is so only of what is below them, and those whose
+    edits were never tried."""
+
+    def __init__(self):
+        self.changed, self.stale, self.untried = [], [], []
+        known, tried = crates(), read()
+        for name in known:
+            own, promises, names = row_of(name, known)
+            if name not in tried:
+                self.untried += [name] * bool(names)
+            elif tried[name][0] != own or tried[name][2] != names:
+                self.changed.append(name)
+            elif tried[name][1] != promises:
+                self.stale.append(name)
