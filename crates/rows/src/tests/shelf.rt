@@ -69,16 +69,16 @@ impl<'a> Files for Shelf<'a> {
     ghost failed = { λ shelf. names_of shelf.failed };
 
     fn read(&mut self, alloc: Global, name: &str) -> Result<Vec<u8>, FileFault> {
-        let held = match name {
-            "table" => Some(self.table.as_bytes()),
-            "devices" => Some(self.devices.as_bytes()),
-            "source" => self.sources.first().map(|text| text.as_bytes()),
-            "source2" => self.sources.get(1).map(|text| text.as_bytes()),
-            "image" => self.image.as_deref(),
-            _ => None,
+        let found = match name {
+            "table" => held(alloc, Some(self.table.as_bytes())),
+            "devices" => held(alloc, Some(self.devices.as_bytes())),
+            "source" => held(alloc, self.sources.first().map(|text| text.as_bytes())),
+            "source2" => held(alloc, self.sources.get(1).map(|text| text.as_bytes())),
+            "image" => held(alloc, self.image.as_deref()),
+            _ => Ok(None),
         };
-        match held {
-            Some(bytes) => copy(alloc, bytes),
+        match found? {
+            Some(bytes) => Ok(bytes),
             None => Err(unavailable(&mut self.failed, alloc, name)),
         }
     }
@@ -100,6 +100,16 @@ fn unavailable(failed: &mut FailedNames, alloc: Global, name: &str) -> FileFault
     match failed.note(alloc, name) {
         Ok(()) => FileFault::Unavailable,
         Err(_) => FileFault::Memory,
+    }
+}
+
+/// A copy of the bytes of a file, if there is one.
+fn held(alloc: Global, bytes: Option<&[u8]>) -> Result<Option<Vec<u8>>, FileFault>
+    ensures { IfErr result (λ fault. fault ≡ FileFault.Memory) }
+{
+    match bytes {
+        Some(bytes) => Ok(Some(copy(alloc, bytes)?)),
+        None => Ok(None),
     }
 }
 
