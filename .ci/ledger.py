@@ -1,5 +1,6 @@
 """The ledger `edits.tried`: which wrong edits of each crate were refused, and on which state of the crate and of the crates below it."""
 
+import functools
 import hashlib
 import re
 from pathlib import Path
@@ -14,15 +15,9 @@ HEAD = """\
 
 
 def crates():
-    """Each crate of `crates.txt`, with the names of the crates that it stands on."""
+    """The names of the crates of `crates.txt`."""
     lines = [line.split("#")[0] for line in (ROOT / "crates.txt").read_text().splitlines()]
-    named = {name.strip(): words.split() for name, _, words in (line.partition(":") for line in lines if ":" in line)}
-    return {name: [word for word in words if word in named] for name, words in named.items()}
-
-
-def below(name, known):
-    """The names of all crates below this one."""
-    return {*known[name], *(it for dep in known[name] for it in below(dep, known))}
+    return [line.partition(":")[0].strip() for line in lines if ":" in line]
 
 
 def edits_of(name):
@@ -61,13 +56,33 @@ def own_sum(name):
     return sum_of([f"{it.relative_to(ROOT)}\0{it.read_text()}" for it in files])
 
 
-def promises_sum(name, known):
-    """The sum of what the contracts of a crate rest on: the definitions and the clauses of the crates below it."""
-    texts = []
-    for dep in sorted(below(name, known)):
-        texts += [it.read_text() for it in files_of(dep, ("specs",))]
-        texts += [heads(it.read_text()) for it in files_of(dep, ("src",)) if it.suffix == ".rt"]
-    return sum_of(texts)
+def file_of(crate, path):
+    """The file of a crate that a name behind `Rattle.CRATE.specs.` stands in: one of `specs`, or of code where it is a name of code."""
+    folder, words, ending = ROOT / "crates" / crate / "specs", path.split("."), ".antt"
+    if words[0] in ("declared", "contracts"):
+        folder, words, ending = folder.parent / "src", words[1:], ".rt"
+    longest_first = [(folder / "/".join(words[:n])).with_suffix(ending) for n in range(len(words), 0, -1)]
+    return next((it for it in longest_first if it.is_file()), folder / "lib.rt")
+
+
+@functools.cache
+def promise_of(file):
+    """The definitions of a file, or the clauses of one of code, and the files that these name in turn: where they call a crate, all its code."""
+    text = heads(file.read_text()) if file.suffix == ".rt" else file.read_text()
+    named = {file_of(crate, path) for crate, path in re.findall(r"\bRattle\.(\w+)\.specs\.([\w.]*\w)", text) if (ROOT / "crates" / crate).is_dir()}
+    called = {crate for crate in re.findall(r"^ *(?:pub )?use (\w+)::", text, re.M) if (ROOT / "crates" / crate).is_dir()}
+    return text, named.union(*(set(files_of(crate, ("src",))) for crate in called))
+
+
+def promises_sum(name):
+    """The sum of what the contracts of a crate rest on: the definitions and clauses outside it that it names, and those that they name."""
+    own = set(files_of(name, ("src", "specs")))
+    found, left = set(), list(own)
+    while left:
+        more = promise_of(left.pop())[1] - own - found
+        found |= more
+        left += more
+    return sum_of([f"{it.relative_to(ROOT)}\0{promise_of(it)[0]}" for it in sorted(found)])
 
 
 def read():
@@ -83,8 +98,8 @@ def write(rows):
     FILE.write_text(HEAD + "".join(f"{line}\n" for line in lines))
 
 
-def row_of(name, known):
-    return own_sum(name), promises_sum(name, known), [it.stem for it in edits_of(name)]
+def row_of(name):
+    return own_sum(name), promises_sum(name), [it.stem for it in edits_of(name)]
 
 
 class Compared:
@@ -93,9 +108,9 @@ class Compared:
 
     def __init__(self):
         self.changed, self.stale, self.untried = [], [], []
-        known, tried = crates(), read()
-        for name in known:
-            own, promises, names = row_of(name, known)
+        tried = read()
+        for name in crates():
+            own, promises, names = row_of(name)
             if name not in tried:
                 self.untried += [name] * bool(names)
             elif tried[name][0] != own or tried[name][2] != names:
