@@ -1,0 +1,160 @@
+-- The part of a module's trace that is a partition's is its trace alone, with what the run brings to it.
+use Rattle.std.proofs.Common.{◌≡◌, ◌≢◌, ℕ, zero, suc, ◌+◌, ◌<◌, ◌≤◌, Bool, true, false, List, [], ◌∷◌, ◌++◌, map, Option, Some, None, refl, sym, ap, subst, ◌∙◌, arith, le_refl, append-nil}
+use Rattle.std.specs.Prelude.{if◌then◌else◌, option_map}
+use Rattle.std.proofs.lemmas.Bool.{eq-eqb, ne_eqb}
+use Rattle.apex_types.specs.declared.codes.ModuleAction.{ModuleAction}
+use Rattle.apex_types.specs.declared.codes.ModuleAction.TheVariants as reaction
+use Rattle.apex_types.specs.declared.codes.StartCondition.TheVariants as condition
+use Rattle.apex_types.specs.declared.device.DeviceInput.{DeviceInput}
+use Rattle.apex_types.specs.declared.device.DeviceInput.TheVariants as device
+use Rattle.apex_types.specs.declared.device.DeviceLine.{DeviceLine}
+use Rattle.apex_types.specs.declared.identity.At.{At}
+use Rattle.apex_types.specs.declared.row.PortRow.{PortRow}
+use Rattle.apex_meaning.specs.Module.{Plan, Course, unless_down, breaks_module, inputs, inputs_all, of_tick, moves_and_ticks, module_tick, first_tick, next_tick, starts, trace_from, trace}
+use Rattle.apex_meaning.specs.Partition.{Member, cold_start}
+use Rattle.isolation.specs.Alone.{Input, InputLine, Path, goes, is_in_tick, inputs_in, tick_alone, alone_from, trace_alone}
+use Rattle.isolation.specs.Brought.{part, brought_tick, line_in, inputs_from, inputs_of}
+use Rattle.isolation.specs.Slices.{surroundings_of}
+use Rattle.isolation.proofs.Lines.{AreFromDevice}
+use Rattle.isolation.proofs.Steps.{IsApart, AreApart, Holds, SamePath, same_some, joined, starts_same}
+use Rattle.isolation.proofs.Tick.{IsIsolating, tick_same}
+
+-- ---- a tick stays a tick
+abbrev pub IsIn : ℕ → Option At → Type 0
+IsIn t None = Unit {0}
+IsIn t (Some at) = at.now.0 ≡ t
+
+module _ {C : Type 0} where
+  breaks_in : (at : At) (fault : ModuleAction) (ms : List (Member C)) → IsIn at.now.0 (breaks_module at fault ms).at
+  breaks_in at reaction.Ignore ms = refl
+  breaks_in at reaction.Shutdown ms = tt
+  breaks_in at reaction.Reset ms = refl
+
+  input_in : (plan : Plan) (at : At) (i : DeviceInput) (ms : List (Member C)) → IsIn at.now.0 (inputs plan at i ms).at
+  input_in plan at (device.Message channel m) ms = refl
+  input_in plan at (device.PartitionFault q) ms = refl
+  input_in plan at device.ModuleFault ms = breaks_in at plan.fault ms
+
+  runs_in : (t : ℕ) (c : Course C) (p : At → List (Member C) → Course C) (o : Option At) → IsIn t c.at → IsIn t o
+      → ((a : At) (ms : List (Member C)) → a.now.0 ≡ t → IsIn t (p a ms).at) → IsIn t (unless_down c p o).at
+  runs_in t c p None h k rest = h
+  runs_in t c p (Some a) h k rest = rest a c.members k
+
+  inputs_in_tick : (plan : Plan) (t : ℕ) (ls : List DeviceLine) (at : At) (ms : List (Member C)) → at.now.0 ≡ t → IsIn t (inputs_all plan at ls ms).at
+  inputs_in_tick plan t [] at ms e = e
+  inputs_in_tick plan t (l ∷ ls) at ms e =
+      let h = subst (λ (n : ℕ). IsIn n (inputs plan at l.input ms).at) e (input_in plan at l.input ms) in
+      runs_in t (inputs plan at l.input ms) (λ a ns. inputs_all plan a ls ns) (inputs plan at l.input ms).at h h (λ a ns k. inputs_in_tick plan t ls a ns k)
+
+  pub tick_in : (plan : Plan) (devices : List DeviceLine) (at : At) (ms : List (Member C)) → IsIn at.now.0 (module_tick plan at devices ms).at
+  tick_in plan devices at ms =
+      let c = inputs_all plan at (of_tick at.now.0 devices) ms in
+      let h = inputs_in_tick plan at.now.0 (of_tick at.now.0 devices) at ms refl in
+      runs_in at.now.0 c (moves_and_ticks plan) c.at h h (λ a ns k. k)
+
+pub next_in : (t : ℕ) (o : Option At) (a : At) → IsIn t o → option_map next_tick o ≡ Some a → a.now.0 ≡ t + 1
+next_in t None a h e = absurd (cc)
+next_in t (Some b) a h e = let same : next_tick b ≡ a = same_some (next_tick b) a e in ap (λ (c : At). c.now.0) (sym same) ∙ ap (λ (n : ℕ). n + 1) h
+
+-- ---- the lines of what comes
+in_append : (t : ℕ) (ls ks : List InputLine) → inputs_in t (ls ++ ks) ≡ inputs_in t ls ++ inputs_in t ks
+in_append t [] ks = refl
+in_append t (l ∷ ls) ks = either (is_in_tick t l) (in_append t ls ks)
+  where
+    either : (b : Bool) → inputs_in t (ls ++ ks) ≡ inputs_in t ls ++ inputs_in t ks
+        → (if b then l.input ∷ inputs_in t (ls ++ ks) else inputs_in t (ls ++ ks)) ≡ (if b then l.input ∷ inputs_in t ls else inputs_in t ls) ++ inputs_in t ks
+    either true h = ap (λ (is : List Input). l.input ∷ is) h
+    either false h = h
+
+in_their_tick : (t : ℕ) (is : List Input) → inputs_in t (map (line_in t) is) ≡ is
+in_their_tick t [] = refl
+in_their_tick t (i ∷ is) = ap (λ (b : Bool). if b then i ∷ inputs_in t (map (line_in t) is) else inputs_in t (map (line_in t) is)) (eq-eqb t t refl) ∙ ap (λ (js : List Input). i ∷ js) (in_their_tick t is)
+
+in_another : (t u : ℕ) (is : List Input) → u ≢ t → inputs_in t (map (line_in u) is) ≡ []
+in_another t u [] n = refl
+in_another t u (i ∷ is) n = ap (λ (b : Bool). if b then i ∷ inputs_in t (map (line_in u) is) else inputs_in t (map (line_in u) is)) (ne_eqb u t n) ∙ in_another t u is n
+
+-- none comes in an earlier tick
+none_earlier : {C : Type 0} (plan : Plan) (p : ℕ) (devices : List DeviceLine) (n : ℕ) (o : Option At) (ms : List (Member C)) (t : ℕ)
+    → ((a : At) → o ≡ Some a → t < a.now.0) → inputs_in t (inputs_from plan p devices n o ms) ≡ []
+none_earlier plan p devices zero o ms t h = refl
+none_earlier plan p devices (suc n) None ms t h = refl
+none_earlier plan p devices (suc n) (Some at) ms t h =
+    let r = module_tick plan at devices ms in
+    let now = h at refl in
+    in_append t (map (line_in at.now.0) (brought_tick plan p at devices ms)) (inputs_from plan p devices n (option_map next_tick r.at) r.members)
+    ∙ ap (λ (is : List Input). is ++ inputs_in t (inputs_from plan p devices n (option_map next_tick r.at) r.members)) (in_another t at.now.0 (brought_tick plan p at devices ms) (differ now))
+    ∙ none_earlier plan p devices n (option_map next_tick r.at) r.members t (λ a e. later now a (next_in at.now.0 r.at a (tick_in plan devices at ms) e))
+  where
+    differ : t < at.now.0 → at.now.0 ≢ t
+    differ l e = absurd (omega arith)
+
+    later : t < at.now.0 → (a : At) → a.now.0 ≡ at.now.0 + 1 → t < a.now.0
+    later l a e = omega arith
+
+module _ {C : Type 0} (name : List ℕ) (place : ℕ) (names : List (List ℕ)) (apart : IsApart name place names) (all : AreApart names) (plan : Plan) (rows : List PortRow) (plain : IsIsolating plan (suc place) rows) (devices : List DeviceLine) (from : AreFromDevice plan.channels devices) where
+  abbrev Is : List (Member C) → Member C → Type 0
+  Is ms x = Holds {C = C} name place names apart ms x
+
+  abbrev Goes : Course C → Path (Member C) → Type 0
+  Goes c d = SamePath {C = C} name place names apart c d
+
+  -- the inputs that the run brings from here on are those in these lines
+  abbrev AreThose : List InputLine → ℕ → Option At → List (Member C) → Type 0
+  AreThose ls n o ms = (a : At) → o ≡ Some a → (t : ℕ) → a.now.0 ≤ t → inputs_in t ls ≡ inputs_in t (inputs_from plan (suc place) devices n o ms)
+
+  here : (ls : List InputLine) (n : ℕ) (at : At) (ms : List (Member C)) → AreThose ls (suc n) (Some at) ms → inputs_in at.now.0 ls ≡ brought_tick plan (suc place) at devices ms
+  here ls n at ms those =
+      let r = module_tick plan at devices ms in
+      let b = brought_tick plan (suc place) at devices ms in
+      those at refl at.now.0 (le_refl at.now.0)
+      ∙ in_append at.now.0 (map (line_in at.now.0) b) (inputs_from plan (suc place) devices n (option_map next_tick r.at) r.members)
+      ∙ ap (λ (is : List Input). is ++ inputs_in at.now.0 (inputs_from plan (suc place) devices n (option_map next_tick r.at) r.members)) (in_their_tick at.now.0 b)
+      ∙ ap (λ (is : List Input). b ++ is) (none_earlier plan (suc place) devices n (option_map next_tick r.at) r.members at.now.0 (λ a e. later a (next_in at.now.0 r.at a (tick_in plan devices at ms) e)))
+      ∙ append-nil b
+    where
+      later : (a : At) → a.now.0 ≡ at.now.0 + 1 → at.now.0 < a.now.0
+      later a e = omega arith
+
+  then_those : (ls : List InputLine) (n : ℕ) (at : At) (ms : List (Member C)) → AreThose ls (suc n) (Some at) ms
+      → AreThose ls n (option_map next_tick (module_tick plan at devices ms).at) (module_tick plan at devices ms).members
+  then_those ls n at ms those a e t l =
+      let r = module_tick plan at devices ms in
+      let b = brought_tick plan (suc place) at devices ms in
+      let now = next_in at.now.0 r.at a (tick_in plan devices at ms) e in
+      those at refl t (before now l)
+      ∙ in_append t (map (line_in at.now.0) b) (inputs_from plan (suc place) devices n (option_map next_tick r.at) r.members)
+      ∙ ap (λ (is : List Input). is ++ inputs_in t (inputs_from plan (suc place) devices n (option_map next_tick r.at) r.members)) (in_another t at.now.0 b (differ now l))
+    where
+      before : a.now.0 ≡ at.now.0 + 1 → a.now.0 ≤ t → at.now.0 ≤ t
+      before e l = omega arith
+
+      differ : a.now.0 ≡ at.now.0 + 1 → a.now.0 ≤ t → at.now.0 ≢ t
+      differ e l k = absurd (omega arith)
+
+  from_same : (ls : List InputLine) (n : ℕ) (o : Option At) (ms : List (Member C)) (x : Member C) → Is ms x → AreThose ls n o ms
+      → part name (trace_from plan devices n o ms) ≡ alone_from (surroundings_of plan (suc place) rows) ls n o x
+  from_same ls zero o ms x h those = refl
+  from_same ls (suc n) None ms x h those = refl
+  from_same ls (suc n) (Some at) ms x h those =
+      let s = surroundings_of plan (suc place) rows in
+      let r = module_tick plan at devices ms in
+      let b = brought_tick plan (suc place) at devices ms in
+      let d = tick_alone s at b x in
+      let one : Goes r d = tick_same name place names apart all plan rows plain devices from at ms x h in
+      subst (λ (is : List Input). part name (r.lines ++ trace_from plan devices n (option_map next_tick r.at) r.members) ≡ (tick_alone s at is x).lines ++ alone_from s ls n (option_map next_tick (tick_alone s at is x).at) (tick_alone s at is x).state)
+      (sym (here ls n at ms those))
+      (joined name r.lines (trace_from plan devices n (option_map next_tick r.at) r.members) d.lines (alone_from s ls n (option_map next_tick d.at) d.state) one.lines
+      (from_same ls n (option_map next_tick r.at) r.members d.state one.members (then_those ls n at ms those)
+      ∙ ap (λ (o : Option At). alone_from s ls n (option_map next_tick o) d.state) one.at))
+
+  -- A partition's part of the trace is its trace alone.
+  pub isolated : (ms : List (Member C)) (x : Member C) → Is ms x → (n : ℕ)
+      → part name (trace (record { plan = plan; members = ms }) devices n) ≡ trace_alone (record { around = surroundings_of plan (suc place) rows; member = x }) (inputs_of (record { plan = plan; members = ms }) (suc place) devices n) n
+  isolated ms x h zero = refl
+  isolated ms x h (suc n) =
+      let s = starts_same name place names apart first_tick condition.NormalStart ms x h in
+      let g = goes (cold_start first_tick condition.NormalStart) x in
+      let ls = inputs_from plan (suc place) devices (suc n) (Some first_tick) (starts ms).members in
+      joined name (starts ms).lines (trace_from plan devices (suc n) (Some first_tick) (starts ms).members) g.lines (alone_from (surroundings_of plan (suc place) rows) ls (suc n) (Some first_tick) g.state) s.lines
+      (from_same ls (suc n) (Some first_tick) (starts ms).members g.state s.members (λ a e t l. refl))

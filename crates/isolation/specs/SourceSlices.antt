@@ -1,0 +1,34 @@
+-- The slice of a table and its programs that is one partition's, and the partition alone with it.
+use Rattle.std.specs.Prelude.{ℕ, List}
+use Rattle.apex_types.specs.declared.device.DeviceLine.{DeviceLine}
+use Rattle.apex_types.specs.declared.event.Event.{Event}
+use Rattle.apex_meaning.specs.Image.{Partition, Table}
+use Rattle.apex_meaning.specs.Program.{Program}
+use Rattle.apex_meaning.specs.SourceControl.{SourceControl}
+use Rattle.apex_meaning.specs.TwoMeanings.{fixed_of, source_member, source_module}
+use Rattle.isolation.specs.Alone.{Alone, InputLine, Surroundings, trace_alone}
+use Rattle.isolation.specs.Brought.{inputs_of}
+use Rattle.isolation.specs.Slices.{surroundings_of}
+
+-- The partition's number, its row, its program, and what surrounds it.
+pub record SourceSlice : Type 0 where
+  pub number : ℕ
+  pub row : Partition
+  pub program : Program
+  pub around : Surroundings
+
+-- The slice of a table with these programs for the partition with a number, where it is this one's.
+abbrev pub source_slice : Table → List Program → ℕ → Partition → Program → SourceSlice
+source_slice t sources p row program = record { number = p; row = row; program = program; around = surroundings_of (source_module t sources).plan p row.ports }
+
+-- the meaning of this partition and no other
+abbrev pub source_alone : SourceSlice → Alone SourceControl
+source_alone s = record { around = s.around; member = source_member (fixed_of s.around.schedule s.number s.row) s.row.ports s.program }
+
+-- The trace of n ticks of a partition alone, from its slice and its inputs.
+abbrev pub source_slice_trace : SourceSlice → List InputLine → ℕ → List Event
+source_slice_trace s inputs n = trace_alone (source_alone s) inputs n
+
+-- the inputs of a partition in n ticks of a table's programs with these lines of the devices
+abbrev pub source_inputs : Table → List Program → ℕ → List DeviceLine → ℕ → List InputLine
+source_inputs t sources p devices n = inputs_of (source_module t sources) p devices n
