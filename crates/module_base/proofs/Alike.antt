@@ -1,12 +1,12 @@
 -- Device texts and replay texts are read as the lines of any text are.
-use Rattle.std.proofs.Common.{◌≡◌, ℕ, ◌+◌, codes, List, [], ◌∷◌, Option, Some, None, Ok, Err, Result, refl, ap, ◌∙◌}
+use Rattle.std.proofs.Common.{◌≡◌, ℕ, ◌+◌, codes, List, [], ◌∷◌, Option, Some, None, Ok, Err, Result, refl, sym, ap, ◌∙◌}
 use Rattle.std.specs.Prelude.{◌^◌}
 use Rattle.apex_types.specs.declared.device.DeviceFault.{DeviceFault}
 use Rattle.apex_types.specs.declared.device.DeviceLine.{DeviceLine}
 use Rattle.apex_meaning.specs.DeviceText as device
 use Rattle.apex_meaning.specs.DeviceText.{Written, WrittenLine, line_with, plain_number, piece, pieces, pieces_behind_marks}
 use Rattle.apex_meaning.specs.Image.{Partition, Channel}
-use Rattle.isolation.specs.Alone.{InputLine}
+use Rattle.isolation.specs.declared.input.InputLine.{InputLine}
 use Rattle.isolation.specs.ReplayText as replay
 use Rattle.module_base.specs.TextLines.{line_by, written_by, taken_by, ends_with, put_line, and_then, lines_by, verdict_by}
 
@@ -47,9 +47,13 @@ device_lines rows channels count before (line ∷ next ∷ more) =
     (λ l. device.lines_from rows channels (count + 1) l.tick.0 (next ∷ more)) (λ l. lines_by (codes "MSG") (device.named rows channels) (λ (l : DeviceLine). l.tick.0) (count + 1) l.tick.0 (next ∷ more))
     (device_taken rows channels count before line) (λ l. device_lines rows channels (count + 1) l.tick.0 (next ∷ more))
 
-pub devices_read : (rows : List Partition) (channels : List Channel) (text : List ℕ) → device.verdict rows channels text ≡ verdict_by (codes "MSG") (device.named rows channels) (λ (l : DeviceLine). l.tick.0) text
+devices_marked : (rows : List Partition) (channels : List Channel) (text : List ℕ) → device.verdict rows channels text ≡ verdict_by (codes "MSG") (device.named rows channels) (λ (l : DeviceLine). l.tick.0) text
 unfolding device.verdict verdict_by
-devices_read rows channels text = device_lines rows channels 0 0 (pieces 10 text)
+devices_marked rows channels text = device_lines rows channels 0 0 (pieces 10 text)
+
+pub devices_read : (rows : List Partition) (channels : List Channel) (mark text : List ℕ) → mark ≡ codes "MSG" → device.verdict rows channels text ≡ verdict_by mark (device.named rows channels) (λ (l : DeviceLine). l.tick.0) text
+devices_read rows channels mark text is =
+    devices_marked rows channels text ∙ ap (λ (m : List ℕ). verdict_by m (device.named rows channels) (λ (l : DeviceLine). l.tick.0) text) (sym is)
 
 -- ---- replay texts
 input_written : (ps : List (List ℕ)) → replay.written_of ps ≡ written_by (codes "ARRIVE") ps
@@ -87,6 +91,10 @@ input_lines row count before (line ∷ next ∷ more) =
     (λ l. replay.lines_from row (count + 1) l.tick.0 (next ∷ more)) (λ l. lines_by (codes "ARRIVE") (replay.named row) (λ (l : InputLine). l.tick.0) (count + 1) l.tick.0 (next ∷ more))
     (input_taken row count before line) (λ l. input_lines row (count + 1) l.tick.0 (next ∷ more))
 
-pub inputs_read : (row : Partition) (text : List ℕ) → replay.replay_verdict row text ≡ verdict_by (codes "ARRIVE") (replay.named row) (λ (l : InputLine). l.tick.0) text
+inputs_marked : (row : Partition) (text : List ℕ) → replay.replay_verdict row text ≡ verdict_by (codes "ARRIVE") (replay.named row) (λ (l : InputLine). l.tick.0) text
 unfolding replay.replay_verdict verdict_by
-inputs_read row text = input_lines row 0 0 (pieces 10 text)
+inputs_marked row text = input_lines row 0 0 (pieces 10 text)
+
+pub inputs_read : (row : Partition) (mark text : List ℕ) → mark ≡ codes "ARRIVE" → replay.replay_verdict row text ≡ verdict_by mark (replay.named row) (λ (l : InputLine). l.tick.0) text
+inputs_read row mark text is =
+    inputs_marked row text ∙ ap (λ (m : List ℕ). verdict_by m (replay.named row) (λ (l : InputLine). l.tick.0) text) (sym is)

@@ -8,7 +8,8 @@ use Rattle.apex_types.specs.declared.row.PortRow.{PortRow}
 use Rattle.apex_meaning.specs.DeviceText.{Written, WrittenLine, Message, ModuleFault as DeviceModuleFault, PartitionFault as DevicePartitionFault, is_room, pieces}
 use Rattle.apex_meaning.specs.GrammarWords.{same}
 use Rattle.apex_meaning.specs.Image.{Partition}
-use Rattle.isolation.specs.Alone.{Input, InputLine}
+use Rattle.isolation.specs.declared.input.Input.{Input}
+use Rattle.isolation.specs.declared.input.InputLine.{InputLine}
 use Rattle.isolation.specs.InputText.{AreInOrder}
 use Rattle.isolation.specs.ReplayText as text
 

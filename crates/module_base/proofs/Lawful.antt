@@ -120,4 +120,4 @@ lawful_ports image n it lawful e = ports_of_item image.schedule.frame [] image.i
 -- and so has the row of each partition of an image in the code
 pub row_ports : (image : Image) (n : ℕ) (it : PartitionItem) → slice_get image.partitions.items n ≡ Some it → HasPorts (partition_of it.row)
 row_ports image n it e =
-    lawful_ports (image_of image) n (item_of it) image.lawful (sym (slice_get-map item_of image.partitions.items n) ∙ ap (option_map item_of) e)
+    lawful_ports (image_of image) n (item_of it) image.lawful (slice_get-map item_of image.partitions.items n ∙ ap (option_map item_of) e)

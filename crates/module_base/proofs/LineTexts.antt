@@ -1,13 +1,14 @@
--- The text of a line of inputs is what is written part by part, and its words are those that were read.
-use Rattle.std.proofs.Common.{◌≡◌, ℕ, ℤ, ◌+◌, ◌<◌, ◌≤◌, codes, List, [], ◌∷◌, ◌++◌, length, drop, get_or, map, FitsSigned, w64, refl, sym, ap, subst, ◌∙◌, append_assoc, append-nil}
+-- The text of a line of inputs is what is written part by part.
+use Rattle.std.proofs.Common.{◌≡◌, ℕ, ℤ, codes, List, [], ◌∷◌, ◌++◌, map, refl, sym, ap, ◌∙◌, append-nil}
 use Rattle.std.specs.Prelude.{flat_map}
 use Rattle.std.specs.Fmt.{decimal, signed_decimal}
 use Rattle.std.specs.List.{join_with_byte}
-use Rattle.std.proofs.lemmas.List.{drop_more, drop_all}
 use Rattle.apex_types.specs.Line.{words_text}
 use Rattle.apex_meaning.specs.Image.{Partition, at_number}
-use Rattle.isolation.specs.Alone.{Input, InputLine, Arrive, ModuleFault, PartitionFault}
-use Rattle.isolation.specs.InputText.{AreWords, input_parts, input_text, name_of_port}
+use Rattle.isolation.specs.declared.input.Input.{Input}
+use Rattle.isolation.specs.declared.input.Input.TheVariants.{Arrive, ModuleFault, PartitionFault}
+use Rattle.isolation.specs.declared.input.InputLine.{InputLine}
+use Rattle.isolation.specs.InputText.{input_parts, input_text, name_of_port}
 use Rattle.module_base.specs.LineText.{behind_tick, line_text}
 
 -- parts, each behind a space
@@ -33,15 +34,4 @@ parts_spaced row PartitionFault = ap (λ (xs : List ℕ). codes " FAULT " ++ xs)
 pub line_is : (row : Partition) (l : InputLine) → input_text row l ≡ line_text row l
 line_is row l =
     ap (λ (xs : List ℕ). xs ++ 10 ∷ []) (join_spaced (decimal l.tick.0) (input_parts row l.input))
-    ∙ append_assoc (decimal l.tick.0) (spaced (input_parts row l.input)) (10 ∷ [])
     ∙ ap (λ (xs : List ℕ). decimal l.tick.0 ++ xs ++ 10 ∷ []) (parts_spaced row l.input)
-
--- ---- words
--- one word was read, and if those behind it are words, all are
-pub word_read : (ws : List ℤ) (i : ℕ) (w : ℤ) → i < length ws → get_or ws i w ≡ w → FitsSigned w64 w → (AreWords (drop i ws) → AreWords ws) → AreWords (drop (i + 1) ws) → AreWords ws
-word_read ws i w within is fits all rest =
-    let left : drop i ws ≡ w ∷ drop (i + 1) ws = drop_more ws i w within ∙ ap (λ (x : ℤ). x ∷ drop (i + 1) ws) is in
-    all (subst AreWords (sym left) (fits, rest))
-
-pub words_read : (ws : List ℤ) (i : ℕ) → length ws ≤ i → (AreWords (drop i ws) → AreWords ws) → AreWords ws
-words_read ws i done all = all (subst AreWords (sym (drop_all i ws done)) tt)

@@ -55,10 +55,10 @@ unfolding lines_by pieces_behind_marks
 no_more mark named tick_of before lines [] h = put_lines_all lines
 no_more mark named tick_of before lines (b ∷ rest) h = absurd (omega (arith, h))
 
-some_byte : {L : Type 0} (n b : ℕ) (rest : List ℕ) → ends_with {L} (take (1 + n) (b ∷ rest)) ≡ Err fault.Form
-some_byte {L = L} n b rest = let more : 1 + n ≡ suc n = omega arith in ap (λ (k : ℕ). ends_with {L} (take k (b ∷ rest))) more
+some_byte : {L : Type 0} (n b : ℕ) (rest : List ℕ) → ends_with {L = L} (take (1 + n) (b ∷ rest)) ≡ Err fault.Form
+some_byte {L = L} n b rest = let more : 1 + n ≡ suc n = omega arith in ap (λ (k : ℕ). ends_with {L = L} (take k (b ∷ rest))) more
 
-no_feed : {L : Type 0} (t : Bool) (b : ℕ) (front rest : List ℕ) (behind more : List (List ℕ)) → cond t (front ∷ behind) more ≡ [] → ends_with {L} (take (cond (not t) (1 + prefix_len (λ x. not (x == 10)) rest) 0) (b ∷ rest)) ≡ Err fault.Form
+no_feed : {L : Type 0} (t : Bool) (b : ℕ) (front rest : List ℕ) (behind more : List (List ℕ)) → cond t (front ∷ behind) more ≡ [] → ends_with {L = L} (take (cond (not t) (1 + prefix_len (λ x. not (x == 10)) rest) 0) (b ∷ rest)) ≡ Err fault.Form
 no_feed true b front rest behind more e = cc
 no_feed false b front rest behind more e = some_byte (prefix_len (λ x. not (x == 10)) rest) b rest
 

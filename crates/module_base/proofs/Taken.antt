@@ -1,23 +1,36 @@
 -- What is taken of a line as the code holds it is what is taken of the line.
 use Rattle.std.proofs.Common.{◌≡◌, ℕ, ℤ, Bool, true, false, cond, List, Option, Some, None, Err, Result, refl, sym, ap, ◌∙◌}
-use Rattle.std.specs.Prelude.{option_map, nat_lt, if◌then◌else◌}
+use Rattle.std.specs.Prelude.{option_map, nat_lt, ◌^◌, if◌then◌else◌}
 use Rattle.apex_types.specs.declared.device.DeviceFault.{DeviceFault}
 use Rattle.apex_types.specs.declared.device.DeviceFault.TheVariants as fault
 use Rattle.apex_types.specs.declared.device.DeviceLine.{DeviceLine}
 use Rattle.apex_types.specs.declared.row.PortRow.{PortRow}
 use Rattle.apex_meaning.specs.DeviceText as meant
-use Rattle.apex_meaning.specs.DeviceText.{first_from, is_room, taken_message, taken_fault, named}
+use Rattle.apex_meaning.specs.DeviceText.{first_from, is_room, line_with, piece, pieces_behind_marks, plain_number, taken_message, taken_fault, named}
 use Rattle.apex_meaning.specs.GrammarWords.{same}
 use Rattle.apex_meaning.specs.Image.{Partition, Channel}
-use Rattle.isolation.specs.Alone.{InputLine, PartitionFault}
+use Rattle.isolation.specs.declared.input.Input.TheVariants.{PartitionFault}
+use Rattle.isolation.specs.declared.input.InputLine.{InputLine}
 use Rattle.isolation.specs.ReplayText as replay
-use Rattle.module_base.specs.Seen.{fitting, seen, seen_line}
-use Rattle.module_base.specs.TextLines.{Taking, taken_by}
+use Rattle.module_base.specs.Seen.{fitting, pieces_of, seen, seen_line}
+use Rattle.module_base.specs.TextLines.{Taking, line_by, taken_by, written_by}
 use Rattle.module_base.specs.declared.line.MessageWords.{MessageWords}
+use Rattle.module_base.specs.declared.line.Written.{Written}
 use Rattle.module_base.specs.declared.line.Written.TheVariants as written
 use Rattle.module_base.specs.declared.line.WrittenLine.{WrittenLine}
 
 -- ---- any text
+held_with : (tick : ℕ) (w : Written) (t : Option ℕ) (o : Option meant.Written) → Some tick ≡ t → Some w ≡ option_map seen o → Some (record { tick = record { 0 = tick }; written = w }) ≡ option_map seen_line (line_with t o)
+held_with tick w None o e h = cc
+held_with tick w (Some n) None e h = cc
+held_with tick w (Some n) (Some v) e h = let t : tick ≡ n = cc in let s : w ≡ seen v = cc in rw (t, s) refl
+
+-- a line is its first piece, which is its tick, and what the pieces behind it say
+pub held_line : (mark text front : List ℕ) (rest : Option (List ℕ)) (tick : ℕ) (w : Written) → front ≡ piece 32 text → pieces_behind_marks 32 text ≡ pieces_of 32 rest → Some tick ≡ plain_number (2 ^ 40) front → Some w ≡ option_map seen (written_by mark (pieces_of 32 rest)) → Some (record { tick = record { 0 = tick }; written = w }) ≡ option_map seen_line (line_by mark text)
+held_line mark text front rest tick w f b t h =
+    held_with tick w (plain_number (2 ^ 40) (piece 32 text)) (written_by mark (pieces_behind_marks 32 text))
+    (t ∙ ap (plain_number (2 ^ 40)) f) (h ∙ ap (λ (ps : List (List ℕ)). option_map seen (written_by mark ps)) (sym b))
+
 pub taken_line : {L : Type 0} (named : Taking L) (count before : ℕ) (o : Option meant.WrittenLine) (line : WrittenLine) (r : Result L DeviceFault) → Some line ≡ option_map seen_line o → ((l : meant.WrittenLine) → line ≡ seen_line l → r ≡ taken_by named count before (Some l)) → r ≡ taken_by named count before o
 taken_line named count before None line r e h = cc
 taken_line named count before (Some l) line r e h = h l cc

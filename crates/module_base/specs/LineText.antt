@@ -3,7 +3,9 @@ use Rattle.std.specs.Prelude.{ℕ, List, [], ◌∷◌, ◌++◌, codes}
 use Rattle.std.specs.Fmt.{decimal}
 use Rattle.apex_types.specs.Line.{words_text}
 use Rattle.apex_meaning.specs.Image.{Partition, at_number}
-use Rattle.isolation.specs.Alone.{Input, InputLine, Arrive, ModuleFault, PartitionFault}
+use Rattle.isolation.specs.declared.input.Input.{Input}
+use Rattle.isolation.specs.declared.input.Input.TheVariants.{Arrive, ModuleFault, PartitionFault}
+use Rattle.isolation.specs.declared.input.InputLine.{InputLine}
 use Rattle.isolation.specs.InputText.{name_of_port}
 
 -- what stands behind the tick, each part behind a space

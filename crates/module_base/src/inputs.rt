@@ -7,7 +7,7 @@ ghost use Rattle.apex_meaning.specs.DeviceText as meant;
 ghost use Rattle.apex_meaning.specs.DeviceText.{first_from, is_room};
 ghost use Rattle.apex_meaning.specs.GrammarWords.{same};
 ghost use Rattle.image.specs.Items.{partition_of};
-ghost use Rattle.isolation.specs.Alone.{PartitionFault};
+ghost use Rattle.isolation.specs.declared.input.Input.TheVariants.{PartitionFault};
 ghost use Rattle.isolation.specs.InputText.{AreInOrder};
 ghost use Rattle.isolation.specs.ReplayText as replay;
 ghost use Rattle.isolation.specs.ReplayText.{is_destination, replay_verdict, taken_message};

@@ -28,12 +28,7 @@ pub trait TakesLines {
     ghost tick_of: { Self.Line → ℕ };
 
     /// A line of this tick behind so many others, by the names in it.
-    fn take(
-        &self,
-        count: usize,
-        tick: Ticks,
-        written: Written,
-    ) -> Result<Self::Line, DeviceFault>
+    fn take(&self, count: usize, tick: Ticks, written: Written) -> Result<Self::Line, DeviceFault>
         requires { is_readable self.now }
         ensures { (w : meant.Written) → written ≡ seen w → result ≡ named self.now count tick.0 w };
 
@@ -47,7 +42,7 @@ pub trait TakesLines {
 /// # Errors
 ///
 /// What is wrong in the first wrong line; or want of memory.
-#[tactic(auto, unfolding(module_base::specs::TextLines::verdict_by), using(crate::proofs::Reading::wrong_line, crate::proofs::Reading::right_line, crate::proofs::Reading::no_more, crate::proofs::Reading::no_line_feed))]
+#[tactic(auto, unfolding(crate::specs::TextLines::verdict_by), using(crate::proofs::Reading::wrong_line, crate::proofs::Reading::right_line, crate::proofs::Reading::no_more, crate::proofs::Reading::no_line_feed))]
 pub fn read_lines<T: TakesLines>(
     alloc: Global,
     mark: &[u8],

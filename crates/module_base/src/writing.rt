@@ -49,11 +49,7 @@ pub fn write_inputs<S: Sink>(
 }
 
 /// Writes the line of an input.
-fn write_line<S: Sink>(
-    row: &PartitionRow,
-    line: &InputLine,
-    sink: &mut S,
-) -> Result<(), SinkFault>
+fn write_line<S: Sink>(row: &PartitionRow, line: &InputLine, sink: &mut S) -> Result<(), SinkFault>
     requires { S.failures sink.old < 2 ^ 64 - 1 }
     ensures ok { OnOk result (Appends (S.taken sink.old) (S.taken sink.new) (input_text (partition_of row.now) line.now)) }
     ensures quiet { OnOk result (S.failures sink.new ≡ S.failures sink.old) }
