@@ -1,8 +1,8 @@
 pub mod Lawful
-pub mod Lines
+pub mod LinesOfTicks
 pub mod Loaded
 pub mod Only
-pub mod Running
+pub mod Traces
 pub mod Sent
 pub mod Taken
 pub mod Texts

@@ -13,11 +13,11 @@ use Rattle.isolation.specs.Alone.{Alone, Surroundings}
 use Rattle.isolation.specs.Slices.{machine_alone, slice, slice_of, surroundings_of}
 
 -- the item at a place is that of the next number
-pub item_here : (items : List PartitionItem) (place number : ℕ) (item : PartitionItem) → number ≡ suc place → place < length items → item ≡ get_or items place item → at_number (items_of items) number ≡ Some (item_of item)
-item_here items place number item e within is =
+pub item_here : (items : List PartitionItem) (place number : ℕ) (item : PartitionItem) → number ≡ suc place → slice_get items place ≡ Some item → at_number (items_of items) number ≡ Some (item_of item)
+item_here items place number item e here =
     ap (λ (n : ℕ). at_number (items_of items) n) e
     ∙ slice_get-map item_of items place
-    ∙ ap (λ (o : Option PartitionItem). option_map item_of o) (slice_get-get_or items place item within ∙ ap Some (sym is))
+    ∙ ap (λ (o : Option PartitionItem). option_map item_of o) here
 
 -- surroundings and a member of an item make its slice alone
 pub alone_is : (image : Image) (number : ℕ) (item : Item) (s : Surroundings) (x : Member MachineControl) (fixed : Fixed) → at_number image.items number ≡ Some item

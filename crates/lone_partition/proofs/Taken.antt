@@ -4,7 +4,8 @@ use Rattle.std.proofs.lemmas.List.{drop_more, drop_all}
 use Rattle.apex_types.specs.declared.codes.ModuleAction.{ModuleAction}
 use Rattle.apex_types.specs.declared.identity.At.{At}
 use Rattle.apex_meaning.specs.Partition.{Member}
-use Rattle.isolation.specs.Alone.{InputLine, Path, takes, takes_all}
+use Rattle.isolation.specs.Alone.{Path, takes, takes_all}
+use Rattle.isolation.specs.declared.input.InputLine.{InputLine}
 use Rattle.lone_partition.proofs.Written.{IsPathUnderWay, path_is_over, shuts_down}
 use Rattle.lone_partition.specs.Lines.{inputs_of}
 use Rattle.lone_partition.specs.Written.{IsPathMade}

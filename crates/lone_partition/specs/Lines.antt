@@ -1,6 +1,7 @@
 -- Lines that act each in its own tick, in the order of their ticks.
 use Rattle.std.specs.Prelude.{◌≤◌, ◌==◌, ℕ, List, [], ◌∷◌, filter, map}
-use Rattle.isolation.specs.Alone.{Input, InputLine}
+use Rattle.isolation.specs.declared.input.Input.{Input}
+use Rattle.isolation.specs.declared.input.InputLine.{InputLine}
 
 -- the lines of a tick, in their order
 abbrev pub lines_in : {L : Type 0} → (L → ℕ) → ℕ → List L → List L

@@ -78,7 +78,7 @@ pub fn ways_out(
 {
     let mut ways = Vec::with_capacity(alloc, ports.len())?;
     let mut number = 1u8;
-    for _port in ports {
+    for _ in ports {
         let channel = channel_from(channels, partition, PortId(number));
         ways.push(name_to_device(channel))?;
         number += 1;

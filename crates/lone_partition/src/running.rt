@@ -45,7 +45,7 @@ impl LonePartition {
         requires ticks { ticks ≤ 2 ^ 40 }
         requires order { AreInOrder inputs.now }
         requires failures { S.failures sink.old < 2 ^ 64 - 1 }
-        ensures written { AreWritten (trace_alone (alone_of self) inputs.now ticks) (S.taken sink.old) (S.taken sink.new) (S.failures sink.old) (S.failures sink.new) result }
+        ensures { AreWritten (trace_alone (alone_of self) inputs.now ticks) (S.taken sink.old) (S.taken sink.new) (S.failures sink.old) (S.failures sink.new) result }
     {
         let LonePartition {
             surroundings,
@@ -70,7 +70,7 @@ fn run_alone<E: Executor, S: Sink>(
     requires ticks { ticks ≤ 2 ^ 40 }
     requires order { AreInOrder inputs.now }
     requires failures { S.failures sink.old < 2 ^ 64 - 1 }
-    ensures written { AreWritten (trace_alone (record { around = around surroundings.now; member = member_of E.Executor partition.old mem.old }) inputs.now ticks) (S.taken sink.old) (S.taken sink.new) (S.failures sink.old) (S.failures sink.new) result }
+    ensures { AreWritten (trace_alone (record { around = around surroundings.now; member = member_of E.Executor partition.old mem.old }) inputs.now ticks) (S.taken sink.old) (S.taken sink.new) (S.failures sink.old) (S.failures sink.new) result }
 {
     if ticks == 0 {
         return Ok(());
@@ -96,7 +96,7 @@ fn run_ticks<E: Executor, S: Sink>(
     requires order { AreInOrder inputs.now }
     requires empty { events.old.items ≡ [] }
     requires failures { S.failures sink.old < 2 ^ 64 - 1 }
-    ensures written { AreWritten (alone_from (around surroundings.now) inputs.now ticks (Some first_tick) (member_of E.Executor partition.old mem.old)) (S.taken sink.old) (S.taken sink.new) (S.failures sink.old) (S.failures sink.new) result }
+    ensures { AreWritten (alone_from (around surroundings.now) inputs.now ticks (Some first_tick) (member_of E.Executor partition.old mem.old)) (S.taken sink.old) (S.taken sink.new) (S.failures sink.old) (S.failures sink.new) result }
 {
     let mut at = FIRST_TICK;
     let mut lines = inputs;

@@ -1,6 +1,7 @@
 use Rattle.std.proofs.Common.{◌≡◌, ◌+◌, ◌∷◌, ◌∙◌, List, Some, drop, refl, sym, ap, subst, rules}
 use Rattle.std.proofs.lemmas.List.{drop_more}
-use Rattle.isolation.specs.Alone.{InputLine, takes, takes_all}
+use Rattle.isolation.specs.Alone.{takes, takes_all}
+use Rattle.isolation.specs.declared.input.InputLine.{InputLine}
 use Rattle.partition.specs.Members.{member_of}
 use Rattle.lone_partition.specs.Lines.{inputs_of}
 use Rattle.lone_partition.specs.Written.{IsOfTick}

@@ -1,5 +1,5 @@
 use Rattle.std.proofs.Common.{◌≡◌, ◌≤◌, ◌+◌, ◌-◌, length, drop}
-use Rattle.lone_partition.proofs.Lines.{front}
+use Rattle.lone_partition.proofs.LinesOfTicks.{front}
 use Rattle.lone_partition.proofs.lines.count_of_tick.Given as goal
 
 abbrev pub invariant-loop-count : goal.invariant-loop-count

@@ -2,7 +2,9 @@
 use Rattle.std.proofs.Common.{◌≡◌, ◌≢◌, ℕ, zero, suc, ◌+◌, ◌<◌, ◌≤◌, ◌==◌, Bool, true, false, if◌then◌else◌, List, [], ◌∷◌, length, get_or, take, drop, refl, sym, ap, subst, ◌∙◌, arith}
 use Rattle.std.proofs.lemmas.Bool.Decides.{Decides-eqb}
 use Rattle.std.proofs.lemmas.List.{drop_more, drop_all}
-use Rattle.isolation.specs.Alone.{Input, InputLine, inputs_in}
+use Rattle.isolation.specs.Alone.{inputs_in}
+use Rattle.isolation.specs.declared.input.Input.{Input}
+use Rattle.isolation.specs.declared.input.InputLine.{InputLine}
 use Rattle.lone_partition.specs.Lines.{AreFrom, inputs_of, lines_in, tick_of_input}
 
 not_true : (b : Bool) → (b ≡ true → ⊥) → b ≡ false

@@ -1,5 +1,5 @@
 -- A partition alone tick by tick, and the text of its trace.
-use Rattle.std.proofs.Common.{◌≡◌, ◌≢◌, ℕ, zero, suc, ◌+◌, ◌<◌, ◌≤◌, List, [], ◌++◌, Option, Some, None, Result, Ok, Err, refl, sym, ap, subst, ◌∙◌, arith, le_refl}
+use Rattle.std.proofs.Common.{◌≡◌, ◌≢◌, ℕ, zero, suc, ◌+◌, ◌<◌, ◌≤◌, List, [], ◌∷◌, ◌++◌, Option, Some, None, Result, Ok, Err, refl, sym, ap, subst, ◌∙◌, arith, le_refl}
 use Rattle.std.proofs.KnownBytes.{Appends-nil, Appends-trans}
 use Rattle.std.specs.Prelude.{option_map}
 use Rattle.std.specs.Io.KnownBytes.{Appends}
@@ -15,8 +15,11 @@ use Rattle.apex_types.specs.declared.sink.SinkFault.{SinkFault}
 use Rattle.apex_meaning.specs.Module.{first_tick, next_tick}
 use Rattle.apex_meaning.specs.Partition.{Member, cold_start}
 use Rattle.isolation.proofs.Isolated.{IsIn, next_in}
-use Rattle.isolation.specs.Alone.{Alone, Input, InputLine, Arrive, ModuleFault, PartitionFault, Path, Surroundings, goes, inputs_in, unless_over, meets_fault, takes, takes_all, sends_and_ticks, tick_alone, alone_from, trace_alone}
-use Rattle.lone_partition.proofs.Lines.{inputs_are}
+use Rattle.isolation.specs.Alone.{Alone, Path, Surroundings, goes, inputs_in, unless_over, meets_fault, takes, takes_all, sends_and_ticks, tick_alone, alone_from, trace_alone}
+use Rattle.isolation.specs.declared.input.Input.{Input}
+use Rattle.isolation.specs.declared.input.Input.TheVariants.{Arrive, ModuleFault, PartitionFault}
+use Rattle.isolation.specs.declared.input.InputLine.{InputLine}
+use Rattle.lone_partition.proofs.LinesOfTicks.{inputs_are}
 use Rattle.lone_partition.proofs.Texts.{text_append, first_fails, second_fails}
 use Rattle.lone_partition.specs.Lines.{inputs_of, lines_in, tick_of_input}
 use Rattle.lone_partition.specs.Written.{IsMade, IsCutOff, IsPathMade, AreWritten, done_in}
