@@ -1,7 +1,7 @@
 -- A partition that is loaded alone is the partition alone of its slice.
-use Rattle.std.proofs.Common.{◌≡◌, ℕ, zero, suc, ◌+◌, ◌-◌, ◌<◌, ◌≤◌, List, [], ◌∷◌, length, get_or, map, Option, Some, None, refl, sym, ap, ◌∙◌, arith}
+use Rattle.std.proofs.Common.{◌≡◌, ℕ, suc, List, Option, Some, sym, ap, ◌∙◌}
 use Rattle.std.specs.Prelude.{option_map, slice_get}
-use Rattle.std.proofs.lemmas.Option.{slice_get-get_or, slice_get-map}
+use Rattle.std.proofs.lemmas.Option.{slice_get-map}
 use Rattle.apex_meaning.specs.Image.{Image, Item, at_number}
 use Rattle.apex_meaning.specs.Kernel.{Fixed}
 use Rattle.apex_meaning.specs.MachineControl.{MachineControl}
@@ -9,7 +9,7 @@ use Rattle.apex_meaning.specs.Partition.{Member}
 use Rattle.apex_meaning.specs.TwoMeanings.{fixed_of, machine_member, machine_module}
 use Rattle.image.specs.Items.{item_of, items_of}
 use Rattle.image.specs.declared.item.PartitionItem.{PartitionItem}
-use Rattle.isolation.specs.Alone.{Alone, Surroundings}
+use Rattle.isolation.specs.Alone.{Surroundings}
 use Rattle.isolation.specs.Slices.{machine_alone, slice, slice_of, surroundings_of}
 
 -- the item at a place is that of the next number

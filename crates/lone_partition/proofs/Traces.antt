@@ -3,7 +3,7 @@ use Rattle.std.proofs.Common.{◌≡◌, ◌≢◌, ℕ, zero, suc, ◌+◌, ◌
 use Rattle.std.proofs.KnownBytes.{Appends-nil, Appends-trans}
 use Rattle.std.specs.Prelude.{option_map}
 use Rattle.std.specs.Io.KnownBytes.{Appends}
-use Rattle.apex_types.proofs.Writing.{IsUnderWay, under_way_more, under_way_end, under_way_fails, under_way_start}
+use Rattle.apex_types.proofs.Writing.{IsUnderWay, under_way_more, under_way_end, under_way_fails}
 use Rattle.apex_types.specs.Line.{text_of}
 use Rattle.apex_types.specs.Sink.{TakesBeginning}
 use Rattle.apex_types.specs.declared.codes.ModuleAction.{ModuleAction}
@@ -54,7 +54,7 @@ module _ {C : Type 0} where
       let h = takes_all_in s.fault at.now.0 is at x refl in
       runs_in at.now.0 c (sends_and_ticks s) c.at h h (λ a y k. k)
 
--- ---- other lines
+  -- ---- other lines
 
   -- only the lines of these ticks count
   same_inputs : (s : Surroundings) (n : ℕ) (o : Option At) (x : Member C) (ls ks : List InputLine) → ((a : At) → o ≡ Some a → (t : ℕ) → a.now.0 ≤ t → inputs_in t ls ≡ inputs_in t ks)
@@ -88,7 +88,7 @@ module _ {C : Type 0} where
       there : (t : ℕ) → at.now.0 < t → inputs_in t lines ≡ inputs_in t later
       there t l = inputs_are t lines ∙ ap inputs_of (sym (of_later t l)) ∙ sym (inputs_are t later)
 
--- ---- one tick of a run
+  -- ---- one tick of a run
 
   none_left : (s : Surroundings) (lines : List InputLine) (n : ℕ) (x : Member C) → alone_from s lines n None x ≡ []
   none_left s lines zero x = refl

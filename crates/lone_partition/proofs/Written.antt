@@ -162,4 +162,3 @@ and_runs_written at rest between_them new after next (Ok x) h k = record {
   made = then_made (λ y. done_in (rest at y)) between_them refl h k.made;
 }
 and_runs_written at rest between_them new after next (Err e) h k = then_cut_off (λ y. done_in (rest at y)) between_them refl h k
-

@@ -78,7 +78,15 @@ fn run_alone<E: Executor, S: Sink>(
     let mut events = Events::new();
     let start = Step::Start(StartCondition::NormalStart);
     write_step(partition, mem, FIRST_TICK, &start, &mut events, sink)?;
-    run_ticks(surroundings, partition, mem, inputs, ticks, &mut events, sink)
+    run_ticks(
+        surroundings,
+        partition,
+        mem,
+        inputs,
+        ticks,
+        &mut events,
+        sink,
+    )
 }
 
 /// So many ticks from the first one on; after a shutdown nothing happens.

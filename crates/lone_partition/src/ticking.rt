@@ -87,7 +87,15 @@ fn send_and_tick<E: Executor, S: Sink>(
 {
     let ended = surroundings.schedule.ended(at);
     let owner = surroundings.schedule.owner(at);
-    send_ended(ended.is_some(), surroundings, partition, mem, at, events, sink)?;
+    send_ended(
+        ended.is_some(),
+        surroundings,
+        partition,
+        mem,
+        at,
+        events,
+        sink,
+    )?;
     tick_own(owner.is_some(), partition, mem, at, events, sink)
 }
 

@@ -4,6 +4,7 @@ use Rattle.partition.specs.Members.{member_of}
 use Rattle.lone_partition.specs.Lines.{inputs_of}
 use Rattle.lone_partition.proofs.Written.{IsPathUnderWay}
 use Rattle.lone_partition.proofs.input.take_all.Given as goal
+
 abbrev pub invariant-loop-line : goal.invariant-loop-line
 invariant-loop-line g l = record {
   fits : g.E.Executor.laid l.mem ≡ g.E.Executor.layout l.partition.executor;

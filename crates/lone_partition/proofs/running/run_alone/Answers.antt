@@ -1,4 +1,4 @@
-use Rattle.std.proofs.Common.{◌≡◌, ◌≢◌, refl, rules}
+use Rattle.std.proofs.Common.{◌≢◌, refl, rules}
 use Rattle.isolation.specs.Alone.{Alone}
 use Rattle.partition.specs.Members.{member_of}
 use Rattle.lone_partition.specs.Around.{around}

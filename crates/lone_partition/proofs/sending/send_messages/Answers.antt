@@ -4,6 +4,7 @@ use Rattle.partition.specs.Members.{member_of}
 use Rattle.lone_partition.specs.Around.{around}
 use Rattle.lone_partition.proofs.Written.{IsUnderWay, starts_out, goes_on, cut_off, written_err}
 use Rattle.lone_partition.proofs.sending.send_messages.Goals as goal
+
 pub loop-init : goal.loop-init
 loop-init g c =
     let whole = λ (n : ℕ). sends_messages n (around c.args.surroundings.now) c.args.at c.args.port (member_of g.E.Executor c.args.partition.now c.args.mem.now) in
@@ -15,6 +16,7 @@ loop-init g c =
       empty = search rules;
       under_way = subst (λ (n : ℕ). IsUnderWay (whole c.args.count) (whole n) taken taken failures failures) all (starts_out (whole c.args.count) taken failures);
     }
+
 pub loop-preserved : goal.loop-preserved
 loop-preserved g c =
     let left : c.args.count - c.loop.counter ≡ suc (c.args.count - (c.loop.counter + 1)) = omega arith in
@@ -25,6 +27,7 @@ loop-preserved g c =
       empty = search rules;
       under_way = goes_on more (member_of g.E.Executor c.send_message.new.partition c.send_message.new.mem) split c.loop.invariant.under_way c.in_ok-send_message.ensures.written;
     }
+
 pub returns-in_err-send_message-clause-written : goal.returns-in_err-send_message-clause-written
 returns-in_err-send_message-clause-written g c =
     let left : c.args.count - c.loop.counter ≡ suc (c.args.count - (c.loop.counter + 1)) = omega arith in

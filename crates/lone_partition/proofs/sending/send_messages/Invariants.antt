@@ -4,6 +4,7 @@ use Rattle.partition.specs.Members.{member_of}
 use Rattle.lone_partition.specs.Around.{around}
 use Rattle.lone_partition.proofs.Written.{IsUnderWay}
 use Rattle.lone_partition.proofs.sending.send_messages.Given as goal
+
 abbrev pub invariant-loop : goal.invariant-loop
 invariant-loop g l = record {
   fits : g.E.Executor.laid l.mem ≡ g.E.Executor.layout l.partition.executor;

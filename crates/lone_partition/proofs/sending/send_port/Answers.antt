@@ -7,6 +7,7 @@ use Rattle.partition.specs.Members.{member_of}
 use Rattle.lone_partition.specs.Around.{around}
 use Rattle.lone_partition.proofs.Written.{then_cut_off, written_err}
 use Rattle.lone_partition.proofs.sending.send_port.Goals as goal
+
 pub returns-in_err-write_step-clause-written : goal.returns-in_err-write_step-clause-written
 returns-in_err-write_step-clause-written g c =
     let x = member_of g.E.Executor c.args.partition.now c.args.mem.now in

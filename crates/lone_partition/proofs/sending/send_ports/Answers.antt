@@ -4,6 +4,7 @@ use Rattle.partition.specs.Members.{member_of}
 use Rattle.lone_partition.specs.Around.{around}
 use Rattle.lone_partition.proofs.Written.{IsUnderWay, starts_out, goes_on, cut_off, written_err}
 use Rattle.lone_partition.proofs.sending.send_ports.Goals as goal
+
 pub loop-place-init : goal.loop-place-init
 loop-place-init g c =
     let whole = λ (n : ℕ). sends_ports n 1 (around c.args.surroundings.now) c.args.at (member_of g.E.Executor c.args.partition.now c.args.mem.now) in
@@ -15,6 +16,7 @@ loop-place-init g c =
       empty = search rules;
       under_way = subst (λ (n : ℕ). IsUnderWay (whole c.args.count) (whole n) taken taken failures failures) all (starts_out (whole c.args.count) taken failures);
     }
+
 pub loop-place-preserved : goal.loop-place-preserved
 loop-place-preserved g c =
     let place = c.loop-place.place in
@@ -26,6 +28,7 @@ loop-place-preserved g c =
       empty = search rules;
       under_way = goes_on more (member_of g.E.Executor c.send_port.new.partition c.send_port.new.mem) split c.loop-place.invariant.under_way c.in_ok-send_port.ensures.written;
     }
+
 pub returns-in_err-send_port-clause-written : goal.returns-in_err-send_port-clause-written
 returns-in_err-send_port-clause-written g c =
     let place = c.loop-place.place in

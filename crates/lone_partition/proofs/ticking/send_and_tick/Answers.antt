@@ -7,9 +7,11 @@ use Rattle.partition.specs.Members.{member_of}
 use Rattle.lone_partition.specs.Around.{around}
 use Rattle.lone_partition.proofs.Written.{then_written}
 use Rattle.lone_partition.proofs.ticking.send_and_tick.Goals as goal
+
 is_some_map : {A B : Type 0} (f : A → B) (o : Option A) → is_some o ≡ is_some (option_map f o)
 is_some_map f None = refl
 is_some_map f (Some x) = refl
+
 pub returns-clause-written : goal.returns-clause-written
 returns-clause-written g c =
     let s = around c.args.surroundings.now in
