@@ -1,0 +1,17 @@
+pub mod Primitives
+pub mod Steps
+pub mod OfProcesses
+pub mod Shares
+pub mod OfSemaphores
+pub mod OfEvents
+pub mod OfBuffers
+pub mod OfBlackboards
+pub mod OfPorts
+pub mod OfObjects
+pub mod OfKernel
+pub mod OfServices
+pub mod OfTick
+pub mod Runs
+pub mod Through
+pub mod Fresh
+pub mod Law

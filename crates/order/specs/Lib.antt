@@ -1,0 +1,4 @@
+pub mod Numbers
+pub mod OrderLaw
+pub mod History
+pub mod RunLaw
