@@ -1,3 +1,4 @@
+pub mod Places
 pub mod Primitives
 pub mod Steps
 pub mod OfProcesses

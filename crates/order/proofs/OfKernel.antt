@@ -32,8 +32,8 @@ use Rattle.apex_types.specs.declared.service.Service.TheVariants as service
 use Rattle.apex_meaning.specs.Due as due
 use Rattle.apex_meaning.specs.Due.{Treated, due_from, ends_wait, is_past, misses, mode_of_action, tick_of, timed_out, treated_after, treats, treats_deadline}
 use Rattle.apex_meaning.specs.HealthServices as health
-use Rattle.apex_meaning.specs.HealthServices.{breaks, is_message_length, acts_on_error, faults, handles, is_fault, queues, then_clears, then_acts, waits_or_leaves, raises_application_error, leaves_none}
-use Rattle.apex_meaning.specs.Kernel.{Kernel, of_objects, of_ports, with_objects, with_ports, of_processes}
+use Rattle.apex_meaning.specs.HealthServices.{breaks, is_message_length, acts_on_error, faults, handles, is_fault, queues, then_clears, then_acts, waits_or_leaves, raises_application_error, leaves_none, raises, response_of, tells_error, action_of, raise_application_error}
+use Rattle.apex_meaning.specs.Kernel.{Kernel, of_objects, of_ports, with_objects, with_ports, of_processes, with_errors}
 use Rattle.apex_meaning.specs.Objects.{Objects, cleared_blackboard, cleared_buffer, cleared_event, cleared_semaphore}
 use Rattle.apex_meaning.specs.Partition.{treats_due}
 use Rattle.apex_meaning.specs.PartitionServices.{clears, next_release_of, clear_lines, ends_body, enters_mode, enters_normal, forgotten, is_cold, is_warm, mode_of, ready_init, set_partition_mode, started_rows, starts_normally, wants}
@@ -207,7 +207,7 @@ module _ (d : ListKey → Discipline) (names : ℕ → List ℕ) where
       after_moves may k _ _ (record { goes = record { takings = []; follows = λ n o. o; named = h.named; told = told; allowed = tt }; objects = h.objects; ports = h.ports }) (λ j. acts_moves may k p e s.part j)
 
   handles_moves : (may : May) (k : Kernel) (p : Runner) (e : ErrorKind) (words : List ℤ) → IsReady k → Moves may k (handles k p e words)
-  handles_moves may k p e words h = then_acts_moves may k p e _ h (waits_told p e words _)
+  handles_moves may k p e words h = then_acts_moves may k p e (raises k.fixed.health k.mode (with_errors k) p e words) h (waits_told p e words (response_of k.fixed.health k.mode (with_errors k) p e))
 
   pub faults_moves : (may : May) (k : Kernel) (p : Runner) (e : ErrorKind) → IsReady k → Moves may k (faults k p e)
   faults_moves may k p e h = after_moves may k _ _ (of_moves may k _ h (rests_found_goes may k.processes p h.named)) (λ j. handles_moves may _ p e [] j)
@@ -218,7 +218,8 @@ module _ (d : ListKey → Discipline) (names : ℕ → List ℕ) where
 
   pub breaks_moves : (may : May) (k : Kernel) → IsReady k → Moves may k (breaks k)
   breaks_moves may k h =
-      after_moves may k _ _ (record { goes = record { takings = []; follows = λ n o. o; named = h.named; told = refl; allowed = tt }; objects = h.objects; ports = h.ports }) (λ j. then_clears_moves may k _ j)
+      after_moves may k (tells_error k error.HardwareFault None (response.Partition (action_of k.fixed.health error.HardwareFault))) _
+      (record { goes = record { takings = []; follows = λ n o. o; named = h.named; told = refl; allowed = tt }; objects = h.objects; ports = h.ports }) (λ j. then_clears_moves may k _ j)
 
   row_told : {P : Type 0} (refused : ReturnCode → Step P) (checks : List (Bool × ReturnCode)) (effect : Step P) → ((c : ReturnCode) → [] ≡ ready_lines (refused c).lines) → [] ≡ ready_lines effect.lines
       → [] ≡ ready_lines (row refused checks effect).lines
@@ -231,10 +232,10 @@ module _ (d : ListKey → Discipline) (names : ℕ → List ℕ) where
 
   pub raise_moves : (may : May) (k : Kernel) (p : Runner) (e : ℤ) (array : ArrayPlace) (length : ℤ) (words : List ℤ) → IsReady k → Moves may k (raises_application_error k p e array length words)
   raise_moves may k p e array length words h =
-      then_acts_moves may k p error.ApplicationError _ h
+      then_acts_moves may k p error.ApplicationError (raise_application_error k.fixed.health k.mode (with_errors k) p e array length words) h
       (row_told (λ c. leaves_none (refuses k.processes p service.RaiseApplicationError c))
       ((not (int_eq e (pos 1)), code.InvalidParam) ∷ (not (is_message_length array.size length), code.InvalidParam) ∷ []) _
-      (λ c. refl) (waits_told p error.ApplicationError (first_words length words) _))
+      (λ c. refl) (waits_told p error.ApplicationError (first_words length words) (response_of k.fixed.health k.mode (with_errors k) p error.ApplicationError)))
 
   -- ---- what is due
 

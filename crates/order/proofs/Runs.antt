@@ -39,6 +39,11 @@ length_last : {A : Type 0} (xs : List A) (y : A) → length (xs ++ y ∷ []) ≡
 length_last [] y = refl
 length_last (x ∷ xs) y = ap suc (length_last xs y)
 
+-- the starts of so many partitions, from the one at a place on
+abbrev starts_at : At → StartCondition → ℕ → ℕ → List Happening
+starts_at at c zero place = []
+starts_at at c (suc n) place = Moves (suc place) (Starts at c) ∷ starts_at at c n (suc place)
+
 module _ {C : Type 0} where
   -- a step of the module is a history
   pub record IsHistory (ms : List (Member C)) (a : Advanced C) : Type 0 where
@@ -95,11 +100,6 @@ module _ {C : Type 0} where
   runs_is ms c p h rest = unless_is ms c p c.at h rest
 
   -- ---- the start of all
-
-  -- the starts of so many partitions, from the one at a place on
-  starts_at : At → StartCondition → ℕ → ℕ → List Happening
-  starts_at at c zero place = []
-  starts_at at c (suc n) place = Moves (suc place) (Starts at c) ∷ starts_at at c n (suc place)
 
   -- the start of the first that has not started yet
   one_starts : (at : At) (c : StartCondition) (done : List (Member C)) (x : Member C) (ms : List (Member C))

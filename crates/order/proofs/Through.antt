@@ -12,21 +12,8 @@ use Rattle.order.specs.History.{Move, Starts, BreaksDown, Arrives, Leaves, Admit
 use Rattle.order.specs.Numbers.{Numbers}
 use Rattle.order.specs.OrderLaw.{IsOrdered}
 use Rattle.order.specs.RunLaw.{MoveGoes, numbers_by, MoveGoesAt, numbers_at, AreOrdered, with_numbers, GoThrough}
+use Rattle.order.proofs.Places.{get_set_same, get_set_other}
 use Rattle.order.proofs.OfTick.{tick_goes, cold_start_goes, breaks_down_goes, arrives_goes, leaves_goes, admits_goes, goes_out_goes}
-
--- ---- lists
-
-get_set_same : {A : Type 0} (xs : List A) (i : ℕ) (x y : A) → slice_get xs i ≡ Some x → slice_get (slice_set xs i y) i ≡ Some y
-get_set_same [] i x y h = absurd (none-some x h)
-get_set_same (a ∷ xs) zero x y h = refl
-get_set_same (a ∷ xs) (suc i) x y h = get_set_same xs i x y h
-
-get_set_other : {A : Type 0} (xs : List A) (i j : ℕ) (y : A) → i ≢ j → slice_get (slice_set xs i y) j ≡ slice_get xs j
-get_set_other [] i j y h = refl
-get_set_other (a ∷ xs) zero zero y h = absurd (h refl)
-get_set_other (a ∷ xs) zero (suc j) y h = refl
-get_set_other (a ∷ xs) (suc i) zero y h = refl
-get_set_other (a ∷ xs) (suc i) (suc j) y h = get_set_other xs i j y (λ e. h (ap suc e))
 
 -- ---- one partition
 
@@ -85,14 +72,14 @@ module _ {C : Type 0} (d : ℕ → ListKey → Discipline) (names : ℕ → ℕ 
   step_ordered : (numbers : ℕ → Numbers) (move : Move) (ms : List (Member C)) (place : ℕ) (o : Option (Member C)) → slice_get ms place ≡ o → AreOrdered d names numbers ms
       → (g : MoveGoesAt (d (suc place)) (names (suc place)) (numbers (suc place)) move o)
       → AreOrdered d names (with_numbers (suc place) (numbers_at (d (suc place)) (names (suc place)) (numbers (suc place)) move o g) numbers) (steps_member (makes move) ms place o).members
-  step_ordered numbers move ms place None there h g q x e = subst (λ (n : Numbers). IsSo q n x) (sym (same_numbers numbers (suc place) q)) (h q x e)
+  step_ordered numbers move ms place None there h g = λ q x e. subst (λ (n : Numbers). IsSo q n x) (sym (same_numbers numbers (suc place) q)) (h q x e)
   step_ordered numbers move ms place (Some x) there h g =
       put_ordered numbers ms place x (with_world x (makes move x).world) (numbers_by (d (suc place)) (names (suc place)) (numbers (suc place)) move x g) h there
       (ordered_by (d (suc place)) (names (suc place)) (numbers (suc place)) move x g)
 
   happens_ordered : (numbers : ℕ → Numbers) (move : Move) (p : ℕ) (ms : List (Member C)) → AreOrdered d names numbers ms → (g : MoveGoesAt (d p) (names p) (numbers p) move (at_number ms p))
       → AreOrdered d names (with_numbers p (numbers_at (d p) (names p) (numbers p) move (at_number ms p) g) numbers) (happens (Moves p move) ms).members
-  happens_ordered numbers move zero ms h g q x e = subst (λ (n : Numbers). IsSo q n x) (sym (same_numbers numbers 0 q)) (h q x e)
+  happens_ordered numbers move zero ms h g = λ q x e. subst (λ (n : Numbers). IsSo q n x) (sym (same_numbers numbers 0 q)) (h q x e)
   happens_ordered numbers move (suc place) ms h g = step_ordered numbers move ms place (slice_get ms place) refl h g
 
   -- Where all lists are in order they are so in every history, and every move goes on with the numbers.
