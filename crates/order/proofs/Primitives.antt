@@ -73,10 +73,10 @@ in_order_released d n (runner.Process p) ready queues h = record { ready = h.rea
 
 pub in_order_enters : (d : ListKey → Discipline) (n : Numbers) (k : ListKey) (e : Entry) (ready : List Entry) (queues : Queues) → IsInOrder d n ready queues
     → IsInOrder d (take_one (BeginsToWait e.process.0) n) ready (joins k (d k) e queues)
-in_order_enters d n k e ready queues h = record { ready = numbered_more n.ready n.next ready h.ready; queues = waiting.begins_to_wait d n.waiting n.next k e queues h.queues; }
+in_order_enters d n k e ready queues h = record { ready = numbered_more n.ready n.next ready h.ready; queues = waiting.begins_to_wait d n.waiting n.next k e queues h.queues }
 
 pub in_order_cleared : (d : ListKey → Discipline) (n : Numbers) (queues : Queues) → IsInOrder d n [] (emptied queues)
-in_order_cleared d n queues = record { ready = record { ordered = tt; below = tt }; queues = waiting.all_empty d n.waiting n.next queues; }
+in_order_cleared d n queues = record { ready = record { ordered = tt; below = tt }; queues = waiting.all_empty d n.waiting n.next queues }
 
 -- ---- one after another
 

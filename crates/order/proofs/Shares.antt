@@ -97,7 +97,7 @@ module _ (d : ListKey → Discipline) (names : ℕ → List ℕ) (O : Type 0) (F
   pub after_shares : (may : May) (b : Sharing O) (t u : Step (Sharing O)) → Shares may b t → (IsSet t.part → Shares may t.part u) → Shares may b (after t u)
   after_shares may b t u h k =
       let g = k (record { named = h.goes.named; fit = h.fit }) in
-      record { goes = after_goes d names may b.processes (lifted (λ (x : Sharing O). x.processes) t) (lifted (λ (x : Sharing O). x.processes) u) h.goes (λ n. g.goes); fit = g.fit; }
+      record { goes = after_goes d names may b.processes (lifted (λ (x : Sharing O). x.processes) t) (lifted (λ (x : Sharing O). x.processes) u) h.goes (λ n. g.goes); fit = g.fit }
 
   pub on_shares : {X : Type 0} (may : May) (b : Sharing O) (o : Option (ℕ × X)) (step : ℕ → X → Step (Sharing O)) → IsSet b → ((f : ℕ × X) → o ≡ Some f → Shares may b (step f.0 f.1))
       → Shares may b (on o b step)

@@ -252,8 +252,8 @@ module _ (d : ListKey → Discipline) (names : ℕ → List ℕ) where
       let t = enters s (runner.Process p) w m r in
       let g = waits_goes may t (runner.Process p) r reason due h e in
       let joined : Follows d (BeginsToWait p.0 ∷ []) s t = λ n o.
-        subst (λ (x : Discipline). IsInOrder d (take_one (BeginsToWait p.0) n) s.ready (joins w.list x (entry p r.current_priority) s.queues)) (sym same)
-        (in_order_enters d n w.list (entry p r.current_priority) s.ready s.queues o) in
+      subst (λ (x : Discipline). IsInOrder d (take_one (BeginsToWait p.0) n) s.ready (joins w.list x (entry p r.current_priority) s.queues)) (sym same)
+      (in_order_enters d n w.list (entry p r.current_priority) s.ready s.queues o) in
       record { takings = BeginsToWait p.0 ∷ g.takings; follows = λ n o. g.follows (take_one (BeginsToWait p.0) n) (joined n o); named = g.named; told = g.told; allowed = (own, g.allowed) }
 
   pub waits_at_goes : (at : At) (may : May) (s : Processes) (p : Runner) (limit : ℤ) (w : Place) (m : ArrayVec ℤ) → w.discipline ≡ d w.list → may.begin_to_wait ≡ itself p → Named s
