@@ -1,4 +1,6 @@
 pub mod Places
+pub mod ReadyEntries
+pub mod Records
 pub mod Primitives
 pub mod Steps
 pub mod OfProcesses
