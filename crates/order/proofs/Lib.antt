@@ -1,6 +1,7 @@
 pub mod Places
 pub mod ReadyEntries
 pub mod Records
+pub mod RecordRows
 pub mod Primitives
 pub mod Steps
 pub mod OfProcesses

@@ -40,7 +40,7 @@ use Rattle.order.proofs.ReadyEntries.{stays, left, in_behind, of_behind}
 abbrev pub OfProcess : Runner → Type 0 → Type 0
 OfProcess p P = (q : ProcessIndex) → p ≡ runner.Process q → P
 
-the_same : (p : Runner) (q : ProcessIndex) → is_same p (runner.Process q) ≡ true → p ≡ runner.Process q
+pub the_same : (p : Runner) (q : ProcessIndex) → is_same p (runner.Process q) ≡ true → p ≡ runner.Process q
 the_same runner.Init q e = absurd (false≢true e)
 the_same runner.Handler q e = absurd (false≢true e)
 the_same (runner.Process p) q e = ap (λ (n : ℕ). runner.Process (index n)) (eqb-true p.0 q.0 e)
@@ -64,11 +64,11 @@ holder_or : ProcessIndex → Lock → ProcessIndex
 holder_or other lock.Free = other
 holder_or other (lock.Held level holder) = holder
 
-same_holder : (level other : ℕ) (p q : ProcessIndex) → lock.Held level p ≡ lock.Held other q → p ≡ q
+pub same_holder : (level other : ℕ) (p q : ProcessIndex) → lock.Held level p ≡ lock.Held other q → p ≡ q
 unfolding holder_or
 same_holder level other p q e = ap (holder_or q) e
 
-not_free : (level : ℕ) (q : ProcessIndex) → lock.Free ≡ lock.Held level q → ⊥
+pub not_free : (level : ℕ) (q : ProcessIndex) → lock.Free ≡ lock.Held level q → ⊥
 not_free level q e = false≢true (ap is_held e)
 
 still_holds : (p : Runner) (l : Lock) (level : ℕ) (q : ProcessIndex) → without_holder p l ≡ lock.Held level q → (l ≡ lock.Held level q) × (is_same p (runner.Process q) ≡ false)
@@ -90,7 +90,7 @@ nobody_holds s p e level q k = absurd (false≢true (sym e ∙ ap is_held k))
 
 -- ---- records
 
-not_ready_plain : (x : ProcessStatus) → is_ready_state x.state ≡ false → IsPlain x
+pub not_ready_plain : (x : ProcessStatus) → is_ready_state x.state ≡ false → IsPlain x
 not_ready_plain x e = record { suspended = λ k. absurd (false≢true (sym e ∙ k)); waits = λ k. absurd (false≢true (sym e ∙ k)) }
 
 not_ready_if_suspended : (r : ProcessStatus) → IsPlain r → r.suspended ≡ true → is_ready_state r.state ≡ false
@@ -113,10 +113,10 @@ module _ (s : Processes) (h : RecordsAgree s) (p : Runner) (r x : ProcessStatus)
   abbrev new : List ProcessStatus
   new = slice_set s.rows (place_of p) x
 
-  same_at : (q : ProcessIndex) → p ≡ runner.Process q → record_at new q ≡ Some x
+  pub same_at : (q : ProcessIndex) → p ≡ runner.Process q → record_at new q ≡ Some x
   same_at q is = subst (λ (o : Runner). slice_get new (place_of o) ≡ Some x) is (get_set_same s.rows (place_of p) r x there)
 
-  was_at : (q : ProcessIndex) → p ≡ runner.Process q → record_at s.rows q ≡ Some r
+  pub was_at : (q : ProcessIndex) → p ≡ runner.Process q → record_at s.rows q ≡ Some r
   was_at q is = subst (λ (o : Runner). row_of s o ≡ Some r) is there
 
   other_at : (q : ProcessIndex) → is_same p (runner.Process q) ≡ false → record_at new q ≡ record_at s.rows q
@@ -139,6 +139,9 @@ module _ (s : Processes) (h : RecordsAgree s) (p : Runner) (r x : ProcessStatus)
 
   init_at : is_some (slice_get new (place_of runner.Init)) ≡ true
   init_at = some_set s.rows (place_of p) (place_of runner.Init) x h.init
+
+  handler_at : is_some (slice_get new (place_of runner.Handler)) ≡ true
+  handler_at = some_set s.rows (place_of p) (place_of runner.Handler) x h.handler
 
   other_listed : (e : Entry) → is_same p (runner.Process e.process) ≡ false → (IsAmong e s.ready ↔ IsReadyAt (record_at new e.process) e.priority)
   other_listed e t = subst (λ (o : Option ProcessStatus). IsAmong e s.ready ↔ IsReadyAt o e.priority) (sym (other_at e.process t)) (h.listed e)
@@ -221,6 +224,7 @@ module _ (s : Processes) (h : RecordsAgree s) (p : Runner) (r x : ProcessStatus)
     runs = λ q e. stays_ready (λ i is k. state i is ∙ k) q (h.runs q e);
     holds = λ level q e. stays_ready (λ i is k. state i is ∙ k) q (h.holds level q e);
     init = init_at;
+    handler = handler_at;
   }
 
 -- who is in the ready list, by who changes
@@ -245,6 +249,7 @@ module _ (s : Processes) (h : RecordsAgree s) where
     runs = λ q e. stays_ready s h p r x there (λ i is k. ready i is) q (h.runs q e);
     holds = λ level q e. stays_ready s h p r x there (λ i is k. ready i is) q (h.holds level q e);
     init = init_at s h p r x there;
+    handler = handler_at s h p r x there;
   }
 
   -- with this record, neither ready nor running
@@ -255,6 +260,7 @@ module _ (s : Processes) (h : RecordsAgree s) where
     runs = λ q e. let k = still_runs p s.running (runner.Process q) e in ap is_ready (other_at s h p r x there q k.1) ∙ h.runs q k.0;
     holds = λ level q e. ap is_ready (other_at s h p r x there q (free level q e)) ∙ h.holds level q e;
     init = init_at s h p r x there;
+    handler = handler_at s h p r x there;
   }
 
   -- with this record, in no list and without the lock
@@ -265,6 +271,7 @@ module _ (s : Processes) (h : RecordsAgree s) where
     runs = λ q e. let k = still_runs p s.running (runner.Process q) e in ap is_ready (other_at s h p r x there q k.1) ∙ h.runs q k.0;
     holds = λ level q e. let k = still_holds p s.lock level q e in ap is_ready (other_at s h p r x there q k.1) ∙ h.holds level q k.0;
     init = init_at s h p r x there;
+    handler = handler_at s h p r x there;
   }
 
   -- ---- one becomes ready, waits, or is dormant

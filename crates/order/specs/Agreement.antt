@@ -30,13 +30,14 @@ pub record IsPlain (r : ProcessStatus) : Type 0 where
   pub waits : is_ready_state r.state ≡ true → r.wait ≡ wait.Nothing
 
 -- The ready list holds just those processes whose records are READY or RUNNING, each with its current priority. If a
--- process runs, or holds the lock, it is one of these. INIT has a record.
+-- process runs, or holds the lock, it is one of these. INIT and the error handler have records.
 pub record Agree (rows : List ProcessStatus) (ready : List Entry) (running : Option Runner) (held : Lock) : Type 0 where
   pub listed : (e : Entry) → (IsAmong e ready ↔ IsReadyAt (record_at rows e.process) e.priority)
   pub plain : (p : ProcessIndex) (r : ProcessStatus) → record_at rows p ≡ Some r → IsPlain r
   pub runs : (p : ProcessIndex) → running ≡ Some (runner.Process p) → is_ready (record_at rows p) ≡ true
   pub holds : (level : ℕ) (p : ProcessIndex) → held ≡ lock.Held level p → is_ready (record_at rows p) ≡ true
   pub init : is_some (slice_get rows (place_of runner.Init)) ≡ true
+  pub handler : is_some (slice_get rows (place_of runner.Handler)) ≡ true
 
 abbrev pub RecordsAgree : Processes → Type 0
 RecordsAgree s = Agree s.rows s.ready s.running s.lock
