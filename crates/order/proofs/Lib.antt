@@ -2,6 +2,7 @@ pub mod Places
 pub mod ReadyEntries
 pub mod Records
 pub mod RecordRows
+pub mod RecordObjects
 pub mod Primitives
 pub mod Steps
 pub mod OfProcesses
