@@ -3,6 +3,7 @@ pub mod ReadyEntries
 pub mod Records
 pub mod RecordRows
 pub mod RecordObjects
+pub mod RecordKernel
 pub mod Primitives
 pub mod Steps
 pub mod OfProcesses
