@@ -4,6 +4,8 @@ pub mod Records
 pub mod RecordRows
 pub mod RecordObjects
 pub mod RecordKernel
+pub mod RecordChoice
+pub mod RecordTick
 pub mod Primitives
 pub mod Steps
 pub mod OfProcesses

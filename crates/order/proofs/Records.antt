@@ -123,7 +123,7 @@ module _ (s : Processes) (h : RecordsAgree s) (p : Runner) (r x : ProcessStatus)
   other_at q e = get_set_other s.rows (place_of p) (place_of (runner.Process q)) x (other_place p q e)
 
   -- one that is ready stays so, if this one does
-  stays_ready : OfProcess p (is_ready_state r.state ≡ true → is_ready_state x.state ≡ true) → (q : ProcessIndex) → is_ready (record_at s.rows q) ≡ true → is_ready (record_at new q) ≡ true
+  pub stays_ready : OfProcess p (is_ready_state r.state ≡ true → is_ready_state x.state ≡ true) → (q : ProcessIndex) → is_ready (record_at s.rows q) ≡ true → is_ready (record_at new q) ≡ true
   stays_ready keeps q ready = by_test (is_same p (runner.Process q)) refl
     where
       by_test : (b : Bool) → is_same p (runner.Process q) ≡ b → is_ready (record_at new q) ≡ true
