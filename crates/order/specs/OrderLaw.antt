@@ -13,15 +13,17 @@ use Rattle.apex_meaning.specs.HealthServices.{starts_handler}
 use Rattle.apex_meaning.specs.Kernel.{Kernel, with_errors}
 use Rattle.apex_meaning.specs.Partition.{World, Moved, control_at, due_phase, pick, prepares, spending_phase, ticked}
 use Rattle.apex_meaning.specs.Processes.{Processes}
+use Rattle.order.specs.Agreement.{RecordsAgree}
 use Rattle.order.specs.Numbers.{Numbers, Taking, May, nobody, may_asked, AreAllowed, AreNamed, HaveDisciplines, IsInOrder, PortsHaveDisciplines, ready_lines, subject_at, take_all, those_ready}
 
 abbrev pub kind_of : Event → EventKind
 kind_of e = e.kind
 
--- The lists of a partition have the order of these numbers. Its processes have these names, and its waiting lists
--- these disciplines.
+-- The lists of a partition have the order of these numbers. Its ready list and its records agree, its processes have
+-- these names, and its waiting lists these disciplines.
 pub record IsOrdered (disciplines : ListKey → Discipline) (names : ℕ → List ℕ) (n : Numbers) (k : Kernel) : Type 0 where
   pub order : IsInOrder disciplines n k.processes.ready k.processes.queues
+  pub records : RecordsAgree k.processes
   pub named : AreNamed (subject_at names) k.processes.rows
   pub objects : HaveDisciplines disciplines k.objects
   pub ports : PortsHaveDisciplines disciplines k.ports
@@ -47,12 +49,13 @@ abbrev pub chosen_among : Kernel → Processes
 chosen_among k = let s = starts_handler k.mode (with_errors k) in s.part
 
 -- In a tick of a partition those that become ready by what is due take numbers. The choice gives nobody a number: it
--- picks the one whom `Picks` allows by these numbers, and there is no other. Then the one that is chosen spends the
--- tick.
+-- picks the one whom `Picks` allows by these numbers, and there is no other. This one runs, and spends the tick; none
+-- runs where none is picked.
 pub record TickGoes {C : Type 0} (disciplines : ListKey → Discipline) (names : ℕ → List ℕ) (n : Numbers) (e : Engine C) (at : At) (w : World C) : Type 0 where
   pub due : GoesOn disciplines names nobody n (due_phase e at w)
   pub picks : (p : Runner)
       → (pick (due_phase e at w).world.kernel.mode (chosen_among (due_phase e at w).world.kernel) ≡ Some p
       ↔ Picks (take_all due.takings n).ready (due_phase e at w).world.kernel.mode (chosen_among (due_phase e at w).world.kernel) p)
+  pub runs : (prepares e at w).world.kernel.processes.running ≡ pick (due_phase e at w).world.kernel.mode (chosen_among (due_phase e at w).world.kernel)
   pub prepared : IsOrdered disciplines names (take_all due.takings n) (prepares e at w).world.kernel
   pub spent : GoesOn disciplines names (may_spent e (prepares e at w).world) (take_all due.takings n) (spending_phase e at (prepares e at w).world)
