@@ -1,5 +1,6 @@
 -- Each step of a partition goes on with the numbers.
 use Rattle.std.proofs.Common.{List, None, Option, Some, [], ap, refl, subst, sym, ℕ, ℤ, ◌∙◌, ◌∷◌, ◌≡◌, ◌↔◌, ◌++◌}
+use Rattle.std.proofs.lemmas.List.{map-append}
 use Rattle.std.specs.Prelude.{map, slice_set}
 use Rattle.arrayvec.specs.ArrayVec.{ArrayVec}
 use Rattle.apex_types.specs.Runners.{place_of}
@@ -7,7 +8,6 @@ use Rattle.apex_types.specs.declared.codes.Discipline.{Discipline}
 use Rattle.apex_types.specs.declared.codes.Mode.TheVariants as mode
 use Rattle.apex_types.specs.declared.codes.Mode.{Mode}
 use Rattle.apex_types.specs.declared.codes.StartCondition.{StartCondition}
-use Rattle.apex_types.specs.declared.event.Event.{Event}
 use Rattle.apex_types.specs.declared.event.EventKind.{EventKind}
 use Rattle.apex_types.specs.declared.identity.At.{At}
 use Rattle.apex_types.specs.declared.identity.ListKey.TheVariants as key
@@ -45,10 +45,6 @@ use Rattle.order.proofs.Shares.{each_put}
 kinds_told : (name : List ℕ) (at : At) (kinds : List EventKind) → kinds ≡ map kind_of (told name at kinds)
 kinds_told name at [] = refl
 kinds_told name at (k ∷ ks) = ap (λ rest. k ∷ rest) (kinds_told name at ks)
-
-kinds_after : (ls ms : List Event) → map kind_of (ls ++ ms) ≡ map kind_of ls ++ map kind_of ms
-kinds_after [] ms = refl
-kinds_after (l ∷ ls) ms = ap (λ rest. kind_of l ∷ rest) (kinds_after ls ms)
 
 module _ (d : ListKey → Discipline) (names : ℕ → List ℕ) where
   ready_of : (n : Numbers) (k : Kernel) → IsOrdered d names n k → IsReady d names k
@@ -107,7 +103,7 @@ module _ {C : Type 0} (d : ListKey → Discipline) (names : ℕ → List ℕ) wh
   followed_goes may n m rest g h = record {
     takings = g.takings ++ h.takings;
     ordered = subst (λ (k : Numbers). IsOrdered d names k (rest m.world).world.kernel) (sym (take_after g.takings h.takings n)) h.ordered;
-    told = told_after names g.takings h.takings (map kind_of m.lines) (map kind_of (rest m.world).lines) g.told h.told ∙ ap ready_lines (sym (kinds_after m.lines (rest m.world).lines));
+    told = told_after names g.takings h.takings (map kind_of m.lines) (map kind_of (rest m.world).lines) g.told h.told ∙ ap ready_lines (sym (map-append kind_of m.lines (rest m.world).lines));
     allowed = allowed_after may g.takings h.takings g.allowed h.allowed;
   }
 

@@ -1,5 +1,6 @@
 -- What each primitive does with the numbers.
 use Rattle.std.proofs.Common.{List, Some, [], ap, refl, subst, suc, sym, zero, ℕ, ◌++◌, ◌∙◌, ◌∷◌, ◌≡◌, ◌+◌, arith}
+use Rattle.std.proofs.lemmas.List.{append_assoc}
 use Rattle.std.proofs.lemmas.Option.{same_Some}
 use Rattle.std.specs.Prelude.{map, slice_get, slice_set}
 use Rattle.apex_types.specs.declared.codes.Discipline.{Discipline}
@@ -86,10 +87,6 @@ take_after (t ∷ ts) us n = take_after ts us (take_one t n)
 
 pub follows_after : (d : ListKey → Discipline) (ts us : List Taking) (s t u : Processes) → Follows d ts s t → Follows d us t u → Follows d (ts ++ us) s u
 follows_after d ts us s t u h k n o = subst (λ (m : Numbers). IsInOrder d m u.ready u.queues) (sym (take_after ts us n)) (k (take_all ts n) (h n o))
-
-append_assoc : {A : Type 0} (xs ys zs : List A) → (xs ++ ys) ++ zs ≡ xs ++ (ys ++ zs)
-append_assoc [] ys zs = refl
-append_assoc (x ∷ xs) ys zs = ap (λ rest. x ∷ rest) (append_assoc xs ys zs)
 
 pub lines_after : (ls ms : List EventKind) → ready_lines (ls ++ ms) ≡ ready_lines ls ++ ready_lines ms
 lines_after [] ms = refl

@@ -211,9 +211,10 @@ module _ (s : Processes) (h : RecordsAgree s) (p : Runner) (r x : ProcessStatus)
       by_test true t =
           let is = the_same p e.process t in
           let before = subst (λ (o : Option ProcessStatus). IsAmong e s.ready ↔ IsReadyAt o e.priority) (was_at e.process is) (h.listed e) in
-          subst (λ (o : Option ProcessStatus). IsAmong e s.ready ↔ IsReadyAt o e.priority) (sym (same_at e.process is))
-          ((λ a. let g = before.0 a in let ready = state e.process is ∙ g.0 in (ready, priority e.process is ready ∙ g.1)),
-           (λ k. before.1 (sym (state e.process is) ∙ k.0, sym (priority e.process is k.0) ∙ k.1)))
+          subst (λ (o : Option ProcessStatus). IsAmong e s.ready ↔ IsReadyAt o e.priority) (sym (same_at e.process is)) (
+            (λ a. let g = before.0 a in let ready = state e.process is ∙ g.0 in (ready, priority e.process is ready ∙ g.1)),
+            (λ k. before.1 (sym (state e.process is) ∙ k.0, sym (priority e.process is k.0) ∙ k.1)),
+          )
       by_test false t = other_listed e t
 
   pub kept_agrees : OfProcess p (is_ready_state x.state ≡ is_ready_state r.state) → OfProcess p (is_ready_state x.state ≡ true → x.current_priority ≡ r.current_priority) → OfProcess p (IsPlain x)

@@ -1,20 +1,21 @@
 -- Every run of a module is a history.
 use Rattle.std.proofs.Common.{◌≡◌, ℕ, zero, suc, ◌+◌, ℤ, List, [], ◌∷◌, ◌++◌, map, length, Option, Some, None, refl, sym, ap, ◌∙◌, append-nil}
+use Rattle.std.proofs.lemmas.List.{append_assoc}
 use Rattle.std.specs.Prelude.{slice_get, slice_set, flat_map, option_map}
 use Rattle.arrayvec.specs.ArrayVec.{ArrayVec}
-use Rattle.apex_types.specs.declared.codes.ModuleAction.{ModuleAction}
 use Rattle.apex_types.specs.declared.codes.ModuleAction.TheVariants as reaction
-use Rattle.apex_types.specs.declared.codes.StartCondition.{StartCondition}
+use Rattle.apex_types.specs.declared.codes.ModuleAction.{ModuleAction}
 use Rattle.apex_types.specs.declared.codes.StartCondition.TheVariants as condition
-use Rattle.apex_types.specs.declared.device.DeviceInput.{DeviceInput}
+use Rattle.apex_types.specs.declared.codes.StartCondition.{StartCondition}
 use Rattle.apex_types.specs.declared.device.DeviceInput.TheVariants as device
+use Rattle.apex_types.specs.declared.device.DeviceInput.{DeviceInput}
 use Rattle.apex_types.specs.declared.device.DeviceLine.{DeviceLine}
 use Rattle.apex_types.specs.declared.event.Event.{Event}
 use Rattle.apex_types.specs.declared.identity.At.{At}
 use Rattle.apex_types.specs.declared.identity.PartitionId.{PartitionId}
 use Rattle.apex_types.specs.declared.identity.PortId.{PortId}
-use Rattle.apex_types.specs.declared.row.ChannelEnd.{ChannelEnd}
 use Rattle.apex_types.specs.declared.row.ChannelEnd.TheVariants as ends
+use Rattle.apex_types.specs.declared.row.ChannelEnd.{ChannelEnd}
 use Rattle.apex_meaning.specs.Image.{Channel, at_number}
 use Rattle.apex_meaning.specs.Module.{Plan, Module, Advanced, Course, still, then_goes, unless_down, then_runs, steps, steps_member, started_member, start_lines, starts_all, delivers, delivers_all, goes_by, fault_line, tells_fault, as_origin, breaks_module, inputs, inputs_all, of_tick, channel_from, of_member, moves_found, moves_message, moves_messages, moves_so_many, ports_from, moves_port, moves_ports, moves_ended, ticks_owner, moves_and_ticks, module_tick, first_tick, next_tick, trace_from, trace}
 use Rattle.apex_meaning.specs.Partition.{Member, leaving, messages_to_move}
@@ -22,10 +23,6 @@ use Rattle.apex_meaning.specs.Windows.{owner, ended}
 use Rattle.order.specs.History.{Move, Starts, BreaksDown, Arrives, Leaves, Admits, GoesOut, Advances, makes, Happening, Moves, Tells, happens, all_happen, members_from, members_after}
 
 -- ---- lists
-
-append_assoc : {A : Type 0} (xs ys zs : List A) → (xs ++ ys) ++ zs ≡ xs ++ (ys ++ zs)
-append_assoc [] ys zs = refl
-append_assoc (x ∷ xs) ys zs = ap (λ rest. x ∷ rest) (append_assoc xs ys zs)
 
 get_behind : {A : Type 0} (xs : List A) (y : A) (zs : List A) → slice_get (xs ++ y ∷ zs) (length xs) ≡ Some y
 get_behind [] y zs = refl
@@ -56,19 +53,20 @@ module _ {C : Type 0} where
 
   -- ---- one after another
 
-  abbrev to : List (Member C) → List Event → Advanced C
-  to ms lines = record { members = ms; lines = lines }
+  -- to these members, with these lines
+  abbrev leads : List (Member C) → List Event → Advanced C
+  leads ms lines = record { members = ms; lines = lines }
 
   -- with lines before its own
   abbrev before : List Event → Advanced C → Advanced C
-  before ls a = to a.members (ls ++ a.lines)
+  before ls a = leads a.members (ls ++ a.lines)
 
   happen_after : (hs ks : List Happening) (ms : List (Member C)) → all_happen (hs ++ ks) ms ≡ then_goes (all_happen hs ms) (all_happen ks)
   happen_after [] ks ms = refl
   happen_after (h ∷ hs) ks ms =
       let a = happens h ms in
       let rest = all_happen hs a.members in
-      ap (before a.lines) (happen_after hs ks a.members) ∙ ap (to (all_happen ks rest.members).members) (sym (append_assoc a.lines rest.lines (all_happen ks rest.members).lines))
+      ap (before a.lines) (happen_after hs ks a.members) ∙ ap (leads (all_happen ks rest.members).members) (sym (append_assoc a.lines rest.lines (all_happen ks rest.members).lines))
 
   pub still_is : (ms : List (Member C)) → IsHistory ms (still ms)
   still_is ms = record { history = []; same = refl }
@@ -85,9 +83,9 @@ module _ {C : Type 0} where
   move_is : (move : Move) (p : ℕ) (ms : List (Member C)) → IsHistory ms (steps (makes move) ms p)
   move_is move p ms =
       let a : Advanced C = steps (makes move) ms p in
-      record { history = Moves p move ∷ []; same = ap (to a.members) (sym (append-nil a.lines)) }
+      record { history = Moves p move ∷ []; same = ap (leads a.members) (sym (append-nil a.lines)) }
 
-  line_is : (line : Event) (ms : List (Member C)) → IsHistory ms (to ms (line ∷ []))
+  line_is : (line : Event) (ms : List (Member C)) → IsHistory ms (leads ms (line ∷ []))
   line_is line ms = record { history = Tells line ∷ []; same = refl }
 
   unless_is : (ms : List (Member C)) (c : Course C) (p : At → List (Member C) → Course C) (o : Option At) → IsHistory ms (advanced c)
@@ -103,14 +101,14 @@ module _ {C : Type 0} where
 
   -- the start of the first that has not started yet
   one_starts : (at : At) (c : StartCondition) (done : List (Member C)) (x : Member C) (ms : List (Member C))
-      → happens (Moves (suc (length done)) (Starts at c)) (done ++ x ∷ ms) ≡ to (done ++ started_member at c x ∷ ms) (start_lines at c x)
+      → happens (Moves (suc (length done)) (Starts at c)) (done ++ x ∷ ms) ≡ leads (done ++ started_member at c x ∷ ms) (start_lines at c x)
   one_starts at c done x ms =
       ap (steps_member (makes (Starts at c)) (done ++ x ∷ ms) (length done)) (get_behind done x ms)
-      ∙ ap (λ (ns : List (Member C)). to ns (start_lines at c x)) (set_behind done x (started_member at c x) ms)
+      ∙ ap (λ (ns : List (Member C)). leads ns (start_lines at c x)) (set_behind done x (started_member at c x) ms)
 
   -- where those before have started
   starts_behind : (at : At) (c : StartCondition) (done ms : List (Member C))
-      → all_happen (starts_at at c (length ms) (length done)) (done ++ ms) ≡ to (done ++ map (started_member at c) ms) (flat_map (start_lines at c) ms)
+      → all_happen (starts_at at c (length ms) (length done)) (done ++ ms) ≡ leads (done ++ map (started_member at c) ms) (flat_map (start_lines at c) ms)
   starts_behind at c done [] = refl
   starts_behind at c done (x ∷ ms) =
       let y : Member C = started_member at c x in
@@ -120,7 +118,7 @@ module _ {C : Type 0} where
       (ap (λ (n : ℕ). all_happen (starts_at at c (length ms) n) (done ++ y ∷ ms)) (sym (length_last done y))
       ∙ ap (all_happen (starts_at at c (length ms) (length (done ++ y ∷ [])))) (sym (append_assoc done (y ∷ []) ms))
       ∙ starts_behind at c (done ++ y ∷ []) ms
-      ∙ ap (λ (ns : List (Member C)). to ns ls) (append_assoc done (y ∷ []) (map (started_member at c) ms)))
+      ∙ ap (λ (ns : List (Member C)). leads ns ls) (append_assoc done (y ∷ []) (map (started_member at c) ms)))
 
   starts_is : (at : At) (c : StartCondition) (ms : List (Member C)) → IsHistory ms (starts_all at c ms)
   starts_is at c ms = record { history = starts_at at c (length ms) 0; same = sym (starts_behind at c [] ms) }

@@ -1,19 +1,19 @@
 -- Through every history the lists of each partition keep the order of its numbers.
-use Rattle.std.proofs.Common.{◌≡◌, ◌≢◌, ℕ, zero, suc, Bool, true, false, List, [], ◌∷◌, Option, Some, None, refl, sym, ap, subst, ◌∙◌}
-use Rattle.std.specs.Prelude.{◌==◌, if◌then◌else◌, slice_get, slice_set}
+use Rattle.std.proofs.Common.{◌≡◌, ℕ, zero, suc, Bool, true, false, List, [], ◌∷◌, Option, Some, None, refl, sym, ap, subst, ◌∙◌}
 use Rattle.std.proofs.lemmas.Bool.{eqb-true, eqb-false}
 use Rattle.std.proofs.lemmas.Option.{none-some, same_Some}
+use Rattle.std.specs.Prelude.{◌==◌, if◌then◌else◌, slice_get, slice_set}
 use Rattle.apex_types.specs.declared.codes.Discipline.{Discipline}
 use Rattle.apex_types.specs.declared.identity.ListKey.{ListKey}
 use Rattle.apex_meaning.specs.Image.{at_number}
 use Rattle.apex_meaning.specs.Module.{steps_member}
 use Rattle.apex_meaning.specs.Partition.{Member, with_world}
-use Rattle.order.specs.History.{Move, Starts, BreaksDown, Arrives, Leaves, Admits, GoesOut, Advances, makes, Happening, Moves, Tells, happens}
+use Rattle.order.specs.History.{Move, Starts, BreaksDown, Arrives, Leaves, Admits, GoesOut, Advances, makes, Happening, Moves, Tells, happens, all_happen}
 use Rattle.order.specs.Numbers.{Numbers}
 use Rattle.order.specs.OrderLaw.{IsOrdered}
 use Rattle.order.specs.RunLaw.{MoveGoes, numbers_by, MoveGoesAt, numbers_at, AreOrdered, with_numbers, GoThrough}
-use Rattle.order.proofs.Places.{get_set_same, get_set_other}
 use Rattle.order.proofs.OfTick.{tick_goes, cold_start_goes, breaks_down_goes, arrives_goes, leaves_goes, admits_goes, goes_out_goes}
+use Rattle.order.proofs.Places.{get_set_same, get_set_other}
 
 -- ---- one partition
 
@@ -89,3 +89,9 @@ module _ {C : Type 0} (d : ℕ → ListKey → Discipline) (names : ℕ → ℕ 
   goes_through (Moves p move ∷ hs) numbers ms h =
       let g = at_goes (d p) (names p) (numbers p) move (at_number ms p) (h p) in
       (h, (g, goes_through hs _ _ (happens_ordered numbers move p ms h g)))
+
+  -- and they are so at its end
+  pub ends_ordered : (hs : List Happening) (numbers : ℕ → Numbers) (ms : List (Member C)) → GoThrough d names hs numbers ms → (later : ℕ → Numbers) × AreOrdered d names later (all_happen hs ms).members
+  ends_ordered [] numbers ms h = (numbers, h)
+  ends_ordered (Tells line ∷ hs) numbers ms h = ends_ordered hs numbers ms h
+  ends_ordered (Moves p move ∷ hs) numbers ms h = let rest = h.1 in ends_ordered hs _ _ rest.1

@@ -1,19 +1,22 @@
 -- The numbers of the partitions through a run of their module.
-use Rattle.std.specs.Prelude.{◌≡◌, ℕ, suc, ◌+◌, ◌==◌, List, [], ◌∷◌, Option, Some, None, slice_get, if◌then◌else◌}
-use Rattle.apex_types.specs.declared.codes.Discipline.{Discipline}
+use Rattle.std.specs.Prelude.{◌≡◌, ℕ, suc, ◌==◌, List, [], ◌∷◌, Option, Some, None, slice_get, if◌then◌else◌, ◌↔◌}
 use Rattle.apex_types.specs.declared.codes.Discipline.TheVariants as discipline
+use Rattle.apex_types.specs.declared.codes.Discipline.{Discipline}
 use Rattle.apex_types.specs.declared.device.DeviceLine.{DeviceLine}
+use Rattle.apex_types.specs.declared.event.Subject.TheVariants.{Process}
 use Rattle.apex_types.specs.declared.event.Subject.{Subject}
-use Rattle.apex_types.specs.declared.event.Subject.TheVariants.{Init, Handler, Process}
-use Rattle.apex_types.specs.declared.identity.ListKey.{ListKey}
 use Rattle.apex_types.specs.declared.identity.ListKey.TheVariants as key
+use Rattle.apex_types.specs.declared.identity.ListKey.{ListKey}
+use Rattle.apex_types.specs.declared.process.Entry.{Entry}
 use Rattle.apex_types.specs.declared.process.ProcessStatus.{ProcessStatus}
+use Rattle.apex_meaning.specs.Choice.{IsAmong}
 use Rattle.apex_meaning.specs.Image.{at_number}
 use Rattle.apex_meaning.specs.Kernel.{Kernel}
 use Rattle.apex_meaning.specs.Module.{Module, trace, of_member}
 use Rattle.apex_meaning.specs.Objects.{Semaphore, Buffer}
 use Rattle.apex_meaning.specs.Partition.{Member}
 use Rattle.apex_meaning.specs.Ports.{Port, discipline_of}
+use Rattle.order.specs.Agreement.{IsReadyAt, record_at}
 use Rattle.order.specs.History.{Move, Starts, BreaksDown, Arrives, Leaves, Admits, GoesOut, Advances, makes, Happening, Moves, Tells, happens, all_happen, members_after}
 use Rattle.order.specs.Numbers.{Numbers, first_numbers, nobody, take_all}
 use Rattle.order.specs.OrderLaw.{IsOrdered, GoesOn, TickGoes}
@@ -124,3 +127,11 @@ pub record RunGoes {C : Type 0} (m : Module C) (devices : List DeviceLine) (n : 
   pub members : members_after m devices n ≡ (all_happen history m.members).members
   pub lines : trace m devices n ≡ (all_happen history m.members).lines
   pub order : GoThrough (disciplines_of m.members) (names_of m.members) history (λ p. first_numbers) m.members
+
+-- There are numbers by which the lists of the partition with a number are in order, where this is its state.
+abbrev pub HasOrder : {C : Type 0} → Module C → ℕ → Member C → Type 0
+HasOrder m p x = (n : Numbers) × IsOrdered (disciplines_of m.members p) (names_of m.members p) n x.world.kernel
+
+-- Its ready list holds just those processes whose records are READY or RUNNING, each with its current priority.
+abbrev pub HoldsReady : {C : Type 0} → Member C → Type 0
+HoldsReady x = (e : Entry) → (IsAmong e x.world.kernel.processes.ready ↔ IsReadyAt (record_at x.world.kernel.processes.rows e.process) e.priority)

@@ -10,7 +10,7 @@ ghost use Rattle.apex_types.specs.declared.identity.At.{At};
 ghost use Rattle.apex_types.specs.declared.identity.ListKey.{ListKey};
 ghost use Rattle.apex_types.specs.declared.process.Entry.{Entry};
 ghost use Rattle.apex_meaning.specs.Engine.{Engine};
-ghost use Rattle.apex_meaning.specs.Image.{Image, Table};
+ghost use Rattle.apex_meaning.specs.Image.{Image, Table, at_number};
 ghost use Rattle.apex_meaning.specs.Kernel.{Kernel};
 ghost use Rattle.apex_meaning.specs.MachineControl.{MachineControl};
 ghost use Rattle.apex_meaning.specs.Partition.{Member, World};
@@ -19,10 +19,10 @@ ghost use Rattle.apex_meaning.specs.SourceControl.{SourceControl};
 ghost use Rattle.apex_meaning.specs.TwoMeanings.{machine_module, source_module};
 ghost use Rattle.apex_meaning.specs.Waiting.{waiting};
 ghost use Rattle.apex_meaning.specs.WaitingOrder.{IsReleasedFirst};
-ghost use Rattle.order.specs.History.{Move};
+ghost use Rattle.order.specs.History.{Move, members_after};
 ghost use Rattle.order.specs.Numbers.{Numbers};
 ghost use Rattle.order.specs.OrderLaw.{IsOrdered, TickGoes};
-ghost use Rattle.order.specs.RunLaw.{MoveGoes, RunGoes};
+ghost use Rattle.order.specs.RunLaw.{HasOrder, HoldsReady, MoveGoes, RunGoes};
 
 /// A tick of a partition whose lists are in order goes on with its numbers, on any engine: on the
 /// machine as on the sources.
@@ -44,6 +44,20 @@ pub fn steps_go_on()
 pub fn order_in_every_run()
     ensures machine { (image : Image) (devices : List DeviceLine) (n : ℕ) → RunGoes (machine_module image) devices n }
     ensures source { (t : Table) (sources : List Program) (devices : List DeviceLine) (n : ℕ) → RunGoes (source_module t sources) devices n }
+{}
+
+/// So in the state after any number of ticks there are numbers by which the lists of each partition
+/// are in order.
+pub fn order_in_every_state()
+    ensures machine { (image : Image) (devices : List DeviceLine) (n p : ℕ) (x : Member MachineControl) → at_number (members_after (machine_module image) devices n) p ≡ Some x → HasOrder (machine_module image) p x }
+    ensures source { (t : Table) (sources : List Program) (devices : List DeviceLine) (n p : ℕ) (x : Member SourceControl) → at_number (members_after (source_module t sources) devices n) p ≡ Some x → HasOrder (source_module t sources) p x }
+{}
+
+/// In such a state the ready list of a partition holds just those processes whose records are READY or
+/// RUNNING, each with its current priority.
+pub fn ready_ones_are_listed()
+    ensures machine { (image : Image) (devices : List DeviceLine) (n p : ℕ) (x : Member MachineControl) → at_number (members_after (machine_module image) devices n) p ≡ Some x → HoldsReady x }
+    ensures source { (t : Table) (sources : List Program) (devices : List DeviceLine) (n p : ℕ) (x : Member SourceControl) → at_number (members_after (source_module t sources) devices n) p ≡ Some x → HoldsReady x }
 {}
 
 /// Where the lists are in order, the one at the head of a waiting list is the one that is to be
