@@ -5,8 +5,8 @@ use Rattle.apex_types.specs.declared.codes.Mode.{Mode}
 use Rattle.apex_types.specs.declared.identity.At.{At}
 use Rattle.apex_types.specs.declared.identity.ListKey.{ListKey}
 use Rattle.apex_types.specs.declared.identity.Runner.{Runner}
-use Rattle.apex_types.specs.declared.service.Call.TheVariants as call
 use Rattle.apex_types.specs.declared.service.Call.{Call}
+use Rattle.apex_types.specs.declared.service.Call.TheVariants as call
 use Rattle.apex_meaning.specs.ObjectServices.{serves_objects}
 use Rattle.apex_meaning.specs.Objects.{Objects}
 use Rattle.apex_meaning.specs.Sharing.{Sharing}

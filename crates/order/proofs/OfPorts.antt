@@ -8,13 +8,13 @@ use Rattle.apex_types.specs.declared.codes.Mode.{Mode}
 use Rattle.apex_types.specs.declared.codes.ReturnCode.TheVariants as code
 use Rattle.apex_types.specs.declared.identity.At.{At}
 use Rattle.apex_types.specs.declared.identity.ListKey.{ListKey}
-use Rattle.apex_types.specs.declared.identity.Runner.TheVariants as runner
 use Rattle.apex_types.specs.declared.identity.Runner.{Runner}
+use Rattle.apex_types.specs.declared.identity.Runner.TheVariants as runner
 use Rattle.apex_types.specs.declared.process.Entry.{Entry}
 use Rattle.apex_types.specs.declared.process.ProcessStatus.{ProcessStatus}
 use Rattle.apex_types.specs.declared.service.ArrayPlace.{ArrayPlace}
-use Rattle.apex_types.specs.declared.service.Call.TheVariants as call
 use Rattle.apex_types.specs.declared.service.Call.{Call}
+use Rattle.apex_types.specs.declared.service.Call.TheVariants as call
 use Rattle.apex_types.specs.declared.service.Service.TheVariants as service
 use Rattle.apex_meaning.specs.Arrival.{admits, all_enter, arrived, arrives, arrives_at, arrives_queuing, enters_found, enters_port, is_lost}
 use Rattle.apex_meaning.specs.Durations.{is_duration}

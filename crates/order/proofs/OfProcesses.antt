@@ -11,8 +11,8 @@ use Rattle.apex_types.specs.declared.identity.Runner.{Runner}
 use Rattle.apex_types.specs.declared.identity.Ticks.{Ticks}
 use Rattle.apex_types.specs.declared.process.Action.TheVariants as action
 use Rattle.apex_types.specs.declared.process.ProcessStatus.{ProcessStatus}
-use Rattle.apex_types.specs.declared.process.Wait.TheVariants as wait
 use Rattle.apex_types.specs.declared.process.Wait.{Wait}
+use Rattle.apex_types.specs.declared.process.Wait.TheVariants as wait
 use Rattle.apex_types.specs.declared.service.Service.TheVariants as service
 use Rattle.apex_meaning.specs.Durations.{is_duration, amount, is_delay}
 use Rattle.apex_meaning.specs.Operators.{is_zero}

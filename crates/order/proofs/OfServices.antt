@@ -9,14 +9,14 @@ use Rattle.apex_types.specs.declared.codes.ReturnCode.TheVariants as code
 use Rattle.apex_types.specs.declared.event.EventKind.TheVariants as event
 use Rattle.apex_types.specs.declared.identity.At.{At}
 use Rattle.apex_types.specs.declared.identity.ListKey.{ListKey}
-use Rattle.apex_types.specs.declared.identity.Runner.TheVariants as runner
 use Rattle.apex_types.specs.declared.identity.Runner.{Runner}
+use Rattle.apex_types.specs.declared.identity.Runner.TheVariants as runner
 use Rattle.apex_types.specs.declared.process.ProcessStatus.{ProcessStatus}
 use Rattle.apex_types.specs.declared.process.Wait.TheVariants as wait
 use Rattle.apex_types.specs.declared.process.WaitingError.{WaitingError}
 use Rattle.apex_types.specs.declared.service.ArrayPlace.{ArrayPlace}
-use Rattle.apex_types.specs.declared.service.Call.TheVariants as call
 use Rattle.apex_types.specs.declared.service.Call.{Call}
+use Rattle.apex_types.specs.declared.service.Call.TheVariants as call
 use Rattle.apex_types.specs.declared.service.Service.TheVariants as service
 use Rattle.apex_meaning.specs.Engine.{Asks, Nothing, Calls, Faults, Ends}
 use Rattle.apex_meaning.specs.Errors.{Errors}
@@ -28,8 +28,8 @@ use Rattle.apex_meaning.specs.PartitionServices.{next_release_of, status_of}
 use Rattle.apex_meaning.specs.PortServices as ports
 use Rattle.apex_meaning.specs.ProcessServices.{number_of}
 use Rattle.apex_meaning.specs.Processes.{Processes, is_dormant, is_normal, put_ready, put_unready, row_of, is_same, refuses}
-use Rattle.apex_meaning.specs.Sharing as sharing
 use Rattle.apex_meaning.specs.Sharing.{Sharing, is_large_enough}
+use Rattle.apex_meaning.specs.Sharing as sharing
 use Rattle.apex_meaning.specs.Starts.{begins}
 use Rattle.apex_meaning.specs.Step.{Step, after, lifted, nothing}
 use Rattle.order.specs.Numbers.{Goes, subject_at, May, nobody, may_by, may_asked}

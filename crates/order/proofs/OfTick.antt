@@ -5,17 +5,17 @@ use Rattle.std.specs.Prelude.{map, slice_set}
 use Rattle.arrayvec.specs.ArrayVec.{ArrayVec}
 use Rattle.apex_types.specs.Runners.{place_of}
 use Rattle.apex_types.specs.declared.codes.Discipline.{Discipline}
-use Rattle.apex_types.specs.declared.codes.Mode.TheVariants as mode
 use Rattle.apex_types.specs.declared.codes.Mode.{Mode}
+use Rattle.apex_types.specs.declared.codes.Mode.TheVariants as mode
 use Rattle.apex_types.specs.declared.codes.StartCondition.{StartCondition}
 use Rattle.apex_types.specs.declared.event.EventKind.{EventKind}
 use Rattle.apex_types.specs.declared.identity.At.{At}
-use Rattle.apex_types.specs.declared.identity.ListKey.TheVariants as key
 use Rattle.apex_types.specs.declared.identity.ListKey.{ListKey}
+use Rattle.apex_types.specs.declared.identity.ListKey.TheVariants as key
 use Rattle.apex_types.specs.declared.identity.PortId.{PortId}
 use Rattle.apex_types.specs.declared.identity.Runner.{Runner}
-use Rattle.apex_types.specs.declared.process.Action.TheVariants as action
 use Rattle.apex_types.specs.declared.process.Action.{Action}
+use Rattle.apex_types.specs.declared.process.Action.TheVariants as action
 use Rattle.apex_types.specs.declared.process.Entry.{Entry}
 use Rattle.apex_meaning.specs.Arrival as arrival
 use Rattle.apex_meaning.specs.Choice.{IsNumbered, Picks}

@@ -1,7 +1,7 @@
 -- Who is among the entries of a ready list when one has left it, or has joined it.
 use Rattle.std.proofs.Common.{◌≡◌, inl, inr, ℕ, Bool, true, false, not, cond, nat_eq, nat_lt, List, [], ◌∷◌, refl, sym, subst, ◌∙◌}
-use Rattle.std.specs.Prelude.{◌⊎◌, if◌then◌else◌}
 use Rattle.std.proofs.lemmas.Bool.{false≢true}
+use Rattle.std.specs.Prelude.{◌⊎◌, if◌then◌else◌}
 use Rattle.apex_types.specs.declared.process.Entry.{Entry}
 use Rattle.apex_meaning.specs.Choice.{IsAmong}
 use Rattle.apex_meaning.specs.Processes.{without, behind_equals}

@@ -1,8 +1,8 @@
 -- The choice keeps the agreement of the ready list with the records, and the one that is picked runs.
 use Rattle.std.proofs.Common.{◌≡◌, inl, ℕ, Bool, true, false, List, [], ◌∷◌, Option, Some, None, refl, sym, ap, subst, ◌∙◌}
-use Rattle.std.specs.Prelude.{◌==◌, if◌then◌else◌, is_some}
 use Rattle.std.proofs.lemmas.Bool.{false≢true, eqb-true}
 use Rattle.std.proofs.lemmas.Option.{none-some, same_Some}
+use Rattle.std.specs.Prelude.{if◌then◌else◌, is_some}
 use Rattle.apex_types.specs.declared.codes.Mode.{Mode}
 use Rattle.apex_types.specs.declared.codes.Mode.TheVariants as mode
 use Rattle.apex_types.specs.declared.codes.ProcessState.TheVariants.{Ready, Running}
@@ -16,8 +16,8 @@ use Rattle.apex_types.specs.declared.process.Lock.TheVariants as lock
 use Rattle.apex_types.specs.declared.process.ProcessStatus.{ProcessStatus}
 use Rattle.apex_meaning.specs.Choice.{IsAmong}
 use Rattle.apex_meaning.specs.Partition.{are_same, chooses, first_ready, is_ready, leaves_processor, pick, preempts, runs, takes_processor, unless_held}
-use Rattle.apex_meaning.specs.Processes.{Processes, row_of, index, is_same}
 use Rattle.apex_meaning.specs.ProcessServices.{is_ready_state}
+use Rattle.apex_meaning.specs.Processes.{Processes, row_of, index, is_same}
 use Rattle.apex_meaning.specs.Step.{Step}
 use Rattle.order.specs.Agreement.{IsPlain, IsReadyAt, RecordsAgree, record_at}
 use Rattle.order.proofs.RecordRows.{IsCaller}
@@ -87,11 +87,11 @@ module _ (s : Processes) (h : RecordsAgree s) where
   as_ready : (p : Runner) (r x : ProcessStatus) → row_of s p ≡ Some r → IsCaller s p → OfProcess p (is_ready_state r.state ≡ true)
   as_ready p r x there ready q is = sym (ap is_ready (was_at s h p r x there q is)) ∙ ready q is
 
-  as_plain : (p : Runner) (r x : ProcessStatus) → row_of s p ≡ Some r → IsCaller s p → x.suspended ≡ r.suspended → x.wait ≡ r.wait → OfProcess p (IsPlain x)
-  as_plain p r x there ready suspended wait q is =
+  as_plain : (p : Runner) (r x : ProcessStatus) → row_of s p ≡ Some r → IsCaller s p → x.suspended ≡ r.suspended → x.wait ≡ r.wait → x.due ≡ r.due → OfProcess p (IsPlain x)
+  as_plain p r x there ready suspended wait due q is =
       let k = plain_of s h p r x there q is in
       let e = as_ready p r x there ready q is in
-      record { suspended = λ n. suspended ∙ k.suspended e; waits = λ n. wait ∙ k.waits e }
+      record { suspended = λ n. suspended ∙ k.suspended e; waits = λ n. wait ∙ k.waits e; due = λ n. due ∙ k.due e }
 
   -- ---- the one that was running leaves the processor
 
@@ -103,7 +103,7 @@ module _ (s : Processes) (h : RecordsAgree s) where
       by_row (Some r) there =
           let x : ProcessStatus = record r { state = Ready } in
           let ready = runs_ready p e in
-          let k = kept_agrees s h p r x there (λ q is. sym (as_ready p r x there ready q is)) (λ q is n. refl) (as_plain p r x there ready refl refl) in
+          let k = kept_agrees s h p r x there (λ q is. sym (as_ready p r x there ready q is)) (λ q is n. refl) (as_plain p r x there ready refl refl refl) in
           record { listed = k.listed; plain = k.plain; runs = λ q n. absurd (none-some (runner.Process q) n); holds = k.holds; init = k.init; handler = k.handler }
 
   leaves_agrees : (o : Option Runner) → s.running ≡ o → RecordsAgree (leaves_processor s o).part
@@ -128,7 +128,7 @@ module _ (s : Processes) (h : RecordsAgree s) where
       by_row None there = h
       by_row (Some r) there =
           let x : ProcessStatus = record r { state = Running } in
-          let k = kept_agrees s h p r x there (λ q is. sym (as_ready p r x there ready q is)) (λ q is n. refl) (as_plain p r x there ready refl refl) in
+          let k = kept_agrees s h p r x there (λ q is. sym (as_ready p r x there ready q is)) (λ q is n. refl) (as_plain p r x there ready refl refl refl) in
           record { listed = k.listed; plain = k.plain; runs = λ q n. ap is_ready (same_at s h p r x there q (same_Some p (runner.Process q) n)); holds = k.holds; init = k.init; handler = k.handler }
 
   takes_agrees : (o : Option Runner) → ((p : Runner) → o ≡ Some p → IsCaller s p) → RecordsAgree (takes_processor s o).part

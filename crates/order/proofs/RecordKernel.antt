@@ -1,16 +1,16 @@
 -- Clear, the services on the mode and on errors, what is due, and the choice keep the agreement of the ready list with the
 -- records. The one that is picked runs.
-use Rattle.std.proofs.Common.{◌≡◌, ◌↔◌, inl, ℕ, zero, suc, ◌+◌, ℤ, Bool, true, false, List, [], ◌∷◌, map, length, Option, Some, None, refl, sym, ap, subst, ◌∙◌}
-use Rattle.std.specs.Prelude.{◌==◌, ◌&&◌, if◌then◌else◌, is_some, nat_le, not, slice_get, slice_set}
-use Rattle.std.proofs.lemmas.Bool.{false≢true, eqb-true}
+use Rattle.std.proofs.Common.{◌≡◌, ℕ, zero, suc, ◌+◌, ℤ, Bool, true, false, List, [], ◌∷◌, map, Option, Some, None, refl, sym, subst, ◌∙◌}
+use Rattle.std.proofs.lemmas.Bool.{false≢true}
 use Rattle.std.proofs.lemmas.Option.{none-some, same_Some}
+use Rattle.std.specs.Prelude.{◌&&◌, if◌then◌else◌, is_some, nat_le, not, slice_get}
 use Rattle.apex_types.specs.Runners.{place_of}
 use Rattle.apex_types.specs.declared.codes.ErrorKind.{ErrorKind}
 use Rattle.apex_types.specs.declared.codes.ErrorKind.TheVariants as error
 use Rattle.apex_types.specs.declared.codes.Mode.{Mode}
 use Rattle.apex_types.specs.declared.codes.Mode.TheVariants as mode
 use Rattle.apex_types.specs.declared.codes.PartitionAction.{PartitionAction}
-use Rattle.apex_types.specs.declared.codes.ProcessState.TheVariants.{Ready, Running}
+use Rattle.apex_types.specs.declared.codes.ProcessState.TheVariants.{Ready}
 use Rattle.apex_types.specs.declared.codes.ReturnCode.TheVariants as code
 use Rattle.apex_types.specs.declared.codes.StartCondition.{StartCondition}
 use Rattle.apex_types.specs.declared.codes.StartCondition.TheVariants as condition
@@ -21,32 +21,28 @@ use Rattle.apex_types.specs.declared.identity.Runner.{Runner}
 use Rattle.apex_types.specs.declared.identity.Runner.TheVariants as runner
 use Rattle.apex_types.specs.declared.process.Due.{Due}
 use Rattle.apex_types.specs.declared.process.Due.TheVariants as due_time
-use Rattle.apex_types.specs.declared.process.Entry.{Entry}
-use Rattle.apex_types.specs.declared.process.Lock.{Lock}
-use Rattle.apex_types.specs.declared.process.Lock.TheVariants as lock
 use Rattle.apex_types.specs.declared.process.ProcessStatus.{ProcessStatus}
 use Rattle.apex_types.specs.declared.process.Wait.{Wait}
 use Rattle.apex_types.specs.declared.process.Wait.TheVariants as wait
 use Rattle.apex_types.specs.declared.process.WaitingError.{WaitingError}
 use Rattle.apex_types.specs.declared.service.ArrayPlace.{ArrayPlace}
 use Rattle.apex_types.specs.declared.service.Service.TheVariants as service
-use Rattle.apex_meaning.specs.Choice.{IsAmong}
 use Rattle.apex_meaning.specs.Due.{Treated, timed_out, ends_wait, treats_due, misses, treats_deadline, treats, due_from, is_past, tick_of, mode_of_action}
 use Rattle.apex_meaning.specs.Errors.{Errors}
 use Rattle.apex_meaning.specs.HealthServices.{action_of, acts_on_error, begins_if_dormant, breaks, create_error_handler, creates_found, enters_mode as enters_mode_of_action, faults, get_error_status, goes_on, is_fault, is_waiting, raise_application_error, raises, raises_application_error, starts_handler, takes_error, then_clears}
 use Rattle.apex_meaning.specs.Kernel.{Kernel, of_processes, with_errors}
-use Rattle.apex_meaning.specs.Partition.{are_same, chooses, first_ready, is_ready, leaves_processor, pick, preempts, runs, takes_processor, unless_held}
+use Rattle.apex_meaning.specs.Partition.{runs}
 use Rattle.apex_meaning.specs.PartitionServices.{clears, cleared_processes, ends_body, enters_mode, forgotten, is_cold, is_warm, mode_of, next_release_of, ready_init, set_partition_mode, started_rows, starts_normally, wants}
-use Rattle.apex_meaning.specs.Processes.{Processes, row_of, index, is_dormant, is_normal, is_same, rests_found}
 use Rattle.apex_meaning.specs.ProcessServices.{is_ready_state}
+use Rattle.apex_meaning.specs.Processes.{Processes, row_of, index, is_dormant, is_normal, rests_found}
 use Rattle.apex_meaning.specs.Sharing.{Sharing}
 use Rattle.apex_meaning.specs.Starts.{released_at}
 use Rattle.apex_meaning.specs.Step.{Step}
-use Rattle.order.specs.Agreement.{IsPlain, IsReadyAt, RecordsAgree, record_at}
+use Rattle.order.specs.Agreement.{IsReadyAt, RecordsAgree, record_at}
 use Rattle.order.proofs.Places.{get_set_other, some_set}
 use Rattle.order.proofs.RecordObjects.{either as either_shared}
 use Rattle.order.proofs.RecordRows.{all_start_agree, row_agrees, stop_self_agrees}
-use Rattle.order.proofs.Records.{OfProcess, either, kept_agrees, not_free, not_ready_plain, plain_of, released_agrees, rests_found_agrees, same_at, the_same, wakes_agrees, was_at}
+use Rattle.order.proofs.Records.{either, not_free, not_ready_plain, released_agrees, rests_found_agrees, wakes_agrees}
 
 -- ---- Clear
 
@@ -144,7 +140,7 @@ module _ (b : Sharing Errors) (h : RecordsAgree b.processes) (p : Runner) where
     where
       by_row : (o : Option ProcessStatus) → row_of b.processes runner.Handler ≡ o → RecordsAgree (creates_found b.processes runner.Handler o).part
       by_row None e = h
-      by_row (Some r) e = row_agrees b.processes h runner.Handler r (record r { created = true }) e refl refl (λ k. record { suspended = k.suspended; waits = k.waits })
+      by_row (Some r) e = row_agrees b.processes h runner.Handler r (record r { created = true }) e refl refl (λ k. record { suspended = k.suspended; waits = k.waits; due = k.due })
 
   pub create_handler_agrees : (m : Mode) → IsKept (create_error_handler m b p)
   create_handler_agrees m = search (either_shared, creates_found_agrees)
@@ -206,8 +202,8 @@ module _ (s : Processes) (h : RecordsAgree s) where
   treats_due_agrees at p r (Some d) there = either (λ v. v) (nat_le (tick_of d) at.now.0) _ _ (λ e. ends_wait_agrees p r d there) (λ e. h)
 
   misses_agrees : (free : ℕ) (action : PartitionAction) (p : ProcessIndex) (r : ProcessStatus) → row_of s (runner.Process p) ≡ Some r → RecordsAgree (misses free action s p r).step.part
-  misses_agrees zero action p r there = row_agrees s h (runner.Process p) r (record r { deadline = None }) there refl refl (λ k. record { suspended = k.suspended; waits = k.waits })
-  misses_agrees (suc free) action p r there = row_agrees s h (runner.Process p) r (record r { deadline = None }) there refl refl (λ k. record { suspended = k.suspended; waits = k.waits })
+  misses_agrees zero action p r there = row_agrees s h (runner.Process p) r (record r { deadline = None }) there refl refl (λ k. record { suspended = k.suspended; waits = k.waits; due = k.due })
+  misses_agrees (suc free) action p r there = row_agrees s h (runner.Process p) r (record r { deadline = None }) there refl refl (λ k. record { suspended = k.suspended; waits = k.waits; due = k.due })
 
   deadline_agrees : (at : At) (free : ℕ) (action : PartitionAction) (p : ProcessIndex) → RecordsAgree (treats_deadline at free action s p (row_of s (runner.Process p))).step.part
   deadline_agrees at free action p = by_row (row_of s (runner.Process p)) refl

@@ -1,6 +1,6 @@
 -- The services on objects and on ports, and the messages that come and leave, keep the agreement of the ready list with
 -- the records.
-use Rattle.std.proofs.Common.{◌≡◌, ℕ, ℤ, Bool, List, [], ◌∷◌, Option, Some, None, refl}
+use Rattle.std.proofs.Common.{ℕ, ℤ, Bool, List, [], ◌∷◌, Option, Some, None, refl}
 use Rattle.std.specs.Prelude.{nat_lt, if◌then◌else◌}
 use Rattle.arrayvec.specs.ArrayVec.{ArrayVec}
 use Rattle.apex_types.specs.declared.codes.Mode.{Mode}
@@ -19,8 +19,8 @@ use Rattle.apex_meaning.specs.Arrival as arrival
 use Rattle.apex_meaning.specs.BlackboardServices as blackboards
 use Rattle.apex_meaning.specs.BufferServices as buffers
 use Rattle.apex_meaning.specs.EventServices as events
-use Rattle.apex_meaning.specs.Objects.{Objects, Blackboard, Buffer, Semaphore, Event, semaphore, event, buffer, blackboard}
 use Rattle.apex_meaning.specs.ObjectServices.{serves_objects}
+use Rattle.apex_meaning.specs.Objects.{Objects, Blackboard, Buffer, Semaphore, Event, semaphore, event, buffer, blackboard}
 use Rattle.apex_meaning.specs.PortServices as ports
 use Rattle.apex_meaning.specs.Ports.{Port, Ports, is_full, is_sampling, port_at, sampling, queuing}
 use Rattle.apex_meaning.specs.Processes.{row_of, numbered}
@@ -29,8 +29,8 @@ use Rattle.apex_meaning.specs.Sharing.{Sharing, of_processes, on, create, get_id
 use Rattle.apex_meaning.specs.Step.{Step, message}
 use Rattle.apex_meaning.specs.Waiting.{blocks, first_waiting, waiting}
 use Rattle.order.specs.Agreement.{RecordsAgree}
-use Rattle.order.proofs.Records as records
 use Rattle.order.proofs.Records.{IsFound, numbered_found, first_waiting_found, released_agrees, gives_agrees, all_released_agree, all_given_agree, blocks_agrees}
+use Rattle.order.proofs.Records as records
 
 -- ---- what is shared
 

@@ -1,7 +1,7 @@
 -- The services on processes and on time, and the starts, keep the agreement of the ready list with the records.
-use Rattle.std.proofs.Common.{◌≡◌, ℕ, zero, suc, ◌+◌, ℤ, Bool, true, false, length, Option, Some, None, refl, sym, ap, subst, ◌∙◌}
-use Rattle.std.specs.Prelude.{◌==◌, ◌-◌, ◌||◌, if◌then◌else◌, is_some, nat_le, not, pos, negsuc}
+use Rattle.std.proofs.Common.{◌≡◌, ℕ, zero, suc, ◌+◌, ℤ, Bool, true, false, length, Option, Some, None, refl, sym, ap, ◌∙◌}
 use Rattle.std.proofs.lemmas.Bool.{false≢true}
+use Rattle.std.specs.Prelude.{◌==◌, ◌-◌, ◌||◌, if◌then◌else◌, is_some, nat_le, not, pos, negsuc}
 use Rattle.apex_types.specs.declared.codes.Mode.{Mode}
 use Rattle.apex_types.specs.declared.codes.ProcessState.{ProcessState}
 use Rattle.apex_types.specs.declared.codes.ProcessState.TheVariants.{Dormant, Ready, Running, Waiting}
@@ -21,8 +21,8 @@ use Rattle.apex_types.specs.declared.service.Service.TheVariants as service
 use Rattle.apex_meaning.specs.Durations.{amount, is_delay, is_duration}
 use Rattle.apex_meaning.specs.Operators.{is_zero}
 use Rattle.apex_meaning.specs.Partition.{is_ready}
-use Rattle.apex_meaning.specs.Processes.{Processes, row_of, index, process_at, has, on, is_created, is_dormant, is_dormant_state, is_held, is_periodic, is_suspended, is_unknown, is_no_other, is_busy, is_normal, is_same, put_row, put_ready}
-use Rattle.apex_meaning.specs.ProcessServices.{get_process_id, get_process_status, tells_status, create_process, creates, set_priority, takes_priority, is_priority, priority_of, is_ready_state, suspend_self, suspends_self, of_row, time_out, holds, is_holder, suspend, suspends, resume, resumes, resumes_from, stop, stop_self, start, delayed_start, is_beyond, level_of, may_not_lock, locked_by, unlocked, lock_preemption, unlock_preemption, get_my_id}
+use Rattle.apex_meaning.specs.ProcessServices.{get_process_id, get_process_status, tells_status, create_process, creates, set_priority, takes_priority, is_priority, priority_of, is_ready_state, suspend_self, suspends_self, of_row, holds, is_holder, suspend, suspends, resume, resumes, resumes_from, stop, stop_self, start, delayed_start, is_beyond, level_of, may_not_lock, locked_by, unlocked, lock_preemption, unlock_preemption, get_my_id}
+use Rattle.apex_meaning.specs.Processes.{Processes, row_of, index, process_at, has, on, is_created, is_dormant, is_dormant_state, is_held, is_periodic, is_suspended, is_unknown, is_no_other, is_busy, is_normal, put_row, put_ready}
 use Rattle.apex_meaning.specs.Starts.{starts, starts_in_normal, starts_if_waiting, starts_waiting, start_from, start_all_waiting, released_at, ticks}
 use Rattle.apex_meaning.specs.Step.{Step}
 use Rattle.apex_meaning.specs.TimeServices.{timed_wait, delays, yields, waits_until, periodic_wait, waits_periodically, waits_for_period, replenish, replenishes, deadline_in, has_no_deadline, reaches_past}
@@ -140,7 +140,7 @@ module _ (s : Processes) (h : RecordsAgree s) (p : Runner) where
       unless s h (is_normal m) _ _ h
       (λ a. unless s h (not (is_some (process_at s name))) _ _ h
       (λ b. unless s h (has (process_at s name) is_created) _ _ h
-      (λ c. on_it s h name (creates s) (λ q r o there. row_agrees s h q r (record r { created = true }) there refl refl (λ k. record { suspended = k.suspended; waits = k.waits })))))
+      (λ c. on_it s h name (creates s) (λ q r o there. row_agrees s h q r (record r { created = true }) there refl refl (λ k. record { suspended = k.suspended; waits = k.waits; due = k.due })))))
 
   takes_agrees : (v : Priority) (q : Runner) (r : ProcessStatus) → row_of s q ≡ Some r → RecordsAgree (takes_priority s v q r).part
   takes_agrees v q r there = by_test (is_ready_state r.state) refl
@@ -149,7 +149,7 @@ module _ (s : Processes) (h : RecordsAgree s) (p : Runner) where
       raised = record r { current_priority = v }
 
       plain : OfProcess q (IsPlain raised)
-      plain i is = let k = plain_of s h q r raised there i is in record { suspended = k.suspended; waits = k.waits }
+      plain i is = let k = plain_of s h q r raised there i is in record { suspended = k.suspended; waits = k.waits; due = k.due }
 
       by_test : (b : Bool) → is_ready_state r.state ≡ b → RecordsAgree (if b then put_ready s q raised else put_row s q raised)
       by_test true e = ready_agrees s h q r raised there (λ i is. e) plain
@@ -193,7 +193,7 @@ module _ (s : Processes) (h : RecordsAgree s) (p : Runner) where
   resumes_from_agrees : (q : Runner) (r : ProcessStatus) → row_of s q ≡ Some r → (w : Wait) → RecordsAgree (resumes_from s q (record r { suspended = false }) w).part
   resumes_from_agrees q r there wait.Nothing = wakes_agrees s h q r (record r { suspended = false }) there refl (λ k. absurd (false≢true k))
   resumes_from_agrees q r there (wait.Service service.SuspendSelf) = released_agrees s h q r (record r { suspended = false }) code.NoError there refl (λ k. absurd (false≢true k))
-  resumes_from_agrees q r there _ = row_agrees s h q r (record r { suspended = false }) there refl refl (λ k. record { suspended = λ e. refl; waits = k.waits })
+  resumes_from_agrees q r there _ = row_agrees s h q r (record r { suspended = false }) there refl refl (λ k. record { suspended = λ e. refl; waits = k.waits; due = k.due })
 
   pub resume_agrees : (id : ℤ) → RecordsAgree (resume s p id).part
   resume_agrees id =
@@ -296,7 +296,7 @@ module _ (s : Processes) (h : RecordsAgree s) (p : Runner) where
     where
       by_row : (o : Option ProcessStatus) → row_of s p ≡ o → RecordsAgree (replenishes at s p budget o).part
       by_row None e = h
-      by_row (Some r) e = row_agrees s h p r (record r { deadline = deadline_in at budget }) e refl refl (λ k. record { suspended = k.suspended; waits = k.waits })
+      by_row (Some r) e = row_agrees s h p r (record r { deadline = deadline_in at budget }) e refl refl (λ k. record { suspended = k.suspended; waits = k.waits; due = k.due })
 
   pub replenish_agrees : (m : Mode) (at : At) (budget : ℤ) → RecordsAgree (replenish m at s p budget).part
   replenish_agrees m at budget =

@@ -1,7 +1,6 @@
 -- Each step of a partition keeps the agreement of the ready list with the records.
-use Rattle.std.proofs.Common.{◌≡◌, ℤ, List, [], ◌∷◌, Option, Some, None, refl, ◌∙◌}
-use Rattle.std.specs.Prelude.{length, not, slice_set}
-use Rattle.apex_types.specs.Runners.{place_of}
+use Rattle.std.proofs.Common.{◌≡◌, ℤ, List, [], ◌∷◌, refl, ◌∙◌}
+use Rattle.std.specs.Prelude.{not}
 use Rattle.apex_types.specs.declared.identity.At.{At}
 use Rattle.apex_types.specs.declared.identity.Runner.{Runner}
 use Rattle.apex_types.specs.declared.process.Action.{Action}
@@ -14,10 +13,9 @@ use Rattle.apex_meaning.specs.Kernel.{Kernel, of_processes, with_errors, with_ob
 use Rattle.apex_meaning.specs.Partition.{World, act, act_all, chooses_with_handler, pick, serves, serves_processes, serves_shared, treats_asked, treats_due}
 use Rattle.apex_meaning.specs.PartitionServices.{next_release_of}
 use Rattle.apex_meaning.specs.PortServices.{is_on_ports}
-use Rattle.apex_meaning.specs.Processes.{Processes}
 use Rattle.apex_meaning.specs.ProcessServices.{number_of}
+use Rattle.apex_meaning.specs.Processes.{Processes}
 use Rattle.apex_meaning.specs.Step.{Step}
-use Rattle.order.specs.Agreement.{RecordsAgree}
 use Rattle.order.specs.OrderLaw.{chosen_among}
 use Rattle.order.proofs.RecordChoice.{chooses_agrees, picked_runs}
 use Rattle.order.proofs.RecordKernel.{KernelAgrees, create_handler_agrees, due_from_agrees, ends_body_agrees, error_status_agrees, faults_agrees, handler_agrees, raise_agrees, set_mode_agrees}

@@ -1,8 +1,8 @@
 -- The changes of one process keep the agreement of the ready list with the records.
 use Rattle.std.proofs.Common.{◌≡◌, ◌≢◌, ◌↔◌, inl, inr, ℕ, suc, ℤ, Bool, true, false, nat_eq, List, [], ◌∷◌, length, Option, Some, None, refl, sym, ap, subst, ◌∙◌, arith}
-use Rattle.std.specs.Prelude.{◌⊎◌, ◌==◌, is_some, if◌then◌else◌, pos, negsuc, zero, slice_get, slice_set}
 use Rattle.std.proofs.lemmas.Bool.{false≢true, eq-eqb, eqb-true, eqb-false}
 use Rattle.std.proofs.lemmas.Option.{none-some, same_Some}
+use Rattle.std.specs.Prelude.{◌⊎◌, ◌==◌, is_some, if◌then◌else◌, pos, negsuc, zero, slice_get, slice_set}
 use Rattle.arrayvec.specs.ArrayVec.{ArrayVec}
 use Rattle.apex_types.specs.Runners.{place_of}
 use Rattle.apex_types.specs.declared.codes.ProcessState.TheVariants.{Ready, Waiting, Dormant}
@@ -10,7 +10,6 @@ use Rattle.apex_types.specs.declared.codes.ReturnCode.{ReturnCode}
 use Rattle.apex_types.specs.declared.codes.ReturnCode.TheVariants as code
 use Rattle.apex_types.specs.declared.identity.At.{At}
 use Rattle.apex_types.specs.declared.identity.ListKey.{ListKey}
-use Rattle.apex_types.specs.declared.identity.Priority.{Priority}
 use Rattle.apex_types.specs.declared.identity.ProcessIndex.{ProcessIndex}
 use Rattle.apex_types.specs.declared.identity.Runner.{Runner}
 use Rattle.apex_types.specs.declared.identity.Runner.TheVariants as runner
@@ -26,11 +25,11 @@ use Rattle.apex_meaning.specs.Choice.{IsAmong}
 use Rattle.apex_meaning.specs.Entries.{entry}
 use Rattle.apex_meaning.specs.Operators.{is_zero}
 use Rattle.apex_meaning.specs.Partition.{is_ready}
-use Rattle.apex_meaning.specs.Processes.{Processes, row_of, index, numbered, process_at, is_same, is_busy, is_held, on, put_row, put_ready, put_unready, put_dormant, leaves, goes_last, without, behind_equals, not_running, without_holder, no_longer_waits, wakes, waits, rests, rests_found, released, released_with, zeros_of_wait}
 use Rattle.apex_meaning.specs.ProcessServices.{is_ready_state}
+use Rattle.apex_meaning.specs.Processes.{Processes, row_of, index, numbered, process_at, is_same, is_busy, is_held, on, put_row, put_ready, put_unready, put_dormant, leaves, goes_last, without, behind_equals, not_running, without_holder, no_longer_waits, wakes, waits, rests, rests_found, released, released_with, zeros_of_wait}
 use Rattle.apex_meaning.specs.Step.{Step}
 use Rattle.apex_meaning.specs.Waiting.{enters, waits_at, blocks, gives, gives_found, gives_all, releases_found, releases_all, found_first, first_waiting, waiting}
-use Rattle.order.specs.Agreement.{Agree, IsPlain, IsReadyAt, RecordsAgree, record_at}
+use Rattle.order.specs.Agreement.{IsPlain, IsReadyAt, RecordsAgree, record_at}
 use Rattle.order.proofs.Places.{get_set_same, get_set_other, some_set}
 use Rattle.order.proofs.ReadyEntries.{stays, left, in_behind, of_behind}
 
@@ -91,7 +90,7 @@ nobody_holds s p e level q k = absurd (false≢true (sym e ∙ ap is_held k))
 -- ---- records
 
 pub not_ready_plain : (x : ProcessStatus) → is_ready_state x.state ≡ false → IsPlain x
-not_ready_plain x e = record { suspended = λ k. absurd (false≢true (sym e ∙ k)); waits = λ k. absurd (false≢true (sym e ∙ k)) }
+not_ready_plain x e = record { suspended = λ k. absurd (false≢true (sym e ∙ k)); waits = λ k. absurd (false≢true (sym e ∙ k)); due = λ k. absurd (false≢true (sym e ∙ k)) }
 
 not_ready_if_suspended : (r : ProcessStatus) → IsPlain r → r.suspended ≡ true → is_ready_state r.state ≡ false
 not_ready_if_suspended r plain e = by_test (is_ready_state r.state) refl
@@ -282,7 +281,7 @@ module _ (s : Processes) (h : RecordsAgree s) where
   wakes_agrees p r x there state suspended =
       either (λ t. t) x.suspended _ _
       (λ e. unready_agrees p r (record x { wait = wait.Nothing; due = None }) there (λ q is. state ∙ never e q is) (free_of s h p r x there (never e)))
-      (λ e. ready_agrees p r (record x { state = Ready; wait = wait.Nothing; due = None }) there (λ q is. refl) (λ q is. record { suspended = λ k. e; waits = λ k. refl }))
+      (λ e. ready_agrees p r (record x { state = Ready; wait = wait.Nothing; due = None }) there (λ q is. refl) (λ q is. record { suspended = λ k. e; waits = λ k. refl; due = λ k. refl }))
     where
       never : x.suspended ≡ true → OfProcess p (is_ready_state r.state ≡ false)
       never e q is = not_ready_if_suspended r (plain_of s h p r x there q is) (suspended e)

@@ -3,19 +3,19 @@ use Rattle.std.proofs.Common.{◌≡◌, ℕ, zero, suc, ◌+◌, ℤ, List, [],
 use Rattle.std.proofs.lemmas.List.{append_assoc}
 use Rattle.std.specs.Prelude.{slice_get, slice_set, flat_map, option_map}
 use Rattle.arrayvec.specs.ArrayVec.{ArrayVec}
-use Rattle.apex_types.specs.declared.codes.ModuleAction.TheVariants as reaction
 use Rattle.apex_types.specs.declared.codes.ModuleAction.{ModuleAction}
-use Rattle.apex_types.specs.declared.codes.StartCondition.TheVariants as condition
+use Rattle.apex_types.specs.declared.codes.ModuleAction.TheVariants as reaction
 use Rattle.apex_types.specs.declared.codes.StartCondition.{StartCondition}
-use Rattle.apex_types.specs.declared.device.DeviceInput.TheVariants as device
+use Rattle.apex_types.specs.declared.codes.StartCondition.TheVariants as condition
 use Rattle.apex_types.specs.declared.device.DeviceInput.{DeviceInput}
+use Rattle.apex_types.specs.declared.device.DeviceInput.TheVariants as device
 use Rattle.apex_types.specs.declared.device.DeviceLine.{DeviceLine}
 use Rattle.apex_types.specs.declared.event.Event.{Event}
 use Rattle.apex_types.specs.declared.identity.At.{At}
 use Rattle.apex_types.specs.declared.identity.PartitionId.{PartitionId}
 use Rattle.apex_types.specs.declared.identity.PortId.{PortId}
-use Rattle.apex_types.specs.declared.row.ChannelEnd.TheVariants as ends
 use Rattle.apex_types.specs.declared.row.ChannelEnd.{ChannelEnd}
+use Rattle.apex_types.specs.declared.row.ChannelEnd.TheVariants as ends
 use Rattle.apex_meaning.specs.Image.{Channel, at_number}
 use Rattle.apex_meaning.specs.Module.{Plan, Module, Advanced, Course, still, then_goes, unless_down, then_runs, steps, steps_member, started_member, start_lines, starts_all, delivers, delivers_all, goes_by, fault_line, tells_fault, as_origin, breaks_module, inputs, inputs_all, of_tick, channel_from, of_member, moves_found, moves_message, moves_messages, moves_so_many, ports_from, moves_port, moves_ports, moves_ended, ticks_owner, moves_and_ticks, module_tick, first_tick, next_tick, trace_from, trace}
 use Rattle.apex_meaning.specs.Partition.{Member, leaving, messages_to_move}

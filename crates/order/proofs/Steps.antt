@@ -5,25 +5,25 @@ use Rattle.std.specs.Prelude.{if◌then◌else◌, length, negsuc, pos}
 use Rattle.arrayvec.specs.ArrayVec.{ArrayVec}
 use Rattle.apex_types.specs.Runners.{place_of}
 use Rattle.apex_types.specs.declared.codes.Discipline.{Discipline}
-use Rattle.apex_types.specs.declared.codes.ProcessState.TheVariants.{Ready, Running, Dormant, Waiting}
 use Rattle.apex_types.specs.declared.codes.ProcessState.{ProcessState}
-use Rattle.apex_types.specs.declared.codes.ReturnCode.TheVariants as code
+use Rattle.apex_types.specs.declared.codes.ProcessState.TheVariants.{Ready, Running, Dormant, Waiting}
 use Rattle.apex_types.specs.declared.codes.ReturnCode.{ReturnCode}
-use Rattle.apex_types.specs.declared.event.EventKind.TheVariants as event
+use Rattle.apex_types.specs.declared.codes.ReturnCode.TheVariants as code
 use Rattle.apex_types.specs.declared.event.EventKind.{EventKind}
+use Rattle.apex_types.specs.declared.event.EventKind.TheVariants as event
 use Rattle.apex_types.specs.declared.event.Subject.{Subject}
 use Rattle.apex_types.specs.declared.identity.At.{At}
 use Rattle.apex_types.specs.declared.identity.ListKey.{ListKey}
 use Rattle.apex_types.specs.declared.identity.ProcessIndex.{ProcessIndex}
-use Rattle.apex_types.specs.declared.identity.Runner.TheVariants as runner
 use Rattle.apex_types.specs.declared.identity.Runner.{Runner}
+use Rattle.apex_types.specs.declared.identity.Runner.TheVariants as runner
 use Rattle.apex_types.specs.declared.process.Action.{Action}
 use Rattle.apex_types.specs.declared.process.Due.{Due}
 use Rattle.apex_types.specs.declared.process.Entry.{Entry}
 use Rattle.apex_types.specs.declared.process.Lock.{Lock}
 use Rattle.apex_types.specs.declared.process.ProcessStatus.{ProcessStatus}
-use Rattle.apex_types.specs.declared.process.Wait.TheVariants as wait
 use Rattle.apex_types.specs.declared.process.Wait.{Wait}
+use Rattle.apex_types.specs.declared.process.Wait.TheVariants as wait
 use Rattle.apex_types.specs.declared.process.Waiting.{Waiting as Place}
 use Rattle.apex_types.specs.declared.service.Service.{Service}
 use Rattle.apex_meaning.specs.Entries.{entry}

@@ -1,5 +1,5 @@
 -- The ready list of a partition and the records of its processes agree.
-use Rattle.std.specs.Prelude.{◌≡◌, ◌↔◌, ℕ, Bool, true, false, List, Option, Some, None, is_some, slice_get}
+use Rattle.std.specs.Prelude.{◌≡◌, ◌↔◌, ℕ, true, false, List, Option, Some, None, is_some, slice_get}
 use Rattle.apex_types.specs.Runners.{place_of}
 use Rattle.apex_types.specs.declared.identity.Priority.{Priority}
 use Rattle.apex_types.specs.declared.identity.ProcessIndex.{ProcessIndex}
@@ -12,8 +12,8 @@ use Rattle.apex_types.specs.declared.process.ProcessStatus.{ProcessStatus}
 use Rattle.apex_types.specs.declared.process.Wait.TheVariants as wait
 use Rattle.apex_meaning.specs.Choice.{IsAmong}
 use Rattle.apex_meaning.specs.Partition.{is_ready}
-use Rattle.apex_meaning.specs.Processes.{Processes}
 use Rattle.apex_meaning.specs.ProcessServices.{is_ready_state}
+use Rattle.apex_meaning.specs.Processes.{Processes}
 
 -- the record of a process
 abbrev pub record_at : List ProcessStatus → ProcessIndex → Option ProcessStatus
@@ -24,10 +24,11 @@ abbrev pub IsReadyAt : Option ProcessStatus → Priority → Type 0
 IsReadyAt None priority = ⊥
 IsReadyAt (Some r) priority = (is_ready_state r.state ≡ true) × (r.current_priority ≡ priority)
 
--- one that is READY or RUNNING is not suspended, and waits for nothing
+-- one that is READY or RUNNING is not suspended, waits for nothing, and has no due time
 pub record IsPlain (r : ProcessStatus) : Type 0 where
   pub suspended : is_ready_state r.state ≡ true → r.suspended ≡ false
   pub waits : is_ready_state r.state ≡ true → r.wait ≡ wait.Nothing
+  pub due : is_ready_state r.state ≡ true → r.due ≡ None
 
 -- The ready list holds just those processes whose records are READY or RUNNING, each with its current priority. If a
 -- process runs, or holds the lock, it is one of these. INIT and the error handler have records.

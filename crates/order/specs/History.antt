@@ -1,5 +1,5 @@
 -- A run of a module, step by step. Each step is a move of one partition, or a line that is no partition's.
-use Rattle.std.specs.Prelude.{ℕ, zero, suc, ℤ, List, [], ◌∷◌, ◌++◌, Option, Some, None, option_map}
+use Rattle.std.specs.Prelude.{ℕ, zero, suc, ℤ, List, [], ◌∷◌, Option, Some, None, option_map}
 use Rattle.arrayvec.specs.ArrayVec.{ArrayVec}
 use Rattle.apex_types.specs.declared.codes.StartCondition.{StartCondition}
 use Rattle.apex_types.specs.declared.device.DeviceLine.{DeviceLine}

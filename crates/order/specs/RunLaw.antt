@@ -1,12 +1,12 @@
 -- The numbers of the partitions through a run of their module.
 use Rattle.std.specs.Prelude.{◌≡◌, ℕ, suc, ◌==◌, List, [], ◌∷◌, Option, Some, None, slice_get, if◌then◌else◌, ◌↔◌}
-use Rattle.apex_types.specs.declared.codes.Discipline.TheVariants as discipline
 use Rattle.apex_types.specs.declared.codes.Discipline.{Discipline}
+use Rattle.apex_types.specs.declared.codes.Discipline.TheVariants as discipline
 use Rattle.apex_types.specs.declared.device.DeviceLine.{DeviceLine}
-use Rattle.apex_types.specs.declared.event.Subject.TheVariants.{Process}
 use Rattle.apex_types.specs.declared.event.Subject.{Subject}
-use Rattle.apex_types.specs.declared.identity.ListKey.TheVariants as key
+use Rattle.apex_types.specs.declared.event.Subject.TheVariants.{Process}
 use Rattle.apex_types.specs.declared.identity.ListKey.{ListKey}
+use Rattle.apex_types.specs.declared.identity.ListKey.TheVariants as key
 use Rattle.apex_types.specs.declared.process.Entry.{Entry}
 use Rattle.apex_types.specs.declared.process.ProcessStatus.{ProcessStatus}
 use Rattle.apex_meaning.specs.Choice.{IsAmong}
