@@ -73,10 +73,10 @@ pub built_bytes : {A E : Type 0} (view : A → List ℕ) (table : List ℕ) (sou
 built_bytes view table sources t (Ok b) is_table h = module_image table sources t (view b) is_table h
 built_bytes view table sources t (Err e) is_table h = tt
 
-abbrev ok_image : Image → Result Image Fault
+abbrev pub ok_image : Image → Result Image Fault
 ok_image i = Ok i
 
-image_is : (i j : Image) → ok_image i ≡ ok_image j → i ≡ j
+pub image_is : (i j : Image) → ok_image i ≡ ok_image j → i ≡ j
 image_is i j e = cc
 
 -- the image that was run is the one that was built

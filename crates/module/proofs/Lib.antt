@@ -3,6 +3,7 @@ pub mod Costed
 pub mod DeviceLines
 pub mod Devices
 pub mod Headline
+pub mod Isolated
 pub mod Lawful
 pub mod Machines
 pub mod Members

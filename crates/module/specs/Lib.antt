@@ -4,6 +4,7 @@ pub mod Building
 pub mod Costs
 pub mod Sources
 pub mod Standing
+pub mod Isolated
 pub mod Lines
 pub mod Loading
 pub mod Machines
