@@ -23,7 +23,7 @@ use Rattle.module.specs.Building.{IsImageOf}
 use Rattle.module.specs.Promises.{IsRun, IsDeviceRefusal, IsNamed, Runs, IsAcceptedRun, IsDeviceRefused, Means, ran}
 use Rattle.image.specs.Views.{named}
 use Rattle.module.specs.declared.fault.RunFault.{RunFault}
-use Rattle.module.specs.declared.fault.RunFault.TheVariants.{Ticks, Image as NoImage, Device, Memory, Write, Failed}
+use Rattle.module.specs.declared.fault.RunFault.TheVariants.{Ticks, Image as NoImage, Partition as NoPartition, Device, Memory, Write, Failed}
 use Rattle.module.proofs.Built.{are_compiled}
 use Rattle.module.proofs.SameTraces.{traces_same}
 
@@ -126,5 +126,6 @@ run_means table sources bytes devices n old new (Err Write) h (image, lines, r, 
 run_means table sources bytes devices n old new (Err Ticks) h r = r
 run_means table sources bytes devices n old new (Err (Device f)) h r = (r.0, is_refused_in table sources bytes devices h f (image_at bytes) h.loaded r.1, r.2)
 run_means table sources bytes devices n old new (Err (NoImage f)) h r = never_refused (image_at bytes) h.image (named f) h.loaded r.1
+run_means table sources bytes devices n old new (Err NoPartition) h r = r
 run_means table sources bytes devices n old new (Err Memory) h r = r
 run_means table sources bytes devices n old new (Err Failed) h r = r

@@ -1,13 +1,16 @@
 -- What a run promises of isolation: it shows of each partition what the partition shows alone.
-use Rattle.std.specs.Prelude.{◌≡◌, ℕ, List, Option, Some, Result}
+use Rattle.std.specs.Prelude.{◌≡◌, ℕ, List, Option, Some, Result, Ok}
 use Rattle.std.specs.Io.KnownBytes.{Appends}
 use Rattle.apex_types.specs.Line.{text_of}
 use Rattle.apex_types.specs.declared.device.DeviceLine.{DeviceLine}
 use Rattle.apex_types.specs.declared.event.Event.{Event}
-use Rattle.apex_meaning.specs.Image.{Image, Partition, Table, at_number}
+use Rattle.apex_meaning.specs.Image.{Image, Item, Partition, Table, at_number}
 use Rattle.apex_meaning.specs.ImageReading.{Fault}
 use Rattle.apex_meaning.specs.Program.{Program}
+use Rattle.apex_meaning.specs.TwoMeanings.{machine_trace}
 use Rattle.isolation.specs.Brought.{part}
+use Rattle.isolation.specs.ReplayText.{replay_verdict}
+use Rattle.isolation.specs.Replays.{numbered}
 use Rattle.isolation.specs.Slices.{Slice, machine_inputs, slice, slice_trace}
 use Rattle.isolation.specs.SourceSlices.{source_inputs, source_slice, source_slice_trace}
 use Rattle.module.specs.Promises.{IsRun, IsAcceptedRun}
@@ -27,6 +30,13 @@ WritesAlone image lines n old new = (events : List Event) × Appends old new (te
 -- An image was read and a device text was taken, and what was written shows each partition alone.
 abbrev pub IsIsolated : Result Image Fault → List ℕ → ℕ → Option (List ℕ) → Option (List ℕ) → Type 0
 IsIsolated read devices n old new = (image : Image) × (lines : List DeviceLine) × IsRun read devices n image lines × WritesAlone image lines n old new
+
+-- For what a run of the whole image brings a partition, the text was written of the partition's part of that
+-- run's trace.
+abbrev pub ReplaysPart : Result Image Fault → List ℕ → List ℕ → ℕ → Option (List ℕ) → Option (List ℕ) → Type 0
+ReplaysPart read name inputs n old new =
+    (image : Image) (found : ℕ × Item) (devices : List ℕ) (lines : List DeviceLine) → IsRun read devices n image lines → numbered image name ≡ Some found
+    → replay_verdict found.1.partition inputs ≡ Ok (machine_inputs image found.0 lines n) → Appends old new (text_of (part name (machine_trace image lines n)))
 
 -- ---- of sources
 

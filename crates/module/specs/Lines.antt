@@ -34,6 +34,7 @@ build_line build.Memory = codes "memory"
 abbrev pub run_line : RunFault → List ℕ
 run_line run.Ticks = codes "ticks"
 run_line (run.Image fault) = codes "image " ++ decimal (number_of_image fault)
+run_line run.Partition = codes "partition"
 run_line (run.Device fault) = codes "device " ++ decimal (fault_number fault)
 run_line run.Memory = codes "memory"
 run_line run.Write = codes "write"
