@@ -8,10 +8,12 @@ pub mod Lawful
 pub mod Machines
 pub mod Members
 pub mod Moves
+pub mod Named
 pub mod SameTraces
 pub mod Starting
 pub mod Texts
 pub mod Refused
+pub mod Replaying
 pub mod Shutdown
 pub mod Standing
 pub mod Written
