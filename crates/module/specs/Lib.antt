@@ -1,6 +1,7 @@
 pub mod Accepted
 pub mod Built
 pub mod Building
+pub mod Collecting
 pub mod Costs
 pub mod Sources
 pub mod Standing
@@ -10,5 +11,6 @@ pub mod Loading
 pub mod Machines
 pub mod Members
 pub mod Promises
+pub mod Telling
 pub mod Views
 pub mod Written
