@@ -1,4 +1,6 @@
+pub mod Brought
 pub mod Built
+pub mod Collecting
 pub mod Costed
 pub mod DeviceLines
 pub mod Devices
