@@ -24,7 +24,7 @@ pub run_isolated : (read : Result Image Fault) (loaded : Image) (devices : List 
     → IsLawful loaded → read ≡ ok_image loaded → Runs read devices n old new answer → OnOk answer (IsIsolated read devices n old new)
 run_isolated read loaded devices n old new (Ok x) lawful is (image, lines, r, out) =
     let same : loaded ≡ image = image_is loaded image (sym is ∙ r.loaded) in
-    (image, lines, r, machine_trace image lines n, out, parts_alone image devices lines n (subst IsLawful same lawful) r.taken)
+    (image, lines, r, (machine_trace image lines n, out, parts_alone image devices lines n (subst IsLawful same lawful) r.taken))
 run_isolated read loaded devices n old new (Err f) lawful is h = tt
 
 -- a run of what was built
@@ -32,7 +32,7 @@ pub sources_isolated : (table : List ℕ) (sources : List (List ℕ)) (devices :
     → Means table sources devices n old new answer → OnOk answer (IsSourceIsolated table sources devices n old new)
 sources_isolated table sources devices n old new (Ok x) (t, programs, lines, r, out) =
     let rows = r.accepted.rows in
-    (t, programs, lines, r, source_trace t programs lines n, out, λ p row program e f. source_isolation rows.0 t programs rows.2 devices lines p row program n r.taken e f)
+    (t, programs, lines, r, (source_trace t programs lines n, out, λ p row program e f. source_isolation rows.0 t programs rows.2 devices lines p row program n r.taken e f))
 sources_isolated table sources devices n old new (Err f) h = tt
 
 -- calls of a machine's tick
