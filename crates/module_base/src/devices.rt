@@ -1,38 +1,73 @@
-//! What the lines of a device text are for an image.
+//! Device texts: what the lines of a text are for an image.
 
-ghost use Rattle.std.specs.Prelude.{◌≡◌, ◌<◌, ℤ, List, Some};
+ghost use Rattle.std.specs.Prelude.{◌≡◌, ◌<◌, ℤ, List, Some, Ok, IfOk, IfErr};
 ghost use Rattle.apex_meaning.specs.DeviceText as meant;
-ghost use Rattle.apex_meaning.specs.DeviceText.{first_from, is_device, is_room, words_of_end, words_of_ends, words_of_port};
+ghost use Rattle.apex_meaning.specs.DeviceText.{first_from, is_device, verdict_for, words_of_end, words_of_ends, words_of_port};
 ghost use Rattle.apex_meaning.specs.GrammarWords.{same};
 ghost use Rattle.apex_meaning.specs.Image.{at_number};
 ghost use Rattle.image.specs.Items.{channel_of};
-ghost use Rattle.module_base.specs.Seen.{fitting, seen_line};
+ghost use Rattle.image.specs.Views.{image_of};
+ghost use Rattle.module_base.specs.Refusals.{IsRefusal};
+ghost use Rattle.module_base.specs.Seen.{fitting, seen};
 ghost use Rattle.module_base.specs.Views.{rows_in, channels_in};
 
-use crate::line::{MessageWords, Written, WrittenLine};
+use crate::fault::DeviceTextFault;
+use crate::line::{MessageWords, Written};
+use crate::read::{TakesLines, is_room, read_lines};
 use apex_types::{
     ChannelEnd, ChannelIndex, DeviceFault, DeviceInput, DeviceLine, Name, PartitionId, PortId,
     PortRow, Ticks,
 };
 use image::Image;
+use std::alloc::Global;
 use window_table::ChannelRow;
 
-/// The most lines of a device text.
-const MOST_LINES: usize = 65_536;
+/// The lines of a device text for an image.
+///
+/// # Errors
+///
+/// What is wrong in the first wrong line; or want of memory.
+pub fn read_devices(
+    alloc: Global,
+    image: &Image,
+    text: &[u8],
+) -> Result<Vec<DeviceLine>, DeviceTextFault>
+    ensures accepted { IfOk result (λ lines. verdict_for (image_of image.now) text.now ≡ Ok lines.items) }
+    ensures refused { IfErr result (λ fault. IsRefusal (verdict_for (image_of image.now) text.now) fault) }
+{
+    read_lines(alloc, b"MSG".as_slice(), image, text)
+}
 
-/// The line for an image, behind so many others, of which the last is of the tick before.
-pub fn taken(
+impl TakesLines for Image {
+    ghost use Rattle.apex_meaning.specs.DeviceText.{named as named_in};
+    ghost use Rattle.module_base.specs.Views.{rows_in, channels_in};
+
+    type Line = DeviceLine;
+
+    ghost is_readable = { λ _. Unit {0} };
+
+    ghost named = { λ image. named_in (rows_in image) (channels_in image) };
+
+    ghost tick_of = { λ line. line.tick.0 };
+
+    fn take(&self, count: usize, tick: Ticks, written: Written) -> Result<DeviceLine, DeviceFault> {
+        taken(self, count, tick, written)
+    }
+
+    fn tick(line: &DeviceLine) -> Ticks {
+        line.tick
+    }
+}
+
+/// The line of a device for an image, by the names in it.
+fn taken(
     image: &Image,
     count: usize,
-    before: Ticks,
-    line: WrittenLine,
+    tick: Ticks,
+    written: Written,
 ) -> Result<DeviceLine, DeviceFault>
-    ensures { (l : meant.WrittenLine) → line ≡ seen_line l → result ≡ meant.taken (rows_in image.now) (channels_in image.now) count before.0 (Some l) }
+    ensures { (w : meant.Written) → written ≡ seen w → result ≡ meant.named (rows_in image.now) (channels_in image.now) count tick.0 w }
 {
-    let WrittenLine { tick, written } = line;
-    if tick < before {
-        return Err(DeviceFault::Order);
-    }
     match written {
         Written::Message(channel, words) => message(image, count, tick, channel, words),
         Written::ModuleFault => within(is_room(count), tick, DeviceInput::ModuleFault),
@@ -113,13 +148,6 @@ fn within(fits: bool, tick: Ticks, input: DeviceInput) -> Result<DeviceLine, Dev
     } else {
         Err(DeviceFault::Size)
     }
-}
-
-/// Whether one more line may stand behind so many.
-fn is_room(count: usize) -> bool
-    ensures { result ≡ is_room count }
-{
-    count < MOST_LINES
 }
 
 fn is_device(end: ChannelEnd) -> bool

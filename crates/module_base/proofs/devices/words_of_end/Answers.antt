@@ -3,7 +3,7 @@ use Rattle.apex_types.specs.declared.row.PortRow.{PortRow}
 use Rattle.apex_meaning.specs.DeviceText.{words_of_port}
 use Rattle.apex_meaning.specs.Image.{at_number}
 use Rattle.module_base.proofs.Lawful.{words_at, words_past}
-use Rattle.module_base.proofs.taking.words_of_end.Goals as goal
+use Rattle.module_base.proofs.devices.words_of_end.Goals as goal
 
 pub returns-in-Some : goal.returns-in-Some
 returns-in-Some c =
