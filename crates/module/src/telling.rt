@@ -87,7 +87,7 @@ fn tell_numbered<S: Sink>(
 }
 
 /// What so many ticks bring the watched partition, with these lines of the devices.
-fn collect(
+pub fn collect(
     alloc: Global,
     module: &mut Module<Machine>,
     devices: &[DeviceLine],
