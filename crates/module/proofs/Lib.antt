@@ -18,4 +18,5 @@ pub mod Refused
 pub mod Replaying
 pub mod Shutdown
 pub mod Standing
+pub mod Unseen
 pub mod Written

@@ -1,5 +1,5 @@
 -- From the parts of a replay to what it promises.
-use Rattle.std.proofs.Common.{◌≡◌, ◌≤◌, ◌^◌, ℕ, List, Option, Some, None, Result, Ok, Err, OnOk, option_map, refl, sym, ap, subst, ◌∙◌}
+use Rattle.std.proofs.Common.{◌≡◌, ◌≤◌, ◌^◌, ℕ, List, [], ◌∷◌, Option, Some, None, Result, Ok, Err, OnOk, option_map, refl, sym, ap, subst, ◌∙◌}
 use Rattle.std.proofs.lemmas.Option.{same_Some}
 use Rattle.std.specs.Io.KnownBytes.{Appends}
 use Rattle.apex_types.specs.Line.{text_of}
@@ -13,11 +13,12 @@ use Rattle.apex_meaning.specs.MachineControl.{MachineControl}
 use Rattle.apex_meaning.specs.TwoMeanings.{machine_trace}
 use Rattle.isolation.specs.Alone.{Alone, InputLine, trace_alone}
 use Rattle.isolation.specs.Brought.{part}
+use Rattle.isolation.specs.InputText.{AreInOrder}
 use Rattle.isolation.specs.ReplayText.{replay_verdict}
 use Rattle.isolation.specs.Replays.{numbered}
 use Rattle.isolation.specs.Slices.{Slice, machine_alone, machine_inputs, slice, slice_of, slice_trace}
 use Rattle.isolation.proofs.Law.{part_of_slice}
-use Rattle.lone_partition.specs.Written.{AreWritten}
+use Rattle.lone_partition.specs.Lines.{AreFrom, tick_of_input}
 use Rattle.module_base.specs.Refusals.{IsRefusal}
 use Rattle.module_base.specs.declared.fault.DeviceTextFault.{DeviceTextFault}
 use Rattle.module_base.specs.declared.fault.DeviceTextFault.TheVariants as text_fault
@@ -109,3 +110,10 @@ replay_isolated read loaded name inputs n old new (Ok x) lawful is (s, ls, r, ou
         ∙ ap text_of (sym part_is)
         ∙ ap (λ (own : List ℕ). text_of (part own (machine_trace image lines n))) (numbered_name image name found named) in
         subst (Appends old new) text_is out
+
+-- ---- the order of the inputs
+
+-- as the lone partition asks for it
+pub in_order : (before : ℕ) (ls : List InputLine) → AreInOrder before ls → AreFrom tick_of_input before ls
+in_order before [] h = tt
+in_order before (l ∷ ls) h = (h.0, in_order l.tick.0 ls h.1)
