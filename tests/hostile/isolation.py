@@ -24,9 +24,10 @@ from collections import Counter
 from dataclasses import dataclass
 from pathlib import Path
 
-import hostile
-import modules
-from wild import Wild
+sys.dont_write_bytecode = True
+import hostile  # noqa: E402
+import modules  # noqa: E402
+from wild import Wild  # noqa: E402
 
 ORACLE_TICKS = 1500
 
