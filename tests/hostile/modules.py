@@ -14,7 +14,7 @@ ERRORS = (
     "HARDWARE_FAULT",
 )
 ACTIONS = ("IGNORE", "IGNORE", "IGNORE", "COLD_START", "COLD_START", "WARM_START", "IDLE")
-TIMES = (0, 0, 5, 30, -1)
+TIMES = (0, 0, 0, 0, 5, 30, 90, -1)
 
 
 @dataclass(frozen=True)
@@ -45,7 +45,7 @@ class Maker:
         self.device_channels = []
         self.table = []
         self.make_windows()
-        for number in range(1, self.random.randint(2, 7)):
+        for number in range(1, self.random.randint(3, 8)):
             self.make_channel(f"c{number}")
         self.make_head()
 
@@ -58,7 +58,7 @@ class Maker:
         self.frame, seen = 0, set()
         for owner in owners:
             self.frame += self.random.choice((0, 0, 3))
-            length = self.random.choice((4, 20, 50, 90))
+            length = self.random.choice((4, 40, 80, 150))
             release = owner not in seen or self.random.random() < 0.5
             self.table += ["[[window]]", f'partition = "{owner}"', f"offset = {self.frame}", f"length = {length}"]
             self.table.append(f"release = {str(release).lower()}")
@@ -68,7 +68,7 @@ class Maker:
 
     def make_channel(self, name):
         """A channel with ports of its own at its ends."""
-        source = self.random.choice([*self.names, "DEVICE"])
+        source = self.random.choice([*self.names, *self.names, "DEVICE"])
         kind = self.random.choice(("SAMPLING", "QUEUING"))
         words = self.random.randint(1, 4)
         others = [it for it in [*self.names, "DEVICE"] if it != source]
@@ -103,7 +103,7 @@ class Maker:
                 if port.kind == "SAMPLING":
                     head.append(f"refresh = {self.random.choice((0, 40, 1000))}")
                 else:
-                    head.append(f"depth = {self.random.choice((1, 2, 5))}")
+                    head.append(f"depth = {self.random.choice((1, 1, 2, 5))}")
                     head.append(f'discipline = "{self.random.choice(("FIFO", "PRIORITY"))}"')
         self.table = head + self.table
 
@@ -157,7 +157,7 @@ class Maker:
 
     def statement(self, ports):
         pick = self.random.random()
-        if ports and pick < 0.5:
+        if ports and pick < 0.6:
             return self.port_call(*self.random.choice(ports))
         return self.error_statement() if pick > 0.93 else self.plain_statement()
 
@@ -190,19 +190,23 @@ class Maker:
 
     # ---- the device text
 
+    def message(self, channel, words):
+        """The name of a channel, and a message by it."""
+        count = self.random.randint(1, words)
+        values = (self.random.choice((0, -1, self.random.randint(-99, 99), 2**63 - 1)) for _ in range(count))
+        return " ".join([channel, *map(str, values)])
+
     def devices(self, ticks):
         """Messages by the channels from outside, and now and then a fault."""
         lines = []
-        for tick in sorted(self.random.randint(0, ticks + 9) for _ in range(self.random.randint(0, 25))):
+        for tick in sorted(self.random.randint(0, ticks + 9) for _ in range(self.random.randint(0, 40))):
             pick = self.random.random()
-            if self.device_channels and pick < 0.8:
-                channel, words = self.random.choice(self.device_channels)
-                message = (self.random.choice((0, -1, self.random.randint(-99, 99), 2**63 - 1)) for _ in range(self.random.randint(1, words)))
-                lines.append(f"{tick} MSG {channel} {' '.join(map(str, message))}\n")
-            elif pick < 0.95:
-                lines.append(f"{tick} FAULT {self.random.choice(self.names)}\n")
-            else:
+            if pick > 0.98:
                 lines.append(f"{tick} FAULT\n")
+            elif pick > 0.93:
+                lines.append(f"{tick} FAULT {self.random.choice(self.names)}\n")
+            elif self.device_channels:
+                lines.append(f"{tick} MSG {self.message(*self.random.choice(self.device_channels))}\n")
         return "".join(lines)
 
     def make(self):
