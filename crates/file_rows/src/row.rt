@@ -109,7 +109,14 @@ impl<'a> Row<'a> {
         let image = self.path(rt.alloc(), "image")?;
         let inputs = format!(in rt.alloc(); "{partition}.inputs")?;
         let inputs = self.text(rt, inputs.as_str())?;
-        let words = ["mb", "replay", image.as_str(), partition, inputs.as_str(), ticks];
+        let words = [
+            "mb",
+            "replay",
+            image.as_str(),
+            partition,
+            inputs.as_str(),
+            ticks,
+        ];
         let trace = format!(in rt.alloc(); "{partition}.trace")?;
         self.is_answered(rt, &words, trace.as_str())
     }
@@ -123,7 +130,14 @@ impl<'a> Row<'a> {
     ) -> io::Result<bool> {
         let image = self.path(rt.alloc(), "image")?;
         let devices = self.text(rt, "devices")?;
-        let words = ["mb", "inputs", image.as_str(), partition, devices.as_str(), ticks];
+        let words = [
+            "mb",
+            "inputs",
+            image.as_str(),
+            partition,
+            devices.as_str(),
+            ticks,
+        ];
         let inputs = format!(in rt.alloc(); "{partition}.inputs")?;
         self.is_answered(rt, &words, inputs.as_str())
     }

@@ -43,13 +43,7 @@ fn lines_of_a_replay_text(rt: HostRuntime) {
     for (line, tail, answer) in &REPLAYS {
         let inputs = devices(&rt, rt.alloc(), line, tail);
         let status = if answer.is_empty() { 0 } else { 1 };
-        expect_replay(
-            &rt,
-            rt.alloc(),
-            inputs.as_str(),
-            "0",
-            (status, "", *answer),
-        );
+        expect_replay(&rt, rt.alloc(), inputs.as_str(), "0", (status, "", *answer));
     }
 }
 
