@@ -27,12 +27,11 @@ impl Write for FailingWriter {
 }
 
 /// The words of each command, and of help.
-static COMMANDS: [&[&str]; 8] = [
+static COMMANDS: [&[&str]; 7] = [
     &["mb"],
     &["mb", "check", "table", "source"],
     &["mb", "build", "table", "image", "source"],
     &["mb", "run", "image", "devices", "5"],
-    &["mb", "replay", "image", "a", "devices", "5"],
     &["mb", "cost", "table", "source"],
     &["mb", "dis", "image"],
     &["mb", "help"],
