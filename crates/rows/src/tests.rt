@@ -7,6 +7,7 @@ mod flushes;
 mod images;
 mod limits;
 mod listings;
+mod long_replays;
 mod long_texts;
 mod machines;
 mod memory;
