@@ -13,6 +13,7 @@ pub mod Moves
 pub mod Named
 pub mod SameTraces
 pub mod Starting
+pub mod Telling
 pub mod Texts
 pub mod Refused
 pub mod Replaying

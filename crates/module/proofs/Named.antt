@@ -78,11 +78,15 @@ at_place items (suc place) item there e =
     slice_get-map item_of items place ∙ ap (option_map item_of) (ap (slice_get items) (sym before) ∙ e)
 
 -- the slice of an image at a number is that of the item there
-pub slice_at : (image : code.Image) (number : ℕ) (item : PartitionItem) (s : Slice) → 0 < number → slice_get image.partitions.items (number - 1) ≡ Some item
-    → slice (image_of image) number ≡ Some s → s ≡ slice_of (image_of image) number (item_of item)
-slice_at image number item s there e is =
-    let here : slice (image_of image) number ≡ Some (slice_of (image_of image) number (item_of item)) = ap (option_map (slice_of (image_of image) number)) (at_place image.partitions.items number item there e) in
-    same_Some s (slice_of (image_of image) number (item_of item)) (sym is ∙ here)
+pub slice_there : (image : code.Image) (number : ℕ) (item : PartitionItem) → 0 < number → slice_get image.partitions.items (number - 1) ≡ Some item → slice (image_of image) number ≡ Some (slice_of (image_of image) number (item_of item))
+slice_there image number item there e = ap (option_map (slice_of (image_of image) number)) (at_place image.partitions.items number item there e)
+
+-- what holds for that slice holds for the slice at the number
+pub for_slice : (P : Slice → Type 0) (image : code.Image) (number : ℕ) (item : PartitionItem) (s : Slice) → 0 < number → slice_get image.partitions.items (number - 1) ≡ Some item
+    → slice (image_of image) number ≡ Some s → P (slice_of (image_of image) number (item_of item)) → P s
+for_slice P image number item s there e is h =
+    let its = slice_of (image_of image) number (item_of item) in
+    subst P (same_Some its s (sym (slice_there image number item there e) ∙ is)) h
 
 -- ---- the ports of a row
 
