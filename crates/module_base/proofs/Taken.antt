@@ -31,6 +31,17 @@ held_line mark text front rest tick w f b t h =
     held_with tick w (plain_number (2 ^ 40) (piece 32 text)) (written_by mark (pieces_behind_marks 32 text))
     (t ∙ ap (plain_number (2 ^ 40)) f) (h ∙ ap (λ (ps : List (List ℕ)). option_map seen (written_by mark ps)) (sym b))
 
+none_with : (t : Option ℕ) (o : Option meant.Written) → None ≡ option_map seen o → None ≡ option_map seen_line (line_with t o)
+none_with None o h = refl
+none_with (Some n) None h = refl
+none_with (Some n) (Some w) h = cc
+
+-- where the pieces behind the first one say nothing, there is no line
+pub unsaid_line : (mark text : List ℕ) (rest : Option (List ℕ)) → pieces_behind_marks 32 text ≡ pieces_of 32 rest → None ≡ option_map seen (written_by mark (pieces_of 32 rest)) → None ≡ option_map seen_line (line_by mark text)
+unsaid_line mark text rest b h =
+    none_with (plain_number (2 ^ 40) (piece 32 text)) (written_by mark (pieces_behind_marks 32 text))
+    (h ∙ ap (λ (ps : List (List ℕ)). option_map seen (written_by mark ps)) (sym b))
+
 pub taken_line : {L : Type 0} (named : Taking L) (count before : ℕ) (o : Option meant.WrittenLine) (line : WrittenLine) (r : Result L DeviceFault) → Some line ≡ option_map seen_line o → ((l : meant.WrittenLine) → line ≡ seen_line l → r ≡ taken_by named count before (Some l)) → r ≡ taken_by named count before o
 taken_line named count before None line r e h = cc
 taken_line named count before (Some l) line r e h = h l cc

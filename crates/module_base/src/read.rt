@@ -1,6 +1,6 @@
 //! The lines of a text, read one after another, whatever they are taken as.
 
-ghost use Rattle.std.specs.Prelude.{◌≡◌, ◌<◌, ℕ, List, Some, Ok, IfOk, IfErr};
+ghost use Rattle.std.specs.Prelude.{◌≡◌, ◌<◌, ℕ, Some, Ok, IfOk, IfErr};
 ghost use Rattle.apex_meaning.specs.DeviceText as meant;
 ghost use Rattle.apex_meaning.specs.DeviceText.{is_room};
 ghost use Rattle.module_base.specs.Refusals.{IsRefusal};
