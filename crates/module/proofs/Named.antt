@@ -22,7 +22,7 @@ use Rattle.module_base.specs.Rows.{HasPorts}
 found_at : {A : Type 0} (test : A → Bool) (xs : List A) (number : ℕ) (f : ℕ × A) → first_from number test xs ≡ Some f → (place : ℕ) × (f.0 ≡ number + place) × (slice_get xs place ≡ Some f.1) × (test f.1 ≡ true)
 unfolding first_from
 found_at test [] number f e = absurd (none-some f e)
-found_at {A = A} test (x ∷ xs) number f e = by_test (test x) refl e
+found_at {A = A} test (x ∷ xs) number f e = by_test (test x) refl (found_at test xs (number + 1) f) e
   where
     IsFound : ℕ × A → Type 0
     IsFound g = (place : ℕ) × (g.0 ≡ number + place) × (slice_get (x ∷ xs) place ≡ Some g.1) × (test g.1 ≡ true)
@@ -30,9 +30,9 @@ found_at {A = A} test (x ∷ xs) number f e = by_test (test x) refl e
     first_place : number ≡ number + 0
     first_place = omega arith
 
-    by_test : (b : Bool) → test x ≡ b → cond b (Some (number, x)) (first_from (number + 1) test xs) ≡ Some f → IsFound f
-    by_test true passes h = subst IsFound (same_Some (number, x) f h) (0, first_place, refl, passes)
-    by_test false fails h = let r = found_at test xs (number + 1) f h in (suc r.0, omega (arith, r.1), r.2, r.3)
+    by_test : (b : Bool) → test x ≡ b → (first_from (number + 1) test xs ≡ Some f → (place : ℕ) × (f.0 ≡ number + 1 + place) × (slice_get xs place ≡ Some f.1) × (test f.1 ≡ true)) → cond b (Some (number, x)) (first_from (number + 1) test xs) ≡ Some f → IsFound f
+    by_test true passes later h = subst IsFound (same_Some (number, x) f h) (0, first_place, refl, passes)
+    by_test false fails later h = let r = later h in (suc r.0, omega (arith, r.1), r.2, r.3)
 
 same_is : (a b : List ℕ) → same a b ≡ true → a ≡ b
 same_is [] [] h = refl

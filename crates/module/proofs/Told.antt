@@ -8,7 +8,7 @@ use Rattle.apex_meaning.specs.DeviceText.{verdict_for}
 use Rattle.apex_meaning.specs.Image.{Image, Item}
 use Rattle.apex_meaning.specs.ImageLimits.{IsLawful}
 use Rattle.apex_meaning.specs.ImageReading.{Fault}
-use Rattle.isolation.specs.Alone.{InputLine}
+use Rattle.isolation.specs.declared.input.InputLine.{InputLine}
 use Rattle.isolation.specs.InputText.{AreWritable, replay_text}
 use Rattle.isolation.specs.ReplayText.{replay_verdict}
 use Rattle.isolation.specs.Replays.{numbered}
