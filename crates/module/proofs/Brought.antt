@@ -6,7 +6,8 @@ use Rattle.apex_types.specs.declared.identity.At.{At}
 use Rattle.apex_meaning.specs.Module.{Advanced, Course, Plan, first_tick, next_tick, inputs_all, module_tick, moves_and_ticks, of_tick, starts, then_runs, unless_down}
 use Rattle.apex_meaning.specs.Partition.{Member}
 use Rattle.apex_meaning.specs.Windows.{tick_from}
-use Rattle.isolation.specs.Alone.{Input, InputLine}
+use Rattle.isolation.specs.declared.input.Input.{Input}
+use Rattle.isolation.specs.declared.input.InputLine.{InputLine}
 use Rattle.isolation.specs.Brought.{brought_in_all, brought_moved, brought_tick, inputs_from, inputs_of, line_in}
 use Rattle.module.specs.Collecting.{HasNoRoom, IsMadeUnseen, brought_from, brought_next, brought_of}
 use Rattle.module.specs.Standing.{Standing, after, at_first, begins, origin_of, ticks, ticks_from}

@@ -11,7 +11,9 @@ use Rattle.apex_meaning.specs.Image.{Channel, at_number}
 use Rattle.apex_meaning.specs.Module.{Plan, channel_from}
 use Rattle.apex_meaning.specs.Partition.{messages_to_move}
 use Rattle.apex_meaning.specs.Ports.{Port, is_source}
-use Rattle.isolation.specs.Alone.{Input, InputLine, Arrive}
+use Rattle.isolation.specs.declared.input.Input.{Input}
+use Rattle.isolation.specs.declared.input.Input.TheVariants.{Arrive}
+use Rattle.isolation.specs.declared.input.InputLine.{InputLine}
 use Rattle.isolation.specs.Brought.{brought_by, brought_in, brought_in_all, brought_to, held_port, held_ports, line_in, shuts_down}
 use Rattle.ports.specs.Held.{message_behind}
 use Rattle.module.specs.Collecting.{AreCollected, HasNoRoom, brought_found, held_found}
@@ -34,8 +36,8 @@ no_room_for_more count more (fault.Device f) above h = absurd h
 no_room_for_more count more fault.Write above h = absurd h
 
 -- what is answered where there is no room
-pub collected_err : {X : Type 0} {tick : ℕ} {inputs : List Input} {old new : List InputLine} (f : InputsFault) (r : Result X InputsFault) → r ≡ Err f → HasNoRoom (length old + length inputs) f → AreCollected tick inputs old new r
-collected_err {tick = tick} {inputs = inputs} {old = old} {new = new} f r e h = subst (AreCollected tick inputs old new) (sym e) h
+pub collected_err : {X : Type 0} (tick : ℕ) (inputs : List Input) (old new : List InputLine) (f : InputsFault) (r : Result X InputsFault) → r ≡ Err f → HasNoRoom (length old + length inputs) f → AreCollected tick inputs old new r
+collected_err tick inputs old new f r e h = subst (AreCollected tick inputs old new) (sym e) h
 
 pub ruleset collecting = (none_collected)
 
@@ -51,8 +53,8 @@ pub begins : (tick : ℕ) (whole : List Input) (old : List InputLine) → IsPart
 begins tick whole old = record { done = []; parts = refl; collected = sym (append-nil old) }
 
 -- one part more
-pub goes_on : {tick : ℕ} {whole now a : List Input} {old mid new : List InputLine} (rest : List Input) → now ≡ a ++ rest → IsPartly tick whole now old mid → new ≡ mid ++ map (line_in tick) a → IsPartly tick whole rest old new
-goes_on {tick = tick} {a = a} {old = old} rest split w h = record {
+pub goes_on : {tick : ℕ} {whole now : List Input} {old mid new : List InputLine} (a rest : List Input) → now ≡ a ++ rest → IsPartly tick whole now old mid → new ≡ mid ++ map (line_in tick) a → IsPartly tick whole rest old new
+goes_on {tick = tick} {old = old} a rest split w h = record {
   done = w.done ++ a;
   parts = w.parts ∙ ap (λ (is : List Input). w.done ++ is) split ∙ sym (append_assoc w.done a rest);
   collected = h ∙ ap (λ (ls : List InputLine). ls ++ map (line_in tick) a) w.collected ∙ append_assoc old (map (line_in tick) w.done) (map (line_in tick) a) ∙ ap (λ (ls : List InputLine). old ++ ls) (sym (map-append (line_in tick) w.done a));
@@ -64,21 +66,20 @@ is_over {tick = tick} {old = old} none w =
     w.collected ∙ ap (λ (is : List Input). old ++ map (line_in tick) is) (sym (w.parts ∙ ap (λ (is : List Input). w.done ++ is) none ∙ append-nil w.done))
 
 -- there is no room for the next part, and so none for the whole
-pub no_room_left : {tick : ℕ} {whole now a : List Input} {old mid : List InputLine} (rest : List Input) (f : InputsFault) → now ≡ a ++ rest → IsPartly tick whole now old mid → HasNoRoom (length mid + length a) f → HasNoRoom (length old + length whole) f
-no_room_left {tick = tick} {whole = whole} {now = now} {a = a} {old = old} {mid = mid} rest f split w h =
+pub no_room_left : {tick : ℕ} {whole now : List Input} {old mid : List InputLine} (a rest : List Input) (f : InputsFault) → now ≡ a ++ rest → IsPartly tick whole now old mid → HasNoRoom (length mid + length a) f → HasNoRoom (length old + length whole) f
+no_room_left {tick = tick} {whole = whole} {now = now} {old = old} {mid = mid} a rest f split w h =
     let all : length whole ≡ length w.done + (length a + length rest) = ap length w.parts ∙ length-append w.done now ∙ ap (λ (k : ℕ). length w.done + k) (ap length split ∙ length-append a rest) in
     let so_far : length mid ≡ length old + length w.done = ap length w.collected ∙ length-append old (map (line_in tick) w.done) ∙ ap (λ (k : ℕ). length old + k) (length-map w.done (line_in tick)) in
     no_room_for_more (length mid + length a) (length old + length whole) f (omega (arith, all, so_far)) h
 
 -- two parts
-pub both_collected : {X : Type 0} {tick : ℕ} {a b : List Input} {old mid : List InputLine} (new : List InputLine) (r : Result X InputsFault) → mid ≡ old ++ map (line_in tick) a → AreCollected tick b mid new r → AreCollected tick (a ++ b) old new r
-both_collected {tick = tick} {a = a} {b = b} {old = old} {mid = mid} new (Ok x) first h =
-    is_over {now = []} refl (goes_on [] (sym (append-nil b)) (goes_on b refl (begins tick (a ++ b) old) first) h)
-both_collected {tick = tick} {a = a} {b = b} {old = old} {mid = mid} new (Err f) first h = no_room_left [] f (sym (append-nil b)) (goes_on b refl (begins tick (a ++ b) old) first) h
+pub both_collected : {X : Type 0} (tick : ℕ) (a b : List Input) (old mid new : List InputLine) (r : Result X InputsFault) → mid ≡ old ++ map (line_in tick) a → AreCollected tick b mid new r → AreCollected tick (a ++ b) old new r
+both_collected tick a b old mid new (Ok x) first h = is_over {now = []} refl (goes_on b [] (sym (append-nil b)) (goes_on a b refl (begins tick (a ++ b) old) first) h)
+both_collected tick a b old mid new (Err f) first h = no_room_left b [] f (sym (append-nil b)) (goes_on a b refl (begins tick (a ++ b) old) first) h
 
 -- there is no room for the first of two
-pub first_no_room : {a : List Input} {old : List InputLine} (b : List Input) (f : InputsFault) → HasNoRoom (length old + length a) f → HasNoRoom (length old + length (a ++ b)) f
-first_no_room {a = a} {old = old} b f h =
+pub first_no_room : (a b : List Input) (old : List InputLine) (f : InputsFault) → HasNoRoom (length old + length a) f → HasNoRoom (length old + length (a ++ b)) f
+first_no_room a b old f h =
     let all = length-append a b in
     no_room_for_more (length old + length a) (length old + length (a ++ b)) f (omega (arith, all)) h
 

@@ -13,9 +13,10 @@ pub mod Moves
 pub mod Named
 pub mod SameTraces
 pub mod Starting
+pub mod Told
 pub mod Texts
 pub mod Refused
-pub mod Replaying
+pub mod Replayed
 pub mod Shutdown
 pub mod Standing
 pub mod Unseen

@@ -22,7 +22,7 @@ use Rattle.module_base.specs.Rows.{HasPorts}
 found_at : {A : Type 0} (test : A → Bool) (xs : List A) (number : ℕ) (f : ℕ × A) → first_from number test xs ≡ Some f → (place : ℕ) × (f.0 ≡ number + place) × (slice_get xs place ≡ Some f.1) × (test f.1 ≡ true)
 unfolding first_from
 found_at test [] number f e = absurd (none-some f e)
-found_at {A = A} test (x ∷ xs) number f e = by_test (test x) refl e
+found_at {A = A} test (x ∷ xs) number f e = by_test (test x) refl (found_at test xs (number + 1) f) e
   where
     IsFound : ℕ × A → Type 0
     IsFound g = (place : ℕ) × (g.0 ≡ number + place) × (slice_get (x ∷ xs) place ≡ Some g.1) × (test g.1 ≡ true)
@@ -30,9 +30,9 @@ found_at {A = A} test (x ∷ xs) number f e = by_test (test x) refl e
     first_place : number ≡ number + 0
     first_place = omega arith
 
-    by_test : (b : Bool) → test x ≡ b → cond b (Some (number, x)) (first_from (number + 1) test xs) ≡ Some f → IsFound f
-    by_test true passes h = subst IsFound (same_Some (number, x) f h) (0, first_place, refl, passes)
-    by_test false fails h = let r = found_at test xs (number + 1) f h in (suc r.0, omega (arith, r.1), r.2, r.3)
+    by_test : (b : Bool) → test x ≡ b → (first_from (number + 1) test xs ≡ Some f → (place : ℕ) × (f.0 ≡ number + 1 + place) × (slice_get xs place ≡ Some f.1) × (test f.1 ≡ true)) → cond b (Some (number, x)) (first_from (number + 1) test xs) ≡ Some f → IsFound f
+    by_test true passes later h = subst IsFound (same_Some (number, x) f h) (0, first_place, refl, passes)
+    by_test false fails later h = let r = later h in (suc r.0, omega (arith, r.1), r.2, r.3)
 
 same_is : (a b : List ℕ) → same a b ≡ true → a ≡ b
 same_is [] [] h = refl
@@ -78,11 +78,15 @@ at_place items (suc place) item there e =
     slice_get-map item_of items place ∙ ap (option_map item_of) (ap (slice_get items) (sym before) ∙ e)
 
 -- the slice of an image at a number is that of the item there
-pub slice_at : (image : code.Image) (number : ℕ) (item : PartitionItem) (s : Slice) → 0 < number → slice_get image.partitions.items (number - 1) ≡ Some item
-    → slice (image_of image) number ≡ Some s → s ≡ slice_of (image_of image) number (item_of item)
-slice_at image number item s there e is =
-    let here : slice (image_of image) number ≡ Some (slice_of (image_of image) number (item_of item)) = ap (option_map (slice_of (image_of image) number)) (at_place image.partitions.items number item there e) in
-    same_Some s (slice_of (image_of image) number (item_of item)) (sym is ∙ here)
+pub slice_there : (image : code.Image) (number : ℕ) (item : PartitionItem) → 0 < number → slice_get image.partitions.items (number - 1) ≡ Some item → slice (image_of image) number ≡ Some (slice_of (image_of image) number (item_of item))
+slice_there image number item there e = ap (option_map (slice_of (image_of image) number)) (at_place image.partitions.items number item there e)
+
+-- what holds for that slice holds for the slice at the number
+pub for_slice : (P : Slice → Type 0) (image : code.Image) (number : ℕ) (item : PartitionItem) (s : Slice) → 0 < number → slice_get image.partitions.items (number - 1) ≡ Some item
+    → slice (image_of image) number ≡ Some s → P (slice_of (image_of image) number (item_of item)) → P s
+for_slice P image number item s there e is h =
+    let its = slice_of (image_of image) number (item_of item) in
+    subst P (same_Some its s (sym (slice_there image number item there e) ∙ is)) h
 
 -- ---- the ports of a row
 

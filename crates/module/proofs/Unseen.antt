@@ -4,7 +4,8 @@ use Rattle.apex_types.specs.declared.identity.At.{At}
 use Rattle.apex_meaning.specs.Module as meaning
 use Rattle.apex_meaning.specs.Module.{Advanced, Course, Plan, then_runs, unless_down}
 use Rattle.apex_meaning.specs.Partition.{Member}
-use Rattle.isolation.specs.Alone.{Input, InputLine}
+use Rattle.isolation.specs.declared.input.Input.{Input}
+use Rattle.isolation.specs.declared.input.InputLine.{InputLine}
 use Rattle.isolation.specs.Brought.{brought_moved, line_in}
 use Rattle.module.specs.Collecting.{AreCollected, IsMadeUnseen}
 use Rattle.module.specs.Standing.{Standing, after, origin_of}
@@ -40,12 +41,12 @@ stands_after s next c last members h e =
 -- ---- what was collected
 
 -- by the lines of the devices, then by the messages
-pub tick_collected : {C X : Type 0} {tick : ℕ} {a brought : List Input} {old mid : List InputLine} (plan : Plan) (p : ℕ) (c : Course C) (members : List (Member C)) (last : Option At) (new : List InputLine) (r : Result X InputsFault)
+pub tick_collected : {C X : Type 0} (tick : ℕ) (a brought : List Input) (old mid new : List InputLine) (plan : Plan) (p : ℕ) (c : Course C) (members : List (Member C)) (last : Option At) (r : Result X InputsFault)
     → brought ≡ a ++ brought_moved plan p c.members c.at → last ≡ c.at → members ≡ c.members → mid ≡ old ++ map (line_in tick) a → AreCollected tick (brought_moved plan p members last) mid new r → AreCollected tick brought old new r
-tick_collected {tick = tick} {a = a} {brought = brought} {old = old} plan p c members last new r parts on same first h =
+tick_collected tick a brought old mid new plan p c members last r parts on same first h =
     let all : brought ≡ a ++ brought_moved plan p members last =
     parts ∙ ap (λ (o : Option At). a ++ brought_moved plan p c.members o) (sym on) ∙ ap (λ (ms : List (Member _)). a ++ brought_moved plan p ms last) (sym same) in
-    subst (λ (is : List Input). AreCollected tick is old new r) (sym all) (both_collected new r first h)
+    subst (λ (is : List Input). AreCollected tick is old new r) (sym all) (both_collected tick a (brought_moved plan p members last) old mid new r first h)
 
 -- ---- a sink that forgets
 

@@ -9,7 +9,8 @@ use Rattle.apex_meaning.specs.Module.{Course, Plan, of_tick}
 use Rattle.apex_meaning.specs.Partition.{Member}
 use Rattle.apex_meaning.specs.Ports.{Port}
 use Rattle.apex_meaning.specs.Windows.{tick_from}
-use Rattle.isolation.specs.Alone.{Input, InputLine}
+use Rattle.isolation.specs.declared.input.Input.{Input}
+use Rattle.isolation.specs.declared.input.InputLine.{InputLine}
 use Rattle.isolation.specs.Brought.{brought_by, brought_tick, held_port, line_in}
 use Rattle.module.specs.Standing.{Standing, after, begins, ticks}
 use Rattle.module.specs.declared.inputs_fault.InputsFault.{InputsFault}

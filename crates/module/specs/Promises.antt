@@ -11,7 +11,7 @@ use Rattle.apex_meaning.specs.ImageReading.{Fault}
 use Rattle.apex_meaning.specs.Image.{Image, Item, Table}
 use Rattle.apex_meaning.specs.Program.{Program}
 use Rattle.apex_meaning.specs.TwoMeanings.{source_trace, machine_trace}
-use Rattle.isolation.specs.Alone.{InputLine}
+use Rattle.isolation.specs.declared.input.InputLine.{InputLine}
 use Rattle.isolation.specs.ReplayText.{replay_verdict}
 use Rattle.isolation.specs.Replays.{IsReplay, numbered}
 use Rattle.isolation.specs.Slices.{Slice, slice_trace}

@@ -9,7 +9,7 @@ use Rattle.apex_meaning.specs.Image.{Image, Item, Partition}
 use Rattle.apex_meaning.specs.ImageReading.{Fault}
 use Rattle.image.specs.declared.fault.ImageFault.{ImageFault}
 use Rattle.image.specs.declared.fault.ImageFault.TheVariants as image_fault
-use Rattle.isolation.specs.Alone.{InputLine}
+use Rattle.isolation.specs.declared.input.InputLine.{InputLine}
 use Rattle.isolation.specs.InputText.{replay_text}
 use Rattle.isolation.specs.ReplayText.{replay_verdict}
 use Rattle.isolation.specs.Replays.{numbered}

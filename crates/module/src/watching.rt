@@ -19,6 +19,7 @@ use partition_base::Executor;
 use regions::PartitionMem;
 
 /// A sink that takes all bytes and keeps none of them.
+#[derive(Drop)]
 struct Forgetful;
 
 impl Sink for Forgetful {

@@ -3,6 +3,7 @@ use Rattle.std.proofs.Common.{◌≡◌, ◌≤◌, ◌^◌, ℕ, List, [], ◌�
 use Rattle.std.proofs.lemmas.Option.{same_Some}
 use Rattle.std.specs.Io.KnownBytes.{Appends}
 use Rattle.apex_types.specs.Line.{text_of}
+use Rattle.apex_types.specs.Sink.{TakesBeginning}
 use Rattle.apex_types.specs.declared.device.DeviceFault.{DeviceFault}
 use Rattle.apex_types.specs.declared.device.DeviceLine.{DeviceLine}
 use Rattle.apex_types.specs.declared.sink.SinkFault.{SinkFault}
@@ -11,7 +12,8 @@ use Rattle.apex_meaning.specs.ImageLimits.{IsLawful}
 use Rattle.apex_meaning.specs.ImageReading.{Fault}
 use Rattle.apex_meaning.specs.MachineControl.{MachineControl}
 use Rattle.apex_meaning.specs.TwoMeanings.{machine_trace}
-use Rattle.isolation.specs.Alone.{Alone, InputLine, trace_alone}
+use Rattle.isolation.specs.Alone.{Alone, trace_alone}
+use Rattle.isolation.specs.declared.input.InputLine.{InputLine}
 use Rattle.isolation.specs.Brought.{part}
 use Rattle.isolation.specs.InputText.{AreInOrder}
 use Rattle.isolation.specs.ReplayText.{replay_verdict}
@@ -40,6 +42,10 @@ text_refused s inputs n old (text_fault.Line f) h = (refused (replay_verdict s.i
     refused (Ok ls) k = absurd k
     refused (Err g) k = ap (λ (x : DeviceFault). Err x) k
 
+-- the lines that are lent are those that were taken
+pub inputs_taken : {verdict : Result (List InputLine) DeviceFault} {lines : List InputLine} (lent : List InputLine) → lent ≡ lines → verdict ≡ Ok lines → verdict ≡ Ok lent
+inputs_taken lent same taken = taken ∙ ap (λ (ls : List InputLine). Ok ls) (sym same)
+
 -- what is alone is the slice's
 same_alone : (s : Slice) (o : Option Slice) (a : Alone MachineControl) → Some a ≡ option_map machine_alone o → o ≡ Some s → a ≡ machine_alone s
 same_alone s o a e is = same_Some a (machine_alone s) (e ∙ ap (option_map machine_alone) is)
@@ -48,6 +54,11 @@ pub slice_written : (s : Slice) (o : Option Slice) (a : Alone MachineControl) (i
     → replay_verdict s.item.partition inputs ≡ Ok lines → Appends old new (text_of (trace_alone a lines n)) → ReplaysSlice s inputs n old new (Ok tt)
 slice_written s o a inputs lines n old new e is taken out =
     (lines, taken, subst (λ (b : Alone MachineControl). Appends old new (text_of (trace_alone b lines n))) (same_alone s o a e is) out)
+
+pub slice_cut_off : (s : Slice) (o : Option Slice) (a : Alone MachineControl) (inputs : List ℕ) (lines : List InputLine) (n : ℕ) (old new : Option (List ℕ)) → Some a ≡ option_map machine_alone o → o ≡ Some s
+    → replay_verdict s.item.partition inputs ≡ Ok lines → TakesBeginning old new (text_of (trace_alone a lines n)) → ReplaysSlice s inputs n old new (Err Write)
+slice_cut_off s o a inputs lines n old new e is taken out =
+    (lines, taken, subst (λ (b : Alone MachineControl). TakesBeginning old new (text_of (trace_alone b lines n))) (same_alone s o a e is) out)
 
 -- ---- by its name
 
