@@ -10,6 +10,7 @@ mod listings;
 mod long_texts;
 mod machines;
 mod memory;
+mod replays;
 mod shelf;
 mod sinks;
 mod smallest;

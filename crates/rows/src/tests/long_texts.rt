@@ -7,14 +7,14 @@ use std::process::Abort;
 
 /// A text in which a line stands many times.
 #[derive(Clone, Copy)]
-struct LongText {
-    head: &'static str,
-    line: &'static str,
-    times: usize,
-    tail: &'static str,
+pub struct LongText {
+    pub head: &'static str,
+    pub line: &'static str,
+    pub times: usize,
+    pub tail: &'static str,
 }
 
-fn text_of(rt: &impl Abort, alloc: Global, long: &LongText) -> String {
+pub fn text_of(rt: &impl Abort, alloc: Global, long: &LongText) -> String {
     let mut text = String::from_str(alloc, long.head).expect(rt, "memory");
     for _ in 0..long.times {
         text.push_str(long.line).expect(rt, "memory");
