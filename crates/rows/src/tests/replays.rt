@@ -123,6 +123,8 @@ init stack 16 {
 }
 ";
 
+static PAIR_SOURCES: [&str; 2] = [SENDER, SMALLEST];
+
 /// The lines of `b` in the first 128 ticks.
 static RECEIVER_TRACE: &str = "\
 0000000000000 b MODE COLD_START
@@ -136,7 +138,7 @@ static RECEIVER_TRACE: &str = "\
 
 /// Builds the pair.
 fn pair(rt: &impl Abort, alloc: Global) -> Shelf<'static> {
-    let mut shelf = Shelf::new(alloc, PAIR, &[SENDER, SMALLEST]);
+    let mut shelf = Shelf::new(alloc, PAIR, &PAIR_SOURCES);
     let words = ["mb", "build", "table", "image", "source", "source2"];
     let mut out = Vec::new(alloc);
     let mut err = Vec::new(alloc);
