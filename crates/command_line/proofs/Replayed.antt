@@ -5,9 +5,10 @@ use Rattle.std.specs.Io.KnownBytes.{Keeps}
 use Rattle.std.proofs.KnownBytes.{Appends-kept}
 use Rattle.apex_meaning.specs.Image.{Image}
 use Rattle.apex_meaning.specs.ImageReading.{Fault, image_at}
-use Rattle.module.specs.Promises.{Brings, Replays}
-use Rattle.module.specs.declared.fault.InputsFault.{InputsFault}
-use Rattle.module.specs.declared.fault.InputsFault.TheVariants as inputs
+use Rattle.module.specs.Promises.{Replays}
+use Rattle.module.specs.Telling.{Tells}
+use Rattle.module.specs.declared.inputs_fault.InputsFault.{InputsFault}
+use Rattle.module.specs.declared.inputs_fault.InputsFault.TheVariants as inputs
 use Rattle.module.specs.declared.fault.RunFault.{RunFault}
 use Rattle.module.specs.declared.fault.RunFault.TheVariants.{Ticks, Image as NoImage, Partition, Device, Memory, Write, Failed}
 use Rattle.streams.specs.States.{Seen}
@@ -23,8 +24,8 @@ use Rattle.command_line.proofs.Ran.{few_same, many_same}
 pub kept_replay : (read : Result Image Fault) (name text : List ℕ) (n : ℕ) (old mid new : Option (List ℕ)) → Replays read name text n old mid is_ok → Keeps mid new → Replays read name text n old new is_ok
 kept_replay read name text n old mid new (slice, lines, r, out) kept = (slice, lines, r, Appends-kept old mid new _ out kept)
 
-pub kept_inputs : (read : Result Image Fault) (name devices : List ℕ) (n : ℕ) (old mid new : Option (List ℕ)) → Brings read name devices n old mid is_ok → Keeps mid new → Brings read name devices n old new is_ok
-kept_inputs read name devices n old mid new (slice, lines, r, out) kept = (slice, lines, r, Appends-kept old mid new _ out kept)
+pub kept_inputs : (read : Result Image Fault) (name devices : List ℕ) (n : ℕ) (old mid new : Option (List ℕ)) → Tells read name devices n old mid is_ok → Keeps mid new → Tells read name devices n old new is_ok
+kept_inputs read name devices n old mid new (row, inputs, r, short, again, out) kept = (row, inputs, r, short, again, Appends-kept old mid new _ out kept)
 
 -- ---- the number of a word, and what 64 bits hold of it
 
@@ -38,15 +39,15 @@ replays_by read name text n v old new (Err (Device f)) is h = subst (λ k. Repla
 replays_by read name text n v old new (Err Memory) is h = h
 replays_by read name text n v old new (Err Failed) is h = absurd h
 
-pub brings_by : (read : Result Image Fault) (name devices : List ℕ) (n v : ℕ) (old new : Option (List ℕ)) (answer : Result (Unit {0}) InputsFault) → n ≡ min v (2 ^ 64 - 1) → Brings read name devices n old new answer → Brings read name devices v old new answer
-brings_by read name devices n v old new (Ok x) is h = subst (λ k. Brings read name devices k old new (Ok x)) (few_same n v is h.2.few) h
-brings_by read name devices n v old new (Err inputs.Write) is h = subst (λ k. Brings read name devices k old new (Err inputs.Write)) (few_same n v is h.2.few) h
-brings_by read name devices n v old new (Err inputs.Ticks) is h = (many_same n v is h.0, h.1)
-brings_by read name devices n v old new (Err (inputs.Image f)) is h = subst (λ k. Brings read name devices k old new (Err (inputs.Image f))) (few_same n v is h.0) h
-brings_by read name devices n v old new (Err inputs.Partition) is h = subst (λ k. Brings read name devices k old new (Err inputs.Partition)) (few_same n v is h.0) h
-brings_by read name devices n v old new (Err (inputs.Device f)) is h = subst (λ k. Brings read name devices k old new (Err (inputs.Device f))) (few_same n v is h.0) h
-brings_by read name devices n v old new (Err inputs.TooMany) is h = subst (λ k. Brings read name devices k old new (Err inputs.TooMany)) (few_same n v is h.0) h
-brings_by read name devices n v old new (Err inputs.Memory) is h = h
+pub tells_by : (read : Result Image Fault) (name devices : List ℕ) (n v : ℕ) (old new : Option (List ℕ)) (answer : Result (Unit {0}) InputsFault) → n ≡ min v (2 ^ 64 - 1) → Tells read name devices n old new answer → Tells read name devices v old new answer
+tells_by read name devices n v old new (Ok x) is h = subst (λ k. Tells read name devices k old new (Ok x)) (few_same n v is h.2.run.few) h
+tells_by read name devices n v old new (Err inputs.Write) is h = subst (λ k. Tells read name devices k old new (Err inputs.Write)) (few_same n v is h.2.run.few) h
+tells_by read name devices n v old new (Err inputs.Ticks) is h = (many_same n v is h.0, h.1)
+tells_by read name devices n v old new (Err (inputs.Image f)) is h = subst (λ k. Tells read name devices k old new (Err (inputs.Image f))) (few_same n v is h.0) h
+tells_by read name devices n v old new (Err inputs.Partition) is h = subst (λ k. Tells read name devices k old new (Err inputs.Partition)) (few_same n v is h.0) h
+tells_by read name devices n v old new (Err (inputs.Device f)) is h = subst (λ k. Tells read name devices k old new (Err (inputs.Device f))) (few_same n v is h.0) h
+tells_by read name devices n v old new (Err inputs.TooMany) is h = subst (λ k. Tells read name devices k old new (Err inputs.TooMany)) (few_same n v is h.2.run.few) h
+tells_by read name devices n v old new (Err inputs.Memory) is h = h
 
 -- ---- how often the inputs of a run failed on their sink
 
@@ -77,13 +78,13 @@ replay_refused_by image partition text n v before after (refusal.Run fault) is h
 replay_refused_by image partition text n v before after (refusal.Inputs fault) is h = absurd h
 
 pub inputs_done_by : (image partition devices : List ℕ) (n v : ℕ) (before after : State) → n ≡ min v (2 ^ 64 - 1) → AreInputsDone image partition devices n before after → AreInputsDone image partition devices v before after
-inputs_done_by image partition devices n v before after is (same, given, brings) =
-    (same, given, brings_by (image_at given.image_bytes) partition given.text_bytes n v before.out.taken after.out.taken is_ok is brings)
+inputs_done_by image partition devices n v before after is (same, given, told) =
+    (same, given, tells_by (image_at given.image_bytes) partition given.text_bytes n v before.out.taken after.out.taken is_ok is told)
 
 pub inputs_refused_by : (image partition devices : List ℕ) (n v : ℕ) (before after : State) (r : Refusal) → n ≡ min v (2 ^ 64 - 1) → AreInputsRefused image partition devices n before after r → AreInputsRefused image partition devices v before after r
 inputs_refused_by image partition devices n v before after (refusal.File name) is h = h
-inputs_refused_by image partition devices n v before after (refusal.Inputs fault) is (failed, same, given, brings) =
-    (failed, same, given, brings_by (image_at given.image_bytes) partition given.text_bytes n v before.out.taken after.out.taken (Err fault) is brings)
+inputs_refused_by image partition devices n v before after (refusal.Inputs fault) is (failed, same, given, told) =
+    (failed, same, given, tells_by (image_at given.image_bytes) partition given.text_bytes n v before.out.taken after.out.taken (Err fault) is told)
 inputs_refused_by image partition devices n v before after refusal.Memory is h = h
 inputs_refused_by image partition devices n v before after refusal.Write is (failed, done) = (failed, inputs_done_by image partition devices n v before after is done)
 inputs_refused_by image partition devices n v before after (refusal.Build fault) is h = absurd h

@@ -9,10 +9,11 @@ use Rattle.listing.specs.Code.{code_text}
 use Rattle.listing.specs.Costs.{costs_text}
 use Rattle.module.specs.Building.{IsImageOf}
 use Rattle.module.specs.Costs.{AreCosts}
-use Rattle.module.specs.Promises.{Brings, Means, Replays, Runs}
+use Rattle.module.specs.Promises.{Means, Replays, Runs}
+use Rattle.module.specs.Telling.{Tells}
 use Rattle.module.specs.declared.costing.PartitionCosts.{PartitionCosts}
 use Rattle.module.specs.declared.fault.BuildAndRunFault.{BuildAndRunFault}
-use Rattle.module.specs.declared.fault.InputsFault.{InputsFault}
+use Rattle.module.specs.declared.inputs_fault.InputsFault.{InputsFault}
 use Rattle.module.specs.declared.fault.RunFault.{RunFault}
 use Rattle.command_line.specs.Contents.{Contents, Holds, HoldAll, Spares}
 use Rattle.command_line.specs.Orders.{Order, First, Check, Build, Run, Replay, Inputs, Cost, Dis}
@@ -70,7 +71,7 @@ IsReplayOf given partition n old new answer = Replays (image_at given.image_byte
 
 -- what was written with this answer of the inputs that n ticks of a run bring a partition
 abbrev pub AreInputsOf : {files : Option Contents} {image devices : List ℕ} → ImageAndText files image devices → List ℕ → ℕ → Option (List ℕ) → Option (List ℕ) → Result (Unit {0}) InputsFault → Type 0
-AreInputsOf given partition n old new answer = Brings (image_at given.image_bytes) partition given.text_bytes n old new answer
+AreInputsOf given partition n old new answer = Tells (image_at given.image_bytes) partition given.text_bytes n old new answer
 
 -- what the run of the stored module with this answer has written
 abbrev pub IsFirstRun : Option (List ℕ) → Option (List ℕ) → Result (Unit {0}) BuildAndRunFault → Type 0

@@ -8,8 +8,8 @@ use Rattle.explanations.specs.declared.sentences.CommandFault.TheVariants as com
 use Rattle.module.specs.Accepted.{IsTable}
 use Rattle.module.specs.declared.fault.BuildFault.{BuildFault}
 use Rattle.module.specs.declared.fault.BuildFault.TheVariants as build
-use Rattle.module.specs.declared.fault.InputsFault.{InputsFault}
-use Rattle.module.specs.declared.fault.InputsFault.TheVariants as inputs
+use Rattle.module.specs.declared.inputs_fault.InputsFault.{InputsFault}
+use Rattle.module.specs.declared.inputs_fault.InputsFault.TheVariants as inputs
 use Rattle.module.specs.declared.fault.RunFault.{RunFault}
 use Rattle.module.specs.declared.fault.RunFault.TheVariants as run
 use Rattle.pal_base.specs.declared.fault.PalFault.{PalFault}

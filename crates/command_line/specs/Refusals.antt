@@ -16,8 +16,8 @@ use Rattle.module.specs.Promises as promises
 use Rattle.module.specs.declared.costing.PartitionCosts.{PartitionCosts}
 use Rattle.module.specs.declared.fault.BuildAndRunFault.{BuildAndRunFault}
 use Rattle.module.specs.declared.fault.BuildAndRunFault.TheVariants as both
-use Rattle.module.specs.declared.fault.InputsFault.{InputsFault}
-use Rattle.module.specs.declared.fault.InputsFault.TheVariants as input_faults
+use Rattle.module.specs.declared.inputs_fault.InputsFault.{InputsFault}
+use Rattle.module.specs.declared.inputs_fault.InputsFault.TheVariants as input_faults
 use Rattle.module.specs.declared.fault.RunFault.{RunFault}
 use Rattle.module.specs.declared.fault.RunFault.TheVariants as faults
 use Rattle.command_line.specs.Contents.{Contents, Holds, Spares}

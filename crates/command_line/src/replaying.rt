@@ -2,7 +2,8 @@
 
 ghost use Rattle.std.specs.Prelude.{◌≡◌, ◌-◌, ◌^◌, ◌<◌, IfErr, OnOk};
 ghost use Rattle.apex_meaning.specs.ImageReading.{image_at};
-ghost use Rattle.module.specs.Promises.{Brings, Replays};
+ghost use Rattle.module.specs.Promises.{Replays};
+ghost use Rattle.module.specs.Telling.{Tells};
 ghost use Rattle.command_line.specs.Done.{AreInputsDone, IsDone, IsReplayDone};
 ghost use Rattle.command_line.specs.Orders.{Inputs, Replay};
 ghost use Rattle.command_line.specs.Refusals.{AreInputsRefused, HasFailedBy, HasFailedByInputs, IsFailure, IsReplayRefused};
@@ -133,12 +134,12 @@ fn inputs_named<F: Files, O: Stream>(
 {
     let image = read(alloc, image, files)?;
     let devices = read(alloc, devices, files)?;
-    bring(alloc, image.as_slice(), partition, devices.as_slice(), ticks, out)?;
+    tell_inputs(alloc, image.as_slice(), partition, devices.as_slice(), ticks, out)?;
     Ok(out.flush()?)
 }
 
 /// Writes what a run of an image brings a partition, as a replay text.
-fn bring<O: Stream>(
+fn tell_inputs<O: Stream>(
     alloc: Global,
     image: &[u8],
     partition: &str,
@@ -147,7 +148,7 @@ fn bring<O: Stream>(
     out: &mut O,
 ) -> Result<(), InputsFault>
     requires { O.failures out.old < 2 ^ 64 - 1 }
-    ensures text { Brings (image_at image.now) partition.now devices.now ticks (O.taken out.old) (O.taken out.new) result }
+    ensures text { Tells (image_at image.now) partition.now devices.now ticks (O.taken out.old) (O.taken out.new) result }
     ensures quiet { OnOk result (O.failures out.new ≡ O.failures out.old) }
     ensures failed { IfErr result (λ f. HasFailedByInputs f (seen O.taken O.failures O.is_flushed out.old) (seen O.taken O.failures O.is_flushed out.new)) }
 {

@@ -18,6 +18,6 @@ returns c =
     let builds = one_more c.in_ok-subcommand.field-0 c.in_ok-build.field-0 c.in_ok-subcommand-2.field-0 one build_app checks c.in_ok-build.ensures c.in_ok-subcommand-2.ensures in
     let runs = one_more c.in_ok-subcommand-2.field-0 c.in_ok-run.field-0 c.in_ok-subcommand-3.field-0 two run_app builds c.in_ok-run.ensures c.in_ok-subcommand-3.ensures in
     let replays = one_more c.in_ok-subcommand-3.field-0 c.in_ok-replay.field-0 c.in_ok-subcommand-4.field-0 three replay_app runs c.in_ok-replay.ensures c.in_ok-subcommand-4.ensures in
-    let brings = one_more c.in_ok-subcommand-4.field-0 c.in_ok-inputs.field-0 c.in_ok-subcommand-5.field-0 four inputs_app replays c.in_ok-inputs.ensures c.in_ok-subcommand-5.ensures in
-    let costs = one_more c.in_ok-subcommand-5.field-0 c.in_ok-cost.field-0 c.in_ok-subcommand-6.field-0 five cost_app brings c.in_ok-cost.ensures c.in_ok-subcommand-6.ensures in
+    let inputs = one_more c.in_ok-subcommand-4.field-0 c.in_ok-inputs.field-0 c.in_ok-subcommand-5.field-0 four inputs_app replays c.in_ok-inputs.ensures c.in_ok-subcommand-5.ensures in
+    let costs = one_more c.in_ok-subcommand-5.field-0 c.in_ok-cost.field-0 c.in_ok-subcommand-6.field-0 five cost_app inputs c.in_ok-cost.ensures c.in_ok-subcommand-6.ensures in
     last_one c.in_ok-subcommand-6.field-0 c.in_ok-dis.field-0 c.subcommand-7.result six dis_app costs c.in_ok-dis.ensures c.subcommand-7.ensures

@@ -1,6 +1,6 @@
 use Rattle.streams.specs.States.{seen}
 use Rattle.command_line.proofs.Replayed.{failed_by_inputs}
-use Rattle.command_line.proofs.replaying.bring.Goals as goal
+use Rattle.command_line.proofs.replaying.tell_inputs.Goals as goal
 
 pub returns-clause-failed : goal.returns-clause-failed
 returns-clause-failed g c =
