@@ -25,7 +25,7 @@ pub kept_replay : (read : Result Image Fault) (name text : List ℕ) (n : ℕ) (
 kept_replay read name text n old mid new (slice, lines, r, out) kept = (slice, lines, r, Appends-kept old mid new _ out kept)
 
 pub kept_inputs : (read : Result Image Fault) (name devices : List ℕ) (n : ℕ) (old mid new : Option (List ℕ)) → Tells read name devices n old mid is_ok → Keeps mid new → Tells read name devices n old new is_ok
-kept_inputs read name devices n old mid new (row, inputs, r, short, again, out) kept = (row, inputs, r, short, again, Appends-kept old mid new _ out kept)
+kept_inputs read name devices n old mid new (row, inputs, r, (few, again, out)) kept = (row, inputs, r, (few, again, Appends-kept old mid new _ out kept))
 
 -- ---- the number of a word, and what 64 bits hold of it
 

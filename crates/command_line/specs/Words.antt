@@ -32,11 +32,15 @@ build_app = with_rule (with_rule (with_rule (explained_app (codes "build")) (wor
 abbrev pub run_app : App
 run_app = with_rule (with_rule (with_rule (explained_app (codes "run")) (word_rule (codes "IMAGE"))) (word_rule (codes "DEVICES"))) (word_rule (codes "TICKS"))
 
+-- a command on one partition of an image
+abbrev pub partition_app : List ℕ → App
+partition_app name = with_rule (with_rule (explained_app name) (word_rule (codes "IMAGE"))) (word_rule (codes "PARTITION"))
+
 abbrev pub replay_app : App
-replay_app = with_rule (with_rule (with_rule (with_rule (explained_app (codes "replay")) (word_rule (codes "IMAGE"))) (word_rule (codes "PARTITION"))) (word_rule (codes "INPUTS"))) (word_rule (codes "TICKS"))
+replay_app = with_rule (with_rule (partition_app (codes "replay")) (word_rule (codes "INPUTS"))) (word_rule (codes "TICKS"))
 
 abbrev pub inputs_app : App
-inputs_app = with_rule (with_rule (with_rule (with_rule (explained_app (codes "inputs")) (word_rule (codes "IMAGE"))) (word_rule (codes "PARTITION"))) (word_rule (codes "DEVICES"))) (word_rule (codes "TICKS"))
+inputs_app = with_rule (with_rule (partition_app (codes "inputs")) (word_rule (codes "DEVICES"))) (word_rule (codes "TICKS"))
 
 abbrev pub cost_app : App
 cost_app = with_rule (with_rule (explained_app (codes "cost")) (word_rule (codes "TABLE"))) sources_rule

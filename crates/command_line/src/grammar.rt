@@ -1,12 +1,13 @@
 //! The words that the program takes.
 
-ghost use Rattle.std.specs.Prelude.{◌≡◌, ◌↔◌, IfOk, IsTrue, false};
+ghost use Rattle.std.specs.Prelude.{◌≡◌, ◌↔◌, IfOk, IsTrue, codes, false};
 ghost use Rattle.std.specs.Str.Parse.{AllDigits, IsNumeral};
+ghost use Rattle.clap.specs.Simple.{new_app};
 ghost use Rattle.clap.specs.Values.{kind_of};
 ghost use Rattle.clap.specs.Walk.{rule_of};
 ghost use Rattle.clap.specs.declared.error.kind.ErrorKind.TheVariants.{ValueValidation};
 ghost use Rattle.command_line.specs.Ticks.{ReadsTicks};
-ghost use Rattle.command_line.specs.Words.{IsCommand, word_rule, sources_rule, explain_rule, explained_app, check_app, build_app, run_app, replay_app, inputs_app, cost_app, dis_app, mb_app};
+ghost use Rattle.command_line.specs.Words.{IsCommand, word_rule, sources_rule, explain_rule, explained_app, check_app, build_app, run_app, partition_app, replay_app, inputs_app, cost_app, dis_app, mb_app};
 
 use clap::error::ErrorKind;
 use clap::{Arg, ArgAction, Command, Error};
@@ -16,11 +17,7 @@ use std::alloc::{AllocError, Global};
 pub fn grammar<'a>(alloc: Global) -> Result<Command<'a>, AllocError>
     ensures { IfOk result (λ command. IsCommand command mb_app) }
 {
-    Command::new(alloc, "mb")
-        .about(
-            "Builds ARINC 653 modules and runs them; without a command, runs a stored first module",
-        )
-        .after_help("Example: mb build table.toml module.image a.pal b.pal")
+    program(alloc)
         .subcommand(check(alloc)?)?
         .subcommand(build(alloc)?)?
         .subcommand(run(alloc)?)?
@@ -28,6 +25,17 @@ pub fn grammar<'a>(alloc: Global) -> Result<Command<'a>, AllocError>
         .subcommand(inputs(alloc)?)?
         .subcommand(cost(alloc)?)?
         .subcommand(dis(alloc)?)
+}
+
+/// The program without its commands.
+fn program<'a>(alloc: Global) -> Command<'a>
+    ensures { IsCommand result (new_app (codes "mb")) }
+{
+    Command::new(alloc, "mb")
+        .about(
+            "Builds ARINC 653 modules and runs them; without a command, runs a stored first module",
+        )
+        .after_help("Example: mb build table.toml module.image a.pal b.pal")
 }
 
 fn check<'a>(alloc: Global) -> Result<Command<'a>, AllocError>
@@ -73,11 +81,9 @@ fn run<'a>(alloc: Global) -> Result<Command<'a>, AllocError>
 fn replay<'a>(alloc: Global) -> Result<Command<'a>, AllocError>
     ensures { IfOk result (λ command. IsCommand command replay_app) }
 {
-    explained(alloc, "replay")?
+    of_partition(alloc, "replay")?
         .about("Runs one partition of an image alone, with its inputs, and writes its trace")
         .after_help("Example: mb replay module.image b inputs.txt 1000")
-        .arg(required(alloc, "IMAGE", "The file of an image"))?
-        .arg(required(alloc, "PARTITION", "The name of the partition"))?
         .arg(required(
             alloc,
             "INPUTS",
@@ -93,11 +99,9 @@ fn replay<'a>(alloc: Global) -> Result<Command<'a>, AllocError>
 fn inputs<'a>(alloc: Global) -> Result<Command<'a>, AllocError>
     ensures { IfOk result (λ command. IsCommand command inputs_app) }
 {
-    explained(alloc, "inputs")?
+    of_partition(alloc, "inputs")?
         .about("Runs an image and writes what comes to one partition, as a replay text")
         .after_help("Example: mb inputs module.image b devices.txt 1000")
-        .arg(required(alloc, "IMAGE", "The file of an image"))?
-        .arg(required(alloc, "PARTITION", "The name of the partition"))?
         .arg(required(
             alloc,
             "DEVICES",
@@ -127,6 +131,15 @@ fn dis<'a>(alloc: Global) -> Result<Command<'a>, AllocError>
         .about("Writes the instructions of an image")
         .after_help("Example: mb dis module.image")
         .arg(required(alloc, "IMAGE", "The file of an image"))
+}
+
+/// A command on one partition of an image.
+fn of_partition<'a>(alloc: Global, name: &'a str) -> Result<Command<'a>, AllocError>
+    ensures { IfOk result (λ command. IsCommand command (partition_app name.entry.now)) }
+{
+    explained(alloc, name)?
+        .arg(required(alloc, "IMAGE", "The file of an image"))?
+        .arg(required(alloc, "PARTITION", "The name of the partition"))
 }
 
 /// A command that takes the flag for explanations.

@@ -136,6 +136,18 @@ returns-in-Some-inputs-default-clause-done g c =
     c.word-image-in-Some-inputs-default.ensures c.word-partition-in-Some-inputs-default.ensures c.word-devices-in-Some-inputs-default.ensures c.word-ticks-in-Some-inputs-default.ensures in
     subst (λ o. OnOk c.inputs.result (IsDone o before after)) (sym order) c.inputs.ensures.done
 
+pub returns-in_err-run_stored-in_default-clause-failed : goal.returns-in_err-run_stored-in_default-clause-failed
+returns-in_err-run_stored-in_default-clause-failed g c =
+    let before = state (g.F.Files.contents c.args.files.now) (seen g.O.Sink.taken g.O.Sink.failures g.O.Stream.is_flushed c.args.out.now) in
+    let after = state (g.F.Files.contents c.args.files.now) (seen g.O.Sink.taken g.O.Sink.failures g.O.Stream.is_flushed c.run_stored.new.out) in
+    let order : order_of (subcommand_rows_of c.args.matches.now) ≡ First = elim c.in_default.branch [
+      | in_default-via-in-Some+in_default w ↦ other_is c.args.matches.now w.in_default.field-0.0.now (rows_of (found_of w.in_default.field-0.1.now)) (search (rules, c.subcommand.ensures.name)) (search (rules, c.subcommand.ensures.rows)) (search rules) (search rules) (search rules) (search rules) (search rules) (search rules) (search rules)
+      | in_default-via-in_default w ↦ none_entered c.args.matches.now (search (rules, c.subcommand.ensures.name))
+    ] in
+    let r = c.in_err-run_stored-in_default.field-0.0 in
+    told_as _ (Refused r) c.from_residual-in_err-run_stored-in_default.result c.from_residual-in_err-run_stored-in_default.ensures
+    (subst (λ o. IsRefused o before after r) (sym order) (refl, c.in_err-run_stored-in_default.ensures.refused))
+
 pub returns-in_ok-run_stored-in_default-clause-done : goal.returns-in_ok-run_stored-in_default-clause-done
 returns-in_ok-run_stored-in_default-clause-done g c =
     let before = state (g.F.Files.contents c.args.files.now) (seen g.O.Sink.taken g.O.Sink.failures g.O.Stream.is_flushed c.args.out.now) in

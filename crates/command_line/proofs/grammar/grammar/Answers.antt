@@ -1,6 +1,6 @@
-use Rattle.std.proofs.Common.{rules, codes}
+use Rattle.std.proofs.Common.{codes}
 use Rattle.clap.specs.Simple.{new_app, with_subcommand}
-use Rattle.command_line.specs.Words.{IsCommand, check_app, build_app, run_app, replay_app, inputs_app, cost_app, dis_app}
+use Rattle.command_line.specs.Words.{check_app, build_app, run_app, replay_app, inputs_app, cost_app, dis_app}
 use Rattle.command_line.proofs.Subcommands.{one_more, last_one}
 use Rattle.command_line.proofs.grammar.grammar.Goals as goal
 
@@ -13,8 +13,7 @@ returns c =
     let four = with_subcommand three replay_app.top in
     let five = with_subcommand four inputs_app.top in
     let six = with_subcommand five cost_app.top in
-    let alone : IsCommand c.after_help.result none = search rules in
-    let checks = one_more c.after_help.result c.in_ok-check.field-0 c.in_ok-subcommand.field-0 none check_app alone c.in_ok-check.ensures c.in_ok-subcommand.ensures in
+    let checks = one_more c.program.result c.in_ok-check.field-0 c.in_ok-subcommand.field-0 none check_app c.program.ensures c.in_ok-check.ensures c.in_ok-subcommand.ensures in
     let builds = one_more c.in_ok-subcommand.field-0 c.in_ok-build.field-0 c.in_ok-subcommand-2.field-0 one build_app checks c.in_ok-build.ensures c.in_ok-subcommand-2.ensures in
     let runs = one_more c.in_ok-subcommand-2.field-0 c.in_ok-run.field-0 c.in_ok-subcommand-3.field-0 two run_app builds c.in_ok-run.ensures c.in_ok-subcommand-3.ensures in
     let replays = one_more c.in_ok-subcommand-3.field-0 c.in_ok-replay.field-0 c.in_ok-subcommand-4.field-0 three replay_app runs c.in_ok-replay.ensures c.in_ok-subcommand-4.ensures in

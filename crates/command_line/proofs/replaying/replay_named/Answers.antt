@@ -5,8 +5,8 @@ use Rattle.command_line.proofs.Ran.{given_of, told_as}
 use Rattle.command_line.proofs.Replayed.{kept_replay}
 use Rattle.command_line.proofs.replaying.replay_named.Goals as goal
 
-pub returns-in-Err-clause-refused : goal.returns-in-Err-clause-refused
-returns-in-Err-clause-refused g c =
+pub returns-clause-refused : goal.returns-clause-refused
+returns-clause-refused g c =
     let files = g.F.Files.contents c.args.files.now in
     let given = given_of files (g.F.Files.contents c.read.new.files) c.args.image.now c.args.inputs.now c.in_ok-image.image.items c.in_ok-inputs.inputs.items c.as_slice.result.now c.as_slice-2.result.now
     c.in_ok-image.ensures.unchanged c.as_slice.ensures.value c.as_slice-2.ensures.value c.in_ok-image.ensures.held c.in_ok-inputs.ensures.held in
@@ -29,8 +29,8 @@ returns-in_err-flush-in-Ok-clause-refused g c =
       ),
     )
 
-pub returns-in_ok-flush-in-Ok-clause-done : goal.returns-in_ok-flush-in-Ok-clause-done
-returns-in_ok-flush-in-Ok-clause-done g c =
+pub returns-in-Ok-clause-done : goal.returns-in-Ok-clause-done
+returns-in-Ok-clause-done g c =
     let taken = g.O.Sink.taken in
     let files = g.F.Files.contents c.args.files.now in
     let given = given_of files (g.F.Files.contents c.read.new.files) c.args.image.now c.args.inputs.now c.in_ok-image.image.items c.in_ok-inputs.inputs.items c.as_slice.result.now c.as_slice-2.result.now
