@@ -11,6 +11,7 @@ mod long_replays;
 mod long_texts;
 mod machines;
 mod memory;
+mod replays;
 mod shelf;
 mod sinks;
 mod smallest;
