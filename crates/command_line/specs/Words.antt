@@ -51,7 +51,7 @@ dis_app = with_rule (explained_app (codes "dis")) (word_rule (codes "IMAGE"))
 abbrev pub mb_app : App
 mb_app =
     with_subcommand (with_subcommand (with_subcommand (with_subcommand (with_subcommand (with_subcommand (with_subcommand
-      (new_app (codes "mb")) check_app.top) build_app.top) run_app.top) replay_app.top) inputs_app.top) cost_app.top) dis_app.top
+    (new_app (codes "mb")) check_app.top) build_app.top) run_app.top) replay_app.top) inputs_app.top) cost_app.top) dis_app.top
 
 -- a command with these arguments and no other, none of them for its own commands
 pub record IsCommand (command : Command) (app : App) : Type 0 where

@@ -65,7 +65,14 @@ fn replay_named<F: Files, O: Stream>(
 {
     let image = read(alloc, image, files)?;
     let inputs = read(alloc, inputs, files)?;
-    match trace_alone(alloc, image.as_slice(), partition, inputs.as_slice(), ticks, out) {
+    match trace_alone(
+        alloc,
+        image.as_slice(),
+        partition,
+        inputs.as_slice(),
+        ticks,
+        out,
+    ) {
         Ok(()) => Ok(out.flush()?),
         Err(fault) => Err(Refusal::Replay(fault)),
     }
@@ -134,7 +141,14 @@ fn inputs_named<F: Files, O: Stream>(
 {
     let image = read(alloc, image, files)?;
     let devices = read(alloc, devices, files)?;
-    tell_inputs(alloc, image.as_slice(), partition, devices.as_slice(), ticks, out)?;
+    tell_inputs(
+        alloc,
+        image.as_slice(),
+        partition,
+        devices.as_slice(),
+        ticks,
+        out,
+    )?;
     Ok(out.flush()?)
 }
 
@@ -148,7 +162,7 @@ fn tell_inputs<O: Stream>(
     out: &mut O,
 ) -> Result<(), InputsFault>
     requires { O.failures out.old < 2 ^ 64 - 1 }
-    ensures text { Tells (image_at image.now) partition.now devices.now ticks (O.taken out.old) (O.taken out.new) result }
+    ensures told { Tells (image_at image.now) partition.now devices.now ticks (O.taken out.old) (O.taken out.new) result }
     ensures quiet { OnOk result (O.failures out.new ≡ O.failures out.old) }
     ensures failed { IfErr result (λ f. HasFailedByInputs f (seen O.taken O.failures O.is_flushed out.old) (seen O.taken O.failures O.is_flushed out.new)) }
 {

@@ -29,14 +29,38 @@ static REFUSALS: [(&[&str], &str); 20] = [
         &["mb", "run", "image", "devices", "1099511627777"],
         "mb: ticks\n",
     ),
-    (&["mb", "replay", "gone", "a", "lost", "5"], "mb: file gone\n"),
-    (&["mb", "replay", "image", "a", "lost", "1099511627777"], "mb: file lost\n"),
-    (&["mb", "replay", "image", "a", "devices", "1099511627777"], "mb: ticks\n"),
-    (&["mb", "replay", "image", "a", "devices", "5"], "mb: image 1\n"),
-    (&["mb", "inputs", "gone", "a", "lost", "5"], "mb: file gone\n"),
-    (&["mb", "inputs", "image", "a", "lost", "1099511627777"], "mb: file lost\n"),
-    (&["mb", "inputs", "image", "a", "devices", "1099511627777"], "mb: ticks\n"),
-    (&["mb", "inputs", "image", "a", "devices", "5"], "mb: image 1\n"),
+    (
+        &["mb", "replay", "gone", "a", "lost", "5"],
+        "mb: file gone\n",
+    ),
+    (
+        &["mb", "replay", "image", "a", "lost", "1099511627777"],
+        "mb: file lost\n",
+    ),
+    (
+        &["mb", "replay", "image", "a", "devices", "1099511627777"],
+        "mb: ticks\n",
+    ),
+    (
+        &["mb", "replay", "image", "a", "devices", "5"],
+        "mb: image 1\n",
+    ),
+    (
+        &["mb", "inputs", "gone", "a", "lost", "5"],
+        "mb: file gone\n",
+    ),
+    (
+        &["mb", "inputs", "image", "a", "lost", "1099511627777"],
+        "mb: file lost\n",
+    ),
+    (
+        &["mb", "inputs", "image", "a", "devices", "1099511627777"],
+        "mb: ticks\n",
+    ),
+    (
+        &["mb", "inputs", "image", "a", "devices", "5"],
+        "mb: image 1\n",
+    ),
     (&["mb", "cost", "gone", "lost"], "mb: file gone\n"),
     (
         &["mb", "cost", "table", "source", "lost"],

@@ -172,10 +172,17 @@ fn the_most_inputs_and_one_more(rt: HostRuntime) {
     let mut shelf = pair(&rt, rt.alloc());
     shelf.devices = faults.as_str();
     let words = ["mb", "inputs", "image", "b", "devices", "64"];
-    expect_command(&rt, rt.alloc(), &mut shelf, &words, (0, faults.as_str(), ""));
+    expect_command(
+        &rt,
+        rt.alloc(),
+        &mut shelf,
+        &words,
+        (0, faults.as_str(), ""),
+    );
     let words = ["mb", "inputs", "image", "b", "devices", "65"];
     expect_command(&rt, rt.alloc(), &mut shelf, &words, (1, "", "mb: inputs\n"));
     let words = ["mb", "inputs", "--explain", "image", "b", "devices", "65"];
-    let line = "mb: inputs\nMore than 65,536 inputs come to the partition, and a replay text has no more lines.\n";
+    let line =
+        "mb: inputs\nMore than 65,536 inputs come to the partition, and a replay text has no more lines.\n";
     expect_command(&rt, rt.alloc(), &mut shelf, &words, (1, "", line));
 }

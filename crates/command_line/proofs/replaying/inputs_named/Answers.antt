@@ -12,7 +12,7 @@ returns-in_err-tell_inputs-clause-refused g c =
     c.in_ok-image.ensures.unchanged c.as_slice.ensures.value c.as_slice-2.ensures.value c.in_ok-image.ensures.held c.in_ok-devices.ensures.held in
     let same = c.in_ok-devices.ensures.unchanged ∙ c.in_ok-image.ensures.unchanged in
     told_as _ (Inputs c.in_err-tell_inputs.field-0.0) c.from_residual-in_err-tell_inputs.result c.from_residual-in_err-tell_inputs.ensures
-    (c.in_err-tell_inputs.ensures.failed, same, given, c.in_err-tell_inputs.ensures.text)
+    (c.in_err-tell_inputs.ensures.failed, same, given, c.in_err-tell_inputs.ensures.told)
 
 pub returns-in_err-flush-clause-refused : goal.returns-in_err-flush-clause-refused
 returns-in_err-flush-clause-refused g c =
@@ -26,7 +26,7 @@ returns-in_err-flush-clause-refused g c =
       (
         same,
         given,
-        kept_inputs (image_at c.as_slice.result.now) c.args.partition.now c.as_slice-2.result.now c.args.ticks (taken c.args.out.now) (taken c.tell_inputs.new.out) (taken c.flush.new.self) c.in_ok-tell_inputs.ensures.text c.in_err-flush.ensures.kept,
+        kept_inputs (image_at c.as_slice.result.now) c.args.partition.now c.as_slice-2.result.now c.args.ticks (taken c.args.out.now) (taken c.tell_inputs.new.out) (taken c.flush.new.self) c.in_ok-tell_inputs.ensures.told c.in_err-flush.ensures.kept,
       ),
     )
 
@@ -39,5 +39,5 @@ returns-clause-done g c =
     let same = c.in_ok-devices.ensures.unchanged ∙ c.in_ok-image.ensures.unchanged in (
       same,
       given,
-      kept_inputs (image_at c.as_slice.result.now) c.args.partition.now c.as_slice-2.result.now c.args.ticks (taken c.args.out.now) (taken c.tell_inputs.new.out) (taken c.flush.new.self) c.in_ok-tell_inputs.ensures.text c.in_ok-flush.ensures.kept,
+      kept_inputs (image_at c.as_slice.result.now) c.args.partition.now c.as_slice-2.result.now c.args.ticks (taken c.args.out.now) (taken c.tell_inputs.new.out) (taken c.flush.new.self) c.in_ok-tell_inputs.ensures.told c.in_ok-flush.ensures.kept,
     )
