@@ -1,0 +1,24 @@
+-- What stands at the places of a list where one item is put.
+use Rattle.std.proofs.Common.{◌≡◌, ◌≢◌, ℕ, zero, suc, true, List, [], ◌∷◌, Some, refl, ap}
+use Rattle.std.proofs.lemmas.Option.{none-some}
+use Rattle.std.specs.Prelude.{is_some, slice_get, slice_set}
+
+pub get_set_same : {A : Type 0} (xs : List A) (i : ℕ) (x y : A) → slice_get xs i ≡ Some x → slice_get (slice_set xs i y) i ≡ Some y
+get_set_same [] i x y h = absurd (none-some x h)
+get_set_same (a ∷ xs) zero x y h = refl
+get_set_same (a ∷ xs) (suc i) x y h = get_set_same xs i x y h
+
+pub get_set_other : {A : Type 0} (xs : List A) (i j : ℕ) (y : A) → i ≢ j → slice_get (slice_set xs i y) j ≡ slice_get xs j
+get_set_other [] i j y h = refl
+get_set_other (a ∷ xs) zero zero y h = absurd (h refl)
+get_set_other (a ∷ xs) zero (suc j) y h = refl
+get_set_other (a ∷ xs) (suc i) zero y h = refl
+get_set_other (a ∷ xs) (suc i) (suc j) y h = get_set_other xs i j y (λ e. h (ap suc e))
+
+-- where something stands, something stands
+pub some_set : {A : Type 0} (xs : List A) (i j : ℕ) (y : A) → is_some (slice_get xs j) ≡ true → is_some (slice_get (slice_set xs i y) j) ≡ true
+some_set [] i j y h = h
+some_set (a ∷ xs) zero zero y h = refl
+some_set (a ∷ xs) zero (suc j) y h = h
+some_set (a ∷ xs) (suc i) zero y h = refl
+some_set (a ∷ xs) (suc i) (suc j) y h = some_set xs i j y h

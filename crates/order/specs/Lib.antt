@@ -1,0 +1,5 @@
+pub mod Numbers
+pub mod Agreement
+pub mod OrderLaw
+pub mod History
+pub mod RunLaw
