@@ -1,0 +1,10 @@
+pub mod Lawful
+pub mod LinesOfTicks
+pub mod Loaded
+pub mod Only
+pub mod Traces
+pub mod Sent
+pub mod Taken
+pub mod Texts
+pub mod Ways
+pub mod Written

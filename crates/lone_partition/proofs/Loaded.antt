@@ -1,0 +1,29 @@
+-- A partition that is loaded alone is the partition alone of its slice.
+use Rattle.std.proofs.Common.{◌≡◌, ℕ, suc, List, Option, Some, sym, ap, ◌∙◌}
+use Rattle.std.specs.Prelude.{option_map, slice_get}
+use Rattle.std.proofs.lemmas.Option.{slice_get-map}
+use Rattle.apex_meaning.specs.Image.{Image, Item, at_number}
+use Rattle.apex_meaning.specs.Kernel.{Fixed}
+use Rattle.apex_meaning.specs.MachineControl.{MachineControl}
+use Rattle.apex_meaning.specs.Partition.{Member}
+use Rattle.apex_meaning.specs.TwoMeanings.{fixed_of, machine_member, machine_module}
+use Rattle.image.specs.Items.{item_of, items_of}
+use Rattle.image.specs.declared.item.PartitionItem.{PartitionItem}
+use Rattle.isolation.specs.Alone.{Surroundings}
+use Rattle.isolation.specs.Slices.{machine_alone, slice, slice_of, surroundings_of}
+
+-- the item at a place is that of the next number
+pub item_here : (items : List PartitionItem) (place number : ℕ) (item : PartitionItem) → number ≡ suc place → slice_get items place ≡ Some item → at_number (items_of items) number ≡ Some (item_of item)
+item_here items place number item e here =
+    ap (λ (n : ℕ). at_number (items_of items) n) e
+    ∙ slice_get-map item_of items place
+    ∙ ap (λ (o : Option PartitionItem). option_map item_of o) here
+
+-- surroundings and a member of an item make its slice alone
+pub alone_is : (image : Image) (number : ℕ) (item : Item) (s : Surroundings) (x : Member MachineControl) (fixed : Fixed) → at_number image.items number ≡ Some item
+    → s ≡ surroundings_of (machine_module image).plan number item.partition.ports → x ≡ machine_member fixed item.partition.ports item.section → fixed ≡ fixed_of s.schedule number item.partition
+    → Some (record { around = s; member = x }) ≡ option_map machine_alone (slice image number)
+alone_is image number item s x fixed there around member kept =
+    ap (λ (y : Member MachineControl). Some (record { around = s; member = y })) (member ∙ ap (λ (f : Fixed). machine_member f item.partition.ports item.section) kept)
+    ∙ ap (λ (t : Surroundings). Some (record { around = t; member = machine_member (fixed_of t.schedule number item.partition) item.partition.ports item.section })) around
+    ∙ ap (λ (o : Option Item). option_map machine_alone (option_map (slice_of image number) o)) (sym there)

@@ -1,0 +1,7 @@
+pub mod Around
+pub mod Lines
+pub mod Loading
+pub mod Lone
+pub mod Only
+pub mod Steps
+pub mod Written

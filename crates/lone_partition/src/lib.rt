@@ -1,0 +1,25 @@
+//! One partition of an image, loaded and run alone.
+//!
+//! [`LonePartition`] holds the partition's own windows, its kernel, its processor and its memory, and
+//! nothing of its neighbours. Its run takes what comes to it from outside, line by line in the order of
+//! the ticks, and writes what the trace of the whole module shows of it when the same comes to it there.
+//!
+//! Its parts serve a whole module too: how a partition is loaded, a step of it, and the lines of a tick.
+#![tactic(auto)]
+
+mod channels;
+mod input;
+mod lines;
+mod load;
+mod lone;
+mod running;
+mod sending;
+mod step;
+mod surroundings;
+mod ticking;
+
+pub use channels::channel_from;
+pub use lines::{HasTick, split_tick};
+pub use load::{fixed, load_memory, load_partition};
+pub use lone::LonePartition;
+pub use step::{Step, step_member, write_step};

@@ -1,0 +1,58 @@
+//! Lines that act each in its own tick, in the order of their ticks.
+
+ghost use Rattle.std.specs.Prelude.{◌≡◌, ◌≤◌, ◌<◌, ◌+◌, ℕ, length, drop, take};
+ghost use Rattle.lone_partition.specs.Lines.{AreFrom, lines_in};
+
+use apex_types::{DeviceLine, Ticks};
+use isolation::InputLine;
+
+/// What acts in one tick, as a line of the devices does, or one of the inputs of a partition.
+pub trait HasTick {
+    ghost tick_of: { Self → ℕ };
+
+    /// The tick in which it acts.
+    fn own_tick(&self) -> Ticks
+        ensures { result.0 ≡ tick_of self.now };
+}
+
+impl HasTick for DeviceLine {
+    ghost tick_of = { λ line. line.tick.0 };
+
+    fn own_tick(&self) -> Ticks {
+        Ticks(self.tick())
+    }
+}
+
+impl HasTick for InputLine {
+    ghost tick_of = { λ line. line.tick.0 };
+
+    fn own_tick(&self) -> Ticks {
+        self.tick
+    }
+}
+
+/// Of these lines, which are of this tick or later ones, those of this tick, and those of later ticks.
+pub fn split_tick<L: HasTick>(lines: &[L], tick: Ticks) -> (&[L], &[L])
+    requires order { AreFrom L.tick_of tick.0 lines.now }
+    ensures own { result.0.now ≡ lines_in L.tick_of tick.0 lines.now }
+    ensures only { lines_in L.tick_of tick.0 result.0.now ≡ result.0.now }
+    ensures later { AreFrom L.tick_of (tick.0 + 1) result.1.now }
+    ensures rest { (t : ℕ) → tick.0 < t → lines_in L.tick_of t result.1.now ≡ lines_in L.tick_of t lines.now }
+{
+    lines.split_at(count_of_tick(lines, tick))
+}
+
+/// How many of these lines, which are of this tick or later ones, are of this tick.
+fn count_of_tick<L: HasTick>(lines: &[L], tick: Ticks) -> usize
+    requires order { AreFrom L.tick_of tick.0 lines.now }
+    ensures within { result ≤ length lines.now }
+    ensures own { take result lines.now ≡ lines_in L.tick_of tick.0 lines.now }
+    ensures later { AreFrom L.tick_of (tick.0 + 1) (drop result lines.now) }
+    ensures rest { (t : ℕ) → tick.0 < t → lines_in L.tick_of t (drop result lines.now) ≡ lines_in L.tick_of t lines.now }
+{
+    let mut count = 0;
+    while count < lines.len() && lines[count].own_tick() == tick {
+        count += 1;
+    }
+    count
+}

@@ -1,0 +1,63 @@
+//! From an image to one of its partitions, ready to start.
+
+ghost use Rattle.std.specs.Prelude.{◌≡◌, ◌∷◌, [], IfOk};
+ghost use Rattle.apex_meaning.specs.TwoMeanings.{fixed_of, machine_member};
+ghost use Rattle.image.specs.Items.{partition_of, section_of};
+ghost use Rattle.partition.specs.Members.{member_of};
+ghost use Rattle.partition.specs.View.{fixed_of as view};
+ghost use Rattle.partition_base.specs.Machines.{laid_of, layout_of};
+ghost use Rattle.partition_base.specs.contracts.machine.MachineExecutor.TheImpl.{ghosts as machine};
+ghost use Rattle.window_table.specs.Schedules.{schedule_of};
+ghost use Rattle.lone_partition.specs.Loading.{IsFittingItem, fresh_item};
+
+use apex_types::PartitionId;
+use image::PartitionItem;
+use partition::{Fixed, Partition};
+use partition_base::{Machine, memory_plan};
+use regions::Memory;
+use std::alloc::{AllocError, Global};
+use window_table::{PartitionRow, Schedule};
+
+/// What no tick of a partition changes. An error is one of memory.
+pub fn fixed(
+    alloc: Global,
+    schedule: &Schedule,
+    number: PartitionId,
+    row: &PartitionRow,
+) -> Result<Fixed, AllocError>
+    ensures { IfOk result (λ fixed. view fixed ≡ fixed_of (schedule_of schedule.now) number.0 (partition_of row.now)) }
+{
+    Ok(Fixed {
+        name: row.name,
+        number,
+        period: row.period,
+        duration: row.duration,
+        schedule: schedule.of_partition(alloc, number)?,
+        health: row.health,
+    })
+}
+
+/// A partition, idle, with nothing created; its memory is to be the one that its section asks for. An
+/// error is one of memory.
+pub fn load_partition(
+    alloc: Global,
+    fixed: Fixed,
+    item: &PartitionItem,
+) -> Result<Partition<Machine>, AllocError>
+    requires { IsFittingItem item.now }
+    ensures member { IfOk result (λ partition. member_of machine partition (fresh_item item.now) ≡ machine_member (view fixed) item.now.row.ports.items (section_of item.now.section)) }
+    ensures fits { IfOk result (λ partition. laid_of (fresh_item item.now) ≡ layout_of partition.executor) }
+{
+    let executor = Machine::new(alloc, &item.section)?;
+    let partition = Partition::new(alloc, fixed, &item.row.ports, &item.section, executor)?;
+    Ok(partition)
+}
+
+/// The memory of one partition alone: its initial data, and stacks of zeros. An error is one of memory.
+pub fn load_memory(alloc: Global, item: &PartitionItem) -> Result<Memory, AllocError>
+    ensures { IfOk result (λ memory. memory ≡ fresh_item item.now ∷ []) }
+{
+    let mut plan = Vec::with_capacity(alloc, 1)?;
+    plan.push(memory_plan(alloc, &item.section)?)?;
+    Memory::new(alloc, &plan)
+}

@@ -1,0 +1,131 @@
+//! A partition that runs alone, tick by tick.
+
+ghost use Rattle.std.specs.Prelude.{◌≡◌, ◌≤◌, ◌<◌, ◌-◌, ◌^◌, [], Some};
+ghost use Rattle.apex_meaning.specs.Module.{first_tick, next_tick as meant_next};
+ghost use Rattle.isolation.specs.Alone.{alone_from, trace_alone};
+ghost use Rattle.partition.specs.Members.{member_of};
+ghost use Rattle.lone_partition.specs.Around.{around};
+ghost use Rattle.lone_partition.specs.Lines.{AreInOrder};
+ghost use Rattle.lone_partition.specs.Lone.{alone_of};
+ghost use Rattle.lone_partition.specs.Written.{AreWritten};
+
+use crate::lines::split_tick;
+use crate::lone::LonePartition;
+use crate::step::{Step, write_step};
+use crate::surroundings::Surroundings;
+use crate::ticking::tick;
+use apex_types::{At, Events, PartitionId, Sink, SinkFault, StartCondition, Ticks};
+use isolation::InputLine;
+use partition::Partition;
+use partition_base::Executor;
+
+/// The first tick of a run.
+const FIRST_TICK: At = At {
+    now: Ticks(0),
+    origin: Ticks(0),
+};
+
+/// The memory of a lone partition has one part, whose number is 1.
+const ONLY_PART: PartitionId = PartitionId(1);
+
+impl LonePartition {
+    /// Runs the partition for so many ticks with what comes to it, and writes the text of its trace
+    /// into the sink. After a shutdown nothing happens.
+    ///
+    /// # Errors
+    ///
+    /// The sink failed once, and has taken a beginning of the text.
+    #[tactic(auto, using(crate::proofs::Only::only_lent))]
+    pub fn run<S: Sink>(
+        self,
+        inputs: &[InputLine],
+        ticks: u64,
+        sink: &mut S,
+    ) -> Result<(), SinkFault>
+        requires ticks { ticks ≤ 2 ^ 40 }
+        requires order { AreInOrder inputs.now }
+        requires failures { S.failures sink.old < 2 ^ 64 - 1 }
+        ensures { AreWritten (trace_alone (alone_of self) inputs.now ticks) (S.taken sink.old) (S.taken sink.new) (S.failures sink.old) (S.failures sink.new) result }
+    {
+        let LonePartition {
+            surroundings,
+            mut partition,
+            mut memory,
+        } = self;
+        let mem = memory.lend(ONLY_PART);
+        run_alone(&surroundings, &mut partition, mem, inputs, ticks, sink)
+    }
+}
+
+/// The start of a partition, and so many ticks; of no tick nothing.
+fn run_alone<E: Executor, S: Sink>(
+    surroundings: &Surroundings,
+    partition: &mut Partition<E>,
+    mem: &mut E::Mem,
+    inputs: &[InputLine],
+    ticks: u64,
+    sink: &mut S,
+) -> Result<(), SinkFault>
+    requires fits { E.laid mem.old ≡ E.layout partition.old.executor }
+    requires ticks { ticks ≤ 2 ^ 40 }
+    requires order { AreInOrder inputs.now }
+    requires failures { S.failures sink.old < 2 ^ 64 - 1 }
+    ensures { AreWritten (trace_alone (record { around = around surroundings.now; member = member_of E.Executor partition.old mem.old }) inputs.now ticks) (S.taken sink.old) (S.taken sink.new) (S.failures sink.old) (S.failures sink.new) result }
+{
+    if ticks == 0 {
+        return Ok(());
+    }
+    let mut events = Events::new();
+    let start = Step::Start(StartCondition::NormalStart);
+    write_step(partition, mem, FIRST_TICK, &start, &mut events, sink)?;
+    run_ticks(
+        surroundings,
+        partition,
+        mem,
+        inputs,
+        ticks,
+        &mut events,
+        sink,
+    )
+}
+
+/// So many ticks from the first one on; after a shutdown nothing happens.
+fn run_ticks<E: Executor, S: Sink>(
+    surroundings: &Surroundings,
+    partition: &mut Partition<E>,
+    mem: &mut E::Mem,
+    inputs: &[InputLine],
+    ticks: u64,
+    events: &mut Events,
+    sink: &mut S,
+) -> Result<(), SinkFault>
+    requires fits { E.laid mem.old ≡ E.layout partition.old.executor }
+    requires ticks { ticks ≤ 2 ^ 40 }
+    requires order { AreInOrder inputs.now }
+    requires empty { events.old.items ≡ [] }
+    requires failures { S.failures sink.old < 2 ^ 64 - 1 }
+    ensures { AreWritten (alone_from (around surroundings.now) inputs.now ticks (Some first_tick) (member_of E.Executor partition.old mem.old)) (S.taken sink.old) (S.taken sink.new) (S.failures sink.old) (S.failures sink.new) result }
+{
+    let mut at = FIRST_TICK;
+    let mut lines = inputs;
+    for _ in 0..ticks {
+        let (own, later) = split_tick(lines, at.now);
+        let Some(last) = tick(surroundings, own, partition, mem, at, events, sink)? else {
+            return Ok(());
+        };
+        at = next_tick(last);
+        lines = later;
+    }
+    Ok(())
+}
+
+/// The tick after a tick, with the same origin.
+fn next_tick(at: At) -> At
+    requires { at.now.0 ≤ 2 ^ 40 }
+    ensures { result ≡ meant_next at }
+{
+    At {
+        now: Ticks(at.now.0 + 1),
+        origin: at.origin,
+    }
+}

@@ -1,0 +1,57 @@
+//! What surrounds a partition.
+
+ghost use Rattle.std.specs.Prelude.{◌≡◌, ◌≤◌, length, IfOk};
+ghost use Rattle.apex_meaning.specs.TwoMeanings.{machine_module};
+ghost use Rattle.image.specs.Views.{image_of};
+ghost use Rattle.isolation.specs.Alone.{way_out};
+ghost use Rattle.isolation.specs.Slices.{surroundings_of};
+ghost use Rattle.lone_partition.specs.Around.{around};
+
+use crate::channels::ways_out;
+use apex_types::{ModuleAction, Name, PartitionId, PortId, PortRow};
+use image::Image;
+use std::alloc::{AllocError, Global};
+use window_table::Schedule;
+
+/// What no tick of a partition changes.
+#[derive(Drop)]
+pub struct Surroundings {
+    /// The major frame with the windows of the partition.
+    pub schedule: Schedule,
+    /// What is done on a fault of the module.
+    pub fault: ModuleAction,
+    /// For each port in number order the name of the channel by which its messages leave the module,
+    /// if one does.
+    pub ways_out: Vec<Option<Name>>,
+}
+
+impl Surroundings {
+    /// What surrounds the partition with a number and these ports in a module. An error is one of
+    /// memory.
+    pub fn load(
+        alloc: Global,
+        image: &Image,
+        number: PartitionId,
+        ports: &[PortRow],
+    ) -> Result<Surroundings, AllocError>
+        requires few { length ports.now ≤ 16 }
+        ensures { IfOk result (λ s. around s ≡ surroundings_of (machine_module (image_of image.now)).plan number.0 ports.now) }
+    {
+        Ok(Surroundings {
+            schedule: image.schedule.of_partition(alloc, number)?,
+            fault: image.fault,
+            ways_out: ways_out(alloc, image.channels.as_slice(), number, ports)?,
+        })
+    }
+
+    /// The name of the channel by which the messages of a port leave the module, if one does.
+    pub fn way_out(&self, port: PortId) -> Option<Name>
+        ensures { result ≡ way_out (around self.now) port }
+    {
+        let place = port.0.checked_sub(1)?;
+        match self.ways_out.get(usize::from(place)) {
+            Some(way) => *way,
+            None => None,
+        }
+    }
+}
