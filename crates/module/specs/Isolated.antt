@@ -3,11 +3,10 @@ use Rattle.std.specs.Prelude.{◌≡◌, ℕ, List, Option, Some, Result, Ok}
 use Rattle.std.specs.Io.KnownBytes.{Appends}
 use Rattle.apex_types.specs.Line.{text_of}
 use Rattle.apex_types.specs.declared.device.DeviceLine.{DeviceLine}
-use Rattle.apex_types.specs.declared.event.Event.{Event}
 use Rattle.apex_meaning.specs.Image.{Image, Item, Partition, Table, at_number}
 use Rattle.apex_meaning.specs.ImageReading.{Fault}
 use Rattle.apex_meaning.specs.Program.{Program}
-use Rattle.apex_meaning.specs.TwoMeanings.{machine_trace}
+use Rattle.apex_meaning.specs.TwoMeanings.{machine_trace, source_trace}
 use Rattle.isolation.specs.Brought.{part}
 use Rattle.isolation.specs.ReplayText.{replay_verdict}
 use Rattle.isolation.specs.Replays.{numbered}
@@ -17,15 +16,15 @@ use Rattle.module.specs.Promises.{IsRun, IsAcceptedRun}
 
 -- ---- of an image
 
--- Of each partition of an image these events show what the partition shows alone: from its slice of the image, and
--- from what a run with these lines of the devices brings it.
-abbrev pub AreAlone : Image → List DeviceLine → ℕ → List Event → Type 0
-AreAlone image lines n events =
-    (p : ℕ) (s : Slice) → slice image p ≡ Some s → part s.item.partition.name events ≡ slice_trace s (machine_inputs image p lines n) n
+-- Of each partition of an image the trace shows what the partition shows alone: from its slice of the image, and
+-- from what these lines of the devices bring it.
+abbrev pub AreAlone : Image → List DeviceLine → ℕ → Type 0
+AreAlone image lines n =
+    (p : ℕ) (s : Slice) → slice image p ≡ Some s → part s.item.partition.name (machine_trace image lines n) ≡ slice_trace s (machine_inputs image p lines n) n
 
--- What was written between two states of a sink is the text of such events.
+-- What was written between two states of a sink is the text of this trace.
 abbrev pub WritesAlone : Image → List DeviceLine → ℕ → Option (List ℕ) → Option (List ℕ) → Type 0
-WritesAlone image lines n old new = (events : List Event) × Appends old new (text_of events) × AreAlone image lines n events
+WritesAlone image lines n old new = Appends old new (text_of (machine_trace image lines n)) × AreAlone image lines n
 
 -- An image was read and a device text was taken, and what was written shows each partition alone.
 abbrev pub IsIsolated : Result Image Fault → List ℕ → ℕ → Option (List ℕ) → Option (List ℕ) → Type 0
@@ -41,13 +40,13 @@ ReplaysPart read name inputs n old new =
 -- ---- of sources
 
 -- The same of each partition of a table: from its own row and program, from what surrounds it, and from what comes to it.
-abbrev pub AreSourcesAlone : Table → List Program → List DeviceLine → ℕ → List Event → Type 0
-AreSourcesAlone t programs lines n events =
+abbrev pub AreSourcesAlone : Table → List Program → List DeviceLine → ℕ → Type 0
+AreSourcesAlone t programs lines n =
     (p : ℕ) (row : Partition) (program : Program) → at_number t.partitions p ≡ Some row → at_number programs p ≡ Some program
-    → part row.name events ≡ source_slice_trace (source_slice t programs p row program) (source_inputs t programs p lines n) n
+    → part row.name (source_trace t programs lines n) ≡ source_slice_trace (source_slice t programs p row program) (source_inputs t programs p lines n) n
 
 abbrev pub WritesSourcesAlone : Table → List Program → List DeviceLine → ℕ → Option (List ℕ) → Option (List ℕ) → Type 0
-WritesSourcesAlone t programs lines n old new = (events : List Event) × Appends old new (text_of events) × AreSourcesAlone t programs lines n events
+WritesSourcesAlone t programs lines n old new = Appends old new (text_of (source_trace t programs lines n)) × AreSourcesAlone t programs lines n
 
 -- Table and sources were accepted and a device text was taken, and what was written shows each partition alone.
 abbrev pub IsSourceIsolated : List ℕ → List (List ℕ) → List ℕ → ℕ → Option (List ℕ) → Option (List ℕ) → Type 0
