@@ -14,7 +14,7 @@ use Rattle.command_line.specs.Lines.{line_of}
 use Rattle.command_line.specs.Orders.{Order, First, Check, Build, Run, Replay, Inputs, Cost, Dis}
 use Rattle.command_line.specs.Refusals.{IsFailure, IsFailureOfWords, IsRefused, IsWrongTicks}
 use Rattle.command_line.specs.States.{IsSilent, State, state}
-use Rattle.command_line.specs.Told.{IsOfFailed, IsOfFailedFile}
+use Rattle.command_line.specs.Told.{IsOfFailedFile}
 use Rattle.command_line.specs.Words.{mb_app}
 use Rattle.command_line.specs.declared.explaining.Note.{Note}
 use Rattle.command_line.specs.declared.explaining.Note.TheVariants.{Unwanted}

@@ -118,15 +118,12 @@ pub fn device_sentence(fault: DeviceFault) -> &'static str
     }
 }
 
-/// The sentence of a rule for replay texts. They are refused as device texts are.
+/// The sentence of a rule for replay texts. The first two are those of device texts.
 pub fn replay_sentence(fault: DeviceFault) -> &'static str
     ensures { result.now ≡ replay_sentence fault }
 {
     match fault {
-        DeviceFault::Form => {
-            "The line has none of the forms, or it is the last one and has no line feed."
-        }
-        DeviceFault::Order => "The tick of the line is below that of the line before.",
+        DeviceFault::Form | DeviceFault::Order => device_sentence(fault),
         DeviceFault::Name => {
             "The partition has no destination port of this name, or the name behind `FAULT` is not the partition's."
         }
