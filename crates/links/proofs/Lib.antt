@@ -1,3 +1,7 @@
+pub mod Bits
 pub mod ByKind
 pub mod DueOrder
+pub mod Exact
+pub mod FirstMark
+pub mod Levels
 pub mod OneHome
