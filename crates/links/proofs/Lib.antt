@@ -1,5 +1,6 @@
 pub mod Bits
 pub mod ByKind
+pub mod DueMask
 pub mod DueOrder
 pub mod Exact
 pub mod FirstMark

@@ -1,5 +1,6 @@
 -- A timer list that is exact: it has the tick of each process that has one, and no other.
-use Rattle.std.specs.Prelude.{◌≡◌, ◌≤◌, ℕ, ◌==◌, List, [], ◌∷◌, Option, Some, None, if◌then◌else◌, nat_le}
+use Rattle.std.specs.Prelude.{◌≡◌, ◌≤◌, ℕ, ◌==◌, Bool, false, List, [], ◌∷◌, Option, Some, None, if◌then◌else◌, nat_le}
+use Rattle.std.specs.Int.{bit_at}
 use Rattle.apex_types.specs.declared.identity.ProcessIndex.{ProcessIndex}
 use Rattle.apex_types.specs.declared.identity.Ticks.{Ticks}
 use Rattle.links.specs.declared.dues.DueEntry.{DueEntry}
@@ -45,3 +46,21 @@ pub record IsNextDue (dues deadlines : ℕ → Option ℕ) (tick : Option ℕ) :
   pub least : IsLeastTick dues due
   pub earliest : IsLeastTick deadlines deadline
   pub is : tick ≡ earlier due deadline
+
+-- ---- who is due
+
+-- there is a tick, and it is not later than now
+abbrev pub has_come : ℕ → Option ℕ → Bool
+has_come now None = false
+has_come now (Some tick) = nat_le tick now
+
+abbrev pub one_if_come : ℕ → Option ℕ → ℕ
+one_if_come now tick = if has_come now tick then 1 else 0
+
+-- the bits of those in the list whose tick has come, and no others
+abbrev pub HasThoseDue : ℕ → List DueEntry → ℕ → Type 0
+HasThoseDue now dues mask = (p : ℕ) → bit_at mask p ≡ one_if_come now (tick_in p dues)
+
+-- the bits of those whose due time or whose deadline has come, and no others
+abbrev pub IsDueMask : ℕ → (ℕ → Option ℕ) → (ℕ → Option ℕ) → ℕ → Type 0
+IsDueMask now due deadline mask = (p : ℕ) → bit_at mask p ≡ (if has_come now (due p) then 1 else one_if_come now (deadline p))

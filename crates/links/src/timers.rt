@@ -1,7 +1,7 @@
 //! A timer list, kept exact.
 
 ghost use Rattle.std.specs.Prelude.{◌≡◌, ◌<◌, ℕ, Option};
-ghost use Rattle.links.specs.Timers.{IsExact, IsLeastTick, IsNextDue, number_of, earlier as earlier_of, set_timer as timer_set, ticks_with};
+ghost use Rattle.links.specs.Timers.{IsDueMask, IsExact, IsLeastTick, IsNextDue, number_of, earlier as earlier_of, set_timer as timer_set, ticks_with};
 
 use crate::due_list::DueList;
 use apex_types::{MOST_PROCESSES, ProcessIndex, Ticks};
@@ -46,4 +46,13 @@ pub fn next_due(dues: &DueList, deadlines: &DueList) -> Option<Ticks>
     let due = least(dues);
     let deadline = least(deadlines);
     earlier(due, deadline)
+}
+
+/// A bit for each process whose due time or deadline is not later than now: bit 0 is that of process 0.
+pub fn due_mask(dues: &DueList, deadlines: &DueList, now: Ticks) -> u64
+    ensures { (due deadline : ℕ → Option ℕ) → IsExact due dues.now → IsExact deadline deadlines.now → IsDueMask now.0 due deadline result }
+{
+    let due = dues.due_by(now);
+    let missed = deadlines.due_by(now);
+    due | missed
 }
