@@ -1,8 +1,8 @@
-use Rattle.std.proofs.Common.{◌≡◌, ℕ, suc, ◌+◌, ◌<◌, ◌≤◌, ◌∷◌, List, length, drop, get_or, arith, rules, w64, slice_index_or}
+use Rattle.std.proofs.Common.{◌≡◌, suc, ◌+◌, ◌<◌, ◌≤◌, length, get_or, arith, rules, w64}
 use Rattle.std.proofs.Math.Seq.{drop-cons}
 use Rattle.std.proofs.lemmas.Nat.Bits.{bit_at_set_same, bit_at_set_other}
 use Rattle.links.specs.declared.dues.DueEntry.{DueEntry}
-use Rattle.links.proofs.DueMask.{all_there, none_behind, none_later, one_more, process_below}
+use Rattle.links.proofs.DueMask.{all_there, none_later, one_more, process_below}
 use Rattle.links.proofs.dues.due_by.Goals as goal
 
 abbrev nobody : DueEntry
