@@ -35,6 +35,7 @@ one_more now place mask next e dues is le set others h = λ p. by_test p (nat_eq
   where
     rest : ℕ → ℕ
     rest p = one_if_come now (tick_in p (drop (suc place) dues))
+
     by_test : (p : ℕ) (b : Bool) → nat_eq p e.process.0 ≡ b → or_bit (bit_at next p) (rest p) ≡ one_if_come now (tick_in p dues)
     by_test p true t =
         let same : p ≡ e.process.0 = grind (arith, nat_tests) in
