@@ -6,8 +6,8 @@ use Rattle.isolation.specs.Replays.{numbered}
 use Rattle.module.proofs.Told.{told}
 use Rattle.module.proofs.telling.inputs.Goals as goal
 
-pub returns-clause-told : goal.returns-clause-told
-returns-clause-told g c =
+pub returns-clause-text : goal.returns-clause-text
+returns-clause-text g c =
     let loaded = image_of c.in_ok-image.image in
     let name = c.args.partition.now in
     let few : c.args.ticks ≤ 2 ^ 40 = search rules in
