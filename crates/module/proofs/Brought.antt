@@ -3,6 +3,7 @@ use Rattle.std.proofs.Common.{◌≡◌, ℕ, zero, suc, ◌+◌, ◌<◌, ◌�
 use Rattle.std.proofs.lemmas.List.{length-map}
 use Rattle.apex_types.specs.declared.device.DeviceLine.{DeviceLine}
 use Rattle.apex_types.specs.declared.identity.At.{At}
+use Rattle.apex_types.specs.declared.identity.Ticks.{Ticks}
 use Rattle.apex_meaning.specs.Module.{Advanced, Course, Plan, first_tick, next_tick, inputs_all, module_tick, moves_and_ticks, of_tick, starts, then_runs, unless_down}
 use Rattle.apex_meaning.specs.Partition.{Member}
 use Rattle.apex_meaning.specs.Windows.{tick_from}
@@ -10,7 +11,7 @@ use Rattle.isolation.specs.declared.input.Input.{Input}
 use Rattle.isolation.specs.declared.input.InputLine.{InputLine}
 use Rattle.isolation.specs.Brought.{brought_in_all, brought_moved, brought_tick, inputs_from, inputs_of, line_in}
 use Rattle.module.specs.Collecting.{HasNoRoom, IsMadeUnseen, brought_from, brought_next, brought_of}
-use Rattle.module.specs.Standing.{Standing, after, at_first, begins, origin_of, ticks, ticks_from}
+use Rattle.module.specs.Standing.{Standing, after, at_first, begins, origin_of, ticks, ticks_from, ticks_in}
 use Rattle.module.specs.declared.inputs_fault.InputsFault.{InputsFault}
 use Rattle.module.proofs.Collecting.{no_room_for_more}
 use Rattle.module.proofs.DeviceLines.{of_tick_again, same_tick, tick_now}
@@ -62,12 +63,9 @@ none_from plan p lines zero now ms = refl
 none_from plan p lines (suc n) now ms = none_from plan p lines n (now + 1) ms
 
 -- a module that is shut down brings nothing
-pub none_brought : {C : Type 0} (plan : Plan) (p : ℕ) (lines : List DeviceLine) (n : ℕ) (s : Standing C) → is_some s.origin ≡ false → brought_of plan p lines n s ≡ []
-none_brought plan p lines n s e = by_origin s.members s.now s.origin e
-  where
-    by_origin : (ms : List (Member _)) (now : ℕ) (o : Option ℕ) → is_some o ≡ false → brought_of plan p lines n (record { members = ms; now = now; origin = o }) ≡ []
-    by_origin ms now None h = none_from plan p lines n now ms
-    by_origin ms now (Some origin) h = absurd cc
+pub none_brought : {C : Type 0} (plan : Plan) (p : ℕ) (lines : List DeviceLine) (n now : ℕ) (ms : List (Member C)) (o : Option Ticks) → is_some o ≡ false → brought_of plan p lines n (record { members = ms; now = now; origin = ticks_in o }) ≡ []
+none_brought plan p lines n now ms None e = none_from plan p lines n now ms
+none_brought plan p lines n now ms (Some origin) e = absurd cc
 
 -- ---- the inputs of a run
 

@@ -14,6 +14,7 @@ use Rattle.image.specs.declared.item.PartitionItem.{PartitionItem}
 use Rattle.image.specs.declared.value.Image as code
 use Rattle.isolation.specs.Replays.{numbered}
 use Rattle.isolation.specs.Slices.{Slice, slice, slice_of}
+use Rattle.isolation.proofs.Law.{sliced}
 use Rattle.module_base.specs.Rows.{HasPorts}
 
 -- ---- what is found by a name
@@ -87,6 +88,16 @@ pub for_slice : (P : Slice → Type 0) (image : code.Image) (number : ℕ) (item
 for_slice P image number item s there e is h =
     let its = slice_of (image_of image) number (item_of item) in
     subst P (same_Some its s (sym (slice_there image number item there e) ∙ is)) h
+
+-- the row of a slice
+pub row_at : (image : code.Image) (loaded : Image) (number : ℕ) (item : PartitionItem) (s : Slice) → image_of image ≡ loaded → 0 < number → slice_get image.partitions.items (number - 1) ≡ Some item
+    → slice loaded number ≡ Some s → partition_of item.row ≡ s.item.partition
+row_at image loaded number item s same there e is =
+    for_slice (λ (t : Slice). partition_of item.row ≡ t.item.partition) image number item s there e (ap (λ (i : Image). slice i number) same ∙ is) refl
+
+-- its number
+pub slice_number : (image : Image) (number : ℕ) (s : Slice) → slice image number ≡ Some s → number ≡ s.number
+slice_number image number s is = ap (λ (t : Slice). t.number) (sliced image number s is).2
 
 -- ---- the ports of a row
 

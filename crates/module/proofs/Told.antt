@@ -26,6 +26,10 @@ use Rattle.module.proofs.Named.{by_number, numbered_slice}
 
 -- ---- one partition
 
+-- the lines that are lent are those that were taken
+pub lines_taken : {verdict : Result (List DeviceLine) DeviceFault} {lines : List DeviceLine} (lent : List DeviceLine) → lent ≡ lines → verdict ≡ Ok lines → verdict ≡ Ok lent
+lines_taken lent same taken = taken ∙ ap (λ (ls : List DeviceLine). Ok ls) (sym same)
+
 -- the device text is refused, or memory runs out
 pub text_refused : (image : Image) (s : Slice) (devices : List ℕ) (n : ℕ) (old : Option (List ℕ)) (f : DeviceTextFault) → IsRefusal (verdict_for image devices) f → TellsSlice image s devices n old old (Err (fault_of_text f))
 text_refused image s devices n old text_fault.Memory h = refl

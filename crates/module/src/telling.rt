@@ -45,7 +45,7 @@ pub fn inputs<S: Sink>(
     sink: &mut S,
 ) -> Result<(), InputsFault>
     requires { S.failures sink.old < 2 ^ 64 - 1 }
-    ensures told { Tells (image_at image.now) partition.now devices.now ticks (S.taken sink.old) (S.taken sink.new) result }
+    ensures text { Tells (image_at image.now) partition.now devices.now ticks (S.taken sink.old) (S.taken sink.new) result }
     ensures ok { OnOk result (S.failures sink.new ≡ S.failures sink.old) }
     ensures write { IsErrOf result InputsFault.Write → S.failures sink.new ≡ S.failures sink.old + 1 }
     ensures quiet { IfErr result (λ fault. fault ≢ InputsFault.Write → S.failures sink.new ≡ S.failures sink.old) }
