@@ -1,8 +1,5 @@
-pub mod Alike
 pub mod Decimals
-pub mod InOrder
-pub mod Lawful
-pub mod LineTexts
 pub mod LineWords
-pub mod Reading
+pub mod Lawful
 pub mod Taken
+pub mod Reading

@@ -1,16 +1,12 @@
-//! What a module is run on: the text of its devices, and the text of what comes to one partition alone.
+//! What a module is run on: the text of its devices.
 #![tactic(auto)]
 
-mod devices;
 mod fault;
-mod inputs;
 mod line;
 mod number;
 mod piece;
 mod read;
-mod writing;
+mod taking;
 
-pub use devices::read_devices;
 pub use fault::{DeviceTextFault, fault_number};
-pub use inputs::read_inputs;
-pub use writing::write_inputs;
+pub use read::read_devices;
