@@ -11,10 +11,10 @@ use Rattle.streams.specs.States.{HasFailed, IsFlushed, Seen, TakesLine}
 use Rattle.command_line.specs.Answers.{AskForHelp, AreNoCommand, CanTakeHelp, IsAnswer, IsHelp, IsMistake, IsTold, IsUsageTold}
 use Rattle.command_line.specs.Done.{IsDone}
 use Rattle.command_line.specs.Lines.{line_of}
-use Rattle.command_line.specs.Orders.{Order, First, Check, Build, Run, Cost, Dis}
+use Rattle.command_line.specs.Orders.{Order, First, Check, Build, Run, Replay, Inputs, Cost, Dis}
 use Rattle.command_line.specs.Refusals.{IsFailure, IsFailureOfWords, IsRefused, IsWrongTicks}
 use Rattle.command_line.specs.States.{IsSilent, State, state}
-use Rattle.command_line.specs.Told.{IsOfFailed, IsOfFailedFile}
+use Rattle.command_line.specs.Told.{IsOfFailedFile}
 use Rattle.command_line.specs.Words.{mb_app}
 use Rattle.command_line.specs.declared.explaining.Note.{Note}
 use Rattle.command_line.specs.declared.explaining.Note.TheVariants.{Unwanted}
@@ -73,6 +73,8 @@ memory_refused First s = (refl, (refl, refl))
 memory_refused (Check table sources) s = ((refl, (refl, refl)), tt)
 memory_refused (Build table image sources) s = ((refl, refl), inl (refl, tt))
 memory_refused (Run image devices ticks) s = (inr refl, (refl, (refl, refl)))
+memory_refused (Replay image partition text ticks) s = (inr refl, (refl, (refl, refl)))
+memory_refused (Inputs image partition devices ticks) s = (inr refl, (refl, (refl, refl)))
 memory_refused (Cost table sources) s = ((refl, (refl, refl)), tt)
 memory_refused (Dis image) s = ((refl, (refl, refl)), tt)
 
@@ -100,6 +102,8 @@ order_failed kinds own order before after answer none same h = go answer (subst 
     go (Ok x) h = tt
     go (Err (Refused (refusal.Build fault))) h = (none, h)
     go (Err (Refused (refusal.Run fault))) h = (none, h)
+    go (Err (Refused (refusal.Replay fault))) h = (none, h)
+    go (Err (Refused (refusal.Inputs fault))) h = (none, h)
     go (Err (Refused (refusal.File name))) h = (none, h)
     go (Err (Refused refusal.Memory)) h = h
     go (Err (Refused refusal.Write)) h = (none, h)

@@ -14,7 +14,7 @@ use Rattle.clap.specs.declared.parser.matches.ArgMatches.TheViews.{out-ArgMatche
 use Rattle.clap.specs.declared.parser.matches.Found.{Found}
 use Rattle.clap.specs.declared.parser.matches.SubCommand.{SubCommand}
 use Rattle.clap.proofs.WalkLemmas.{first_value-rows, raw_values-rows}
-use Rattle.command_line.specs.Orders.{First, Check, Build, Run, Cost, Dis, check_of, build_of, run_of, cost_of, dis_of, order_named, order_of, word_at, words_at}
+use Rattle.command_line.specs.Orders.{First, Check, Build, Run, Replay, Inputs, Cost, Dis, check_of, build_of, run_of, replay_of, inputs_of, cost_of, dis_of, order_named, order_of, word_at, words_at}
 use Rattle.command_line.specs.Words.{mb_app}
 
 pub word_is : (f : Found) (name : List ℕ) (given : Option (Bor (List ℕ))) (none word : Bor (List ℕ))
@@ -83,6 +83,16 @@ run_is m name rows image devices ticks named found is one two three =
     order_is m name (codes "run") rows named found is
     ∙ sym (ap (λ i. Run i devices ticks) one ∙ ap (λ d. Run (word_at (codes "IMAGE") rows) d ticks) two ∙ ap (Run (word_at (codes "IMAGE") rows) (word_at (codes "DEVICES") rows)) three)
 
+pub replay_is : (m : ArgMatches) (name : List ℕ) (rows : List Row) (image partition inputs ticks : List ℕ) → Some name ≡ subcommand_name_of m → Some rows ≡ option_map (λ p. p.1) (subcommand_rows_of m) → name ≡ codes "replay"
+    → image ≡ word_at (codes "IMAGE") rows → partition ≡ word_at (codes "PARTITION") rows → inputs ≡ word_at (codes "INPUTS") rows → ticks ≡ word_at (codes "TICKS") rows → order_of (subcommand_rows_of m) ≡ Replay image partition inputs ticks
+replay_is m name rows image partition inputs ticks named found is one two three four =
+    order_is m name (codes "replay") rows named found is ∙ sym (rw (one, two, three, four) refl)
+
+pub inputs_is : (m : ArgMatches) (name : List ℕ) (rows : List Row) (image partition devices ticks : List ℕ) → Some name ≡ subcommand_name_of m → Some rows ≡ option_map (λ p. p.1) (subcommand_rows_of m) → name ≡ codes "inputs"
+    → image ≡ word_at (codes "IMAGE") rows → partition ≡ word_at (codes "PARTITION") rows → devices ≡ word_at (codes "DEVICES") rows → ticks ≡ word_at (codes "TICKS") rows → order_of (subcommand_rows_of m) ≡ Inputs image partition devices ticks
+inputs_is m name rows image partition devices ticks named found is one two three four =
+    order_is m name (codes "inputs") rows named found is ∙ sym (rw (one, two, three, four) refl)
+
 pub cost_is : (m : ArgMatches) (name : List ℕ) (rows : List Row) (table : List ℕ) (sources : List (List ℕ)) → Some name ≡ subcommand_name_of m → Some rows ≡ option_map (λ p. p.1) (subcommand_rows_of m) → name ≡ codes "cost"
     → table ≡ word_at (codes "TABLE") rows → sources ≡ words_at (codes "SOURCE") rows → order_of (subcommand_rows_of m) ≡ Cost table sources
 cost_is m name rows table sources named found is one two =
@@ -92,13 +102,13 @@ pub dis_is : (m : ArgMatches) (name : List ℕ) (rows : List Row) (image : List 
     → image ≡ word_at (codes "IMAGE") rows → order_of (subcommand_rows_of m) ≡ Dis image
 dis_is m name rows image named found is one = order_is m name (codes "dis") rows named found is ∙ sym (ap Dis one)
 
--- no command of the five
+-- no command of the seven
 pub other_is : (m : ArgMatches) (name : List ℕ) (rows : List Row) → Some name ≡ subcommand_name_of m → Some rows ≡ option_map (λ p. p.1) (subcommand_rows_of m)
-    → name ≢ codes "check" → name ≢ codes "build" → name ≢ codes "run" → name ≢ codes "cost" → name ≢ codes "dis" → order_of (subcommand_rows_of m) ≡ First
-other_is m name rows named found one two three four five =
+    → name ≢ codes "check" → name ≢ codes "build" → name ≢ codes "run" → name ≢ codes "replay" → name ≢ codes "inputs" → name ≢ codes "cost" → name ≢ codes "dis" → order_of (subcommand_rows_of m) ≡ First
+other_is m name rows named found one two three four five six seven =
     order_is m name name rows named found refl
-    ∙ last (bytes_eq name (codes "check")) (bytes_eq name (codes "build")) (bytes_eq name (codes "run")) (bytes_eq name (codes "cost")) (bytes_eq name (codes "dis"))
-    (differ (codes "check") one) (differ (codes "build") two) (differ (codes "run") three) (differ (codes "cost") four) (differ (codes "dis") five)
+    ∙ last (bytes_eq name (codes "check")) (bytes_eq name (codes "build")) (bytes_eq name (codes "run")) (bytes_eq name (codes "replay")) (bytes_eq name (codes "inputs")) (bytes_eq name (codes "cost")) (bytes_eq name (codes "dis"))
+    (differ (codes "check") one) (differ (codes "build") two) (differ (codes "run") three) (differ (codes "replay") four) (differ (codes "inputs") five) (differ (codes "cost") six) (differ (codes "dis") seven)
   where
     no : (b : Bool) (P : Type 0) → (b ≡ true → P) → (P → ⊥) → b ≡ false
     no true P d h = absurd (h (d refl))
@@ -107,9 +117,9 @@ other_is m name rows named found one two three four five =
     differ : (known : List ℕ) → name ≢ known → bytes_eq name known ≡ false
     differ known h = no (bytes_eq name known) (name ≡ known) (bytes_eq-Decides name known).0 h
 
-    last : (a b c d e : Bool) → a ≡ false → b ≡ false → c ≡ false → d ≡ false → e ≡ false
-        → (if a then check_of rows else if b then build_of rows else if c then run_of rows else if d then cost_of rows else if e then dis_of rows else First) ≡ First
-    last a b c d e h k l m n = rw (h, k, l, m, n) refl
+    last : (a b c d e f g : Bool) → a ≡ false → b ≡ false → c ≡ false → d ≡ false → e ≡ false → f ≡ false → g ≡ false
+        → (if a then check_of rows else if b then build_of rows else if c then run_of rows else if d then replay_of rows else if e then inputs_of rows else if f then cost_of rows else if g then dis_of rows else First) ≡ First
+    last a b c d e f g h k l m n o p = rw (h, k, l, m, n, o, p) refl
 
 pub none_entered : (m : ArgMatches) → None ≡ subcommand_name_of m → order_of (subcommand_rows_of m) ≡ First
 none_entered m named = go (out-ArgMatches m).subcommand named

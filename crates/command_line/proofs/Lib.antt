@@ -3,5 +3,6 @@ pub mod Found
 pub mod Noted
 pub mod Ran
 pub mod Read
+pub mod Replayed
 pub mod Shown
 pub mod Subcommands

@@ -8,11 +8,11 @@ use Rattle.apex_meaning.specs.ImageReading.{Fault}
 use Rattle.apex_meaning.specs.TwoMeanings.{source_trace, machine_trace}
 use Rattle.module.specs.Promises.{Means, Runs}
 use Rattle.module.specs.declared.fault.RunFault.{RunFault}
-use Rattle.module.specs.declared.fault.RunFault.TheVariants.{Ticks, Image as NoImage, Device, Memory, Write, Failed}
+use Rattle.module.specs.declared.fault.RunFault.TheVariants.{Ticks, Image as NoImage, Partition, Device, Memory, Write, Failed}
 use Rattle.std.specs.Prelude.{IsErr, IsErrAnd, IsErrOf, IfErr}
 use Rattle.apex_meaning.specs.ImageReading.{image_at}
 use Rattle.command_line.specs.Contents.{Contents, Holds}
-use Rattle.command_line.specs.Done.{Inputs, IsRunDone, IsFirstRun, is_ok}
+use Rattle.command_line.specs.Done.{ImageAndText, IsRunDone, IsFirstRun, is_ok}
 use Rattle.streams.specs.States.{Seen}
 use Rattle.module.specs.declared.fault.BuildAndRunFault.{BuildAndRunFault}
 use Rattle.module.specs.declared.fault.BuildAndRunFault.TheVariants as both
@@ -32,10 +32,10 @@ kept_first table sources devices n old mid new (t, programs, lines, r, out) kept
 
 -- ---- the number of a word, and what 64 bits hold of it
 
-few_same : (n v : ℕ) → n ≡ min v (2 ^ 64 - 1) → n ≤ 2 ^ 40 → n ≡ v
+pub few_same : (n v : ℕ) → n ≡ min v (2 ^ 64 - 1) → n ≤ 2 ^ 40 → n ≡ v
 few_same n v is few = omega (arith, is, few)
 
-many_same : (n v : ℕ) → n ≡ min v (2 ^ 64 - 1) → 2 ^ 40 < n → 2 ^ 40 < v
+pub many_same : (n v : ℕ) → n ≡ min v (2 ^ 64 - 1) → 2 ^ 40 < n → 2 ^ 40 < v
 many_same n v is many = omega (arith, is, many)
 
 pub runs_by : (read : Result Image Fault) (devices : List ℕ) (n v : ℕ) (old new : Option (List ℕ)) (answer : Result (Unit {0}) RunFault) → n ≡ min v (2 ^ 64 - 1) → Runs read devices n old new answer → Runs read devices v old new answer
@@ -44,6 +44,7 @@ runs_by read devices n v old new (Err Write) is h = subst (λ k. Runs read devic
 runs_by read devices n v old new (Err Ticks) is h = (many_same n v is h.0, h.1)
 runs_by read devices n v old new (Err (Device f)) is h = (subst (λ k. k ≤ 2 ^ 40) (few_same n v is h.0) h.0, h.1, h.2)
 runs_by read devices n v old new (Err (NoImage f)) is h = (subst (λ k. k ≤ 2 ^ 40) (few_same n v is h.0) h.0, h.1, h.2)
+runs_by read devices n v old new (Err Partition) is h = absurd h
 runs_by read devices n v old new (Err Memory) is h = h
 runs_by read devices n v old new (Err Failed) is h = h
 
@@ -59,6 +60,7 @@ failed_by old new (Ok x) write quiet = tt
 failed_by old new (Err Write) write quiet = write refl
 failed_by old new (Err Ticks) write quiet = quiet (λ e. cc)
 failed_by old new (Err (NoImage f)) write quiet = quiet (λ e. cc)
+failed_by old new (Err Partition) write quiet = quiet (λ e. cc)
 failed_by old new (Err (Device f)) write quiet = quiet (λ e. cc)
 failed_by old new (Err Memory) write quiet = quiet (λ e. cc)
 failed_by old new (Err Failed) write quiet = quiet (λ e. cc)
@@ -69,6 +71,7 @@ failed_by_both old new (Err (both.Build fault)) write quiet = quiet (λ e. cc)
 failed_by_both old new (Err (both.Run Write)) write quiet = write refl
 failed_by_both old new (Err (both.Run Ticks)) write quiet = quiet (λ e. cc)
 failed_by_both old new (Err (both.Run (NoImage f))) write quiet = quiet (λ e. cc)
+failed_by_both old new (Err (both.Run Partition)) write quiet = quiet (λ e. cc)
 failed_by_both old new (Err (both.Run (Device f))) write quiet = quiet (λ e. cc)
 failed_by_both old new (Err (both.Run Memory)) write quiet = quiet (λ e. cc)
 failed_by_both old new (Err (both.Run Failed)) write quiet = quiet (λ e. cc)
@@ -79,23 +82,25 @@ pub kept_stored : (old mid new : Option (List ℕ)) → IsFirstRun old mid is_ok
 kept_stored old mid new h kept = kept_first TABLE.now (SOURCE.now ∷ []) [] TICKS old mid new h kept
 
 -- the bytes that were read are those of the files
-abbrev pub inputs_of : (files now : Option Contents) (image devices bytes text given_bytes given_text : List ℕ)
-    → now ≡ files → given_bytes ≡ bytes → given_text ≡ text → Holds files image bytes → Holds now devices text → Inputs files image devices
-inputs_of files now image devices bytes text given_bytes given_text same same_bytes same_text in_image in_devices = record {
+abbrev pub given_of : (files now : Option Contents) (image text bytes read given_bytes given_text : List ℕ)
+    → now ≡ files → given_bytes ≡ bytes → given_text ≡ read → Holds files image bytes → Holds now text read → ImageAndText files image text
+given_of files now image text bytes read given_bytes given_text same same_bytes same_text in_image in_text = record {
   image_bytes = given_bytes;
-  device_text = given_text;
+  text_bytes = given_text;
   in_image = subst (Holds files image) (sym same_bytes) in_image;
-  in_devices = subst (Holds files devices) (sym same_text) (subst (λ f. Holds f devices text) same in_devices);
+  in_text = subst (Holds files text) (sym same_text) (subst (λ f. Holds f text read) same in_text);
 }
 
 pub run_done_by : (image devices : List ℕ) (n v : ℕ) (before after : State) → n ≡ min v (2 ^ 64 - 1) → IsRunDone image devices n before after → IsRunDone image devices v before after
-run_done_by image devices n v before after is (same, inputs, run) =
-    (same, inputs, runs_by (image_at inputs.image_bytes) inputs.device_text n v before.out.taken after.out.taken is_ok is run)
+run_done_by image devices n v before after is (same, given, run) =
+    (same, given, runs_by (image_at given.image_bytes) given.text_bytes n v before.out.taken after.out.taken is_ok is run)
 
 pub run_refused_by : (image devices : List ℕ) (n v : ℕ) (before after : State) (r : Refusal) → n ≡ min v (2 ^ 64 - 1) → IsRunRefused image devices n before after r → IsRunRefused image devices v before after r
 run_refused_by image devices n v before after (refusal.File name) is h = h
-run_refused_by image devices n v before after (refusal.Run fault) is (failed, same, inputs, run) =
-    (failed, same, inputs, runs_by (image_at inputs.image_bytes) inputs.device_text n v before.out.taken after.out.taken (Err fault) is run)
+run_refused_by image devices n v before after (refusal.Run fault) is (failed, same, given, run) =
+    (failed, same, given, runs_by (image_at given.image_bytes) given.text_bytes n v before.out.taken after.out.taken (Err fault) is run)
 run_refused_by image devices n v before after refusal.Memory is h = h
 run_refused_by image devices n v before after refusal.Write is (failed, done) = (failed, run_done_by image devices n v before after is done)
 run_refused_by image devices n v before after (refusal.Build fault) is h = absurd h
+run_refused_by image devices n v before after (refusal.Replay fault) is h = absurd h
+run_refused_by image devices n v before after (refusal.Inputs fault) is h = absurd h

@@ -10,7 +10,7 @@ use Rattle.command_line.specs.Refusals.{IsNotBuilt, IsNotCosted}
 use Rattle.command_line.specs.Told.{IsOfFailed}
 use Rattle.std.specs.Prelude.{OnOk}
 use Rattle.command_line.specs.declared.refusal.Refusal.{Refusal}
-use Rattle.command_line.specs.declared.refusal.Refusal.TheVariants.{Build, Run, File, Memory, Write}
+use Rattle.command_line.specs.declared.refusal.Refusal.TheVariants.{Build, Run, Replay, Inputs, File, Memory, Write}
 
 abbrev names_of : List (Bor (List ℕ)) → List (List ℕ)
 names_of names = map (λ s. s.now) names
@@ -40,6 +40,8 @@ refused_named files now table sources table_text texts (Ok image) same in_table 
 refused_named files now table sources table_text texts (Err (Build fault)) same in_table in_sources h =
     (record { table_text = table_text; source_texts = texts; in_table = in_table; in_sources = subst (λ f. HoldAll f sources texts) same in_sources }, h)
 refused_named files now table sources table_text texts (Err (Run fault)) same in_table in_sources h = absurd h
+refused_named files now table sources table_text texts (Err (Replay fault)) same in_table in_sources h = absurd h
+refused_named files now table sources table_text texts (Err (Inputs fault)) same in_table in_sources h = absurd h
 refused_named files now table sources table_text texts (Err (File name)) same in_table in_sources h = absurd h
 refused_named files now table sources table_text texts (Err Memory) same in_table in_sources h = tt
 refused_named files now table sources table_text texts (Err Write) same in_table in_sources h = absurd h
@@ -57,6 +59,8 @@ uncosted_named files now table sources table_text texts (Ok costs) same in_table
 uncosted_named files now table sources table_text texts (Err (Build fault)) same in_table in_sources h =
     (record { table_text = table_text; source_texts = texts; in_table = in_table; in_sources = subst (λ f. HoldAll f sources texts) same in_sources }, h)
 uncosted_named files now table sources table_text texts (Err (Run fault)) same in_table in_sources h = absurd h
+uncosted_named files now table sources table_text texts (Err (Replay fault)) same in_table in_sources h = absurd h
+uncosted_named files now table sources table_text texts (Err (Inputs fault)) same in_table in_sources h = absurd h
 uncosted_named files now table sources table_text texts (Err (File name)) same in_table in_sources h = absurd h
 uncosted_named files now table sources table_text texts (Err Memory) same in_table in_sources h = tt
 uncosted_named files now table sources table_text texts (Err Write) same in_table in_sources h = absurd h
@@ -72,6 +76,8 @@ pub unnamed_text : {A : Type 0} (old new : List (List ℕ)) (table_text : List �
 unnamed_text old new table_text texts (Ok x) same h = tt
 unnamed_text old new table_text texts (Err (Build fault)) same h = same
 unnamed_text old new table_text texts (Err (Run fault)) same h = same
+unnamed_text old new table_text texts (Err (Replay fault)) same h = same
+unnamed_text old new table_text texts (Err (Inputs fault)) same h = same
 unnamed_text old new table_text texts (Err (File name)) same h = absurd h
 unnamed_text old new table_text texts (Err Memory) same h = same
 unnamed_text old new table_text texts (Err Write) same h = same
@@ -81,6 +87,8 @@ pub unnamed_costs : {A : Type 0} (old new : List (List ℕ)) (table_text : List 
 unnamed_costs old new table_text texts (Ok x) same h = tt
 unnamed_costs old new table_text texts (Err (Build fault)) same h = same
 unnamed_costs old new table_text texts (Err (Run fault)) same h = same
+unnamed_costs old new table_text texts (Err (Replay fault)) same h = same
+unnamed_costs old new table_text texts (Err (Inputs fault)) same h = same
 unnamed_costs old new table_text texts (Err (File name)) same h = absurd h
 unnamed_costs old new table_text texts (Err Memory) same h = same
 unnamed_costs old new table_text texts (Err Write) same h = same

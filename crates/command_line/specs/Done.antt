@@ -9,12 +9,14 @@ use Rattle.listing.specs.Code.{code_text}
 use Rattle.listing.specs.Costs.{costs_text}
 use Rattle.module.specs.Building.{IsImageOf}
 use Rattle.module.specs.Costs.{AreCosts}
-use Rattle.module.specs.Promises.{Means, Runs}
+use Rattle.module.specs.Promises.{Means, Replays, Runs}
+use Rattle.module.specs.Telling.{Tells}
 use Rattle.module.specs.declared.costing.PartitionCosts.{PartitionCosts}
 use Rattle.module.specs.declared.fault.BuildAndRunFault.{BuildAndRunFault}
+use Rattle.module.specs.declared.inputs_fault.InputsFault.{InputsFault}
 use Rattle.module.specs.declared.fault.RunFault.{RunFault}
 use Rattle.command_line.specs.Contents.{Contents, Holds, HoldAll, Spares}
-use Rattle.command_line.specs.Orders.{Order, First, Check, Build, Run, Cost, Dis}
+use Rattle.command_line.specs.Orders.{Order, First, Check, Build, Run, Replay, Inputs, Cost, Dis}
 use Rattle.command_line.specs.States.{State}
 use Rattle.command_line.specs.declared.first_run.TheConstants.{SOURCE, TABLE, TICKS}
 
@@ -43,12 +45,12 @@ pub record IsImageIn (files : Option Contents) (name : List ℕ) (image : Image)
   pub in_image : Holds files name image_bytes
   pub loaded : image_at image_bytes ≡ Ok image
 
--- An image and a device text, in the files of these names.
-pub record Inputs (files : Option Contents) (image devices : List ℕ) : Type 0 where
+-- An image and a text of what comes from outside, in the files of these names.
+pub record ImageAndText (files : Option Contents) (image text : List ℕ) : Type 0 where
   pub image_bytes : List ℕ
-  pub device_text : List ℕ
+  pub text_bytes : List ℕ
   pub in_image : Holds files image image_bytes
-  pub in_devices : Holds files devices device_text
+  pub in_text : Holds files text text_bytes
 
 -- ---- what is written
 
@@ -60,8 +62,16 @@ abbrev pub size_text : ℕ → List ℕ
 size_text n = codes "built " ++ decimal n ++ codes " bytes" ++ 10 ∷ []
 
 -- what a run of n ticks with this answer has written
-abbrev pub IsRunOf : {files : Option Contents} {image devices : List ℕ} → Inputs files image devices → ℕ → Option (List ℕ) → Option (List ℕ) → Result (Unit {0}) RunFault → Type 0
-IsRunOf inputs n old new answer = Runs (image_at inputs.image_bytes) inputs.device_text n old new answer
+abbrev pub IsRunOf : {files : Option Contents} {image devices : List ℕ} → ImageAndText files image devices → ℕ → Option (List ℕ) → Option (List ℕ) → Result (Unit {0}) RunFault → Type 0
+IsRunOf given n old new answer = Runs (image_at given.image_bytes) given.text_bytes n old new answer
+
+-- what a replay of a partition for n ticks with this answer has written
+abbrev pub IsReplayOf : {files : Option Contents} {image inputs : List ℕ} → ImageAndText files image inputs → List ℕ → ℕ → Option (List ℕ) → Option (List ℕ) → Result (Unit {0}) RunFault → Type 0
+IsReplayOf given partition n old new answer = Replays (image_at given.image_bytes) partition given.text_bytes n old new answer
+
+-- what was written with this answer of the inputs that n ticks of a run bring a partition
+abbrev pub AreInputsOf : {files : Option Contents} {image devices : List ℕ} → ImageAndText files image devices → List ℕ → ℕ → Option (List ℕ) → Option (List ℕ) → Result (Unit {0}) InputsFault → Type 0
+AreInputsOf given partition n old new answer = Tells (image_at given.image_bytes) partition given.text_bytes n old new answer
 
 -- what the run of the stored module with this answer has written
 abbrev pub IsFirstRun : Option (List ℕ) → Option (List ℕ) → Result (Unit {0}) BuildAndRunFault → Type 0
@@ -75,7 +85,17 @@ is_ok = Ok tt
 -- an image was run for n ticks
 abbrev pub IsRunDone : List ℕ → List ℕ → ℕ → State → State → Type 0
 IsRunDone image devices n before after =
-    (after.files ≡ before.files) × (inputs : Inputs before.files image devices) × IsRunOf inputs n before.out.taken after.out.taken is_ok
+    (after.files ≡ before.files) × (given : ImageAndText before.files image devices) × IsRunOf given n before.out.taken after.out.taken is_ok
+
+-- a partition of an image was replayed for n ticks
+abbrev pub IsReplayDone : List ℕ → List ℕ → List ℕ → ℕ → State → State → Type 0
+IsReplayDone image partition inputs n before after =
+    (after.files ≡ before.files) × (given : ImageAndText before.files image inputs) × IsReplayOf given partition n before.out.taken after.out.taken is_ok
+
+-- the inputs were written that n ticks of a run bring a partition
+abbrev pub AreInputsDone : List ℕ → List ℕ → List ℕ → ℕ → State → State → Type 0
+AreInputsDone image partition devices n before after =
+    (after.files ≡ before.files) × (given : ImageAndText before.files image devices) × AreInputsOf given partition n before.out.taken after.out.taken is_ok
 
 abbrev pub IsDone : Order → State → State → Type 0
 IsDone First before after = (after.files ≡ before.files) × IsFirstRun before.out.taken after.out.taken is_ok
@@ -85,6 +105,8 @@ IsDone (Build table name sources) before after =
     (image : List ℕ) × IsBuilt before.files table sources image × Holds after.files name image × Spares name before.files after.files
     × Appends before.out.taken after.out.taken (size_text (length image))
 IsDone (Run image devices ticks) before after = IsNumeral 10 ticks × IsRunDone image devices (digits_value 10 ticks) before after
+IsDone (Replay image partition inputs ticks) before after = IsNumeral 10 ticks × IsReplayDone image partition inputs (digits_value 10 ticks) before after
+IsDone (Inputs image partition devices ticks) before after = IsNumeral 10 ticks × AreInputsDone image partition devices (digits_value 10 ticks) before after
 IsDone (Cost table sources) before after =
     (after.files ≡ before.files) × (costs : List PartitionCosts) × AreCosted before.files table sources costs × Appends before.out.taken after.out.taken (costs_text costs)
 IsDone (Dis name) before after =

@@ -3,11 +3,13 @@ use Rattle.std.specs.Prelude.{◌≡◌, ℕ, Bool, true, false, List, [], ◌�
 use Rattle.std.specs.Str.{bytes_eq}
 use Rattle.apex_meaning.specs.Image.{Partition, Table}
 use Rattle.explanations.specs.Explanation.{IsExplanationOf}
-use Rattle.explanations.specs.Sentences.{command_sentence, device_sentence, image_sentence, source_sentence, table_sentence}
+use Rattle.explanations.specs.Sentences.{command_sentence, device_sentence, image_sentence, replay_sentence, source_sentence, table_sentence}
 use Rattle.explanations.specs.declared.sentences.CommandFault.TheVariants as command
 use Rattle.module.specs.Accepted.{IsTable}
 use Rattle.module.specs.declared.fault.BuildFault.{BuildFault}
 use Rattle.module.specs.declared.fault.BuildFault.TheVariants as build
+use Rattle.module.specs.declared.inputs_fault.InputsFault.{InputsFault}
+use Rattle.module.specs.declared.inputs_fault.InputsFault.TheVariants as inputs
 use Rattle.module.specs.declared.fault.RunFault.{RunFault}
 use Rattle.module.specs.declared.fault.RunFault.TheVariants as run
 use Rattle.pal_base.specs.declared.fault.PalFault.{PalFault}
@@ -15,7 +17,7 @@ use Rattle.command_line.specs.Lines.{line_of}
 use Rattle.command_line.specs.declared.explaining.Note.{Note}
 use Rattle.command_line.specs.declared.explaining.Note.TheVariants.{Unwanted, Wanted, Source}
 use Rattle.command_line.specs.declared.refusal.Refusal.{Refusal}
-use Rattle.command_line.specs.declared.refusal.Refusal.TheVariants.{Build, Run, File, Memory, Write}
+use Rattle.command_line.specs.declared.refusal.Refusal.TheVariants.{Build, Run, Replay, Inputs, File, Memory, Write}
 
 abbrev pub build_sentence : BuildFault → List ℕ
 build_sentence (build.Table fault) = table_sentence fault
@@ -27,15 +29,32 @@ build_sentence build.Memory = command_sentence command.Memory
 abbrev pub run_sentence : RunFault → List ℕ
 run_sentence run.Ticks = command_sentence command.Ticks
 run_sentence (run.Image fault) = image_sentence fault
+run_sentence run.Partition = command_sentence command.Partition
 run_sentence (run.Device fault) = device_sentence fault
 run_sentence run.Memory = command_sentence command.Memory
 run_sentence run.Write = command_sentence command.Write
 run_sentence run.Failed = command_sentence command.Write
 
+-- a replay has a text with rules of its own
+abbrev pub sentence_of_replay : RunFault → List ℕ
+sentence_of_replay (run.Device fault) = replay_sentence fault
+sentence_of_replay fault = run_sentence fault
+
+abbrev pub inputs_sentence : InputsFault → List ℕ
+inputs_sentence inputs.Ticks = command_sentence command.Ticks
+inputs_sentence (inputs.Image fault) = image_sentence fault
+inputs_sentence inputs.Partition = command_sentence command.Partition
+inputs_sentence (inputs.Device fault) = device_sentence fault
+inputs_sentence inputs.Memory = command_sentence command.Memory
+inputs_sentence inputs.TooMany = command_sentence command.Inputs
+inputs_sentence inputs.Write = command_sentence command.Write
+
 -- the sentence of the rule
 abbrev pub sentence_of : Refusal → List ℕ
 sentence_of (Build fault) = build_sentence fault
 sentence_of (Run fault) = run_sentence fault
+sentence_of (Replay fault) = sentence_of_replay fault
+sentence_of (Inputs fault) = inputs_sentence fault
 sentence_of (File name) = command_sentence command.File
 sentence_of Memory = command_sentence command.Memory
 sentence_of Write = command_sentence command.Write

@@ -3,12 +3,14 @@ use Rattle.std.specs.Prelude.{ℕ, Bool, false, List, [], Option, Some, None, un
 use Rattle.std.specs.Str.{bytes_eq}
 use Rattle.clap.specs.Walk.{Row, first_of, all_of}
 
--- files are named; ticks are a word
+-- files and partitions are named; ticks are a word
 pub data Order : Type 0 where
   First : Order
   Check : (table : List ℕ) (sources : List (List ℕ)) → Order
   Build : (table : List ℕ) (image : List ℕ) (sources : List (List ℕ)) → Order
   Run : (image : List ℕ) (devices : List ℕ) (ticks : List ℕ) → Order
+  Replay : (image : List ℕ) (partition : List ℕ) (inputs : List ℕ) (ticks : List ℕ) → Order
+  Inputs : (image : List ℕ) (partition : List ℕ) (devices : List ℕ) (ticks : List ℕ) → Order
   Cost : (table : List ℕ) (sources : List (List ℕ)) → Order
   Dis : (image : List ℕ) → Order
 
@@ -28,6 +30,12 @@ build_of rows = Build (word_at (codes "TABLE") rows) (word_at (codes "IMAGE") ro
 abbrev pub run_of : List Row → Order
 run_of rows = Run (word_at (codes "IMAGE") rows) (word_at (codes "DEVICES") rows) (word_at (codes "TICKS") rows)
 
+abbrev pub replay_of : List Row → Order
+replay_of rows = Replay (word_at (codes "IMAGE") rows) (word_at (codes "PARTITION") rows) (word_at (codes "INPUTS") rows) (word_at (codes "TICKS") rows)
+
+abbrev pub inputs_of : List Row → Order
+inputs_of rows = Inputs (word_at (codes "IMAGE") rows) (word_at (codes "PARTITION") rows) (word_at (codes "DEVICES") rows) (word_at (codes "TICKS") rows)
+
 abbrev pub cost_of : List Row → Order
 cost_of rows = Cost (word_at (codes "TABLE") rows) (words_at (codes "SOURCE") rows)
 
@@ -40,6 +48,8 @@ order_named name rows =
     if bytes_eq name (codes "check") then check_of rows
     else if bytes_eq name (codes "build") then build_of rows
     else if bytes_eq name (codes "run") then run_of rows
+    else if bytes_eq name (codes "replay") then replay_of rows
+    else if bytes_eq name (codes "inputs") then inputs_of rows
     else if bytes_eq name (codes "cost") then cost_of rows
     else if bytes_eq name (codes "dis") then dis_of rows
     else First

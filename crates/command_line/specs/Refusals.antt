@@ -16,14 +16,16 @@ use Rattle.module.specs.Promises as promises
 use Rattle.module.specs.declared.costing.PartitionCosts.{PartitionCosts}
 use Rattle.module.specs.declared.fault.BuildAndRunFault.{BuildAndRunFault}
 use Rattle.module.specs.declared.fault.BuildAndRunFault.TheVariants as both
+use Rattle.module.specs.declared.inputs_fault.InputsFault.{InputsFault}
+use Rattle.module.specs.declared.inputs_fault.InputsFault.TheVariants as input_faults
 use Rattle.module.specs.declared.fault.RunFault.{RunFault}
 use Rattle.module.specs.declared.fault.RunFault.TheVariants as faults
 use Rattle.command_line.specs.Contents.{Contents, Holds, Spares}
-use Rattle.command_line.specs.Done.{Texts, IsBuilt, AreCosted, IsImageIn, Inputs, IsRunOf, IsRunDone, IsFirstRun, is_ok}
-use Rattle.command_line.specs.Orders.{Order, First as first, Check as check, Build as build, Run as run, Cost as cost, Dis as dis}
+use Rattle.command_line.specs.Done.{Texts, IsBuilt, AreCosted, IsImageIn, ImageAndText, IsRunOf, IsRunDone, IsReplayOf, IsReplayDone, AreInputsOf, AreInputsDone, IsFirstRun, is_ok}
+use Rattle.command_line.specs.Orders.{Order, First as first, Check as check, Build as build, Run as run, Replay as replay, Inputs as inputs, Cost as cost, Dis as dis}
 use Rattle.command_line.specs.States.{IsSilent, IsUntouched, State}
 use Rattle.command_line.specs.declared.refusal.Refusal.{Refusal}
-use Rattle.command_line.specs.declared.refusal.Refusal.TheVariants.{Build, Run, File, Memory, Write}
+use Rattle.command_line.specs.declared.refusal.Refusal.TheVariants.{Build, Run, Replay, Inputs, File, Memory, Write}
 use Rattle.command_line.specs.declared.refusal.Failure.{Failure}
 use Rattle.command_line.specs.declared.refusal.Failure.TheVariants.{Refused, Usage}
 
@@ -48,25 +50,22 @@ IsFirstUnread files (next ∷ rest) name = (name ≡ next) ⊎ (((text : List �
 abbrev pub IsNotBuilt : Option Contents → List ℕ → List (List ℕ) → Refusal → Type 0
 IsNotBuilt files table sources (File name) = IsFirstUnread files (table ∷ sources) (string_bytes name)
 IsNotBuilt files table sources (Build fault) = (texts : Texts files table sources) × IsRefusal texts.table_text texts.source_texts fault
-IsNotBuilt files table sources (Run fault) = ⊥
 IsNotBuilt files table sources Memory = Unit {0}
-IsNotBuilt files table sources Write = ⊥
+IsNotBuilt files table sources _ = ⊥
 
 -- why no costs are found of the texts in these files
 abbrev pub IsNotCosted : Option Contents → List ℕ → List (List ℕ) → Refusal → Type 0
 IsNotCosted files table sources (File name) = IsFirstUnread files (table ∷ sources) (string_bytes name)
 IsNotCosted files table sources (Build fault) = (texts : Texts files table sources) × IsCostRefusal texts.table_text texts.source_texts fault
-IsNotCosted files table sources (Run fault) = ⊥
 IsNotCosted files table sources Memory = Unit {0}
-IsNotCosted files table sources Write = ⊥
+IsNotCosted files table sources _ = ⊥
 
 -- why no image is loaded of the file of this name
 abbrev pub IsNotLoaded : Option Contents → List ℕ → Refusal → Type 0
 IsNotLoaded files name (File shown) = string_bytes shown ≡ name
 IsNotLoaded files name (Run fault) = (bytes : List ℕ) × Holds files name bytes × promises.IsRefused (image_at bytes) fault
-IsNotLoaded files name (Build fault) = ⊥
 IsNotLoaded files name Memory = Unit {0}
-IsNotLoaded files name Write = ⊥
+IsNotLoaded files name _ = ⊥
 
 -- an image is built, which is not written
 abbrev pub IsNotWritten : List ℕ → List (List ℕ) → List ℕ → State → State → Refusal → Type 0
@@ -75,10 +74,15 @@ IsNotWritten table sources name before after r =
 
 -- ---- the commands; want of memory may come at every step
 
--- standard output failed if a run says so, and else not
+-- standard output failed if a run, or a replay, says so, and else not
 abbrev pub HasFailedBy : RunFault → Seen → Seen → Type 0
 HasFailedBy faults.Write old new = HasFailed old new
 HasFailedBy _ old new = new.failures ≡ old.failures
+
+-- the same of the inputs that a run brings
+abbrev pub HasFailedByInputs : InputsFault → Seen → Seen → Type 0
+HasFailedByInputs input_faults.Write old new = HasFailed old new
+HasFailedByInputs _ old new = new.failures ≡ old.failures
 
 abbrev pub HasFailedByBoth : BuildAndRunFault → Seen → Seen → Type 0
 HasFailedByBoth (both.Build fault) old new = new.failures ≡ old.failures
@@ -100,10 +104,30 @@ abbrev pub IsRunRefused : List ℕ → List ℕ → ℕ → State → State → 
 IsRunRefused image devices n before after (File name) = IsUntouched before after × IsFirstUnread before.files (image ∷ devices ∷ []) (string_bytes name)
 IsRunRefused image devices n before after (Run fault) =
     HasFailedBy fault before.out after.out × (after.files ≡ before.files)
-    × (inputs : Inputs before.files image devices) × IsRunOf inputs n before.out.taken after.out.taken (Err fault)
+    × (given : ImageAndText before.files image devices) × IsRunOf given n before.out.taken after.out.taken (Err fault)
 IsRunRefused image devices n before after Memory = IsUntouched before after
 IsRunRefused image devices n before after Write = HasFailed before.out after.out × IsRunDone image devices n before after
-IsRunRefused image devices n before after (Build fault) = ⊥
+IsRunRefused image devices n before after _ = ⊥
+
+-- of a replay of a partition for n ticks
+abbrev pub IsReplayRefused : List ℕ → List ℕ → List ℕ → ℕ → State → State → Refusal → Type 0
+IsReplayRefused image partition text n before after (File name) = IsUntouched before after × IsFirstUnread before.files (image ∷ text ∷ []) (string_bytes name)
+IsReplayRefused image partition text n before after (Replay fault) =
+    HasFailedBy fault before.out after.out × (after.files ≡ before.files)
+    × (given : ImageAndText before.files image text) × IsReplayOf given partition n before.out.taken after.out.taken (Err fault)
+IsReplayRefused image partition text n before after Memory = IsUntouched before after
+IsReplayRefused image partition text n before after Write = HasFailed before.out after.out × IsReplayDone image partition text n before after
+IsReplayRefused image partition text n before after _ = ⊥
+
+-- of the inputs that n ticks of a run bring a partition
+abbrev pub AreInputsRefused : List ℕ → List ℕ → List ℕ → ℕ → State → State → Refusal → Type 0
+AreInputsRefused image partition devices n before after (File name) = IsUntouched before after × IsFirstUnread before.files (image ∷ devices ∷ []) (string_bytes name)
+AreInputsRefused image partition devices n before after (Inputs fault) =
+    HasFailedByInputs fault before.out after.out × (after.files ≡ before.files)
+    × (given : ImageAndText before.files image devices) × AreInputsOf given partition n before.out.taken after.out.taken (Err fault)
+AreInputsRefused image partition devices n before after Memory = IsUntouched before after
+AreInputsRefused image partition devices n before after Write = HasFailed before.out after.out × AreInputsDone image partition devices n before after
+AreInputsRefused image partition devices n before after _ = ⊥
 
 -- of the run of the stored module, over standard output
 abbrev pub IsStoredRefused : Seen → Seen → Refusal → Type 0
@@ -111,7 +135,7 @@ IsStoredRefused old new (Build fault) = (new.failures ≡ old.failures) × IsFir
 IsStoredRefused old new (Run fault) = HasFailedBy fault old new × IsFirstRun old.taken new.taken (Err (both.Run fault))
 IsStoredRefused old new Memory = IsSilent old new
 IsStoredRefused old new Write = HasFailed old new × IsFirstRun old.taken new.taken is_ok
-IsStoredRefused old new (File name) = ⊥
+IsStoredRefused old new _ = ⊥
 
 -- where standard output took no more, it has a beginning of the listing
 abbrev pub IsCostRefused : List ℕ → List (List ℕ) → State → State → Refusal → Type 0
@@ -134,12 +158,18 @@ IsRefused (cost table sources) before after r = IsCostRefused table sources befo
 IsRefused (dis image) before after r = IsDisRefused image before after r
 IsRefused (run image devices ticks) before after r =
     (IsNumeral 10 ticks ⊎ (r ≡ Memory)) × IsRunRefused image devices (digits_value 10 ticks) before after r
+IsRefused (replay image partition text ticks) before after r =
+    (IsNumeral 10 ticks ⊎ (r ≡ Memory)) × IsReplayRefused image partition text (digits_value 10 ticks) before after r
+IsRefused (inputs image partition devices ticks) before after r =
+    (IsNumeral 10 ticks ⊎ (r ≡ Memory)) × AreInputsRefused image partition devices (digits_value 10 ticks) before after r
 
 -- ---- the words
 
 -- the word for the ticks is no row of digits
 abbrev pub IsWrongTicks : Order → Type 0
 IsWrongTicks (run image devices ticks) = IsNumeral 10 ticks → ⊥
+IsWrongTicks (replay image partition text ticks) = IsNumeral 10 ticks → ⊥
+IsWrongTicks (inputs image partition devices ticks) = IsNumeral 10 ticks → ⊥
 IsWrongTicks _ = ⊥
 
 -- why an order is not done

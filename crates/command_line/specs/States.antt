@@ -1,5 +1,5 @@
 -- What a command can change, as it is seen at one time.
-use Rattle.std.specs.Prelude.{◌≡◌, List, Option}
+use Rattle.std.specs.Prelude.{◌≡◌, Option}
 use Rattle.streams.specs.States.{Seen}
 use Rattle.command_line.specs.Contents.{Contents}
 

@@ -7,7 +7,7 @@ use Rattle.command_line.specs.declared.files.FileFault.TheVariants as fault
 use Rattle.command_line.specs.declared.refusal.Failure.{Failure}
 use Rattle.command_line.specs.declared.refusal.Failure.TheVariants.{Refused, Usage}
 use Rattle.command_line.specs.declared.refusal.Refusal.{Refusal}
-use Rattle.command_line.specs.declared.refusal.Refusal.TheVariants.{Build, Run, File, Memory, Write}
+use Rattle.command_line.specs.declared.refusal.Refusal.TheVariants.{Build, Run, Replay, Inputs, File, Memory, Write}
 
 abbrev pub of_file : String Global → FileFault → Refusal
 of_file name fault.Unavailable = File name
@@ -18,6 +18,8 @@ abbrev pub IsOfFailed : List (List ℕ) → List (List ℕ) → Refusal → Type
 IsOfFailed old new (File name) = new ≡ old ++ string_bytes name ∷ []
 IsOfFailed old new (Build fault) = new ≡ old
 IsOfFailed old new (Run fault) = new ≡ old
+IsOfFailed old new (Replay fault) = new ≡ old
+IsOfFailed old new (Inputs fault) = new ≡ old
 IsOfFailed old new Memory = new ≡ old
 IsOfFailed old new Write = new ≡ old
 

@@ -32,6 +32,16 @@ build_app = with_rule (with_rule (with_rule (explained_app (codes "build")) (wor
 abbrev pub run_app : App
 run_app = with_rule (with_rule (with_rule (explained_app (codes "run")) (word_rule (codes "IMAGE"))) (word_rule (codes "DEVICES"))) (word_rule (codes "TICKS"))
 
+-- a command on one partition of an image
+abbrev pub partition_app : List ℕ → App
+partition_app name = with_rule (with_rule (explained_app name) (word_rule (codes "IMAGE"))) (word_rule (codes "PARTITION"))
+
+abbrev pub replay_app : App
+replay_app = with_rule (with_rule (partition_app (codes "replay")) (word_rule (codes "INPUTS"))) (word_rule (codes "TICKS"))
+
+abbrev pub inputs_app : App
+inputs_app = with_rule (with_rule (partition_app (codes "inputs")) (word_rule (codes "DEVICES"))) (word_rule (codes "TICKS"))
+
 abbrev pub cost_app : App
 cost_app = with_rule (with_rule (explained_app (codes "cost")) (word_rule (codes "TABLE"))) sources_rule
 
@@ -39,7 +49,9 @@ abbrev pub dis_app : App
 dis_app = with_rule (explained_app (codes "dis")) (word_rule (codes "IMAGE"))
 
 abbrev pub mb_app : App
-mb_app = with_subcommand (with_subcommand (with_subcommand (with_subcommand (with_subcommand (new_app (codes "mb")) check_app.top) build_app.top) run_app.top) cost_app.top) dis_app.top
+mb_app =
+    with_subcommand (with_subcommand (with_subcommand (with_subcommand (with_subcommand (with_subcommand (with_subcommand
+    (new_app (codes "mb")) check_app.top) build_app.top) run_app.top) replay_app.top) inputs_app.top) cost_app.top) dis_app.top
 
 -- a command with these arguments and no other, none of them for its own commands
 pub record IsCommand (command : Command) (app : App) : Type 0 where

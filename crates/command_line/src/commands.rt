@@ -18,6 +18,7 @@ use crate::files::Files;
 use crate::grammar::grammar;
 use crate::reading::build_named;
 use crate::refusal::{Failure, Refusal};
+use crate::replaying::{inputs, replay};
 use crate::running::{run, run_stored};
 use crate::showing::{cost, dis};
 use clap::ArgMatches;
@@ -93,6 +94,16 @@ fn obey<F: Files, O: Stream>(
         Some(("run", found)) => {
             let (image, devices) = (word(found, "IMAGE"), word(found, "DEVICES"));
             run(alloc, image, devices, word(found, "TICKS"), files, out)
+        }
+        Some(("replay", found)) => {
+            let (image, partition) = (word(found, "IMAGE"), word(found, "PARTITION"));
+            let (inputs, ticks) = (word(found, "INPUTS"), word(found, "TICKS"));
+            replay(alloc, image, partition, inputs, ticks, files, out)
+        }
+        Some(("inputs", found)) => {
+            let (image, partition) = (word(found, "IMAGE"), word(found, "PARTITION"));
+            let (devices, ticks) = (word(found, "DEVICES"), word(found, "TICKS"));
+            inputs(alloc, image, partition, devices, ticks, files, out)
         }
         Some(("cost", found)) => {
             let table = word(found, "TABLE");

@@ -3,15 +3,15 @@
 ghost use Rattle.std.specs.Prelude.{◌≡◌, Some, map, option_map, string_bytes, IfSome};
 ghost use Rattle.module.specs.Accepted.{IsTable};
 ghost use Rattle.window_table.specs.Views.{partition_view, table_of};
-ghost use Rattle.command_line.specs.Explained.{IsExplained, IsExplainedWith, IsNoteOf, build_sentence, run_sentence, sentence_of, source_of, told_text};
+ghost use Rattle.command_line.specs.Explained.{IsExplained, IsExplainedWith, IsNoteOf, build_sentence, inputs_sentence, run_sentence, sentence_of, sentence_of_replay, source_of, told_text};
 
 use crate::refusal::Refusal;
 use apex_types::Name;
 use explanations::{
     CommandFault, command_sentence, device_sentence, explain_source, image_sentence,
-    source_sentence, table_sentence,
+    replay_sentence, source_sentence, table_sentence,
 };
-use module::{BuildFault, RunFault};
+use module::{BuildFault, InputsFault, RunFault};
 use pal_base::fault::PalFault;
 use std::alloc::Global;
 use std::fmt;
@@ -119,6 +119,8 @@ pub fn sentence_of(refusal: &Refusal) -> &'static str
     match refusal {
         Refusal::Build(fault) => build_sentence(fault),
         Refusal::Run(fault) => run_sentence(fault),
+        Refusal::Replay(fault) => sentence_of_replay(fault),
+        Refusal::Inputs(fault) => inputs_sentence(fault),
         Refusal::File(_) => command_sentence(CommandFault::File),
         Refusal::Memory => command_sentence(CommandFault::Memory),
         Refusal::Write => command_sentence(CommandFault::Write),
@@ -143,9 +145,33 @@ fn run_sentence(fault: &RunFault) -> &'static str
     match fault {
         RunFault::Ticks => command_sentence(CommandFault::Ticks),
         RunFault::Image(fault) => image_sentence(*fault),
+        RunFault::Partition => command_sentence(CommandFault::Partition),
         RunFault::Device(fault) => device_sentence(*fault),
         RunFault::Memory => command_sentence(CommandFault::Memory),
         RunFault::Write | RunFault::Failed => command_sentence(CommandFault::Write),
+    }
+}
+
+fn sentence_of_replay(fault: &RunFault) -> &'static str
+    ensures { result.now ≡ sentence_of_replay fault.now }
+{
+    match fault {
+        RunFault::Device(fault) => replay_sentence(*fault),
+        _ => run_sentence(fault),
+    }
+}
+
+fn inputs_sentence(fault: &InputsFault) -> &'static str
+    ensures { result.now ≡ inputs_sentence fault.now }
+{
+    match fault {
+        InputsFault::Ticks => command_sentence(CommandFault::Ticks),
+        InputsFault::Image(fault) => image_sentence(*fault),
+        InputsFault::Partition => command_sentence(CommandFault::Partition),
+        InputsFault::Device(fault) => device_sentence(*fault),
+        InputsFault::Memory => command_sentence(CommandFault::Memory),
+        InputsFault::TooMany => command_sentence(CommandFault::Inputs),
+        InputsFault::Write => command_sentence(CommandFault::Write),
     }
 }
 

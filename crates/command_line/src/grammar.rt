@@ -1,12 +1,13 @@
 //! The words that the program takes.
 
-ghost use Rattle.std.specs.Prelude.{◌≡◌, ◌↔◌, IfOk, IsTrue, false};
+ghost use Rattle.std.specs.Prelude.{◌≡◌, ◌↔◌, IfOk, IsTrue, codes, false};
 ghost use Rattle.std.specs.Str.Parse.{AllDigits, IsNumeral};
+ghost use Rattle.clap.specs.Simple.{new_app};
 ghost use Rattle.clap.specs.Values.{kind_of};
 ghost use Rattle.clap.specs.Walk.{rule_of};
 ghost use Rattle.clap.specs.declared.error.kind.ErrorKind.TheVariants.{ValueValidation};
 ghost use Rattle.command_line.specs.Ticks.{ReadsTicks};
-ghost use Rattle.command_line.specs.Words.{IsCommand, word_rule, sources_rule, explain_rule, explained_app, check_app, build_app, run_app, cost_app, dis_app, mb_app};
+ghost use Rattle.command_line.specs.Words.{IsCommand, word_rule, sources_rule, explain_rule, explained_app, check_app, build_app, run_app, partition_app, replay_app, inputs_app, cost_app, dis_app, mb_app};
 
 use clap::error::ErrorKind;
 use clap::{Arg, ArgAction, Command, Error};
@@ -16,16 +17,25 @@ use std::alloc::{AllocError, Global};
 pub fn grammar<'a>(alloc: Global) -> Result<Command<'a>, AllocError>
     ensures { IfOk result (λ command. IsCommand command mb_app) }
 {
+    program(alloc)
+        .subcommand(check(alloc)?)?
+        .subcommand(build(alloc)?)?
+        .subcommand(run(alloc)?)?
+        .subcommand(replay(alloc)?)?
+        .subcommand(inputs(alloc)?)?
+        .subcommand(cost(alloc)?)?
+        .subcommand(dis(alloc)?)
+}
+
+/// The program without its commands.
+fn program<'a>(alloc: Global) -> Command<'a>
+    ensures { IsCommand result (new_app (codes "mb")) }
+{
     Command::new(alloc, "mb")
         .about(
             "Builds ARINC 653 modules and runs them; without a command, runs a stored first module",
         )
         .after_help("Example: mb build table.toml module.image a.pal b.pal")
-        .subcommand(check(alloc)?)?
-        .subcommand(build(alloc)?)?
-        .subcommand(run(alloc)?)?
-        .subcommand(cost(alloc)?)?
-        .subcommand(dis(alloc)?)
 }
 
 fn check<'a>(alloc: Global) -> Result<Command<'a>, AllocError>
@@ -34,7 +44,7 @@ fn check<'a>(alloc: Global) -> Result<Command<'a>, AllocError>
     explained(alloc, "check")?
         .about("Builds a module table and one source a partition, and writes no image")
         .after_help("Example: mb check table.toml a.pal b.pal")
-        .arg(file(alloc, "TABLE", "The file of the module table"))?
+        .arg(required(alloc, "TABLE", "The file of the module table"))?
         .arg(sources(alloc))
 }
 
@@ -44,8 +54,8 @@ fn build<'a>(alloc: Global) -> Result<Command<'a>, AllocError>
     explained(alloc, "build")?
         .about("Builds an image of a module table and one source a partition, in their order")
         .after_help("Example: mb build table.toml module.image a.pal b.pal")
-        .arg(file(alloc, "TABLE", "The file of the module table"))?
-        .arg(file(alloc, "IMAGE", "The file that the image is written to"))?
+        .arg(required(alloc, "TABLE", "The file of the module table"))?
+        .arg(required(alloc, "IMAGE", "The file that the image is written to"))?
         .arg(sources(alloc))
 }
 
@@ -55,13 +65,49 @@ fn run<'a>(alloc: Global) -> Result<Command<'a>, AllocError>
     explained(alloc, "run")?
         .about("Runs an image for so many ticks and writes its trace")
         .after_help("Example: mb run module.image devices.txt 1000")
-        .arg(file(alloc, "IMAGE", "The file of an image"))?
-        .arg(file(
+        .arg(required(alloc, "IMAGE", "The file of an image"))?
+        .arg(required(
             alloc,
             "DEVICES",
             "The file of the device text, which may be empty",
         ))?
-        .arg(file(
+        .arg(required(
+            alloc,
+            "TICKS",
+            "How many ticks the image runs, at most 1099511627776",
+        ))
+}
+
+fn replay<'a>(alloc: Global) -> Result<Command<'a>, AllocError>
+    ensures { IfOk result (λ command. IsCommand command replay_app) }
+{
+    of_partition(alloc, "replay")?
+        .about("Runs one partition of an image alone, with its inputs, and writes its trace")
+        .after_help("Example: mb replay module.image b inputs.txt 1000")
+        .arg(required(
+            alloc,
+            "INPUTS",
+            "The file of the replay text, which may be empty",
+        ))?
+        .arg(required(
+            alloc,
+            "TICKS",
+            "How many ticks the partition runs, at most 1099511627776",
+        ))
+}
+
+fn inputs<'a>(alloc: Global) -> Result<Command<'a>, AllocError>
+    ensures { IfOk result (λ command. IsCommand command inputs_app) }
+{
+    of_partition(alloc, "inputs")?
+        .about("Runs an image and writes what comes to one partition, as a replay text")
+        .after_help("Example: mb inputs module.image b devices.txt 1000")
+        .arg(required(
+            alloc,
+            "DEVICES",
+            "The file of the device text, which may be empty",
+        ))?
+        .arg(required(
             alloc,
             "TICKS",
             "How many ticks the image runs, at most 1099511627776",
@@ -74,7 +120,7 @@ fn cost<'a>(alloc: Global) -> Result<Command<'a>, AllocError>
     explained(alloc, "cost")?
         .about("Writes the instructions, the frame and the cost of each body of the sources")
         .after_help("Example: mb cost table.toml a.pal b.pal")
-        .arg(file(alloc, "TABLE", "The file of the module table"))?
+        .arg(required(alloc, "TABLE", "The file of the module table"))?
         .arg(sources(alloc))
 }
 
@@ -84,7 +130,16 @@ fn dis<'a>(alloc: Global) -> Result<Command<'a>, AllocError>
     explained(alloc, "dis")?
         .about("Writes the instructions of an image")
         .after_help("Example: mb dis module.image")
-        .arg(file(alloc, "IMAGE", "The file of an image"))
+        .arg(required(alloc, "IMAGE", "The file of an image"))
+}
+
+/// A command on one partition of an image.
+fn of_partition<'a>(alloc: Global, name: &'a str) -> Result<Command<'a>, AllocError>
+    ensures { IfOk result (λ command. IsCommand command (partition_app name.entry.now)) }
+{
+    explained(alloc, name)?
+        .arg(required(alloc, "IMAGE", "The file of an image"))?
+        .arg(required(alloc, "PARTITION", "The name of the partition"))
 }
 
 /// A command that takes the flag for explanations.
@@ -104,7 +159,8 @@ fn explain<'a>(alloc: Global) -> Arg<'a>
         .help("Explains a refusal in plain words")
 }
 
-fn file<'a>(alloc: Global, name: &'a str, help: &'a str) -> Arg<'a>
+/// A word that has to be there.
+fn required<'a>(alloc: Global, name: &'a str, help: &'a str) -> Arg<'a>
     ensures rule { rule_of result ≡ word_rule name.entry.now }
     ensures local { result.global ≡ false }
 {

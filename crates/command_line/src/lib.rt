@@ -17,6 +17,7 @@ mod first_run;
 mod grammar;
 mod reading;
 mod refusal;
+mod replaying;
 mod running;
 mod showing;
 mod telling;

@@ -12,7 +12,7 @@ ghost use Rattle.command_line.specs.declared.refusal.Failure.TheVariants as fail
 use crate::files::FileFault;
 use apex_types::SinkFault;
 use clap::error::ErrorKind;
-use module::{BuildAndRunFault, BuildFault, RunFault};
+use module::{BuildAndRunFault, BuildFault, InputsFault, RunFault};
 use std::alloc::{AllocError, AllocFailed};
 use std::fmt;
 
@@ -21,6 +21,9 @@ use std::fmt;
 pub enum Refusal {
     Build(BuildFault),
     Run(RunFault),
+    /// A replay is refused. Its text has rules of its own.
+    Replay(RunFault),
+    Inputs(InputsFault),
     /// The file of that name was not read or not written.
     File(String),
     Memory,
@@ -46,7 +49,8 @@ impl fmt::Display for Refusal {
     fn fmt<W: fmt::Write>(&self, f: &mut fmt::Formatter<W>) -> fmt::Result {
         match self {
             Refusal::Build(fault) => write!(f, "mb: {fault}"),
-            Refusal::Run(fault) => write!(f, "mb: {fault}"),
+            Refusal::Run(fault) | Refusal::Replay(fault) => write!(f, "mb: {fault}"),
+            Refusal::Inputs(fault) => write!(f, "mb: {fault}"),
             Refusal::File(name) => write!(f, "mb: file {name}"),
             Refusal::Memory => write!(f, "mb: memory"),
             Refusal::Write => write!(f, "mb: write"),
@@ -83,6 +87,14 @@ impl From<RunFault> for Refusal {
 
     fn from(fault: RunFault) -> Self {
         Refusal::Run(fault)
+    }
+}
+
+impl From<InputsFault> for Refusal {
+    ghost from_gives = { λ fault r. r ≡ refusal.Inputs fault };
+
+    fn from(fault: InputsFault) -> Self {
+        Refusal::Inputs(fault)
     }
 }
 

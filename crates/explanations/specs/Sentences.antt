@@ -51,11 +51,20 @@ device_sentence device.Order = codes "The tick of the line is below that of the 
 device_sentence device.Name = codes "No channel or no partition has this name, or the source of the channel is a port."
 device_sentence device.Size = codes "The message has more words than the ports of the channel take, or 65,536 lines stand before this one."
 
+-- the rules of TEXTS.md for replay texts
+abbrev pub replay_sentence : DeviceFault → List ℕ
+replay_sentence device.Form = codes "The line has none of the forms, or it is the last one and has no line feed."
+replay_sentence device.Order = codes "The tick of the line is below that of the line before."
+replay_sentence device.Name = codes "The partition has no destination port of this name, or the name behind `FAULT` is not the partition's."
+replay_sentence device.Size = codes "The message has more words than the port takes, or 65,536 lines stand before this one."
+
 -- the other refusals of COMMANDS.md
 abbrev pub command_sentence : CommandFault → List ℕ
 command_sentence command.Sources = codes "There are fewer or more sources than partitions in the table."
 command_sentence command.Compile = codes "The program of the partition has more than 65,536 instructions."
 command_sentence command.Ticks = codes "The number of ticks is above 1,099,511,627,776, which is 2^40."
+command_sentence command.Partition = codes "The image has no partition of this name."
+command_sentence command.Inputs = codes "More than 65,536 inputs come to the partition, and a replay text has no more lines."
 command_sentence command.File = codes "The file cannot be opened, read or written."
 command_sentence command.Memory = codes "Memory ran out; this says nothing about the files."
 command_sentence command.Write = codes "Standard output took no more bytes."

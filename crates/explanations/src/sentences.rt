@@ -1,8 +1,8 @@
-//! The sentence of each rule by which a table, a source, an image, a device text or a command is
-//! refused. The pages quote them word for word.
+//! The sentence of each rule by which a table, a source, an image, a device text, a replay text or a
+//! command is refused. The pages quote them word for word.
 
 ghost use Rattle.std.specs.Prelude.{◌≡◌};
-ghost use Rattle.explanations.specs.Sentences.{command_sentence, device_sentence, image_sentence, source_sentence, table_sentence};
+ghost use Rattle.explanations.specs.Sentences.{command_sentence, device_sentence, image_sentence, replay_sentence, source_sentence, table_sentence};
 
 use apex_types::DeviceFault;
 use image::ImageFault;
@@ -18,6 +18,10 @@ pub enum CommandFault {
     Compile,
     /// More than 2^40 ticks are wanted.
     Ticks,
+    /// The image has no partition of the name.
+    Partition,
+    /// More than 65,536 inputs come to a partition.
+    Inputs,
     /// A file was not opened, read or written.
     File,
     Memory,
@@ -114,6 +118,21 @@ pub fn device_sentence(fault: DeviceFault) -> &'static str
     }
 }
 
+/// The sentence of a rule for replay texts. The first two are those of device texts.
+pub fn replay_sentence(fault: DeviceFault) -> &'static str
+    ensures { result.now ≡ replay_sentence fault }
+{
+    match fault {
+        DeviceFault::Form | DeviceFault::Order => device_sentence(fault),
+        DeviceFault::Name => {
+            "The partition has no destination port of this name, or the name behind `FAULT` is not the partition's."
+        }
+        DeviceFault::Size => {
+            "The message has more words than the port takes, or 65,536 lines stand before this one."
+        }
+    }
+}
+
 /// The sentence of a refusal that breaks no rule for a text or an image.
 pub fn command_sentence(fault: CommandFault) -> &'static str
     ensures { result.now ≡ command_sentence fault }
@@ -122,6 +141,10 @@ pub fn command_sentence(fault: CommandFault) -> &'static str
         CommandFault::Sources => { "There are fewer or more sources than partitions in the table." }
         CommandFault::Compile => "The program of the partition has more than 65,536 instructions.",
         CommandFault::Ticks => "The number of ticks is above 1,099,511,627,776, which is 2^40.",
+        CommandFault::Partition => "The image has no partition of this name.",
+        CommandFault::Inputs => {
+            "More than 65,536 inputs come to the partition, and a replay text has no more lines."
+        }
         CommandFault::File => "The file cannot be opened, read or written.",
         CommandFault::Memory => "Memory ran out; this says nothing about the files.",
         CommandFault::Write => "Standard output took no more bytes.",

@@ -6,11 +6,15 @@
 //! The file `rows` lists them, one a line: `check FOLDER SOURCE..` for the verdict on a table and
 //! its sources, `run FOLDER TICKS SOURCE..` for the trace of their image, `refused FOLDER TICKS
 //! SOURCE..` for a run of it that is refused, `image FOLDER TICKS` for the trace of an image that lies
-//! there, `refused FOLDER TICKS` for a run of such an image that is refused, and `build FOLDER
-//! SOURCE..`, `cost FOLDER SOURCE..` and `dis FOLDER` for what these commands write. In the folder lie
-//! the table and the sources, or the image, the device text `devices` if it is not empty, and what is
-//! expected: `answer` or `trace`. Beside an image that no source makes, if it has a trace, the file
-//! `cases` tells what each of its partitions shows.
+//! there, `refused FOLDER TICKS` for a run of such an image that is refused, `replay FOLDER PARTITION
+//! TICKS SOURCE..` and `inputs FOLDER PARTITION TICKS SOURCE..` for a partition of an image that is
+//! built, or, without sources, of one that lies there, and `build FOLDER SOURCE..`, `cost FOLDER
+//! SOURCE..` and `dis FOLDER` for what these commands write. In the folder lie the table and the
+//! sources, or the image, the device text `devices` if it is not empty, and what is expected: `answer`
+//! or `trace`. For a partition `b` these are `b.inputs`, which `inputs` writes and `replay` reads (or an
+//! empty text), and `b.trace`, which `replay` writes; where such a file lacks, the command is refused
+//! with the line in `answer`. Beside an image that no source makes, if it has a trace, the file `cases`
+//! tells what each of its partitions shows.
 #![tactic(auto)]
 
 mod answer;

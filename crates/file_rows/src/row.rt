@@ -3,6 +3,7 @@
 use crate::answer::Answer;
 use std::alloc::{AllocError, AllocGlobal, Global};
 use std::rt::Files;
+use std::str::SplitWhitespace;
 use std::{fs, io};
 
 /// What is asked of the files in a folder: a table with its sources, or an image, maybe with a device
@@ -25,34 +26,24 @@ enum Asked<'a> {
     TraceOfImage(&'a str),
     /// The refusal of a run of so many ticks, of the image that is built or that lies there.
     Refusal(&'a str),
+    /// The trace of a partition alone for so many ticks, of such an image, or why its replay is refused.
+    Replay(&'a str, &'a str),
+    /// The inputs that so many ticks of such an image bring a partition, or why they are refused.
+    Inputs(&'a str, &'a str),
     /// The answer to `build` or `cost`, or to `dis` for the image that lies there.
     Answer(&'a str),
 }
 
 impl<'a> Row<'a> {
     /// The row of a line of the list. A line that begins with no command and folder is none, and
-    /// neither is one that lacks its ticks.
+    /// neither is one that lacks its ticks or its partition.
     pub fn of_line(alloc: Global, line: &'a str) -> Result<Option<Self>, AllocError> {
         let mut words = line.split_whitespace();
         let (Some(command), Some(folder)) = (words.next(), words.next()) else {
             return Ok(None);
         };
-        let asked = match command {
-            "check" => Asked::Verdict,
-            "run" => match words.next() {
-                Some(ticks) => Asked::Trace(ticks),
-                None => return Ok(None),
-            },
-            "image" => match words.next() {
-                Some(ticks) => Asked::TraceOfImage(ticks),
-                None => return Ok(None),
-            },
-            "refused" => match words.next() {
-                Some(ticks) => Asked::Refusal(ticks),
-                None => return Ok(None),
-            },
-            "build" | "cost" | "dis" => Asked::Answer(command),
-            _ => return Ok(None),
+        let Some(asked) = asked_of(command, &mut words) else {
+            return Ok(None);
         };
         let sources = words.collect(alloc)?;
         Ok(Some(Row {
@@ -68,6 +59,8 @@ impl<'a> Row<'a> {
             Asked::Trace(ticks) => Ok(self.build(rt)?.is_done() && self.has_trace(rt, ticks)?),
             Asked::TraceOfImage(ticks) => self.has_trace(rt, ticks),
             Asked::Refusal(ticks) => self.has_refusal(rt, ticks),
+            Asked::Replay(partition, ticks) => self.has_replay(rt, partition, ticks),
+            Asked::Inputs(partition, ticks) => self.has_inputs(rt, partition, ticks),
             Asked::Answer(command) => self.has_answer(rt, command),
         }
     }
@@ -99,12 +92,77 @@ impl<'a> Row<'a> {
         Ok(self.run(rt, ticks)?.is_done_with(expected.as_slice()))
     }
 
-    /// Whether a run of so many ticks is refused as expected: of the image that is built of the
-    /// sources, or, where there is none, of the image that lies there.
+    /// Whether a run of so many ticks is refused as expected.
     fn has_refusal<R: Files + AllocGlobal>(&self, rt: &R, ticks: &str) -> io::Result<bool> {
         let expected = self.read(rt, "answer")?;
-        let is_there = self.sources.is_empty() || self.build(rt)?.is_done();
-        Ok(is_there && self.run(rt, ticks)?.is_refused_with(expected.as_slice()))
+        Ok(self.has_image(rt)? && self.run(rt, ticks)?.is_refused_with(expected.as_slice()))
+    }
+
+    /// Whether a partition shows alone what is expected, with the inputs of the row or with none, or
+    /// its replay is refused as expected.
+    fn has_replay<R: Files + AllocGlobal>(
+        &self,
+        rt: &R,
+        partition: &str,
+        ticks: &str,
+    ) -> io::Result<bool> {
+        let image = self.path(rt.alloc(), "image")?;
+        let inputs = format!(in rt.alloc(); "{partition}.inputs")?;
+        let inputs = self.text(rt, inputs.as_str())?;
+        let words = [
+            "mb",
+            "replay",
+            image.as_str(),
+            partition,
+            inputs.as_str(),
+            ticks,
+        ];
+        let trace = format!(in rt.alloc(); "{partition}.trace")?;
+        self.is_answered(rt, &words, trace.as_str())
+    }
+
+    /// Whether a run brings a partition what is expected, or is refused as expected.
+    fn has_inputs<R: Files + AllocGlobal>(
+        &self,
+        rt: &R,
+        partition: &str,
+        ticks: &str,
+    ) -> io::Result<bool> {
+        let image = self.path(rt.alloc(), "image")?;
+        let devices = self.text(rt, "devices")?;
+        let words = [
+            "mb",
+            "inputs",
+            image.as_str(),
+            partition,
+            devices.as_str(),
+            ticks,
+        ];
+        let inputs = format!(in rt.alloc(); "{partition}.inputs")?;
+        self.is_answered(rt, &words, inputs.as_str())
+    }
+
+    /// Whether these words over the image write the file of that name, or, where the row has no such
+    /// file, are refused with the line that is expected.
+    fn is_answered<R: Files + AllocGlobal>(
+        &self,
+        rt: &R,
+        words: &[&str],
+        name: &str,
+    ) -> io::Result<bool> {
+        if !self.has_image(rt)? {
+            return Ok(false);
+        }
+        let answer = Answer::to(rt, words);
+        match self.read(rt, name) {
+            Ok(expected) => Ok(answer.is_done_with(expected.as_slice())),
+            Err(_) => Ok(answer.is_refused_with(self.read(rt, "answer")?.as_slice())),
+        }
+    }
+
+    /// Whether there is an image: it is built of the sources, or, where there are none, lies there.
+    fn has_image<R: Files + AllocGlobal>(&self, rt: &R) -> Result<bool, AllocError> {
+        Ok(self.sources.is_empty() || self.build(rt)?.is_done())
     }
 
     /// Whether the command writes what is expected, or is refused with that line.
@@ -125,15 +183,16 @@ impl<'a> Row<'a> {
 
     fn run<R: Files + AllocGlobal>(&self, rt: &R, ticks: &str) -> Result<Answer, AllocError> {
         let image = self.path(rt.alloc(), "image")?;
-        let devices = self.devices(rt)?;
+        let devices = self.text(rt, "devices")?;
         let words = ["mb", "run", image.as_str(), devices.as_str(), ticks];
         Ok(Answer::to(rt, &words))
     }
 
-    /// The path of the device text: that of the row, or else the empty one beside the list.
-    fn devices<R: Files + AllocGlobal>(&self, rt: &R) -> Result<String, AllocError> {
-        if self.read(rt, "devices").is_ok() {
-            self.path(rt.alloc(), "devices")
+    /// The path of a device text or a replay text: that of the row, or else the empty one beside the
+    /// list.
+    fn text<R: Files + AllocGlobal>(&self, rt: &R, name: &str) -> Result<String, AllocError> {
+        if self.read(rt, name).is_ok() {
+            self.path(rt.alloc(), name)
         } else {
             String::from_str(rt.alloc(), "devices")
         }
@@ -172,5 +231,20 @@ impl<'a> Row<'a> {
     /// The path of a file of the row.
     fn path(&self, alloc: Global, name: &str) -> Result<String, AllocError> {
         format!(in alloc; "{}/{name}", self.folder)
+    }
+}
+
+/// What a command of the list asks, whose words behind the folder come next. There is none for another
+/// word, or where a partition or the ticks lack.
+fn asked_of<'a>(command: &'a str, words: &mut SplitWhitespace<'a>) -> Option<Asked<'a>> {
+    match command {
+        "check" => Some(Asked::Verdict),
+        "run" => Some(Asked::Trace(words.next()?)),
+        "image" => Some(Asked::TraceOfImage(words.next()?)),
+        "refused" => Some(Asked::Refusal(words.next()?)),
+        "replay" => Some(Asked::Replay(words.next()?, words.next()?)),
+        "inputs" => Some(Asked::Inputs(words.next()?, words.next()?)),
+        "build" | "cost" | "dis" => Some(Asked::Answer(command)),
+        _ => None,
     }
 }

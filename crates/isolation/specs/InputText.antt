@@ -68,6 +68,11 @@ AreWritable [] = Unit {0}
 AreWritable (l ∷ ls) = IsWritable l.input × AreWritable ls
 
 -- in the order of their ticks, none of a tick before this one
+abbrev pub AreInOrder : ℕ → List InputLine → Type 0
+AreInOrder before [] = Unit {0}
+AreInOrder before (l ∷ ls) = (before ≤ l.tick.0) × AreInOrder l.tick.0 ls
+
+-- the same, and each can come
 abbrev pub AreInputs : Partition → ℕ → List InputLine → Type 0
 AreInputs row before [] = Unit {0}
 AreInputs row before (l ∷ ls) = (before ≤ l.tick.0) × (l.tick.0 ≤ 2 ^ 40) × IsInput row l.input × AreInputs row l.tick.0 ls

@@ -4,3 +4,4 @@ pub mod Slices
 pub mod SourceSlices
 pub mod ReplayText
 pub mod InputText
+pub mod Replays

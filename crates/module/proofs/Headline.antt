@@ -23,7 +23,7 @@ use Rattle.module.specs.Building.{IsImageOf}
 use Rattle.module.specs.Promises.{IsRun, IsDeviceRefusal, IsNamed, Runs, IsAcceptedRun, IsDeviceRefused, Means, ran}
 use Rattle.image.specs.Views.{named}
 use Rattle.module.specs.declared.fault.RunFault.{RunFault}
-use Rattle.module.specs.declared.fault.RunFault.TheVariants.{Ticks, Image as NoImage, Device, Memory, Write, Failed}
+use Rattle.module.specs.declared.fault.RunFault.TheVariants.{Ticks, Image as NoImage, Partition as NoPartition, Device, Memory, Write, Failed}
 use Rattle.module.proofs.Built.{are_compiled}
 use Rattle.module.proofs.SameTraces.{traces_same}
 
@@ -73,10 +73,10 @@ pub built_bytes : {A E : Type 0} (view : A → List ℕ) (table : List ℕ) (sou
 built_bytes view table sources t (Ok b) is_table h = module_image table sources t (view b) is_table h
 built_bytes view table sources t (Err e) is_table h = tt
 
-abbrev ok_image : Image → Result Image Fault
+abbrev pub ok_image : Image → Result Image Fault
 ok_image i = Ok i
 
-image_is : (i j : Image) → ok_image i ≡ ok_image j → i ≡ j
+pub image_is : (i j : Image) → ok_image i ≡ ok_image j → i ≡ j
 image_is i j e = cc
 
 -- the image that was run is the one that was built
@@ -126,5 +126,6 @@ run_means table sources bytes devices n old new (Err Write) h (image, lines, r, 
 run_means table sources bytes devices n old new (Err Ticks) h r = r
 run_means table sources bytes devices n old new (Err (Device f)) h r = (r.0, is_refused_in table sources bytes devices h f (image_at bytes) h.loaded r.1, r.2)
 run_means table sources bytes devices n old new (Err (NoImage f)) h r = never_refused (image_at bytes) h.image (named f) h.loaded r.1
+run_means table sources bytes devices n old new (Err NoPartition) h r = r
 run_means table sources bytes devices n old new (Err Memory) h r = r
 run_means table sources bytes devices n old new (Err Failed) h r = r

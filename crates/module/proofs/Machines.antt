@@ -29,6 +29,7 @@ only_write fault.Write sound within h = (refl, h.2)
 only_write fault.Failed sound within h = let both : false ≡ true = sym sound ∙ h.0 in absurd cc
 only_write fault.Ticks sound within h = absurd (omega (arith, within, h.1))
 only_write (fault.Image f) sound within h = absurd h
+only_write fault.Partition sound within h = absurd h
 only_write (fault.Device f) sound within h = absurd h
 only_write fault.Memory sound within h = absurd h
 
@@ -93,6 +94,7 @@ run_on old mid new text events whole (Err fault.Write) is way h =
 run_on old mid new text events whole (Err fault.Failed) is way h = h
 run_on old mid new text events whole (Err fault.Ticks) is way h = h
 run_on old mid new text events whole (Err (fault.Image f)) is way h = h
+run_on old mid new text events whole (Err fault.Partition) is way h = h
 run_on old mid new text events whole (Err (fault.Device f)) is way h = h
 run_on old mid new text events whole (Err fault.Memory) is way h = h
 

@@ -20,7 +20,7 @@ behind b d = record { at = d.at; members = d.members; lines = b.lines ++ d.lines
 -- ---- other lines of the devices
 
 -- only the lines of its tick count
-same_ticks : {C : Type 0} (plan : Plan) (xs ys : List DeviceLine) (t : ℕ) (ms : List (Member C)) (o : Option ℕ) → of_tick t xs ≡ of_tick t ys → ticks_from plan xs t ms o ≡ ticks_from plan ys t ms o
+pub same_ticks : {C : Type 0} (plan : Plan) (xs ys : List DeviceLine) (t : ℕ) (ms : List (Member C)) (o : Option ℕ) → of_tick t xs ≡ of_tick t ys → ticks_from plan xs t ms o ≡ ticks_from plan ys t ms o
 same_ticks plan xs ys t ms None e = refl
 same_ticks plan xs ys t ms (Some origin) e = ap (behind (begins t ms)) (same_tick plan (tick_from origin t) xs ys (begins t ms).members e)
 
@@ -58,12 +58,12 @@ none_down plan lines n now ms (Some origin) e = absurd cc
 
 -- ---- the trace
 
-begins_later : {C : Type 0} (now : ℕ) (ms : List (Member C)) → 0 < now → begins now ms ≡ still ms
+pub begins_later : {C : Type 0} (now : ℕ) (ms : List (Member C)) → 0 < now → begins now ms ≡ still ms
 begins_later now ms h =
     let later : (now == 0) ≡ false = not_true (now == 0) (λ e. let first : now ≡ 0 = (Decides-eqb now 0).0 e in absurd (omega (arith, h, first))) in
     ap (λ (b : Bool). if b then starts ms else still ms) later
 
-same_next : (now : ℕ) (o : Option At) → IsNow now o → option_map (λ x. tick_from x (now + 1)) (option_map origin_of o) ≡ option_map next_tick o
+pub same_next : (now : ℕ) (o : Option At) → IsNow now o → option_map (λ x. tick_from x (now + 1)) (option_map origin_of o) ≡ option_map next_tick o
 same_next now None h = refl
 same_next now (Some a) h = ap (λ (n : ℕ). Some (tick_from a.origin.0 (n + 1))) (sym h)
 

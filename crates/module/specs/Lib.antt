@@ -1,13 +1,16 @@
 pub mod Accepted
 pub mod Built
 pub mod Building
+pub mod Collecting
 pub mod Costs
 pub mod Sources
 pub mod Standing
+pub mod Isolated
 pub mod Lines
 pub mod Loading
 pub mod Machines
 pub mod Members
 pub mod Promises
+pub mod Telling
 pub mod Views
 pub mod Written

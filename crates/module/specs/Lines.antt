@@ -1,4 +1,4 @@
--- What is shown of each fault of building and running.
+-- What is shown of each fault of building and running, and of telling inputs.
 use Rattle.std.specs.Prelude.{ℕ, List, ◌++◌, codes}
 use Rattle.std.specs.Fmt.{decimal}
 use Rattle.compiler.specs.Numbers.{number_of as number_of_compile}
@@ -16,6 +16,8 @@ use Rattle.module.specs.declared.fault.RunFault.{RunFault}
 use Rattle.module.specs.declared.fault.RunFault.TheVariants as run
 use Rattle.module.specs.declared.fault.BuildAndRunFault.{BuildAndRunFault}
 use Rattle.module.specs.declared.fault.BuildAndRunFault.TheVariants.{Build, Run}
+use Rattle.module.specs.declared.inputs_fault.InputsFault.{InputsFault}
+use Rattle.module.specs.declared.inputs_fault.InputsFault.TheVariants as inputs
 
 -- the partition, the number and the line of a source that is refused
 abbrev pub source_line : List ℕ → Refusal → ℕ → List ℕ
@@ -34,10 +36,20 @@ build_line build.Memory = codes "memory"
 abbrev pub run_line : RunFault → List ℕ
 run_line run.Ticks = codes "ticks"
 run_line (run.Image fault) = codes "image " ++ decimal (number_of_image fault)
+run_line run.Partition = codes "partition"
 run_line (run.Device fault) = codes "device " ++ decimal (fault_number fault)
 run_line run.Memory = codes "memory"
 run_line run.Write = codes "write"
 run_line run.Failed = codes "failed"
+
+abbrev pub inputs_line : InputsFault → List ℕ
+inputs_line inputs.Ticks = codes "ticks"
+inputs_line (inputs.Image fault) = codes "image " ++ decimal (number_of_image fault)
+inputs_line inputs.Partition = codes "partition"
+inputs_line (inputs.Device fault) = codes "device " ++ decimal (fault_number fault)
+inputs_line inputs.Memory = codes "memory"
+inputs_line inputs.TooMany = codes "inputs"
+inputs_line inputs.Write = codes "write"
 
 abbrev pub line_of_both : BuildAndRunFault → List ℕ
 line_of_both (Build fault) = build_line fault

@@ -1,4 +1,4 @@
--- What running an image, and building and running a module, promise.
+-- What running an image, replaying one of its partitions, and building and running a module promise.
 use Rattle.std.specs.Prelude.{◌≡◌, ℕ, ◌^◌, ◌<◌, ◌≤◌, List, Option, Some, None, Result, Ok, Err}
 use Rattle.std.specs.Io.KnownBytes.{Appends}
 use Rattle.apex_types.specs.Line.{text_of}
@@ -8,9 +8,13 @@ use Rattle.apex_types.specs.declared.device.DeviceLine.{DeviceLine}
 use Rattle.apex_types.specs.declared.event.Event.{Event}
 use Rattle.apex_meaning.specs.DeviceText.{verdict, verdict_for}
 use Rattle.apex_meaning.specs.ImageReading.{Fault}
-use Rattle.apex_meaning.specs.Image.{Image, Table}
+use Rattle.apex_meaning.specs.Image.{Image, Item, Table}
 use Rattle.apex_meaning.specs.Program.{Program}
 use Rattle.apex_meaning.specs.TwoMeanings.{source_trace, machine_trace}
+use Rattle.isolation.specs.declared.input.InputLine.{InputLine}
+use Rattle.isolation.specs.ReplayText.{replay_verdict}
+use Rattle.isolation.specs.Replays.{IsReplay, numbered}
+use Rattle.isolation.specs.Slices.{Slice, slice_trace}
 use Rattle.module.specs.Accepted.{IsModule}
 use Rattle.module.specs.declared.fault.BuildAndRunFault.{BuildAndRunFault}
 use Rattle.module.specs.declared.fault.BuildAndRunFault.TheVariants.{Build, Run}
@@ -18,8 +22,10 @@ use Rattle.image.specs.Views.{named}
 use Rattle.image.specs.declared.fault.ImageFault.{ImageFault}
 use Rattle.image.specs.declared.fault.ImageFault.TheVariants as image_fault
 use Rattle.module.specs.declared.fault.RunFault.{RunFault}
-use Rattle.module.specs.declared.fault.RunFault.TheVariants.{Ticks, Image as NoImage, Device, Memory, Write, Failed}
+use Rattle.module.specs.declared.fault.RunFault.TheVariants.{Ticks, Image as NoImage, Partition as NoPartition, Device, Memory, Write, Failed}
 use Rattle.module.specs.Building.{IsRefusal}
+use Rattle.module_base.specs.declared.fault.DeviceTextFault.{DeviceTextFault}
+use Rattle.module_base.specs.declared.fault.DeviceTextFault.TheVariants as text_fault
 
 -- the image that was read, and the lines of the device text, within the ticks that are run
 pub record IsRun (read : Result Image Fault) (devices : List ℕ) (n : ℕ) (image : Image) (lines : List DeviceLine) : Type 0 where
@@ -51,7 +57,39 @@ Runs read devices n old new (Err Ticks) = (2 ^ 40 < n) × (new ≡ old)
 Runs read devices n old new (Err (Device f)) = (n ≤ 2 ^ 40) × IsDeviceRefusal read devices f × (new ≡ old)
 Runs read devices n old new (Err (NoImage f)) = (n ≤ 2 ^ 40) × IsImageRefusal read f × (new ≡ old)
 Runs read devices n old new (Err Memory) = new ≡ old
+Runs read devices n old new (Err NoPartition) = ⊥
 Runs read devices n old new (Err Failed) = ⊥
+
+-- the image has no partition of this name
+abbrev pub LacksPartition : Result Image Fault → List ℕ → Type 0
+LacksPartition (Err fault) name = ⊥
+LacksPartition (Ok image) name = numbered image name ≡ None
+
+-- the replay text is refused for the partition of this name
+abbrev pub IsInputRefusal : Result Image Fault → List ℕ → List ℕ → DeviceFault → Type 0
+IsInputRefusal (Err fault) name inputs f = ⊥
+IsInputRefusal (Ok image) name inputs f = (found : ℕ × Item) × (numbered image name ≡ Some found) × (replay_verdict found.1.partition inputs ≡ Err f)
+
+-- What a replay of one partition of an image has written between two states of its sink: the text of the
+-- partition's trace of n ticks alone, from its slice of the image and the replay text's inputs; a beginning of
+-- that text where the sink failed; nothing where the replay is refused.
+abbrev pub Replays : Result Image Fault → List ℕ → List ℕ → ℕ → Option (List ℕ) → Option (List ℕ) → Result (Unit {0}) RunFault → Type 0
+Replays read name inputs n old new (Ok _) = (s : Slice) × (lines : List InputLine) × IsReplay read name inputs n s lines × Appends old new (text_of (slice_trace s lines n))
+Replays read name inputs n old new (Err Write) = (s : Slice) × (lines : List InputLine) × IsReplay read name inputs n s lines × TakesBeginning old new (text_of (slice_trace s lines n))
+Replays read name inputs n old new (Err Ticks) = (2 ^ 40 < n) × (new ≡ old)
+Replays read name inputs n old new (Err (NoImage f)) = (n ≤ 2 ^ 40) × IsImageRefusal read f × (new ≡ old)
+Replays read name inputs n old new (Err NoPartition) = (n ≤ 2 ^ 40) × LacksPartition read name × (new ≡ old)
+Replays read name inputs n old new (Err (Device f)) = (n ≤ 2 ^ 40) × IsInputRefusal read name inputs f × (new ≡ old)
+Replays read name inputs n old new (Err Memory) = new ≡ old
+Replays read name inputs n old new (Err Failed) = ⊥
+
+-- the same of one partition's slice, once it is found
+abbrev pub ReplaysSlice : Slice → List ℕ → ℕ → Option (List ℕ) → Option (List ℕ) → Result (Unit {0}) RunFault → Type 0
+ReplaysSlice s inputs n old new (Ok _) = (lines : List InputLine) × (replay_verdict s.item.partition inputs ≡ Ok lines) × Appends old new (text_of (slice_trace s lines n))
+ReplaysSlice s inputs n old new (Err Write) = (lines : List InputLine) × (replay_verdict s.item.partition inputs ≡ Ok lines) × TakesBeginning old new (text_of (slice_trace s lines n))
+ReplaysSlice s inputs n old new (Err (Device f)) = (replay_verdict s.item.partition inputs ≡ Err f) × (new ≡ old)
+ReplaysSlice s inputs n old new (Err Memory) = new ≡ old
+ReplaysSlice s inputs n old new (Err _) = ⊥
 
 -- the same of an image with lines that are taken, once it is loaded
 abbrev pub RunsImage : List Event → Option (List ℕ) → Option (List ℕ) → Result (Unit {0}) RunFault → Type 0
@@ -69,6 +107,11 @@ IsRefused _ _ = ⊥
 abbrev pub fault_of_image : ImageFault → RunFault
 fault_of_image image_fault.Memory = Memory
 fault_of_image f = NoImage f
+
+-- a fault of a text as one of its run; want of memory is told as such
+abbrev pub fault_of_text : DeviceTextFault → RunFault
+fault_of_text (text_fault.Line f) = Device f
+fault_of_text text_fault.Memory = Memory
 
 -- why a device text is not taken for an image
 abbrev pub AreRefused : Result (List DeviceLine) DeviceFault → RunFault → Type 0
@@ -101,6 +144,7 @@ Means table sources devices n old new (Err (Build fault)) = IsRefusal table sour
 Means table sources devices n old new (Err (Run Ticks)) = (2 ^ 40 < n) × (new ≡ old)
 Means table sources devices n old new (Err (Run (Device f))) = (n ≤ 2 ^ 40) × IsDeviceRefused table sources devices f × (new ≡ old)
 Means table sources devices n old new (Err (Run (NoImage f))) = ⊥
+Means table sources devices n old new (Err (Run NoPartition)) = ⊥
 Means table sources devices n old new (Err (Run Memory)) = new ≡ old
 Means table sources devices n old new (Err (Run Failed)) = ⊥
 

@@ -42,7 +42,7 @@ impl<E: Executor<Mem = PartitionMem>> Members<E> {
     }
 
     /// What moves, then the tick of the owner.
-    fn move_and_tick<S: Sink>(
+    pub fn move_and_tick<S: Sink>(
         &mut self,
         plan: &Image,
         at: At,
@@ -89,7 +89,7 @@ impl<E: Executor<Mem = PartitionMem>> Members<E> {
     }
 
     /// Before the first tick each partition starts.
-    fn begin<S: Sink>(&mut self, at: At, events: &mut Events, sink: &mut S) -> Result<(), SinkFault>
+    pub fn begin<S: Sink>(&mut self, at: At, events: &mut Events, sink: &mut S) -> Result<(), SinkFault>
         requires empty { events.old.items ≡ [] }
         requires failures { S.failures sink.old < 2 ^ 64 - 1 }
         ensures empty { OnOk result (events.new.items ≡ []) }

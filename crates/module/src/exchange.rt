@@ -190,7 +190,7 @@ impl<E: Executor<Mem = PartitionMem>> Members<E> {
     }
 
     /// The kernel of the partition with a number, if there is one.
-    fn kernel(&self, number: PartitionId) -> Option<&Kernel>
+    pub fn kernel(&self, number: PartitionId) -> Option<&Kernel>
         ensures { option_map (λ k. k.now) result ≡ option_map (λ x. x.world.kernel) (at_number (members_in E.Executor self.now) number.0) }
     {
         let place = number.0.checked_sub(1)?;
@@ -199,7 +199,7 @@ impl<E: Executor<Mem = PartitionMem>> Members<E> {
 
     /// How many messages a source port holds; none where there is no such source port.
     #[tactic(auto, using(crate::proofs::Members::seen))]
-    fn messages_to_move(&self, partition: PartitionId, port: PortId) -> Option<u8>
+    pub fn messages_to_move(&self, partition: PartitionId, port: PortId) -> Option<u8>
         ensures { result ≡ messages_to_move (at_number (meaning.ports_from (members_in E.Executor self.now) partition.0) port.0) }
     {
         let kernel = self.kernel(partition)?;
@@ -261,7 +261,7 @@ impl<E: Executor<Mem = PartitionMem>> Members<E> {
 
     /// How many ports a partition has; none where there is no such partition.
     #[tactic(auto, using(crate::proofs::Members::seen))]
-    fn port_count(&self, partition: PartitionId) -> u8
+    pub fn port_count(&self, partition: PartitionId) -> u8
         ensures { result ≡ length (meaning.ports_from (members_in E.Executor self.now) partition.0) }
     {
         match self.kernel(partition) {
@@ -306,7 +306,7 @@ fn is_port(partition: PartitionId, port: PortId, end: ChannelEnd) -> bool
 
 /// The channel whose source a port is.
 #[tactic(auto, using(std::proofs::lemmas::List::drop_more))]
-fn channel_from(
+pub fn channel_from(
     channels: &[ChannelRow],
     partition: PartitionId,
     port: PortId,

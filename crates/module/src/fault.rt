@@ -1,16 +1,16 @@
 //! Refusals of building and running.
 
 ghost use Rattle.std.specs.Prelude.{◌≡◌, Some};
-ghost use Rattle.module.specs.Promises.{fault_of_image};
+ghost use Rattle.module.specs.Promises.{fault_of_image, fault_of_text};
 ghost use Rattle.module.specs.declared.fault.BuildFault.TheVariants as build;
 ghost use Rattle.module.specs.declared.fault.BuildAndRunFault.TheVariants as both;
 ghost use Rattle.module.specs.declared.fault.RunFault.TheVariants as run;
 ghost use Rattle.module.specs.Lines.{build_line, line_of_both, run_line};
 
-use apex_types::{DeviceFault, Name};
+use apex_types::{DeviceFault, Name, SinkFault};
 use compiler::CompileFault;
 use image::ImageFault;
-use module_base::fault_number;
+use module_base::{DeviceTextFault, fault_number};
 use pal_base::fault::{PalFault, Refusal};
 use std::alloc::{AllocError, AllocFailed};
 use std::error::Error;
@@ -82,7 +82,9 @@ pub enum RunFault {
     Ticks,
     /// The bytes are no image.
     Image(ImageFault),
-    /// The device text is refused for the image.
+    /// The image has no partition of that name.
+    Partition,
+    /// The device text is refused for the image, or the replay text for the partition.
     Device(DeviceFault),
     Memory,
     /// The sink failed. What it took is a beginning of the trace's text.
@@ -98,6 +100,7 @@ impl fmt::Display for RunFault {
         match self {
             RunFault::Ticks => write!(f, "ticks"),
             RunFault::Image(fault) => write!(f, "image {}", fault.number()),
+            RunFault::Partition => write!(f, "partition"),
             RunFault::Device(fault) => write!(f, "device {}", fault_number(*fault)),
             RunFault::Memory => write!(f, "memory"),
             RunFault::Write => write!(f, "write"),
@@ -176,5 +179,24 @@ impl From<ImageFault> for RunFault {
             ImageFault::Memory => RunFault::Memory,
             _ => RunFault::Image(fault),
         }
+    }
+}
+
+impl From<DeviceTextFault> for RunFault {
+    ghost from_gives = { λ fault e. e ≡ fault_of_text fault };
+
+    fn from(fault: DeviceTextFault) -> Self {
+        match fault {
+            DeviceTextFault::Line(fault) => RunFault::Device(fault),
+            DeviceTextFault::Memory => RunFault::Memory,
+        }
+    }
+}
+
+impl From<SinkFault> for RunFault {
+    ghost from_gives = { λ _ e. e ≡ run.Write };
+
+    fn from(_: SinkFault) -> Self {
+        RunFault::Write
     }
 }

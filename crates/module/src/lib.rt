@@ -3,24 +3,35 @@
 
 mod accepting;
 mod advance;
+mod bringing;
 mod building;
+mod collected;
 mod costing;
 mod exchange;
 mod fault;
+mod holding;
 mod input;
+mod inputs_fault;
 mod load;
 mod load_fault;
 mod machine;
 mod member;
+mod naming;
+mod replaying;
 mod restart;
 mod running;
 mod step;
+mod telling;
 mod ticks;
+mod watching;
 
 pub use building::build;
 pub use costing::{PartitionCosts, costs};
 pub use fault::{BuildAndRunFault, BuildFault, RunFault};
+pub use inputs_fault::InputsFault;
 pub use load_fault::LoadFault;
-pub use machine::{Machine, ticks_make_the_trace};
+pub use machine::{Machine, ticks_isolate_the_partitions, ticks_make_the_trace};
+pub use replaying::replay;
 pub use running::{build_and_run, run};
+pub use telling::inputs;
 pub use ticks::split_tick;

@@ -5,7 +5,9 @@ ghost use Rattle.apex_meaning.specs.DeviceText.{verdict_for};
 ghost use Rattle.apex_meaning.specs.Module.{of_tick};
 ghost use Rattle.image.specs.Views.{image_of};
 ghost use Rattle.apex_meaning.specs.Image as meant;
+ghost use Rattle.apex_meaning.specs.ImageLimits.{IsLawful};
 ghost use Rattle.apex_meaning.specs.TwoMeanings.{machine_module, machine_trace};
+ghost use Rattle.module.specs.Isolated.{WritesAlone};
 ghost use Rattle.module.specs.Machines as machines;
 ghost use Rattle.module.specs.Machines.{HasTicked, HaveTicked, fresh_machine, machine_of};
 ghost use Rattle.module.specs.Standing.{lines_of};
@@ -119,4 +121,11 @@ pub fn ticks_make_the_trace()
     ensures written { (image : meant.Image) (lines : List DeviceLine) (n : ℕ) (last : machines.Machine) (old new : Option (List ℕ)) (before now : ℕ) (answer : Result (Unit {0}) RunFault) → n ≤ 2 ^ 40
         → HaveTicked lines n (fresh_machine image) last old new before now answer → RunsImage (machine_trace image lines n) old new answer }
     ensures lines { (image : meant.Image) (lines : List DeviceLine) (n : ℕ) → lines_of (machine_module image).plan lines n (fresh_machine image).standing ≡ machine_trace image lines n }
+{}
+
+/// What such calls write shows of each partition of the image what the partition shows alone, from its
+/// slice of the image and from what these lines of the devices bring it: whatever code the others run.
+pub fn ticks_isolate_the_partitions()
+    ensures { (image : meant.Image) (text : List ℕ) (lines : List DeviceLine) (n : ℕ) (last : machines.Machine) (old new : Option (List ℕ)) (before now : ℕ) → IsLawful image → verdict_for image text ≡ Ok lines → n ≤ 2 ^ 40
+        → HaveTicked lines n (fresh_machine image) last old new before now (Ok tt) → WritesAlone image lines n old new }
 {}

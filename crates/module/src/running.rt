@@ -5,6 +5,7 @@ ghost use Rattle.apex_meaning.specs.DeviceText.{verdict_for};
 ghost use Rattle.apex_meaning.specs.ImageReading.{image_at};
 ghost use Rattle.apex_meaning.specs.TwoMeanings.{machine_trace};
 ghost use Rattle.image.specs.Views.{image_of};
+ghost use Rattle.module.specs.Isolated.{IsIsolated, IsSourceIsolated};
 ghost use Rattle.module.specs.Machines.{fresh_machine, machine_of};
 ghost use Rattle.module.specs.Promises.{Means, Runs, RunsImage};
 ghost use Rattle.module.specs.Written.{AreFrom};
@@ -21,6 +22,9 @@ use std::alloc::Global;
 /// into the sink. After [`RunFault::Write`] the sink has failed once and has taken a beginning of that
 /// text; every other refusal comes before the sink is asked to take anything.
 ///
+/// What the trace shows of a partition is what [`replay`](crate::replay) writes of it for the inputs of this
+/// run: its trace alone, whatever code the others run.
+///
 /// # Errors
 ///
 /// In this order: more ticks than 2^40; bytes that are no image; the lowest rule that the first wrong
@@ -34,6 +38,7 @@ pub fn run<S: Sink>(
 ) -> Result<(), RunFault>
     requires { S.failures sink.old < 2 ^ 64 - 1 }
     ensures trace { Runs (image_at image.now) devices.now ticks (S.taken sink.old) (S.taken sink.new) result }
+    ensures isolated { OnOk result (IsIsolated (image_at image.now) devices.now ticks (S.taken sink.old) (S.taken sink.new)) }
     ensures ok { OnOk result (S.failures sink.new ≡ S.failures sink.old) }
     ensures write { IsErrOf result RunFault.Write → S.failures sink.new ≡ S.failures sink.old + 1 }
     ensures quiet { IfErr result (λ fault. fault ≢ RunFault.Write → S.failures sink.new ≡ S.failures sink.old) }
@@ -75,6 +80,9 @@ fn run_ticks<S: Sink>(
 /// Builds a module table and its sources, and runs the image for so many ticks with what the device
 /// text says. What goes into the sink is the text of the trace that the sources mean, a beginning of it
 /// where the sink fails, and nothing where they are refused.
+///
+/// What the trace shows of a partition depends on its own source and row, on what surrounds it in the
+/// module table, and on what comes to it, whatever the sources of the others are.
 pub fn build_and_run<S: Sink>(
     alloc: Global,
     table: &[u8],
@@ -85,6 +93,7 @@ pub fn build_and_run<S: Sink>(
 ) -> Result<(), BuildAndRunFault>
     requires { S.failures sink.old < 2 ^ 64 - 1 }
     ensures trace { Means table.now (map (λ s. s.now) sources.now) devices.now ticks (S.taken sink.old) (S.taken sink.new) result }
+    ensures isolated { OnOk result (IsSourceIsolated table.now (map (λ s. s.now) sources.now) devices.now ticks (S.taken sink.old) (S.taken sink.new)) }
     ensures ok { OnOk result (S.failures sink.new ≡ S.failures sink.old) }
     ensures write { IsErrOf result (BuildAndRunFault.Run RunFault.Write) → S.failures sink.new ≡ S.failures sink.old + 1 }
     ensures quiet { IfErr result (λ fault. fault ≢ BuildAndRunFault.Run RunFault.Write → S.failures sink.new ≡ S.failures sink.old) }

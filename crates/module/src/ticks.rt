@@ -1,9 +1,9 @@
 //! The ticks of a module, one after another.
 
-ghost use Rattle.std.specs.Prelude.{◌≡◌, ◌≤◌, ◌<◌, ◌+◌, ◌-◌, ◌^◌, ℕ, length, drop, take, IfOk};
+ghost use Rattle.std.specs.Prelude.{◌≡◌, ◌≤◌, ◌<◌, ◌+◌, ◌-◌, ◌^◌, ℕ, length, drop, take, IfOk, option_map};
 ghost use Rattle.apex_meaning.specs.Module as meaning;
 ghost use Rattle.apex_meaning.specs.Windows.{tick_from};
-ghost use Rattle.module.specs.Standing.{ticks};
+ghost use Rattle.module.specs.Standing.{origin_of, ticks};
 ghost use Rattle.module.specs.Views.{members_in, plan_of, standing_of};
 ghost use Rattle.module.specs.Written.{AreFrom, HasGone, IsCourseWritten, IsOfTick};
 
@@ -22,12 +22,22 @@ impl<E: Executor<Mem = PartitionMem>> Module<E> {
         ensures written { HasGone (ticks (plan_of self.old.image) lines.now (standing_of E.Executor self.old)) (standing_of E.Executor self.old) (standing_of E.Executor self.new) (S.taken sink.old) (S.taken sink.new) (S.failures sink.old) (S.failures sink.new) result }
     {
         let last = self.go(lines, sink)?;
+        self.pass(last);
+        Ok(())
+    }
+
+    /// The tick is over, and the next one comes, with the origin that counts from here on.
+    pub fn pass(&mut self, last: Option<At>)
+        requires now { self.old.now.0 < 2 ^ 40 }
+        requires of_tick { IsOfTick (tick_from 0 self.old.now.0) last }
+        ensures image { self.new.image ≡ self.old.image }
+        ensures standing { standing_of E.Executor self.new ≡ record { members = members_in E.Executor self.old.members; now = self.old.now.0 + 1; origin = option_map origin_of last } }
+    {
         self.now = Ticks(self.now.0 + 1);
         self.origin = match last {
             Some(at) => Some(at.origin),
             None => None,
         };
-        Ok(())
     }
 
     /// What happens in the next tick. After a shutdown nothing does.

@@ -1,5 +1,8 @@
+pub mod Alike
 pub mod Decimals
-pub mod LineWords
+pub mod InOrder
 pub mod Lawful
-pub mod Taken
+pub mod LineTexts
+pub mod LineWords
 pub mod Reading
+pub mod Taken

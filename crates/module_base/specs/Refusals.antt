@@ -1,9 +1,8 @@
--- Why a device text is refused, and what is shown of it.
+-- Why a device text or a replay text is refused, and what is shown of it.
 use Rattle.std.specs.Prelude.{◌≡◌, ℕ, List, ◌++◌, codes, Result, Ok, Err}
 use Rattle.std.specs.Fmt.{decimal}
 use Rattle.apex_types.specs.declared.device.DeviceFault.{DeviceFault}
 use Rattle.apex_types.specs.declared.device.DeviceFault.TheVariants as fault
-use Rattle.apex_types.specs.declared.device.DeviceLine.{DeviceLine}
 use Rattle.module_base.specs.declared.fault.DeviceTextFault.{DeviceTextFault}
 use Rattle.module_base.specs.declared.fault.DeviceTextFault.TheVariants.{Line, Memory}
 
@@ -18,7 +17,7 @@ refusal_line (Line fault) = codes "device " ++ decimal (fault_number fault)
 refusal_line Memory = codes "memory"
 
 -- A refusal is that of the verdict; memory may always run out.
-abbrev pub IsRefusal : Result (List DeviceLine) DeviceFault → DeviceTextFault → Type 0
+abbrev pub IsRefusal : {A : Type 0} → Result A DeviceFault → DeviceTextFault → Type 0
 IsRefusal verdict Memory = Unit {0}
-IsRefusal (Ok lines) (Line f) = ⊥
+IsRefusal (Ok accepted) (Line f) = ⊥
 IsRefusal (Err wanted) (Line f) = wanted ≡ f

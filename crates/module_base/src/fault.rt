@@ -1,4 +1,4 @@
-//! Refusals of device texts.
+//! Refusals of device texts and replay texts.
 
 ghost use Rattle.std.specs.Prelude.{◌≡◌, Some};
 ghost use Rattle.module_base.specs.Refusals.{fault_number, refusal_line};
@@ -9,7 +9,7 @@ use std::alloc::{AllocError, AllocFailed};
 use std::error::Error;
 use std::fmt;
 
-/// Why a device text is refused.
+/// Why a device text or a replay text is refused.
 #[derive(Clone, Copy, Debug, PartialEq, Eq)]
 pub enum DeviceTextFault {
     /// What is wrong in the first line that is wrong.

@@ -1,12 +1,16 @@
-//! What a module is run on: the text of its devices.
+//! What a module is run on: the text of its devices, and the text of what comes to one partition alone.
 #![tactic(auto)]
 
+mod devices;
 mod fault;
+mod inputs;
 mod line;
 mod number;
 mod piece;
 mod read;
-mod taking;
+mod writing;
 
+pub use devices::read_devices;
 pub use fault::{DeviceTextFault, fault_number};
-pub use read::read_devices;
+pub use inputs::read_inputs;
+pub use writing::write_inputs;

@@ -1,9 +1,10 @@
-//! The lines of a device text by themselves.
+//! The lines of a text by themselves, before their names are known.
 
 ghost use Rattle.std.specs.Prelude.{◌≡◌, option_map, option_copied};
 ghost use Rattle.apex_meaning.specs.DeviceText as meant;
 ghost use Rattle.apex_meaning.specs.DeviceText.{pieces};
 ghost use Rattle.module_base.specs.Seen.{pieces_of, fitting, seen, seen_line};
+ghost use Rattle.module_base.specs.TextLines.{line_by, written_by};
 
 use crate::number::{plain_number, word};
 use crate::piece::split_at;
@@ -19,7 +20,7 @@ pub enum MessageWords {
     TooMany,
 }
 
-/// What a device does, by the names of the text.
+/// What comes, by the names of the text.
 #[derive(Drop)]
 pub enum Written {
     Message(Name, MessageWords),
@@ -34,13 +35,13 @@ pub struct WrittenLine {
     pub written: Written,
 }
 
-/// The line with this text, if it has one of the forms.
-pub fn line_of(text: &[u8]) -> Option<WrittenLine>
-    ensures { result ≡ option_map seen_line (meant.line_of text.now) }
+/// The line with this text, if it has one of the forms. Messages stand behind this mark.
+pub fn line_of(mark: &[u8], text: &[u8]) -> Option<WrittenLine>
+    ensures { result ≡ option_map seen_line (line_by mark.now text.now) }
 {
     let (first, rest) = split_at(b' ', text);
     let tick = plain_number(LAST_TICK, first)?;
-    let written = written_of(rest)?;
+    let written = written_of(mark, rest)?;
     Some(WrittenLine {
         tick: Ticks(tick),
         written,
@@ -48,11 +49,11 @@ pub fn line_of(text: &[u8]) -> Option<WrittenLine>
 }
 
 /// What stands behind the tick.
-fn written_of(text: Option<&[u8]>) -> Option<Written>
-    ensures { result ≡ option_map seen (meant.written_of (pieces_of 32 (option_copied text.entry))) }
+fn written_of(mark: &[u8], text: Option<&[u8]>) -> Option<Written>
+    ensures { result ≡ option_map seen (written_by mark.now (pieces_of 32 (option_copied text.entry))) }
 {
     let (kind, rest) = split_at(b' ', text?);
-    if kind == b"MSG".as_slice() {
+    if kind == mark {
         message_of(rest)
     } else if kind == b"FAULT".as_slice() {
         fault_of(rest)
@@ -61,14 +62,14 @@ fn written_of(text: Option<&[u8]>) -> Option<Written>
     }
 }
 
-/// The name of a channel and the words of a message.
+/// The name of a channel or a port, and the words of a message.
 fn message_of(text: Option<&[u8]>) -> Option<Written>
     ensures { result ≡ option_map seen (meant.message_of (pieces_of 32 (option_copied text.entry))) }
 {
-    let (channel, rest) = split_at(b' ', text?);
-    let channel = Name::new(channel)?;
+    let (name, rest) = split_at(b' ', text?);
+    let name = Name::new(name)?;
     let words = words(rest?)?;
-    Some(Written::Message(channel, words))
+    Some(Written::Message(name, words))
 }
 
 /// Nothing, or the name of a partition.

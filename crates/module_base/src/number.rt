@@ -1,4 +1,4 @@
-//! The numbers of a device text.
+//! The numbers of a text.
 
 ghost use Rattle.std.specs.Prelude.{◌≡◌, ◌+◌, ◌-◌, ◌*◌, ◌^◌, ◌≤◌, IfSome};
 ghost use Rattle.std.specs.List.{list_all};

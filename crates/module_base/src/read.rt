@@ -1,43 +1,67 @@
-//! Reading a device text for an image.
+//! The lines of a text, read one after another, whatever they are taken as.
 
-ghost use Rattle.std.specs.Prelude.{◌≡◌, IfOk, IfErr, Ok};
+ghost use Rattle.std.specs.Prelude.{◌≡◌, ◌<◌, ℕ, Some, Ok, IfOk, IfErr};
 ghost use Rattle.apex_meaning.specs.DeviceText as meant;
-ghost use Rattle.apex_meaning.specs.DeviceText.{verdict_for};
-ghost use Rattle.image.specs.Views.{image_of};
+ghost use Rattle.apex_meaning.specs.DeviceText.{is_room};
 ghost use Rattle.module_base.specs.Refusals.{IsRefusal};
-ghost use Rattle.module_base.specs.Views.{rows_in, channels_in};
+ghost use Rattle.module_base.specs.Seen.{seen, seen_line};
+ghost use Rattle.module_base.specs.TextLines.{Taking, line_by, taken_by, verdict_by};
 
 use crate::fault::DeviceTextFault;
-use crate::line::line_of;
+use crate::line::{Written, WrittenLine, line_of};
 use crate::piece::split_at;
-use crate::taking::taken;
-use apex_types::{DeviceFault, DeviceLine, Ticks};
-use image::Image;
+use apex_types::{DeviceFault, Ticks};
 use std::alloc::Global;
 
-#[tactic(auto, unfolding(apex_meaning::specs::DeviceText::verdict), using(crate::proofs::Reading::wrong_line, crate::proofs::Reading::right_line, crate::proofs::Reading::no_more, crate::proofs::Reading::no_line_feed))]
-/// The lines of a device text for an image.
+/// The most lines of a text.
+const MOST_LINES: usize = 65_536;
+
+/// What knows the names in the lines of a text, and takes each line by them.
+pub trait TakesLines {
+    /// What a line is taken as.
+    type Line: Drop;
+
+    ghost is_readable: { Self → Type 0 };
+
+    ghost named: { Self → Taking Self.Line };
+
+    ghost tick_of: { Self.Line → ℕ };
+
+    /// A line of this tick behind so many others, by the names in it.
+    fn take(&self, count: usize, tick: Ticks, written: Written) -> Result<Self::Line, DeviceFault>
+        requires { is_readable self.now }
+        ensures { (w : meant.Written) → written ≡ seen w → result ≡ named self.now count tick.0 w };
+
+    /// The tick of a line.
+    fn tick(line: &Self::Line) -> Ticks
+        ensures { result.0 ≡ tick_of line.now };
+}
+
+/// The lines of a text whose messages have this mark.
 ///
 /// # Errors
 ///
 /// What is wrong in the first wrong line; or want of memory.
-pub fn read_devices(
+#[tactic(auto, unfolding(crate::specs::TextLines::verdict_by), using(crate::proofs::Reading::wrong_line, crate::proofs::Reading::right_line, crate::proofs::Reading::no_more, crate::proofs::Reading::no_line_feed))]
+pub fn read_lines<T: TakesLines>(
     alloc: Global,
-    image: &Image,
+    mark: &[u8],
+    taker: &T,
     text: &[u8],
-) -> Result<Vec<DeviceLine>, DeviceTextFault>
-    ensures accepted { IfOk result (λ lines. verdict_for (image_of image.now) text.now ≡ Ok lines.items) }
-    ensures refused { IfErr result (λ fault. IsRefusal (verdict_for (image_of image.now) text.now) fault) }
+) -> Result<Vec<T::Line>, DeviceTextFault>
+    requires { T.is_readable taker.now }
+    ensures accepted { IfOk result (λ lines. verdict_by mark.now (T.named taker.now) T.tick_of text.now ≡ Ok lines.items) }
+    ensures refused { IfErr result (λ fault. IsRefusal (verdict_by mark.now (T.named taker.now) T.tick_of text.now) fault) }
 {
-    let mut lines: Vec<DeviceLine> = Vec::new(alloc);
+    let mut lines: Vec<T::Line> = Vec::new(alloc);
     let mut before = Ticks(0);
     let mut rest = text;
     while !rest.is_empty() {
         let (text, Some(behind)) = split_at(b'\n', rest) else {
             return Err(DeviceTextFault::Line(DeviceFault::Form));
         };
-        let line = line_at(image, lines.len(), before, text)?;
-        before = line.tick;
+        let line = line_at(mark, taker, lines.len(), before, text)?;
+        before = T::tick(&line);
         lines.push(line)?;
         rest = behind;
     }
@@ -45,16 +69,42 @@ pub fn read_devices(
 }
 
 /// The line with this text, behind so many others, of which the last is of the tick before.
-fn line_at(
-    image: &Image,
+fn line_at<T: TakesLines>(
+    mark: &[u8],
+    taker: &T,
     count: usize,
     before: Ticks,
     text: &[u8],
-) -> Result<DeviceLine, DeviceFault>
-    ensures { result ≡ meant.taken (rows_in image.now) (channels_in image.now) count before.0 (meant.line_of text.now) }
+) -> Result<T::Line, DeviceFault>
+    requires { T.is_readable taker.now }
+    ensures { result ≡ taken_by (T.named taker.now) count before.0 (line_by mark.now text.now) }
 {
-    match line_of(text) {
-        Some(line) => taken(image, count, before, line),
+    match line_of(mark, text) {
+        Some(line) => taken(taker, count, before, line),
         None => Err(DeviceFault::Form),
     }
+}
+
+/// The line by the names in it, behind so many others, of which the last is of the tick before.
+fn taken<T: TakesLines>(
+    taker: &T,
+    count: usize,
+    before: Ticks,
+    line: WrittenLine,
+) -> Result<T::Line, DeviceFault>
+    requires { T.is_readable taker.now }
+    ensures { (l : meant.WrittenLine) → line ≡ seen_line l → result ≡ taken_by (T.named taker.now) count before.0 (Some l) }
+{
+    let WrittenLine { tick, written } = line;
+    if tick < before {
+        return Err(DeviceFault::Order);
+    }
+    taker.take(count, tick, written)
+}
+
+/// Whether one more line may stand behind so many.
+pub fn is_room(count: usize) -> bool
+    ensures { result ≡ is_room count }
+{
+    count < MOST_LINES
 }

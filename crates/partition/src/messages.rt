@@ -9,6 +9,7 @@ ghost use Rattle.apex_meaning.specs.Partition as meaning;
 ghost use Rattle.apex_meaning.specs.Ports.{port_at, is_source};
 ghost use Rattle.apex_meaning.specs.Step.{IsMade};
 ghost use Rattle.partition.specs.Members.{member_of, IsMoved};
+ghost use Rattle.ports.specs.Held.{message_behind};
 
 use crate::kernel::Kernel;
 use crate::partition::Partition;
@@ -74,6 +75,14 @@ impl Kernel {
     {
         let place = port.0.checked_sub(1)?;
         self.ports.message_count(place)
+    }
+
+    /// A copy of the message of a port that has so many before it, if there is one.
+    pub fn message_behind(&self, port: PortId, before: u8) -> Option<Words>
+        ensures { result ≡ message_behind before (at_number self.now.ports.ports port.0) }
+    {
+        let place = port.0.checked_sub(1)?;
+        self.ports.message_behind(place, before)
     }
 }
 

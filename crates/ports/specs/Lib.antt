@@ -1,4 +1,5 @@
 pub mod Bounds
 pub mod Delivering
+pub mod Held
 pub mod Status
 pub mod View

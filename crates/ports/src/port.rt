@@ -253,6 +253,16 @@ impl Port {
         }
     }
 
+    /// A copy of the message that has so many before it.
+    pub(crate) fn message_behind(&self, before: u8) -> Option<Words>
+        ensures { result ≡ slice_get self.now.messages before }
+    {
+        match self.messages.get(usize::from(before)) {
+            Some(message) => Some(copied(message)),
+            None => None,
+        }
+    }
+
     /// Whether its message arrived no longer ago than its refresh period.
     pub(crate) fn is_valid(&self, at: At) -> bool
         ensures { result ≡ services.is_valid at self.now }

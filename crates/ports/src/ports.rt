@@ -9,6 +9,7 @@ ghost use Rattle.apex_meaning.specs.Ports as meaning;
 ghost use Rattle.apex_meaning.specs.PortServices as services;
 ghost use Rattle.apex_meaning.specs.Step.{IsMade};
 ghost use Rattle.ports.specs.Bounds.{AreShort};
+ghost use Rattle.ports.specs.Held.{message_behind};
 ghost use Rattle.ports.specs.Status.{placed_port, port_of_status, port_status, port_with_status, without_first};
 
 use crate::port::{Port, PortStatus};
@@ -114,6 +115,14 @@ impl Ports {
             Some(port) => Some(port.status().messages),
             None => None,
         }
+    }
+
+    /// A copy of the message that has so many before it in the port at a place, if there is one.
+    pub fn message_behind(&self, place: u8, before: u8) -> Option<Words>
+        ensures { result ≡ message_behind before (slice_get self.now.ports place) }
+    {
+        let port = self.ports.get(usize::from(place))?;
+        port.message_behind(before)
     }
 
     /// How the port with a number stands, with its place.

@@ -5,7 +5,7 @@ use apex_types::{DeviceFault, Name};
 use command_line::Refusal;
 use compiler::CompileFault;
 use image::ImageFault;
-use module::{BuildFault, RunFault};
+use module::{BuildFault, InputsFault, RunFault};
 use pal_base::fault::{PalFault, Refusal as SourceRefusal};
 use std::alloc::Global;
 use std::process::Abort;
@@ -13,7 +13,7 @@ use window_table::TableFault;
 
 /// Words over a table, a source and an image that have their names as their bytes, and the line on
 /// the standard error.
-static REFUSALS: [(&[&str], &str); 12] = [
+static REFUSALS: [(&[&str], &str); 20] = [
     (&["mb", "check", "gone", "lost"], "mb: file gone\n"),
     (&["mb", "build", "gone", "new", "lost"], "mb: file gone\n"),
     (
@@ -28,6 +28,38 @@ static REFUSALS: [(&[&str], &str); 12] = [
     (
         &["mb", "run", "image", "devices", "1099511627777"],
         "mb: ticks\n",
+    ),
+    (
+        &["mb", "replay", "gone", "a", "lost", "5"],
+        "mb: file gone\n",
+    ),
+    (
+        &["mb", "replay", "image", "a", "lost", "1099511627777"],
+        "mb: file lost\n",
+    ),
+    (
+        &["mb", "replay", "image", "a", "devices", "1099511627777"],
+        "mb: ticks\n",
+    ),
+    (
+        &["mb", "replay", "image", "a", "devices", "5"],
+        "mb: image 1\n",
+    ),
+    (
+        &["mb", "inputs", "gone", "a", "lost", "5"],
+        "mb: file gone\n",
+    ),
+    (
+        &["mb", "inputs", "image", "a", "lost", "1099511627777"],
+        "mb: file lost\n",
+    ),
+    (
+        &["mb", "inputs", "image", "a", "devices", "1099511627777"],
+        "mb: ticks\n",
+    ),
+    (
+        &["mb", "inputs", "image", "a", "devices", "5"],
+        "mb: image 1\n",
     ),
     (&["mb", "cost", "gone", "lost"], "mb: file gone\n"),
     (
@@ -72,9 +104,10 @@ const BUILDS: [(BuildFault, &str); 5] = [
     (BuildFault::Memory, "mb: memory"),
 ];
 
-/// Refusals of a run, and their lines.
-static RUNS: [(RunFault, &str); 9] = [
+/// Refusals of a run or a replay, and their lines.
+static RUNS: [(RunFault, &str); 10] = [
     (RunFault::Ticks, "mb: ticks"),
+    (RunFault::Partition, "mb: partition"),
     (RunFault::Device(DeviceFault::Form), "mb: device 1"),
     (RunFault::Device(DeviceFault::Order), "mb: device 2"),
     (RunFault::Device(DeviceFault::Name), "mb: device 3"),
@@ -85,6 +118,17 @@ static RUNS: [(RunFault, &str); 9] = [
     (RunFault::Write, "mb: write"),
 ];
 
+/// Refusals of the inputs of a run, and their lines.
+static INPUTS: [(InputsFault, &str); 7] = [
+    (InputsFault::Ticks, "mb: ticks"),
+    (InputsFault::Image(ImageFault::Foreign), "mb: image 2"),
+    (InputsFault::Partition, "mb: partition"),
+    (InputsFault::Device(DeviceFault::Name), "mb: device 3"),
+    (InputsFault::Memory, "mb: memory"),
+    (InputsFault::TooMany, "mb: inputs"),
+    (InputsFault::Write, "mb: write"),
+];
+
 #[test]
 fn lines_of_refusals(rt: HostRuntime) {
     for (fault, line) in &BUILDS {
@@ -92,6 +136,10 @@ fn lines_of_refusals(rt: HostRuntime) {
     }
     for (fault, line) in &RUNS {
         expect_line(&rt, rt.alloc(), &Refusal::Run(*fault), line);
+        expect_line(&rt, rt.alloc(), &Refusal::Replay(*fault), line);
+    }
+    for (fault, line) in &INPUTS {
+        expect_line(&rt, rt.alloc(), &Refusal::Inputs(*fault), line);
     }
     expect_line(&rt, rt.alloc(), &Refusal::Memory, "mb: memory");
     expect_line(&rt, rt.alloc(), &Refusal::Write, "mb: write");

@@ -4,7 +4,7 @@ use super::shelf::{Shelf, expect_command, smallest_shelf};
 use super::texts::{SMALLEST, TABLE};
 
 /// Words over the smallest module, and what standard error takes; standard output takes nothing.
-static REFUSALS: [(&[&str], &str); 9] = [
+static REFUSALS: [(&[&str], &str); 12] = [
     (
         &["mb", "check", "--explain", "source", "source"],
         "mb: table 1\nThe bytes are not a TOML document: they are not UTF-8 or not TOML, a key stands twice, or an integer does not fit 64 bits.\n",
@@ -39,6 +39,18 @@ static REFUSALS: [(&[&str], &str); 9] = [
     (
         &["mb", "run", "--explain", "table", "devices", "5"],
         "mb: image 2\nThe file is not an image of version 1: the first eight bytes or the version are different.\n",
+    ),
+    (
+        &["mb", "replay", "--explain", "image", "b", "source", "5"],
+        "mb: partition\nThe image has no partition of this name.\n",
+    ),
+    (
+        &["mb", "replay", "image", "a", "source", "5", "--explain"],
+        "mb: device 1\nThe line has none of the forms, or it is the last one and has no line feed.\n",
+    ),
+    (
+        &["mb", "inputs", "--explain", "image", "", "source", "5"],
+        "mb: partition\nThe image has no partition of this name.\n",
     ),
     (
         &["mb", "dis", "--explain", "devices"],

@@ -6,7 +6,7 @@ use std::alloc::Global;
 use std::process::Abort;
 
 /// Words over a good table, source and image, with the line on the standard error.
-static LINES: [(&[&str], &str); 18] = [
+static LINES: [(&[&str], &str); 26] = [
     (&["mb", "check", "gone", "lost"], "mb: file gone\n"),
     (&["mb", "check", "table", "lost"], "mb: file lost\n"),
     (
@@ -61,6 +61,38 @@ static LINES: [(&[&str], &str); 18] = [
         &["mb", "run", "table", "source", "1099511627777"],
         "mb: ticks\n",
     ),
+    (
+        &["mb", "replay", "gone", "b", "lost", "5"],
+        "mb: file gone\n",
+    ),
+    (
+        &["mb", "replay", "table", "b", "lost", "1099511627777"],
+        "mb: file lost\n",
+    ),
+    (
+        &["mb", "replay", "table", "b", "source", "1099511627777"],
+        "mb: ticks\n",
+    ),
+    (
+        &["mb", "replay", "table", "b", "source", "5"],
+        "mb: image 2\n",
+    ),
+    (
+        &["mb", "replay", "image", "b", "source", "5"],
+        "mb: partition\n",
+    ),
+    (
+        &["mb", "inputs", "image", "b", "lost", "1099511627777"],
+        "mb: file lost\n",
+    ),
+    (
+        &["mb", "inputs", "table", "b", "source", "5"],
+        "mb: image 2\n",
+    ),
+    (
+        &["mb", "inputs", "image", "b", "source", "5"],
+        "mb: partition\n",
+    ),
 ];
 
 #[test]
@@ -72,7 +104,7 @@ fn the_first_fault_is_told(rt: HostRuntime) {
 }
 
 /// Words that are no command. No file is read for them.
-static NO_COMMANDS: [&[&str]; 22] = [
+static NO_COMMANDS: [&[&str]; 26] = [
     &["mb", "check", "gone"],
     &["mb", "check", "table"],
     &["mb", "check"],
@@ -92,6 +124,10 @@ static NO_COMMANDS: [&[&str]; 22] = [
     &["mb", "run", "gone", "devices", "12x"],
     &["mb", "run", "gone", "devices", "-5"],
     &["mb", "run", "gone", "devices", "+5"],
+    &["mb", "replay", "image", "a", "devices"],
+    &["mb", "replay", "gone", "a", "devices", "x5"],
+    &["mb", "inputs", "gone", "a", "devices", "5 "],
+    &["mb", "inputs", "image", "-a", "devices", "5"],
     &["mb", "walk"],
     &["mb", "cost", "gone"],
     &["mb", "dis", "image", "image"],

@@ -27,11 +27,13 @@ impl Write for FailingWriter {
 }
 
 /// The words of each command, and of help.
-static COMMANDS: [&[&str]; 7] = [
+static COMMANDS: [&[&str]; 9] = [
     &["mb"],
     &["mb", "check", "table", "source"],
     &["mb", "build", "table", "image", "source"],
     &["mb", "run", "image", "devices", "5"],
+    &["mb", "replay", "image", "a", "devices", "5"],
+    &["mb", "inputs", "image", "a", "devices", "5"],
     &["mb", "cost", "table", "source"],
     &["mb", "dis", "image"],
     &["mb", "help"],
@@ -40,6 +42,7 @@ static COMMANDS: [&[&str]; 7] = [
 /// Expects that an output that is not taken, or not flushed, is told.
 fn expect_fault(rt: &impl Abort, alloc: Global, is_taking: bool, words: &[&str]) {
     let mut shelf = smallest_shelf(rt, alloc);
+    shelf.devices = "1 FAULT a\n";
     let mut out = FailingWriter { is_taking };
     let mut err = Vec::new(alloc);
     let status = command_into(alloc, words, &mut shelf, &mut out, &mut err);

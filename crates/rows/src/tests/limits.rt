@@ -17,5 +17,7 @@ fn ticks(rt: HostRuntime) {
     for (ticks, line) in &TICKS {
         let words = ["mb", "run", "image", "devices", *ticks];
         expect_beginning(&rt, rt.alloc(), 0, &words, (*line, ""));
+        let words = ["mb", "replay", "image", "a", "devices", *ticks];
+        expect_beginning(&rt, rt.alloc(), 0, &words, (*line, ""));
     }
 }

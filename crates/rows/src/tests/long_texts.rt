@@ -7,14 +7,14 @@ use std::process::Abort;
 
 /// A text in which a line stands many times.
 #[derive(Clone, Copy)]
-struct LongText {
-    head: &'static str,
-    line: &'static str,
-    times: usize,
-    tail: &'static str,
+pub struct LongText {
+    pub head: &'static str,
+    pub line: &'static str,
+    pub times: usize,
+    pub tail: &'static str,
 }
 
-fn text_of(rt: &impl Abort, alloc: Global, long: &LongText) -> String {
+pub fn text_of(rt: &impl Abort, alloc: Global, long: &LongText) -> String {
     let mut text = String::from_str(alloc, long.head).expect(rt, "memory");
     for _ in 0..long.times {
         text.push_str(long.line).expect(rt, "memory");
@@ -24,7 +24,7 @@ fn text_of(rt: &impl Abort, alloc: Global, long: &LongText) -> String {
 }
 
 /// Builds what lies on the shelf, expects that an image is written, and answers its length.
-fn built(rt: &impl Abort, alloc: Global, shelf: &mut Shelf<'_>) -> usize {
+pub fn built(rt: &impl Abort, alloc: Global, shelf: &mut Shelf<'_>) -> usize {
     let words = ["mb", "build", "table", "image", "source"];
     let mut out = Vec::new(alloc);
     let mut err = Vec::new(alloc);
@@ -242,7 +242,7 @@ fn words_of_data(rt: HostRuntime) {
 }
 
 /// One partition with a port that takes messages of one word from outside.
-static PORT_TABLE: &str = "\
+pub static PORT_TABLE: &str = "\
 frame = 128
 fault = \"IGNORE\"
 [[partition]]
@@ -282,7 +282,7 @@ static DEVICES: [(&str, &str, &str); 8] = [
 ];
 
 /// So many lines of a device text, and what stands behind them.
-fn devices(rt: &impl Abort, alloc: Global, line: &'static str, tail: &'static str) -> String {
+pub fn devices(rt: &impl Abort, alloc: Global, line: &'static str, tail: &'static str) -> String {
     let long = LongText {
         head: "",
         line,
@@ -323,7 +323,7 @@ fn lines_of_a_device_text(rt: HostRuntime) {
     }
 }
 
-static ARRIVALS: LongText = LongText {
+pub static ARRIVALS: LongText = LongText {
     head: "0000000000000 a MODE COLD_START\n0000000000000 a STATE INIT READY\n",
     line: "0000000000000 a ARRIVE p 1\n",
     times: 65_536,

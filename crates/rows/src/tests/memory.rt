@@ -3,7 +3,7 @@
 use super::shelf::{Shelf, command_into, expect_command};
 use super::sinks::narrow_sink;
 use super::texts::{FIRST_TRACE, SMALLEST, SMALLEST_IMAGE, SMALLEST_TRACE, TABLE};
-use module::{BuildFault, RunFault, build, run};
+use module::{BuildFault, InputsFault, RunFault, build, inputs, replay, run};
 use std::alloc::Global;
 use std::process::Abort;
 
@@ -51,6 +51,32 @@ fn expect_trace(rt: &impl Abort, alloc: Global) {
     assert_eq!(rt; sink.taken.as_slice(), SMALLEST_TRACE.as_bytes());
 }
 
+/// Expects that the one partition of the smallest image is replayed.
+fn expect_replay(rt: &impl Abort, alloc: Global) {
+    let mut sink = narrow_sink(512, false);
+    let ran = replay(alloc, &SMALLEST_IMAGE, "a", &[], 128, &mut sink);
+    assert!(rt; ran.is_ok());
+    assert_eq!(rt; sink.taken.as_slice(), SMALLEST_TRACE.as_bytes());
+}
+
+/// What comes to the one partition of the smallest image, and when.
+const FAULTS: &str = "3 FAULT\n5 FAULT a\n";
+
+/// Expects that what comes to the partition is told.
+fn expect_inputs(rt: &impl Abort, alloc: Global) {
+    let mut sink = narrow_sink(512, false);
+    let told = inputs(
+        alloc,
+        &SMALLEST_IMAGE,
+        "a",
+        FAULTS.as_bytes(),
+        128,
+        &mut sink,
+    );
+    assert!(rt; told.is_ok());
+    assert_eq!(rt; sink.taken.as_slice(), FAULTS.as_bytes());
+}
+
 #[test]
 fn building(rt: HostRuntime) {
     let sources = [SMALLEST.as_bytes()];
@@ -74,6 +100,33 @@ fn running(rt: HostRuntime) {
     assert!(rt; refused == Err(RunFault::Memory));
     assert!(rt; sink.taken.is_empty());
     expect_trace(&rt, rt.alloc());
+}
+
+#[test]
+fn replaying(rt: HostRuntime) {
+    expect_replay(&rt, rt.alloc());
+    let mut sink = narrow_sink(512, false);
+    let mut held = no_blocks(&rt, rt.alloc());
+    exhaust(rt.alloc(), &mut held);
+    let refused = replay(rt.alloc(), &SMALLEST_IMAGE, "a", &[], 128, &mut sink);
+    held.clear();
+    assert!(rt; refused == Err(RunFault::Memory));
+    assert!(rt; sink.taken.is_empty());
+    expect_replay(&rt, rt.alloc());
+}
+
+#[test]
+fn telling_inputs(rt: HostRuntime) {
+    expect_inputs(&rt, rt.alloc());
+    let mut sink = narrow_sink(512, false);
+    let mut held = no_blocks(&rt, rt.alloc());
+    exhaust(rt.alloc(), &mut held);
+    let faults = FAULTS.as_bytes();
+    let refused = inputs(rt.alloc(), &SMALLEST_IMAGE, "a", faults, 128, &mut sink);
+    held.clear();
+    assert!(rt; refused == Err(InputsFault::Memory));
+    assert!(rt; sink.taken.is_empty());
+    expect_inputs(&rt, rt.alloc());
 }
 
 #[test]

@@ -6,7 +6,7 @@ use super::shelf::{command_into, smallest_shelf};
 use super::texts::{SMALLEST_IMAGE, SMALLEST_TRACE};
 use apex_types::{Sink, SinkFault, WriterSink};
 use arrayvec::ArrayVec;
-use module::{RunFault, run};
+use module::{RunFault, replay, run};
 use std::alloc::Global;
 use std::io::{self, ErrorKind, Write};
 use std::process::Abort;
@@ -133,6 +133,25 @@ fn a_narrow_sink_that_fails_has_a_beginning(rt: HostRuntime) {
             assert!(rt; trace.starts_with(sink.taken.as_slice()));
         }
     }
+}
+
+#[test]
+fn a_sink_that_fails_has_a_beginning_of_a_replay(rt: HostRuntime) {
+    let trace = SMALLEST_TRACE.as_bytes();
+    for is_stalling in [false, true] {
+        for room in 0..209 {
+            let mut sink = narrow_sink(room, is_stalling);
+            let found = replay(rt.alloc(), &SMALLEST_IMAGE, "a", &[], 128, &mut sink);
+            assert!(rt; found == Err(RunFault::Write), "room for {room}");
+            assert_eq!(rt; sink.failures, 1);
+            assert_eq!(rt; sink.taken.len(), room);
+            assert!(rt; trace.starts_with(sink.taken.as_slice()));
+        }
+    }
+    let mut sink = narrow_sink(209, false);
+    let found = replay(rt.alloc(), &SMALLEST_IMAGE, "a", &[], 128, &mut sink);
+    assert!(rt; found.is_ok());
+    assert_eq!(rt; sink.taken.as_slice(), trace);
 }
 
 #[test]

@@ -4,7 +4,7 @@ use super::shelf::{Shelf, expect_command};
 use super::texts::TABLE;
 
 /// Words, the status, and the texts on the standard output and the standard error.
-static USAGES: [(&[&str], u8, &str, &str); 31] = [
+static USAGES: [(&[&str], u8, &str, &str); 39] = [
     (
         &["mb", "check"],
         2,
@@ -84,6 +84,36 @@ static USAGES: [(&[&str], u8, &str, &str); 31] = [
         "error: invalid value '' for '<TICKS>'\n\nUsage: mb [COMMAND]\n\nFor more information, try '--help'.\n",
     ),
     (
+        &["mb", "replay"],
+        2,
+        "",
+        "error: the following required arguments were not provided:\n  <IMAGE>\n  <PARTITION>\n  <INPUTS>\n  <TICKS>\n\nUsage: mb replay <IMAGE> <PARTITION> <INPUTS> <TICKS>\n\nFor more information, try '--help'.\n",
+    ),
+    (
+        &["mb", "replay", "image", "a", "devices"],
+        2,
+        "",
+        "error: the following required arguments were not provided:\n  <TICKS>\n\nUsage: mb replay <IMAGE> <PARTITION> <INPUTS> <TICKS>\n\nFor more information, try '--help'.\n",
+    ),
+    (
+        &["mb", "replay", "image", "a", "devices", "5x"],
+        2,
+        "",
+        "error: invalid value '5x' for '<TICKS>'\n\nUsage: mb [COMMAND]\n\nFor more information, try '--help'.\n",
+    ),
+    (
+        &["mb", "inputs", "image", "a"],
+        2,
+        "",
+        "error: the following required arguments were not provided:\n  <DEVICES>\n  <TICKS>\n\nUsage: mb inputs <IMAGE> <PARTITION> <DEVICES> <TICKS>\n\nFor more information, try '--help'.\n",
+    ),
+    (
+        &["mb", "inputs", "image", "a", "devices", ""],
+        2,
+        "",
+        "error: invalid value '' for '<TICKS>'\n\nUsage: mb [COMMAND]\n\nFor more information, try '--help'.\n",
+    ),
+    (
         &["mb", "cost"],
         2,
         "",
@@ -116,13 +146,13 @@ static USAGES: [(&[&str], u8, &str, &str); 31] = [
     (
         &["mb", "help"],
         0,
-        "Builds ARINC 653 modules and runs them; without a command, runs a stored first module\n\nUsage: mb [COMMAND]\n\nCommands:\n  check  Builds a module table and one source a partition, and writes no image\n  build  Builds an image of a module table and one source a partition, in their order\n  run    Runs an image for so many ticks and writes its trace\n  cost   Writes the instructions, the frame and the cost of each body of the sources\n  dis    Writes the instructions of an image\n  help   Print this message or the help of the given subcommand(s)\n\nOptions:\n  -h, --help  Print help\n\nExample: mb build table.toml module.image a.pal b.pal\n",
+        "Builds ARINC 653 modules and runs them; without a command, runs a stored first module\n\nUsage: mb [COMMAND]\n\nCommands:\n  check   Builds a module table and one source a partition, and writes no image\n  build   Builds an image of a module table and one source a partition, in their order\n  run     Runs an image for so many ticks and writes its trace\n  replay  Runs one partition of an image alone, with its inputs, and writes its trace\n  inputs  Runs an image and writes what comes to one partition, as a replay text\n  cost    Writes the instructions, the frame and the cost of each body of the sources\n  dis     Writes the instructions of an image\n  help    Print this message or the help of the given subcommand(s)\n\nOptions:\n  -h, --help  Print help\n\nExample: mb build table.toml module.image a.pal b.pal\n",
         "",
     ),
     (
         &["mb", "--help"],
         0,
-        "Builds ARINC 653 modules and runs them; without a command, runs a stored first module\n\nUsage: mb [COMMAND]\n\nCommands:\n  check  Builds a module table and one source a partition, and writes no image\n  build  Builds an image of a module table and one source a partition, in their order\n  run    Runs an image for so many ticks and writes its trace\n  cost   Writes the instructions, the frame and the cost of each body of the sources\n  dis    Writes the instructions of an image\n  help   Print this message or the help of the given subcommand(s)\n\nOptions:\n  -h, --help  Print help\n\nExample: mb build table.toml module.image a.pal b.pal\n",
+        "Builds ARINC 653 modules and runs them; without a command, runs a stored first module\n\nUsage: mb [COMMAND]\n\nCommands:\n  check   Builds a module table and one source a partition, and writes no image\n  build   Builds an image of a module table and one source a partition, in their order\n  run     Runs an image for so many ticks and writes its trace\n  replay  Runs one partition of an image alone, with its inputs, and writes its trace\n  inputs  Runs an image and writes what comes to one partition, as a replay text\n  cost    Writes the instructions, the frame and the cost of each body of the sources\n  dis     Writes the instructions of an image\n  help    Print this message or the help of the given subcommand(s)\n\nOptions:\n  -h, --help  Print help\n\nExample: mb build table.toml module.image a.pal b.pal\n",
         "",
     ),
     (
@@ -177,6 +207,24 @@ static USAGES: [(&[&str], u8, &str, &str); 31] = [
         &["mb", "run", "-h"],
         0,
         "Runs an image for so many ticks and writes its trace\n\nUsage: mb run [OPTIONS] <IMAGE> <DEVICES> <TICKS>\n\nArguments:\n  <IMAGE>    The file of an image\n  <DEVICES>  The file of the device text, which may be empty\n  <TICKS>    How many ticks the image runs, at most 1099511627776\n\nOptions:\n      --explain  Explains a refusal in plain words\n  -h, --help     Print help\n\nExample: mb run module.image devices.txt 1000\n",
+        "",
+    ),
+    (
+        &["mb", "help", "replay"],
+        0,
+        "Runs one partition of an image alone, with its inputs, and writes its trace\n\nUsage: mb replay [OPTIONS] <IMAGE> <PARTITION> <INPUTS> <TICKS>\n\nArguments:\n  <IMAGE>      The file of an image\n  <PARTITION>  The name of the partition\n  <INPUTS>     The file of the replay text, which may be empty\n  <TICKS>      How many ticks the partition runs, at most 1099511627776\n\nOptions:\n      --explain  Explains a refusal in plain words\n  -h, --help     Print help\n\nExample: mb replay module.image b inputs.txt 1000\n",
+        "",
+    ),
+    (
+        &["mb", "replay", "--help"],
+        0,
+        "Runs one partition of an image alone, with its inputs, and writes its trace\n\nUsage: mb replay [OPTIONS] <IMAGE> <PARTITION> <INPUTS> <TICKS>\n\nArguments:\n  <IMAGE>      The file of an image\n  <PARTITION>  The name of the partition\n  <INPUTS>     The file of the replay text, which may be empty\n  <TICKS>      How many ticks the partition runs, at most 1099511627776\n\nOptions:\n      --explain  Explains a refusal in plain words\n  -h, --help     Print help\n\nExample: mb replay module.image b inputs.txt 1000\n",
+        "",
+    ),
+    (
+        &["mb", "help", "inputs"],
+        0,
+        "Runs an image and writes what comes to one partition, as a replay text\n\nUsage: mb inputs [OPTIONS] <IMAGE> <PARTITION> <DEVICES> <TICKS>\n\nArguments:\n  <IMAGE>      The file of an image\n  <PARTITION>  The name of the partition\n  <DEVICES>    The file of the device text, which may be empty\n  <TICKS>      How many ticks the image runs, at most 1099511627776\n\nOptions:\n      --explain  Explains a refusal in plain words\n  -h, --help     Print help\n\nExample: mb inputs module.image b devices.txt 1000\n",
         "",
     ),
     (

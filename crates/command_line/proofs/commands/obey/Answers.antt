@@ -9,7 +9,7 @@ use Rattle.command_line.specs.Refusals.{IsRefused}
 use Rattle.streams.specs.States.{seen}
 use Rattle.command_line.specs.States.{state}
 use Rattle.command_line.specs.declared.refusal.Failure.TheVariants.{Refused}
-use Rattle.command_line.proofs.Found.{words_are, check_is, build_is, run_is, cost_is, dis_is, other_is, none_entered}
+use Rattle.command_line.proofs.Found.{words_are, check_is, build_is, run_is, replay_is, inputs_is, cost_is, dis_is, other_is, none_entered}
 use Rattle.command_line.proofs.Ran.{told_as}
 use Rattle.command_line.proofs.commands.obey.Goals.{in_default-via-in-Some+in_default, in_default-via-in_default}
 use Rattle.command_line.proofs.commands.obey.Goals as goal
@@ -116,12 +116,44 @@ returns-in-Some-run-default-clause-done g c =
     c.word-image-in-Some-run-default.ensures c.word-devices.ensures c.word.ensures in
     subst (λ o. OnOk c.run.result (IsDone o before after)) (sym order) c.run.ensures.done
 
+pub returns-in-Some-replay-default-clause-done : goal.returns-in-Some-replay-default-clause-done
+returns-in-Some-replay-default-clause-done g c =
+    let before = state (g.F.Files.contents c.args.files.now) (seen g.O.Sink.taken g.O.Sink.failures g.O.Stream.is_flushed c.args.out.now) in
+    let after = state (g.F.Files.contents c.replay.new.files) (seen g.O.Sink.taken g.O.Sink.failures g.O.Stream.is_flushed c.replay.new.out) in
+    let arm = c.in-Some-replay-default in
+    let rows = rows_of (found_of arm.found.now) in
+    let order = replay_is c.args.matches.now arm.field-0-0.now rows c.word-image-in-Some-replay-default.result.now c.word-partition.result.now c.word-inputs.result.now c.word-ticks.result.now arm.ensures.name arm.ensures.rows arm.is-replay
+    c.word-image-in-Some-replay-default.ensures c.word-partition.ensures c.word-inputs.ensures c.word-ticks.ensures in
+    subst (λ o. OnOk c.replay.result (IsDone o before after)) (sym order) c.replay.ensures.done
+
+pub returns-in-Some-inputs-default-clause-done : goal.returns-in-Some-inputs-default-clause-done
+returns-in-Some-inputs-default-clause-done g c =
+    let before = state (g.F.Files.contents c.args.files.now) (seen g.O.Sink.taken g.O.Sink.failures g.O.Stream.is_flushed c.args.out.now) in
+    let after = state (g.F.Files.contents c.inputs.new.files) (seen g.O.Sink.taken g.O.Sink.failures g.O.Stream.is_flushed c.inputs.new.out) in
+    let arm = c.in-Some-inputs-default in
+    let rows = rows_of (found_of arm.found.now) in
+    let order = inputs_is c.args.matches.now arm.field-0-0.now rows c.word-image-in-Some-inputs-default.result.now c.word-partition-in-Some-inputs-default.result.now c.word-devices-in-Some-inputs-default.result.now c.word-ticks-in-Some-inputs-default.result.now arm.ensures.name arm.ensures.rows arm.is-inputs
+    c.word-image-in-Some-inputs-default.ensures c.word-partition-in-Some-inputs-default.ensures c.word-devices-in-Some-inputs-default.ensures c.word-ticks-in-Some-inputs-default.ensures in
+    subst (λ o. OnOk c.inputs.result (IsDone o before after)) (sym order) c.inputs.ensures.done
+
+pub returns-in_err-run_stored-in_default-clause-failed : goal.returns-in_err-run_stored-in_default-clause-failed
+returns-in_err-run_stored-in_default-clause-failed g c =
+    let before = state (g.F.Files.contents c.args.files.now) (seen g.O.Sink.taken g.O.Sink.failures g.O.Stream.is_flushed c.args.out.now) in
+    let after = state (g.F.Files.contents c.args.files.now) (seen g.O.Sink.taken g.O.Sink.failures g.O.Stream.is_flushed c.run_stored.new.out) in
+    let order : order_of (subcommand_rows_of c.args.matches.now) ≡ First = elim c.in_default.branch [
+      | in_default-via-in-Some+in_default w ↦ other_is c.args.matches.now w.in_default.field-0.0.now (rows_of (found_of w.in_default.field-0.1.now)) (search (rules, c.subcommand.ensures.name)) (search (rules, c.subcommand.ensures.rows)) (search rules) (search rules) (search rules) (search rules) (search rules) (search rules) (search rules)
+      | in_default-via-in_default w ↦ none_entered c.args.matches.now (search (rules, c.subcommand.ensures.name))
+    ] in
+    let r = c.in_err-run_stored-in_default.field-0.0 in
+    told_as _ (Refused r) c.from_residual-in_err-run_stored-in_default.result c.from_residual-in_err-run_stored-in_default.ensures
+    (subst (λ o. IsRefused o before after r) (sym order) (refl, c.in_err-run_stored-in_default.ensures.refused))
+
 pub returns-in_ok-run_stored-in_default-clause-done : goal.returns-in_ok-run_stored-in_default-clause-done
 returns-in_ok-run_stored-in_default-clause-done g c =
     let before = state (g.F.Files.contents c.args.files.now) (seen g.O.Sink.taken g.O.Sink.failures g.O.Stream.is_flushed c.args.out.now) in
     let after = state (g.F.Files.contents c.args.files.now) (seen g.O.Sink.taken g.O.Sink.failures g.O.Stream.is_flushed c.run_stored.new.out) in
     let order : order_of (subcommand_rows_of c.args.matches.now) ≡ First = elim c.in_default.branch [
-      | in_default-via-in-Some+in_default w ↦ other_is c.args.matches.now w.in_default.field-0.0.now (rows_of (found_of w.in_default.field-0.1.now)) (search (rules, c.subcommand.ensures.name)) (search (rules, c.subcommand.ensures.rows)) (search rules) (search rules) (search rules) (search rules) (search rules)
+      | in_default-via-in-Some+in_default w ↦ other_is c.args.matches.now w.in_default.field-0.0.now (rows_of (found_of w.in_default.field-0.1.now)) (search (rules, c.subcommand.ensures.name)) (search (rules, c.subcommand.ensures.rows)) (search rules) (search rules) (search rules) (search rules) (search rules) (search rules) (search rules)
       | in_default-via-in_default w ↦ none_entered c.args.matches.now (search (rules, c.subcommand.ensures.name))
     ] in
     subst (λ o. IsDone o before after) (sym order) (refl, c.in_ok-run_stored-in_default.ensures.done)

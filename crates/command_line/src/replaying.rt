@@ -1,0 +1,170 @@
+//! One partition of an image: its replay, and the inputs that a run brings it.
+
+ghost use Rattle.std.specs.Prelude.{◌≡◌, ◌-◌, ◌^◌, ◌<◌, IfErr, OnOk};
+ghost use Rattle.apex_meaning.specs.ImageReading.{image_at};
+ghost use Rattle.module.specs.Promises.{Replays};
+ghost use Rattle.module.specs.Telling.{Tells};
+ghost use Rattle.command_line.specs.Done.{AreInputsDone, IsDone, IsReplayDone};
+ghost use Rattle.command_line.specs.Orders.{Inputs, Replay};
+ghost use Rattle.command_line.specs.Refusals.{AreInputsRefused, HasFailedBy, HasFailedByInputs, IsFailure, IsReplayRefused};
+ghost use Rattle.command_line.specs.States.{state};
+ghost use Rattle.command_line.specs.Told.{IsOfFailed, IsOfFailedFile};
+ghost use Rattle.streams.specs.States.{IsFlushed, seen};
+
+use crate::files::Files;
+use crate::grammar::{bad_ticks, ticks_of};
+use crate::reading::read;
+use crate::refusal::{Failure, Refusal};
+use module::{InputsFault, RunFault};
+use std::alloc::Global;
+use streams::Stream;
+
+/// Replays a partition of an image for the ticks of a word.
+pub fn replay<F: Files, O: Stream>(
+    alloc: Global,
+    image: &str,
+    partition: &str,
+    inputs: &str,
+    ticks: &str,
+    files: &mut F,
+    out: &mut O,
+) -> Result<(), Failure>
+    requires { O.failures out.old < 2 ^ 64 - 1 }
+    ensures done { OnOk result (IsDone (Replay image.now partition.now inputs.now ticks.now)
+        (state (F.contents files.old) (seen O.taken O.failures O.is_flushed out.old)) (state (F.contents files.new) (seen O.taken O.failures O.is_flushed out.new))) }
+    ensures flushed { OnOk result (IsFlushed (seen O.taken O.failures O.is_flushed out.old) (seen O.taken O.failures O.is_flushed out.new)) }
+    ensures failed { IfErr result (λ f. IsFailure (Replay image.now partition.now inputs.now ticks.now)
+        (state (F.contents files.old) (seen O.taken O.failures O.is_flushed out.old)) (state (F.contents files.new) (seen O.taken O.failures O.is_flushed out.new)) f) }
+    ensures noted { OnOk result (F.failed files.new ≡ F.failed files.old) }
+    ensures named { IfErr result (λ f. IsOfFailedFile (F.failed files.old) (F.failed files.new) f) }
+{
+    let Some(number) = ticks_of(ticks) else {
+        return Err(Failure::Usage(bad_ticks(alloc, ticks)?));
+    };
+    Ok(replay_named(alloc, image, partition, inputs, number, files, out)?)
+}
+
+/// Replays a partition of an image for so many ticks.
+fn replay_named<F: Files, O: Stream>(
+    alloc: Global,
+    image: &str,
+    partition: &str,
+    inputs: &str,
+    ticks: u64,
+    files: &mut F,
+    out: &mut O,
+) -> Result<(), Refusal>
+    requires { O.failures out.old < 2 ^ 64 - 1 }
+    ensures done { OnOk result (IsReplayDone image.now partition.now inputs.now ticks
+        (state (F.contents files.old) (seen O.taken O.failures O.is_flushed out.old)) (state (F.contents files.new) (seen O.taken O.failures O.is_flushed out.new))) }
+    ensures flushed { OnOk result (IsFlushed (seen O.taken O.failures O.is_flushed out.old) (seen O.taken O.failures O.is_flushed out.new)) }
+    ensures refused { IfErr result (λ r. IsReplayRefused image.now partition.now inputs.now ticks
+        (state (F.contents files.old) (seen O.taken O.failures O.is_flushed out.old)) (state (F.contents files.new) (seen O.taken O.failures O.is_flushed out.new)) r) }
+    ensures noted { OnOk result (F.failed files.new ≡ F.failed files.old) }
+    ensures named { IfErr result (λ r. IsOfFailed (F.failed files.old) (F.failed files.new) r) }
+{
+    let image = read(alloc, image, files)?;
+    let inputs = read(alloc, inputs, files)?;
+    match trace_alone(
+        alloc,
+        image.as_slice(),
+        partition,
+        inputs.as_slice(),
+        ticks,
+        out,
+    ) {
+        Ok(()) => Ok(out.flush()?),
+        Err(fault) => Err(Refusal::Replay(fault)),
+    }
+}
+
+/// Writes the trace of a partition alone.
+fn trace_alone<O: Stream>(
+    alloc: Global,
+    image: &[u8],
+    partition: &str,
+    inputs: &[u8],
+    ticks: u64,
+    out: &mut O,
+) -> Result<(), RunFault>
+    requires { O.failures out.old < 2 ^ 64 - 1 }
+    ensures trace { Replays (image_at image.now) partition.now inputs.now ticks (O.taken out.old) (O.taken out.new) result }
+    ensures quiet { OnOk result (O.failures out.new ≡ O.failures out.old) }
+    ensures failed { IfErr result (λ f. HasFailedBy f (seen O.taken O.failures O.is_flushed out.old) (seen O.taken O.failures O.is_flushed out.new)) }
+{
+    module::replay(alloc, image, partition, inputs, ticks, out)
+}
+
+/// Writes the inputs that a run of an image brings a partition in the ticks of a word.
+pub fn inputs<F: Files, O: Stream>(
+    alloc: Global,
+    image: &str,
+    partition: &str,
+    devices: &str,
+    ticks: &str,
+    files: &mut F,
+    out: &mut O,
+) -> Result<(), Failure>
+    requires { O.failures out.old < 2 ^ 64 - 1 }
+    ensures done { OnOk result (IsDone (Inputs image.now partition.now devices.now ticks.now)
+        (state (F.contents files.old) (seen O.taken O.failures O.is_flushed out.old)) (state (F.contents files.new) (seen O.taken O.failures O.is_flushed out.new))) }
+    ensures flushed { OnOk result (IsFlushed (seen O.taken O.failures O.is_flushed out.old) (seen O.taken O.failures O.is_flushed out.new)) }
+    ensures failed { IfErr result (λ f. IsFailure (Inputs image.now partition.now devices.now ticks.now)
+        (state (F.contents files.old) (seen O.taken O.failures O.is_flushed out.old)) (state (F.contents files.new) (seen O.taken O.failures O.is_flushed out.new)) f) }
+    ensures noted { OnOk result (F.failed files.new ≡ F.failed files.old) }
+    ensures named { IfErr result (λ f. IsOfFailedFile (F.failed files.old) (F.failed files.new) f) }
+{
+    let Some(number) = ticks_of(ticks) else {
+        return Err(Failure::Usage(bad_ticks(alloc, ticks)?));
+    };
+    Ok(inputs_named(alloc, image, partition, devices, number, files, out)?)
+}
+
+/// Writes the inputs that so many ticks of an image bring a partition.
+fn inputs_named<F: Files, O: Stream>(
+    alloc: Global,
+    image: &str,
+    partition: &str,
+    devices: &str,
+    ticks: u64,
+    files: &mut F,
+    out: &mut O,
+) -> Result<(), Refusal>
+    requires { O.failures out.old < 2 ^ 64 - 1 }
+    ensures done { OnOk result (AreInputsDone image.now partition.now devices.now ticks
+        (state (F.contents files.old) (seen O.taken O.failures O.is_flushed out.old)) (state (F.contents files.new) (seen O.taken O.failures O.is_flushed out.new))) }
+    ensures flushed { OnOk result (IsFlushed (seen O.taken O.failures O.is_flushed out.old) (seen O.taken O.failures O.is_flushed out.new)) }
+    ensures refused { IfErr result (λ r. AreInputsRefused image.now partition.now devices.now ticks
+        (state (F.contents files.old) (seen O.taken O.failures O.is_flushed out.old)) (state (F.contents files.new) (seen O.taken O.failures O.is_flushed out.new)) r) }
+    ensures noted { OnOk result (F.failed files.new ≡ F.failed files.old) }
+    ensures named { IfErr result (λ r. IsOfFailed (F.failed files.old) (F.failed files.new) r) }
+{
+    let image = read(alloc, image, files)?;
+    let devices = read(alloc, devices, files)?;
+    tell_inputs(
+        alloc,
+        image.as_slice(),
+        partition,
+        devices.as_slice(),
+        ticks,
+        out,
+    )?;
+    Ok(out.flush()?)
+}
+
+/// Writes what a run of an image brings a partition, as a replay text.
+fn tell_inputs<O: Stream>(
+    alloc: Global,
+    image: &[u8],
+    partition: &str,
+    devices: &[u8],
+    ticks: u64,
+    out: &mut O,
+) -> Result<(), InputsFault>
+    requires { O.failures out.old < 2 ^ 64 - 1 }
+    ensures told { Tells (image_at image.now) partition.now devices.now ticks (O.taken out.old) (O.taken out.new) result }
+    ensures quiet { OnOk result (O.failures out.new ≡ O.failures out.old) }
+    ensures failed { IfErr result (λ f. HasFailedByInputs f (seen O.taken O.failures O.is_flushed out.old) (seen O.taken O.failures O.is_flushed out.new)) }
+{
+    module::inputs(alloc, image, partition, devices, ticks, out)
+}

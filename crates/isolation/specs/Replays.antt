@@ -1,0 +1,21 @@
+-- What a replay of one partition of an image is of.
+use Rattle.std.specs.Prelude.{◌≡◌, ℕ, ◌^◌, ◌≤◌, List, Option, Some, Result, Ok}
+use Rattle.apex_meaning.specs.DeviceText.{first_from}
+use Rattle.apex_meaning.specs.GrammarWords.{same}
+use Rattle.apex_meaning.specs.Image.{Item, Image}
+use Rattle.apex_meaning.specs.ImageReading.{Fault}
+use Rattle.isolation.specs.Alone.{InputLine}
+use Rattle.isolation.specs.ReplayText.{replay_verdict}
+use Rattle.isolation.specs.Slices.{Slice, slice_of}
+
+-- the number of the partition of a name, with what the image has of it
+abbrev pub numbered : Image → List ℕ → Option (ℕ × Item)
+numbered image name = first_from 1 (λ i. same i.partition.name name) image.items
+
+-- An image was read, it has a partition of this name, and the text is one of what comes to it, for so many ticks.
+pub record IsReplay (read : Result Image Fault) (name inputs : List ℕ) (n : ℕ) (s : Slice) (lines : List InputLine) : Type 0 where
+  pub image : Image
+  pub loaded : read ≡ Ok image
+  pub found : (f : ℕ × Item) × (numbered image name ≡ Some f) × (s ≡ slice_of image f.0 f.1)
+  pub taken : replay_verdict s.item.partition inputs ≡ Ok lines
+  pub few : n ≤ 2 ^ 40

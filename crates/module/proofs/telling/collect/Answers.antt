@@ -1,0 +1,74 @@
+use Rattle.std.proofs.Common.{rules, ◌≡◌, ◌+◌, ◌-◌, ◌++◌, ℕ, suc, List, [], map, refl, sym, ap, subst, ◌∙◌, arith}
+use Rattle.apex_meaning.specs.Module.{Plan}
+use Rattle.apex_meaning.specs.TwoMeanings.{machine_module}
+use Rattle.image.specs.Views.{image_of}
+use Rattle.isolation.specs.Brought.{line_in}
+use Rattle.isolation.specs.Slices.{machine_inputs}
+use Rattle.isolation.specs.declared.input.InputLine.{InputLine}
+use Rattle.apex_meaning.specs.MachineControl.{MachineControl}
+use Rattle.image.specs.declared.value.Image as code
+use Rattle.partition_base.specs.contracts.machine.MachineExecutor.TheImpl.{ghosts as machine}
+use Rattle.module.specs.Collecting.{brought_next, brought_of}
+use Rattle.module.specs.Standing.{Standing, after, ticks}
+use Rattle.module.specs.Views.{members_in, plan_of, standing_of}
+use Rattle.module.specs.Written.{AreFrom}
+use Rattle.module.proofs.Brought.{all_came, comes_further, is_brought, none_brought, tick_brings}
+use Rattle.module.proofs.telling.collect.Goals as goal
+use Rattle.module.proofs.telling.collect.Goals.{then-loop-left-test+else-is_some, else-loop-left-test}
+
+pub loop-left-init : goal.loop-left-init
+loop-left-init c =
+    let m = c.args.module.now in
+    let devices = c.args.devices.now in
+    let watched = c.args.watched.0 in
+    let meant = machine_module (image_of m.image) in
+    let first : m.now.0 ≡ 0 = ap (λ (s : Standing MachineControl). s.now) c.requires.fresh in
+    record {
+      image = refl;
+      order = subst (λ t. AreFrom t devices) (sym first) c.requires.order;
+      limit = omega (arith, first, c.requires.ticks);
+      so_far = is_brought meant.plan watched devices c.args.ticks meant.members
+          ∙ ap (brought_of meant.plan watched devices c.args.ticks) (sym c.requires.fresh)
+          ∙ ap (λ (ls : List InputLine). ls ++ brought_of meant.plan watched devices c.args.ticks (standing_of machine m)) (sym c.new-inputs.ensures);
+    }
+
+pub loop-left-preserved : goal.loop-left-preserved
+loop-left-preserved c =
+    let i = c.loop-left.invariant in
+    let m = c.loop-left.module in
+    let s = standing_of machine m in
+    let next = c.tick_watched.new.self in
+    let plan = plan_of c.args.module.now.image in
+    let same : plan_of m.image ≡ plan = ap (λ (image : code.Image). plan_of image) i.image in
+    let watched = c.args.watched.0 in
+    let now = c.split_tick.result.0.now in
+    let later = c.split_tick.result.1.now in
+    let left = c.loop-left.left in
+    let one : left ≡ suc (left - 1) = omega (arith, c.loop-left-test.true) in
+    let own = c.split_tick.ensures in
+    let ticked = c.in_ok-tick_watched.ensures in
+    let so_far = c.loop-left.inputs.lines.items in
+    let gone : standing_of machine next ≡ after s (ticks plan now s) = ticked.standing ∙ ap (λ (p : Plan). after s (ticks p now s)) same in
+    let more = map (line_in m.now.0) (brought_next plan watched now s) in
+    let came : c.tick_watched.new.inputs.lines.items ≡ so_far ++ more = ticked.inputs ∙ ap (λ (p : Plan). so_far ++ map (line_in m.now.0) (brought_next p watched now s)) same in
+    let after_it : next.now.0 ≡ m.now.0 + 1 = ap (λ (x : Standing MachineControl). x.now) gone in
+    let rest = brought_of plan watched later (left - 1) (standing_of machine next) in
+    let split = tick_brings plan watched c.loop-left.lines.now now later left (left - 1) s (standing_of machine next) one (own.of_tick ∙ own.own) own.rest gone in
+    record {
+      image = ticked.image ∙ i.image;
+      order = subst (λ u. AreFrom u later) (sym after_it) own.later;
+      limit = omega (arith, after_it, i.limit, c.loop-left-test.true);
+      so_far = comes_further _ so_far more _ rest i.so_far split ∙ ap (λ (ls : List InputLine). ls ++ rest) (sym came);
+    }
+
+pub returns-clause-inputs : goal.returns-clause-inputs
+returns-clause-inputs c =
+    let m = c.loop-left.module in
+    let plan = plan_of c.args.module.now.image in
+    let lines = c.loop-left.lines.now in
+    let s = standing_of machine m in
+    let none : brought_of plan c.args.watched.0 lines c.loop-left.left s ≡ [] = elim c.loop-left-test.branch [
+      then-loop-left-test+else-is_some w ↦ none_brought plan c.args.watched.0 lines c.loop-left.left m.now.0 (members_in machine m.members) m.origin (sym w.is_some.ensures ∙ w.if-is_some.false)
+      | else-loop-left-test w ↦ let over : c.loop-left.left ≡ 0 = omega (arith, w.loop-left-test.false) in ap (λ (k : ℕ). brought_of plan c.args.watched.0 lines k s) over
+    ] in
+    all_came _ _ _ c.loop-left.invariant.so_far none

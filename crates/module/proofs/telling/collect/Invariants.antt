@@ -1,0 +1,20 @@
+use Rattle.std.proofs.Common.{◌≡◌, ◌≤◌, ◌+◌, ◌++◌, ◌^◌}
+use Rattle.apex_meaning.specs.TwoMeanings.{machine_module}
+use Rattle.image.specs.Views.{image_of}
+use Rattle.isolation.specs.Slices.{machine_inputs}
+use Rattle.partition_base.specs.contracts.machine.MachineExecutor.TheImpl.{ghosts as machine}
+use Rattle.module.specs.Collecting.{brought_of}
+use Rattle.module.specs.Views.{standing_of}
+use Rattle.module.specs.Written.{AreFrom}
+use Rattle.module.proofs.telling.collect.Given as goal
+
+abbrev pub invariant-loop-left : goal.invariant-loop-left
+invariant-loop-left l = record {
+  image : l.module.image ≡ l.fn.module.image;
+  order : AreFrom l.module.now.0 l.lines;
+  limit : l.module.now.0 + l.left ≤ 2 ^ 40;
+  so_far : machine_inputs (image_of l.fn.module.image) l.watched.0 l.devices l.ticks ≡ l.inputs.lines.items ++ brought_of (machine_module (image_of l.fn.module.image)).plan l.watched.0 l.lines l.left (standing_of machine l.module);
+}
+
+abbrev pub decreases-loop-left : goal.decreases-loop-left
+decreases-loop-left l = l.left

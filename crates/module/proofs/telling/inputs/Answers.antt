@@ -1,0 +1,15 @@
+use Rattle.std.proofs.Common.{rules, ◌≡◌, ◌≤◌, ◌^◌, ℕ, Some, option_map}
+use Rattle.apex_meaning.specs.Image.{Item}
+use Rattle.apex_meaning.specs.ImageReading.{image_at}
+use Rattle.image.specs.Views.{image_of}
+use Rattle.isolation.specs.Replays.{numbered}
+use Rattle.module.proofs.Told.{told}
+use Rattle.module.proofs.telling.inputs.Goals as goal
+
+pub returns-clause-text : goal.returns-clause-text
+returns-clause-text g c =
+    let loaded = image_of c.in_ok-image.image in
+    let name = c.args.partition.now in
+    let few : c.args.ticks ≤ 2 ^ 40 = search rules in
+    let number : Some c.in-Some.number.0 ≡ option_map (λ (f : ℕ × Item). f.0) (numbered loaded name) = search rules in
+    told (image_at c.args.image.now) loaded name c.args.devices.now c.args.ticks c.in-Some.number.0 _ _ c.tell_numbered.result c.in_ok-image.ensures few number c.tell_numbered.ensures.told

@@ -1,0 +1,114 @@
+//! What a run of an image brings one of its partitions.
+
+ghost use Rattle.std.specs.Prelude.{◌≡◌, ◌≢◌, ◌≤◌, ◌<◌, ◌+◌, ◌-◌, ◌^◌, Some, length, IfErr, IfOk, OnOk, IsErrOf};
+ghost use Rattle.apex_meaning.specs.ImageReading.{image_at};
+ghost use Rattle.apex_meaning.specs.TwoMeanings.{machine_module};
+ghost use Rattle.image.specs.Views.{image_of};
+ghost use Rattle.isolation.specs.Slices.{Slice, machine_inputs, slice};
+ghost use Rattle.partition_base.specs.contracts.machine.MachineExecutor.TheImpl.{ghosts as machine};
+ghost use Rattle.module.specs.Collecting.{HasNoRoom};
+ghost use Rattle.module.specs.Standing.{at_first};
+ghost use Rattle.module.specs.Telling.{Tells, TellsSlice};
+ghost use Rattle.module.specs.Views.{standing_of};
+ghost use Rattle.module.specs.Written.{AreFrom};
+
+use crate::collected::Collected;
+use crate::inputs_fault::InputsFault;
+use crate::machine::MOST_TICKS;
+use crate::member::Module;
+use crate::naming::numbered;
+use crate::ticks::split_tick;
+use apex_types::{DeviceLine, PartitionId, Sink};
+use image::{Image, load_image};
+use module_base::{read_devices, write_inputs};
+use partition_base::Machine;
+use std::alloc::Global;
+
+/// Runs the image for so many ticks with what the device text says, and writes what comes to one of its
+/// partitions from outside, tick by tick, as a replay text: the messages that reach its ports, also
+/// those that find a port full, the faults of its hardware and those of the module. Of this text
+/// [`replay`](crate::replay) makes the part of the run's trace with the partition's name. After
+/// [`InputsFault::Write`] the sink has failed once and has taken a beginning of the text; every other
+/// refusal comes before the sink is asked to take anything.
+///
+/// # Errors
+///
+/// In this order: more ticks than 2^40; bytes that are no image; a name of no partition; the lowest rule
+/// that the first wrong line of the device text breaks; more than 65,536 inputs. Want of memory may come
+/// before a later one is reached.
+pub fn inputs<S: Sink>(
+    alloc: Global,
+    image: &[u8],
+    partition: &str,
+    devices: &[u8],
+    ticks: u64,
+    sink: &mut S,
+) -> Result<(), InputsFault>
+    requires { S.failures sink.old < 2 ^ 64 - 1 }
+    ensures text { Tells (image_at image.now) partition.now devices.now ticks (S.taken sink.old) (S.taken sink.new) result }
+    ensures ok { OnOk result (S.failures sink.new ≡ S.failures sink.old) }
+    ensures write { IsErrOf result InputsFault.Write → S.failures sink.new ≡ S.failures sink.old + 1 }
+    ensures quiet { IfErr result (λ fault. fault ≢ InputsFault.Write → S.failures sink.new ≡ S.failures sink.old) }
+{
+    if ticks > MOST_TICKS {
+        return Err(InputsFault::Ticks);
+    }
+    let image = load_image(alloc, image)?;
+    let Some(number) = numbered(&image, partition) else {
+        return Err(InputsFault::Partition);
+    };
+    tell_numbered(alloc, image, number, devices, ticks, sink)
+}
+
+/// The same of the partition with a number.
+fn tell_numbered<S: Sink>(
+    alloc: Global,
+    image: Image,
+    number: PartitionId,
+    devices: &[u8],
+    ticks: u64,
+    sink: &mut S,
+) -> Result<(), InputsFault>
+    requires ticks { ticks ≤ 2 ^ 40 }
+    requires there { 0 < number.0 }
+    requires within { number.0 ≤ length image.partitions.items }
+    requires failures { S.failures sink.old < 2 ^ 64 - 1 }
+    ensures told { (s : Slice) → slice (image_of image) number.0 ≡ Some s → TellsSlice (image_of image) s devices.now ticks (S.taken sink.old) (S.taken sink.new) result }
+    ensures ok { OnOk result (S.failures sink.new ≡ S.failures sink.old) }
+    ensures write { IsErrOf result InputsFault.Write → S.failures sink.new ≡ S.failures sink.old + 1 }
+    ensures quiet { IfErr result (λ fault. fault ≢ InputsFault.Write → S.failures sink.new ≡ S.failures sink.old) }
+{
+    let lines = read_devices(alloc, &image, devices)?;
+    let mut module = Module::load(alloc, image)?;
+    let inputs = collect(alloc, &mut module, &lines, ticks, number)?;
+    let item = &module.image.partitions[usize::from(number.0) - 1];
+    write_inputs(&item.row, &inputs.lines, sink)?;
+    Ok(())
+}
+
+/// What so many ticks bring the watched partition, with these lines of the devices.
+pub fn collect(
+    alloc: Global,
+    module: &mut Module<Machine>,
+    devices: &[DeviceLine],
+    ticks: u64,
+    watched: PartitionId,
+) -> Result<Collected, InputsFault>
+    requires ticks { ticks ≤ 2 ^ 40 }
+    requires fresh { standing_of machine module.old ≡ at_first (machine_module (image_of module.old.image)).members }
+    requires order { AreFrom 0 devices.now }
+    ensures image { module.new.image ≡ module.old.image }
+    ensures inputs { IfOk result (λ inputs. inputs.lines.items ≡ machine_inputs (image_of module.old.image) watched.0 devices.now ticks) }
+    ensures refused { IfErr result (HasNoRoom (length (machine_inputs (image_of module.old.image) watched.0 devices.now ticks))) }
+{
+    let mut inputs = Collected::new(alloc);
+    let mut left = ticks;
+    let mut lines = devices;
+    while left > 0 && module.origin.is_some() {
+        let (now, later) = split_tick(lines, module.now.0);
+        module.tick_watched(now, watched, &mut inputs)?;
+        lines = later;
+        left -= 1;
+    }
+    Ok(inputs)
+}

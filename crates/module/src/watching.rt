@@ -1,0 +1,155 @@
+//! Ticks of a module that are not shown, and what they bring one partition.
+
+ghost use Rattle.std.specs.Prelude.{◌≡◌, ◌≤◌, ◌<◌, ◌+◌, ◌-◌, ◌^◌, ℕ, None, [], IfOk, OnOk};
+ghost use Rattle.apex_meaning.specs.Module as meaning;
+ghost use Rattle.apex_meaning.specs.Windows.{tick_from};
+ghost use Rattle.isolation.specs.Brought.{brought_moved, brought_tick};
+ghost use Rattle.module.specs.Collecting.{AreCollected, IsMadeUnseen, brought_next};
+ghost use Rattle.module.specs.Standing.{after, begins, begins_and_ticks, ticks};
+ghost use Rattle.module.specs.Views.{members_in, plan_of, standing_of};
+ghost use Rattle.module.specs.Written.{IsOfTick, done_in};
+
+use crate::bringing::bring_in_all;
+use crate::collected::Collected;
+use crate::inputs_fault::InputsFault;
+use crate::member::{Members, Module};
+use apex_types::{At, DeviceLine, Events, PartitionId, Sink, SinkFault};
+use image::Image;
+use partition_base::Executor;
+use regions::PartitionMem;
+
+/// A sink that takes all bytes and keeps none of them.
+#[derive(Drop)]
+struct Forgetful;
+
+impl Sink for Forgetful {
+    ghost taken = { λ _. None };
+
+    ghost failures = { λ _. 0 };
+
+    fn put(&mut self, bytes: &[u8]) -> Result<usize, SinkFault> {
+        Ok(bytes.len())
+    }
+}
+
+impl<E: Executor<Mem = PartitionMem>> Members<E> {
+    /// What the source ports hold of the partition whose window ends in this tick comes to the watched
+    /// one; then what moves, and the tick of the owner.
+    fn move_and_tick_watched(
+        &mut self,
+        plan: &Image,
+        at: At,
+        watched: PartitionId,
+        inputs: &mut Collected,
+        events: &mut Events,
+    ) -> Result<(), InputsFault>
+        requires past { at.origin.0 ≤ at.now.0 }
+        requires now { at.now.0 ≤ 2 ^ 40 }
+        requires empty { events.old.items ≡ [] }
+        ensures empty { OnOk result (events.new.items ≡ []) }
+        ensures members { OnOk result (members_in E.Executor self.new ≡ (meaning.moves_and_ticks (plan_of plan.now) at (members_in E.Executor self.old)).members) }
+        ensures inputs { AreCollected at.now.0 (brought_moved (plan_of plan.now) watched.0 (members_in E.Executor self.old) (Some at)) inputs.old.lines.items inputs.new.lines.items result }
+    {
+        let ended = plan.schedule.ended(at);
+        self.bring_ended(plan.channels.as_slice(), ended, at.now, watched, inputs)?;
+        self.move_and_tick(plan, at, events, &mut Forgetful)?;
+        Ok(())
+    }
+
+    /// A tick of the module with the devices' lines of this tick, and what it brings the watched
+    /// partition. It answers as [`Members::tick`] does.
+    fn tick_watched(
+        &mut self,
+        plan: &Image,
+        at: At,
+        lines: &[DeviceLine],
+        watched: PartitionId,
+        inputs: &mut Collected,
+        events: &mut Events,
+    ) -> Result<Option<At>, InputsFault>
+        requires past { at.origin.0 ≤ at.now.0 }
+        requires now { at.now.0 ≤ 2 ^ 40 }
+        requires empty { events.old.items ≡ [] }
+        requires lines { meaning.of_tick at.now.0 lines.now ≡ lines.now }
+        ensures of_tick { IfOk result (IsOfTick at) }
+        ensures made { IfOk result (λ last. IsMadeUnseen (meaning.module_tick (plan_of plan.now) at lines.now (members_in E.Executor self.old)) last (members_in E.Executor self.new)) }
+        ensures inputs { AreCollected at.now.0 (brought_tick (plan_of plan.now) watched.0 at lines.now (members_in E.Executor self.old)) inputs.old.lines.items inputs.new.lines.items result }
+    {
+        bring_in_all(plan, lines, at.now, watched, inputs)?;
+        let Some(last) = self.input_all(plan, at, lines, events, &mut Forgetful)? else {
+            return Ok(None);
+        };
+        self.move_and_tick_watched(plan, last, watched, inputs, events)?;
+        Ok(Some(last))
+    }
+
+    /// What begins, then a tick of the module, and what it brings the watched partition. It answers as
+    /// [`Members::tick`] does.
+    fn begin_and_tick_watched(
+        &mut self,
+        plan: &Image,
+        at: At,
+        lines: &[DeviceLine],
+        watched: PartitionId,
+        inputs: &mut Collected,
+        events: &mut Events,
+    ) -> Result<Option<At>, InputsFault>
+        requires past { at.origin.0 ≤ at.now.0 }
+        requires now { at.now.0 ≤ 2 ^ 40 }
+        requires empty { events.old.items ≡ [] }
+        requires lines { meaning.of_tick at.now.0 lines.now ≡ lines.now }
+        ensures of_tick { IfOk result (IsOfTick at) }
+        ensures made { IfOk result (λ last. IsMadeUnseen (begins_and_ticks (plan_of plan.now) at lines.now (members_in E.Executor self.old)) last (members_in E.Executor self.new)) }
+        ensures inputs { AreCollected at.now.0 (brought_tick (plan_of plan.now) watched.0 at lines.now (begins at.now.0 (members_in E.Executor self.old)).members) inputs.old.lines.items inputs.new.lines.items result }
+    {
+        self.begin(at, events, &mut Forgetful)?;
+        self.tick_watched(plan, at, lines, watched, inputs, events)
+    }
+}
+
+impl<E: Executor<Mem = PartitionMem>> Module<E> {
+    /// The next tick, with the devices' lines of it, and what it brings the watched partition.
+    pub fn tick_watched(
+        &mut self,
+        lines: &[DeviceLine],
+        watched: PartitionId,
+        inputs: &mut Collected,
+    ) -> Result<(), InputsFault>
+        requires now { self.old.now.0 < 2 ^ 40 }
+        requires lines { meaning.of_tick self.old.now.0 lines.now ≡ lines.now }
+        ensures image { self.new.image ≡ self.old.image }
+        ensures standing { OnOk result (standing_of E.Executor self.new ≡ after (standing_of E.Executor self.old) (ticks (plan_of self.old.image) lines.now (standing_of E.Executor self.old))) }
+        ensures inputs { AreCollected self.old.now.0 (brought_next (plan_of self.old.image) watched.0 lines.now (standing_of E.Executor self.old)) inputs.old.lines.items inputs.new.lines.items result }
+    {
+        let last = self.go_watched(lines, watched, inputs)?;
+        self.pass(last);
+        Ok(())
+    }
+
+    /// What happens in the next tick, and what it brings the watched partition. After a shutdown nothing
+    /// happens.
+    fn go_watched(
+        &mut self,
+        lines: &[DeviceLine],
+        watched: PartitionId,
+        inputs: &mut Collected,
+    ) -> Result<Option<At>, InputsFault>
+        requires lines { meaning.of_tick self.old.now.0 lines.now ≡ lines.now }
+        ensures image { self.new.image ≡ self.old.image }
+        ensures now { self.new.now ≡ self.old.now }
+        ensures of_tick { IfOk result (IsOfTick (tick_from 0 self.old.now.0)) }
+        ensures made { IfOk result (λ last. IsMadeUnseen (ticks (plan_of self.old.image) lines.now (standing_of E.Executor self.old)) last (members_in E.Executor self.new.members)) }
+        ensures inputs { AreCollected self.old.now.0 (brought_next (plan_of self.old.image) watched.0 lines.now (standing_of E.Executor self.old)) inputs.old.lines.items inputs.new.lines.items result }
+    {
+        let Some(origin) = self.origin else {
+            return Ok(None);
+        };
+        let at = At {
+            now: self.now,
+            origin,
+        };
+        self.events.clear();
+        self.members
+            .begin_and_tick_watched(&self.image, at, lines, watched, inputs, &mut self.events)
+    }
+}

@@ -1,0 +1,18 @@
+use Rattle.std.proofs.Common.{◌≡◌, List, Ok, Result, sym, subst}
+use Rattle.std.specs.Prelude.{IfOk, IfErr}
+use Rattle.apex_types.specs.declared.device.DeviceFault.{DeviceFault}
+use Rattle.apex_types.specs.declared.device.DeviceLine.{DeviceLine}
+use Rattle.module_base.specs.Refusals.{IsRefusal}
+use Rattle.module_base.specs.Views.{rows_in, channels_in}
+use Rattle.module_base.proofs.Alike.{devices_read}
+use Rattle.module_base.proofs.devices.read_devices.Goals as goal
+
+pub returns-clause-accepted : goal.returns-clause-accepted
+returns-clause-accepted c =
+    subst (λ (v : Result (List DeviceLine) DeviceFault). IfOk c.read_lines.result (λ lines. v ≡ Ok lines.items))
+    (sym (devices_read (rows_in c.args.image.now) (channels_in c.args.image.now) c.as_slice.result.now c.args.text.now c.as_slice.ensures)) c.read_lines.ensures.accepted
+
+pub returns-clause-refused : goal.returns-clause-refused
+returns-clause-refused c =
+    subst (λ (v : Result (List DeviceLine) DeviceFault). IfErr c.read_lines.result (λ fault. IsRefusal v fault))
+    (sym (devices_read (rows_in c.args.image.now) (channels_in c.args.image.now) c.as_slice.result.now c.args.text.now c.as_slice.ensures)) c.read_lines.ensures.refused

@@ -1,0 +1,11 @@
+use Rattle.std.proofs.Common.{◌≡◌, ◌+◌, ◌*◌, ◌≤◌, ◌++◌, length, take, drop}
+use Rattle.apex_types.specs.Line.{words_text}
+use Rattle.isolation.specs.InputText.{AreWords}
+use Rattle.module_base.proofs.writing.push_words.Given as goal
+
+abbrev pub invariant-loop-word : goal.invariant-loop-word
+invariant-loop-word l = record {
+  items : l.line.items ≡ l.initial.line.items ++ words_text (take l.word-index l.words);
+  len : length l.line.items ≤ length l.initial.line.items + 21 * l.word-index;
+  words : AreWords (drop l.word-index l.words) → AreWords l.words;
+}

@@ -1,0 +1,9 @@
+-- What a port holds.
+use Rattle.std.specs.Prelude.{ℕ, ℤ, Option, Some, None, slice_get}
+use Rattle.arrayvec.specs.ArrayVec.{ArrayVec}
+use Rattle.apex_meaning.specs.Ports.{Port}
+
+-- the message of a port that has so many before it, if there is such a port and it holds one
+abbrev pub message_behind : ℕ → Option Port → Option (ArrayVec ℤ)
+message_behind before None = None
+message_behind before (Some x) = slice_get x.messages before
