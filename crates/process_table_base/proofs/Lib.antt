@@ -1,2 +1,4 @@
-pub mod Announced
 pub mod Bounds
+pub mod FirstOf
+pub mod Timed
+pub mod Treating

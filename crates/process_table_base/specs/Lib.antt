@@ -1,5 +1,7 @@
-pub mod Announced
 pub mod Bounds
+pub mod DueMask
 pub mod Own
-pub mod View
+pub mod RecordView
+pub mod Timed
 pub mod Treating
+pub mod View
