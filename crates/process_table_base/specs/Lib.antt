@@ -1,5 +1,6 @@
 pub mod Bounds
 pub mod DueMask
+pub mod LeastNumber
 pub mod Own
 pub mod RecordView
 pub mod Timed

@@ -24,8 +24,10 @@ impl ProcessTable {
     }
 
     /// The service in which it waits answers with outputs of 0, if it waits in one; then it is ready.
+    /// Those who wait on keep their order.
     pub fn release(&mut self, runner: Runner, code: ReturnCode, out: &mut Out)
         requires { HasRoom 2 out.old }
+        ensures order { (disciplines : ListKey → Discipline) (number : ℕ → ℕ) (next : ℕ) → AreQueues disciplines number next self.old.queues → AreQueues disciplines number next self.new.queues }
         ensures step { IsMade (own_step self.old runner (λ r. meaning.released self.old runner r code)) self.new out.old out.new }
         ensures grows { Grows 2 out.old out.new }
     {

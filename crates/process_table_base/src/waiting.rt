@@ -73,9 +73,13 @@ impl ProcessTable {
         }
     }
 
-    /// The first who waits in a list, with its record.
+    /// The first who waits in a list, with its record: whatever numbers those who wait have taken in
+    /// their order, that is the one with the least number, by priority the one of the highest priority
+    /// with the least number.
+    #[tactic(auto, using(crate::proofs::Released::first_is_least))]
     pub fn first_waiting(&self, list: ListKey) -> Option<(Runner, ProcessStatus)>
         ensures found { result ≡ meaning.first_waiting self.now list }
+        ensures least { (disciplines : ListKey → Discipline) (number : ℕ → ℕ) (next : ℕ) → AreQueues disciplines number next self.now.queues → IfSome result (λ found. IsLeast (disciplines list) number (list_at self.now.queues list) found.0) }
         ensures own { IfSome result (λ found. processes.row_of self.now found.0 ≡ Some found.1) }
         ensures within { IfSome result (λ found. place_of found.0 < MOST_RUNNERS) }
         ensures bounded { IfSome result (λ found. IsBounded found.1) }
