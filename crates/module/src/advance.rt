@@ -89,7 +89,12 @@ impl<E: Executor<Mem = PartitionMem>> Members<E> {
     }
 
     /// Before the first tick each partition starts.
-    pub fn begin<S: Sink>(&mut self, at: At, events: &mut Events, sink: &mut S) -> Result<(), SinkFault>
+    pub fn begin<S: Sink>(
+        &mut self,
+        at: At,
+        events: &mut Events,
+        sink: &mut S,
+    ) -> Result<(), SinkFault>
         requires empty { events.old.items ≡ [] }
         requires failures { S.failures sink.old < 2 ^ 64 - 1 }
         ensures empty { OnOk result (events.new.items ≡ []) }

@@ -68,7 +68,7 @@ returns-clause-inputs c =
     let lines = c.loop-left.lines.now in
     let s = standing_of machine m in
     let none : brought_of plan c.args.watched.0 lines c.loop-left.left s ≡ [] = elim c.loop-left-test.branch [
-      then-loop-left-test+else-is_some w ↦ none_brought plan c.args.watched.0 lines c.loop-left.left m.now.0 (members_in machine m.members) m.origin (sym w.is_some.ensures ∙ w.if-is_some.false)
+      | then-loop-left-test+else-is_some w ↦ none_brought plan c.args.watched.0 lines c.loop-left.left m.now.0 (members_in machine m.members) m.origin (sym w.is_some.ensures ∙ w.if-is_some.false)
       | else-loop-left-test w ↦ let over : c.loop-left.left ≡ 0 = omega (arith, w.loop-left-test.false) in ap (λ (k : ℕ). brought_of plan c.args.watched.0 lines k s) over
     ] in
     all_came _ _ _ c.loop-left.invariant.so_far none
