@@ -1,5 +1,5 @@
 -- The timers are those of the records, after each change of these.
-use Rattle.std.proofs.Common.{◌≡◌, ◌⊎◌, inl, inr, ℕ, zero, suc, ◌<◌, nat_eq, cond, Bool, true, false, List, [], ◌∷◌, map, refl, sym, ap, ◌∙◌, arith}
+use Rattle.std.proofs.Common.{◌≡◌, ℕ, zero, suc, ◌<◌, nat_eq, Bool, true, false, List, [], ◌∷◌, map, refl, sym, ap, ◌∙◌, arith}
 use Rattle.std.specs.Prelude.{slice_get, slice_set, Option, Some, None}
 use Rattle.std.proofs.lemmas.Bool.Decides.{nat_tests}
 use Rattle.apex_types.specs.Runners.{place_of}
@@ -14,7 +14,7 @@ use Rattle.apex_meaning.specs.PartitionServices.{forgotten, started_rows}
 use Rattle.apex_meaning.specs.TwoMeanings.{machine_row, init_row, handler_row}
 use Rattle.links.specs.declared.dues.DueEntry.{DueEntry}
 use Rattle.links.specs.Timers.{IsExact, number_of, tick_in, ticks_with}
-use Rattle.process_table_base.specs.Timed.{AreTimed, deadline_of, deadlines, due_of, due_times, record_of}
+use Rattle.process_table_base.specs.Timed.{AreTimed, deadline_of, due_of, record_of}
 use Rattle.process_table_base.specs.declared.timers.Timers.{Timers}
 
 -- ---- a place of a list

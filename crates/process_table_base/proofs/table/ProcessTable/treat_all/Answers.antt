@@ -1,4 +1,4 @@
-use Rattle.std.proofs.Common.{◌≡◌, ℕ, ◌+◌, ◌-◌, ◌<◌, ◌≤◌, ◌++◌, ◌∙◌, sym, ap, subst, arith}
+use Rattle.std.proofs.Common.{◌≡◌, ◌+◌, ◌-◌, ◌<◌, ◌++◌, ◌∙◌, sym, ap, subst, arith}
 use Rattle.apex_meaning.specs.Due.{Treated}
 use Rattle.apex_meaning.specs.Processes.{Processes}
 use Rattle.apex_meaning.proofs.Steps.{goes_on, due_ends, due_rest}

@@ -1,4 +1,4 @@
-use Rattle.std.proofs.Common.{rules, ◌≡◌, ℕ, Option, refl, sym, ap, subst, ◌∙◌, arith}
+use Rattle.std.proofs.Common.{rules, ℕ, Option, sym, ap, subst, ◌∙◌}
 use Rattle.links.specs.Timers.{IsExact, ticks_with}
 use Rattle.process_table_base.specs.Timed.{deadline_of, deadlines, due_of, due_times}
 use Rattle.process_table_base.proofs.Timed.{exact_with, timed_same}
