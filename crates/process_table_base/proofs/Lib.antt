@@ -1,2 +1,5 @@
-pub mod Announced
 pub mod Bounds
+pub mod FirstOf
+pub mod Released
+pub mod Timed
+pub mod Treating
