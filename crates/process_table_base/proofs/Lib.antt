@@ -1,5 +1,2 @@
+pub mod Announced
 pub mod Bounds
-pub mod FirstOf
-pub mod Released
-pub mod Timed
-pub mod Treating

@@ -1,8 +1,5 @@
+pub mod Announced
 pub mod Bounds
-pub mod DueMask
-pub mod LeastNumber
 pub mod Own
-pub mod RecordView
-pub mod Timed
-pub mod Treating
 pub mod View
+pub mod Treating

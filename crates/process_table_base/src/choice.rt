@@ -1,9 +1,7 @@
 //! The choice of who runs.
 
-ghost use Rattle.std.specs.Prelude.{◌≡◌, ◌↔◌, ◌≤◌, ◌+◌, ◌^◌, ℕ, Some, length};
+ghost use Rattle.std.specs.Prelude.{◌≡◌, ◌≤◌, ◌+◌, length};
 ghost use Rattle.apex_types.specs.Room.{HasRoom, Grows};
-ghost use Rattle.apex_types.specs.declared.identity.Runner.{Runner as Process};
-ghost use Rattle.apex_meaning.specs.Choice.{IsNumbered, Picks};
 ghost use Rattle.apex_meaning.specs.Partition as meaning;
 ghost use Rattle.apex_meaning.specs.Step.{IsMade};
 
@@ -12,20 +10,14 @@ use apex_types::{EventKind, Lock, Mode, Out, ProcessState, ProcessStatus, Runner
 
 impl ProcessTable {
     /// Who is to run: before the normal start INIT; then the handler if it is ready, the one that
-    /// holds the lock, or the first of those that are ready. Whatever numbers the ready ones have taken
-    /// in their order, that is the one of the highest priority with the least number. Each record that
-    /// is read adds one to `reads`; at most three are.
-    #[tactic(auto, using(apex_meaning::proofs::Choosing::chosen))]
-    pub fn pick(&self, mode: Mode, reads: &mut u64) -> Option<Runner>
-        requires { reads.old ≤ 2 ^ 32 }
-        ensures chosen { result ≡ meaning.pick mode self.now }
-        ensures picks { (number : ℕ → ℕ) (next : ℕ) (runner : Process) → IsNumbered number next self.now.ready → (result ≡ Some runner ↔ Picks number mode self.now runner) }
-        ensures reads { reads.new ≤ reads.old + 3 }
+    /// holds the lock, or the first of those that are ready.
+    pub fn pick(&self, mode: Mode) -> Option<Runner>
+        ensures { result ≡ meaning.pick mode self.now }
     {
         match mode {
             Mode::Idle => None,
             Mode::Normal => {
-                if is_ready(self.read(Runner::Handler, reads)) {
+                if is_ready(self.row(Runner::Handler)) {
                     Some(Runner::Handler)
                 } else {
                     self.pick_unless_held()
@@ -95,8 +87,7 @@ impl ProcessTable {
         ensures grows { Grows 2 out.old out.new }
     {
         let running = self.running();
-        let mut reads = 0;
-        let chosen = self.pick(mode, &mut reads);
+        let chosen = self.pick(mode);
         if are_same(running, chosen) {
             return;
         }

@@ -6,10 +6,7 @@ ghost use Rattle.apex_types.specs.Runners.{place_of};
 ghost use Rattle.apex_meaning.specs.Due as meaning;
 ghost use Rattle.apex_meaning.specs.Processes.{row_of};
 ghost use Rattle.apex_meaning.specs.Step.{IsMade};
-ghost use Rattle.links.specs.Timers.{IsDueMask};
 ghost use Rattle.process_table_base.specs.Bounds.{IsBounded};
-ghost use Rattle.process_table_base.specs.DueMask.{IsSplit};
-ghost use Rattle.process_table_base.specs.Timed.{deadlines, due_times};
 ghost use Rattle.process_table_base.specs.Treating.{IsTreated};
 
 use crate::start::released_at;
@@ -145,31 +142,24 @@ impl ProcessTable {
         self.treat_deadline(at, free, action, process, out)
     }
 
-    /// Each process of the mask in number order, until one of them leads to a Clear.
-    fn treat_all(
-        &mut self,
-        at: At,
-        free: u8,
-        action: PartitionAction,
-        mask: u64,
-        out: &mut Out,
-    ) -> Treated
+    /// Each process in number order, until one of them leads to a Clear.
+    fn treat_all(&mut self, at: At, free: u8, action: PartitionAction, out: &mut Out) -> Treated
         requires now { at.now.0 ≤ 2 ^ 40 }
         requires room { HasRoom 93 out.old }
-        requires few { length self.old.rows ≤ MOST_RUNNERS }
-        requires mask { IsDueMask at.now.0 (due_times self.old.rows) (deadlines self.old.rows) mask }
         ensures treated { IsTreated (meaning.due at free action self.old) self.new out.old out.new result }
         ensures grows { Grows 93 out.old out.new }
     {
-        let mut left = mask;
+        let mut left = self.count().saturating_sub(2);
+        let mut place = 0u8;
         let mut free = free;
-        while let Some((process, rest)) = split_first(left) {
-            let treated = self.treat(at, free, action, process, out);
+        while left > 0 {
+            let treated = self.treat(at, free, action, ProcessIndex(place), out);
             if treated.clears.is_some() {
                 return treated;
             }
             free = treated.free;
-            left = rest;
+            left -= 1;
+            place += 1;
         }
         Treated { free, clears: None }
     }
@@ -183,21 +173,13 @@ impl ProcessTable {
         ensures treated { IsTreated (meaning.due at free action self.old) self.new out.old out.new result }
         ensures grows { Grows 93 out.old out.new }
     {
-        let mask = self.due_mask(at.now);
-        self.treat_all(at, free, action, mask, out)
+        if !self.may_be_due(at.now) {
+            return Treated { free, clears: None };
+        }
+        let treated = self.treat_all(at, free, action, out);
+        self.renew_dues(at.now);
+        treated
     }
-}
-
-/// The first process that has a bit, and the bits of the others.
-fn split_first(mask: u64) -> Option<(ProcessIndex, u64)>
-    ensures { IsSplit mask result }
-{
-    if mask == 0 {
-        return None;
-    }
-    let place = mask.trailing_zeros();
-    let rest = mask & !(1 << place);
-    Some((ProcessIndex(place as u8), rest))
 }
 
 /// One that suspended itself is suspended no longer at its time-out; any other stays suspended.
@@ -223,7 +205,7 @@ fn tick_of(due: Due) -> Ticks
     }
 }
 
-fn is_past(now: Ticks, tick: Option<Ticks>) -> bool
+pub(crate) fn is_past(now: Ticks, tick: Option<Ticks>) -> bool
     ensures { result ≡ meaning.is_past now.0 tick }
 {
     match tick {

@@ -1,36 +1,39 @@
 //! The records of a partition's processes, and the few ways in which they change.
 
-ghost use Rattle.std.specs.Prelude.{◌≡◌, ◌<◌, ◌≤◌, ◌+◌, ◌-◌, ◌^◌, length, map, IfOk, IfSome};
+ghost use Rattle.std.specs.Prelude.{◌≡◌, ◌<◌, ◌≤◌, [], ◌∷◌, length, map, slice_get, slice_set, IfOk, IfSome, None, option_map, false};
 ghost use Rattle.apex_types.specs.Runners.{place_of};
-ghost use Rattle.apex_meaning.specs.PartitionServices.{cleared_processes};
+ghost use Rattle.apex_types.specs.declared.process.Lock.TheVariants as free;
+ghost use Rattle.apex_meaning.specs.PartitionServices.{cleared_processes, forgotten, ready_init, started_rows};
 ghost use Rattle.apex_meaning.specs.Partition.{first_ready};
 ghost use Rattle.apex_meaning.specs.Processes as meaning;
 ghost use Rattle.apex_meaning.specs.ProcessServices.{level_of};
-ghost use Rattle.apex_meaning.specs.TwoMeanings.{fresh_processes, machine_row, no_message};
-ghost use Rattle.links.specs.Timers.{IsDueMask, IsNextDue, number_of};
-ghost use Rattle.process_table_base.specs.Bounds.{AreShort, IsBounded};
-ghost use Rattle.process_table_base.specs.Timed.{deadlines, due_times};
+ghost use Rattle.apex_meaning.specs.TwoMeanings.{fresh_row, fresh_processes, init_row, handler_row, machine_row, no_message, ticks};
+ghost use Rattle.process_table_base.specs.Announced.{AreAnnounced, IsQuiet, next_of, record_of, renewed};
+ghost use Rattle.process_table_base.specs.Bounds.{IsBounded, AreShort};
 
-use crate::records::Records;
+use crate::announce::{announce, next_of, next_tick, renew};
+use crate::order::{self, Order};
 use apex_types::{
-    Entry, Lock, MOST_PROCESSES, MOST_RUNNERS, Mode, ProcessRow, ProcessStatus, Runner, Ticks,
-    Words,
+    Lock, MOST_PROCESSES, MOST_RUNNERS, Mode, Priority, ProcessIndex, ProcessRow, ProcessState,
+    ProcessStatus, Runner, Subject, Ticks, Wait, Words,
 };
-use links::{ReadyLists, WaitingLists};
+use links::{DueList, WaitingLists};
 use std::alloc::{AllocError, Global};
 use std::marker::Model;
 
 /// The processes of a partition: the records of INIT, of the error handler and of each process; those
 /// that are ready; the one that runs; the preemption lock; and those that wait for objects and ports,
-/// with what they hand in. A contract sees it as the processes of the definitions.
+/// with what they hand in. It keeps a list of what is due. A contract sees it as the processes of the
+/// definitions.
 #[derive(Drop)]
 pub struct ProcessTable {
-    records: Records,
-    ready: ReadyLists,
+    rows: Vec<ProcessStatus>,
+    ready: Order,
     running: Option<Runner>,
     lock: Lock,
     pub(crate) queues: WaitingLists,
     pub(crate) handed: Vec<Words>,
+    dues: DueList,
 }
 
 impl Model for ProcessTable {
@@ -39,9 +42,60 @@ impl Model for ProcessTable {
 
     ghost Value = { meaning.Processes };
 
-    ghost use Rattle.process_table_base.specs.View.{processes_of};
+    ghost use Rattle.process_table_base.specs.View.{processes_of, IsSound};
 
     ghost view = { processes_of };
+
+    ghost invariant = { IsSound };
+}
+
+/// A count of ticks, where there is one.
+fn ticks(count: Option<u64>) -> Option<Ticks>
+    ensures { result ≡ option_map ticks count }
+{
+    match count {
+        Some(count) => Some(Ticks(count)),
+        None => None,
+    }
+}
+
+/// The record of one with a priority, before it is created.
+fn fresh_row(
+    who: Subject,
+    priority: Priority,
+    period: Option<u64>,
+    capacity: Option<u64>,
+) -> ProcessStatus
+    ensures { result ≡ fresh_row who priority period capacity }
+{
+    ProcessStatus {
+        who,
+        base_priority: priority,
+        period: ticks(period),
+        capacity: ticks(capacity),
+        created: false,
+        state: ProcessState::Dormant,
+        current_priority: priority,
+        suspended: false,
+        wait: Wait::Nothing,
+        due: None,
+        release: Ticks(0),
+        deadline: None,
+    }
+}
+
+/// INIT, the handler and the processes, none of them created.
+fn fresh_rows(alloc: Global, processes: &[ProcessRow]) -> Result<Vec<ProcessStatus>, AllocError>
+    ensures { IfOk result (λ rows. rows.items ≡ init_row ∷ handler_row ∷ map machine_row processes.now) }
+{
+    let mut rows = Vec::with_capacity(alloc, processes.len())?;
+    rows.push(fresh_row(Subject::Init, Priority(0), None, None))?;
+    rows.push(fresh_row(Subject::Handler, Priority(0), None, None))?;
+    for process in processes {
+        let who = Subject::Process(process.name);
+        rows.push(fresh_row(who, process.priority, process.period, process.capacity))?;
+    }
+    Ok(rows)
 }
 
 /// No process has handed in a message.
@@ -57,40 +111,31 @@ fn no_messages(alloc: Global, processes: &[ProcessRow]) -> Result<Vec<Words>, Al
 
 impl ProcessTable {
     /// No process is created, and none runs or waits. An error is one of memory.
+    #[tactic(auto, using(crate::proofs::Bounds::bounds))]
     pub fn new(alloc: Global, processes: &[ProcessRow]) -> Result<ProcessTable, AllocError>
         requires few { length processes.now ≤ MOST_PROCESSES }
         requires short { AreShort processes.now }
         ensures { IfOk result (λ table. table ≡ fresh_processes (map machine_row processes.now)) }
     {
         Ok(ProcessTable {
-            records: Records::new(alloc, processes)?,
-            ready: ReadyLists::new(alloc)?,
+            rows: fresh_rows(alloc, processes)?,
+            ready: Order::new(),
             running: None,
             lock: Lock::Free,
             queues: WaitingLists::new(alloc)?,
             handed: no_messages(alloc, processes)?,
+            dues: DueList::new(),
         })
     }
 
     /// The record of INIT, of the handler or of a process, where there is such a process.
+    #[tactic(auto, using(crate::proofs::Bounds::bounds))]
     pub fn row(&self, runner: Runner) -> Option<ProcessStatus>
         ensures row { result ≡ meaning.row_of self.now runner }
         ensures within { IfSome result (λ row. place_of runner < MOST_RUNNERS) }
         ensures bounded { IfSome result IsBounded }
     {
-        let mut reads = 0;
-        self.read(runner, &mut reads)
-    }
-
-    /// The same; each reading is counted.
-    pub(crate) fn read(&self, runner: Runner, reads: &mut u64) -> Option<ProcessStatus>
-        requires { reads.old < 2 ^ 64 - 1 }
-        ensures row { result ≡ meaning.row_of self.now runner }
-        ensures within { IfSome result (λ row. place_of runner < MOST_RUNNERS) }
-        ensures bounded { IfSome result IsBounded }
-        ensures reads { reads.new ≡ reads.old + 1 }
-    {
-        self.records.read(runner, reads)
+        record_at(&self.rows, runner.place())
     }
 
     /// How many records there are.
@@ -98,7 +143,7 @@ impl ProcessTable {
         ensures count { result ≡ length self.now.rows }
         ensures few { result ≤ MOST_RUNNERS }
     {
-        self.records.count()
+        self.rows.len() as u8
     }
 
     /// The one that is running, which is the one chosen last.
@@ -140,14 +185,16 @@ impl ProcessTable {
 
     /// No process is created, and no one runs, waits or holds the lock. Unless the mode is idle, INIT
     /// is ready.
+    #[tactic(auto, using(crate::proofs::Bounds::bounds))]
     pub fn clear(&mut self, mode: Mode)
         ensures { self.new ≡ cleared_processes mode self.old }
     {
-        self.records.restart(mode);
+        restart_all(&mut self.rows, mode);
         self.ready.clear();
         self.running = None;
         self.lock = Lock::Free;
         self.queues.clear();
+        self.dues = DueList::new();
     }
 
     /// The first of those that are ready.
@@ -160,33 +207,32 @@ impl ProcessTable {
         }
     }
 
+    #[tactic(auto, using(crate::proofs::Bounds::bounds))]
     pub(crate) fn put_row(&mut self, runner: Runner, row: ProcessStatus)
         requires { IsBounded row }
         ensures { self.new ≡ meaning.put_row self.old runner row }
     {
-        self.records.put(runner, row);
+        put_at(&mut self.rows, &mut self.dues, runner, row);
     }
 
+    #[tactic(auto, using(crate::proofs::Bounds::bounds))]
     pub(crate) fn put_ready(&mut self, runner: Runner, row: ProcessStatus)
         requires runner { place_of runner < MOST_RUNNERS }
         requires bounded { IsBounded row }
         ensures { self.new ≡ meaning.put_ready self.old runner row }
     {
         let priority = row.current_priority;
-        self.records.put(runner, row);
-        if let Runner::Process(process) = runner {
-            self.ready.push_back(Entry { process, priority });
-        }
+        put_at(&mut self.rows, &mut self.dues, runner, row);
+        order::enter_ready(&mut self.ready, runner, priority);
     }
 
+    #[tactic(auto, using(crate::proofs::Bounds::bounds))]
     pub(crate) fn put_unready(&mut self, runner: Runner, row: ProcessStatus)
         requires { IsBounded row }
         ensures { self.new ≡ meaning.put_unready self.old runner row }
     {
-        self.records.put(runner, row);
-        if let Runner::Process(process) = runner {
-            self.ready.remove(process);
-        }
+        put_at(&mut self.rows, &mut self.dues, runner, row);
+        order::leave_ready(&mut self.ready, runner);
         self.running = not_running(runner, self.running);
     }
 
@@ -199,29 +245,120 @@ impl ProcessTable {
         self.leave_queues(runner);
     }
 
-    /// The least due time or deadline of the processes, or none.
-    pub fn next_due(&self) -> Option<Ticks>
-        ensures { IsNextDue (due_times self.now.rows) (deadlines self.now.rows) (number_of result) }
+    /// Whether something may be due by a tick. Nothing is, if the first of the list is later.
+    pub(crate) fn may_be_due(&self, now: Ticks) -> bool
+        ensures { result ≡ false → IsQuiet now.0 self.now.rows }
     {
-        self.records.next_due()
+        match self.dues.first() {
+            Some(entry) => entry.tick.0 <= now.0,
+            None => false,
+        }
     }
 
-    /// A bit for each process whose due time or deadline is not later than now: bit 0 is that of
-    /// process 0.
-    pub(crate) fn due_mask(&self, now: Ticks) -> u64
-        ensures few { length self.now.rows ≤ MOST_RUNNERS }
-        ensures mask { IsDueMask now.0 (due_times self.now.rows) (deadlines self.now.rows) result }
+    /// The first of the list is announced anew by its record, if its tick is past. Answers whether it
+    /// was.
+    fn renew_first(&mut self, now: Ticks) -> bool
+        ensures { self.new ≡ self.old }
     {
-        self.records.due_mask(now)
+        match self.dues.first() {
+            Some(entry) if entry.tick.0 <= now.0 => {
+                renew_process(&mut self.dues, entry.process, &self.rows);
+                true
+            }
+            _ => false,
+        }
+    }
+
+    /// Whoever stands in the list with a tick that is past is announced anew.
+    pub(crate) fn renew_dues(&mut self, now: Ticks)
+        ensures { self.new ≡ self.old }
+    {
+        for _ in 0..self.count() {
+            if !self.renew_first(now) {
+                return;
+            }
+        }
     }
 
     /// This one waits in no list.
+    #[tactic(auto, using(crate::proofs::Bounds::bounds))]
     pub(crate) fn leave_queues(&mut self, runner: Runner)
         ensures { self.new ≡ meaning.no_longer_waits self.old runner }
     {
         if let Runner::Process(process) = runner {
             self.queues.remove(process);
         }
+    }
+}
+
+/// The record of one that is no longer created.
+fn forgotten(row: &ProcessStatus) -> ProcessStatus
+    ensures { result ≡ forgotten row.now }
+{
+    ProcessStatus {
+        created: false,
+        state: ProcessState::Dormant,
+        current_priority: row.base_priority,
+        suspended: false,
+        wait: Wait::Nothing,
+        due: None,
+        release: Ticks(0),
+        deadline: None,
+        ..*row
+    }
+}
+
+fn forget_all(rows: &mut Vec<ProcessStatus>)
+    ensures { rows.new.items ≡ map forgotten rows.old.items }
+{
+    for row in rows.iter_mut() {
+        *row = forgotten(row);
+    }
+}
+
+fn ready_init(rows: &mut Vec<ProcessStatus>)
+    ensures { rows.new.items ≡ ready_init (slice_get rows.old.items 0) rows.old.items }
+{
+    if let Some(row) = rows.get_mut(0) {
+        row.state = ProcessState::Ready;
+    }
+}
+
+fn record_at(rows: &[ProcessStatus], place: usize) -> Option<ProcessStatus>
+    ensures { result ≡ slice_get rows.now place }
+{
+    rows.get(place).copied()
+}
+
+/// A process stands in the list of what is due by its record alone.
+fn renew_process(dues: &mut DueList, process: ProcessIndex, rows: &[ProcessStatus])
+    requires { process.0 < MOST_PROCESSES }
+    ensures { dues.new ≡ renewed process (next_of (record_of rows.now process.0)) dues.old }
+{
+    let row = record_at(rows, Runner::Process(process).place());
+    renew(dues, process, next_of(row));
+}
+
+/// Nobody is created; unless the mode is idle, INIT is ready.
+fn restart_all(rows: &mut Vec<ProcessStatus>, mode: Mode)
+    ensures { rows.new.items ≡ started_rows mode (map forgotten rows.old.items) }
+{
+    forget_all(rows);
+    if mode != Mode::Idle {
+        ready_init(rows);
+    }
+}
+
+/// Puts a record in its place, where there is one, and announces what is due by it.
+fn put_at(rows: &mut Vec<ProcessStatus>, dues: &mut DueList, runner: Runner, row: ProcessStatus)
+    requires few { length rows.old.items ≤ MOST_RUNNERS }
+    requires announced { AreAnnounced rows.old.items dues.old }
+    ensures rows { rows.new.items ≡ slice_set rows.old.items (place_of runner) row }
+    ensures announced { AreAnnounced rows.new.items dues.new }
+{
+    if let Some(place) = rows.get_mut(runner.place()) {
+        announce(dues, runner, next_tick(place), next_tick(&row));
+        *place = row;
     }
 }
 

@@ -1,0 +1,11 @@
+use Rattle.std.proofs.Common.{length-set}
+use Rattle.process_table_base.proofs.Bounds.{set_bounded}
+use Rattle.process_table_base.proofs.table.ProcessTable.put_ready.Goals as goal
+
+pub invariant_of-self : goal.invariant_of-self
+invariant_of-self c = record {
+  few = rw c.put_at.ensures.rows (rw length-set c.self.invariant.few);
+  listed = c.enter_ready.ensures.listed;
+  bounded = rw c.put_at.ensures.rows (set_bounded _ _ _ c.requires.bounded c.self.invariant.bounded);
+  announced = c.put_at.ensures.announced;
+}
