@@ -9,6 +9,7 @@ ghost use Rattle.apex_types.specs.Sink.{TakesBeginning};
 
 use crate::codes::{ErrorKind, Response, ReturnCode};
 use crate::event::{Event, EventKind, Subject};
+use crate::identity::Ticks;
 use crate::name::Name;
 use crate::service::Service;
 use crate::sink::{Sink, SinkFault, put_all};
@@ -17,6 +18,36 @@ use arrayvec::ArrayVec;
 /// The bytes of one line. The longest has a tick of 13, two names of 30, a word of 6 and 16
 /// words of at most 20 bytes with a space before each.
 type Line = ArrayVec<u8, 512>;
+
+/// A tick with its digits, which the lines of this tick share.
+#[derive(Clone, Copy)]
+struct Stamp {
+    tick: Ticks,
+    digits: [u8; 13],
+}
+
+impl Stamp {
+    fn new(tick: Ticks) -> Stamp
+        ensures digits { result.digits ≡ thirteen_digits result.tick.0 }
+        ensures tick { result.tick ≡ tick }
+    {
+        Stamp {
+            tick,
+            digits: digits(tick.0),
+        }
+    }
+
+    /// The digits of this tick, which stay where it is the same one.
+    fn renew(&mut self, tick: Ticks)
+        requires { self.old.digits ≡ thirteen_digits self.old.tick.0 }
+        ensures digits { self.new.digits ≡ thirteen_digits self.new.tick.0 }
+        ensures tick { self.new.tick ≡ tick }
+    {
+        if self.tick.0 != tick.0 {
+            *self = Stamp::new(tick);
+        }
+    }
+}
 
 /// Writes the line of an event. An error is answered only where the sink failed; then a
 /// beginning of the line is out.
@@ -27,7 +58,7 @@ pub fn write_event<S: Sink>(event: &Event, sink: &mut S) -> Result<(), SinkFault
     ensures failed { OnErr result (S.failures sink.new ≡ S.failures sink.old + 1) }
     ensures beginning { OnErr result (TakesBeginning (S.taken sink.old) (S.taken sink.new) (line_of event.now)) }
 {
-    put_all(sink, line_bytes(event).as_slice())
+    write_line(&Stamp::new(event.tick), event, &mut Line::new(), sink)
 }
 
 /// Writes the lines of events, in their order. An error is answered only where the sink failed;
@@ -40,25 +71,47 @@ pub fn write_events<S: Sink>(events: &[Event], sink: &mut S) -> Result<(), SinkF
     ensures failed { OnErr result (S.failures sink.new ≡ S.failures sink.old + 1) }
     ensures beginning { OnErr result (TakesBeginning (S.taken sink.old) (S.taken sink.new) (text_of events.now)) }
 {
+    let mut line = Line::new();
+    let mut stamp = Stamp::new(Ticks(0));
     let mut rest = events;
     while let Some((event, others)) = rest.split_first() {
-        write_event(event, sink)?;
+        stamp.renew(event.tick);
+        write_line(&stamp, event, &mut line, sink)?;
         rest = others;
     }
     Ok(())
 }
 
-fn line_bytes(event: &Event) -> Line
-    ensures { result.items ≡ line_of event.now }
+/// Writes the line of an event, which is put together in a buffer that other lines have used.
+fn write_line<S: Sink>(
+    stamp: &Stamp,
+    event: &Event,
+    line: &mut Line,
+    sink: &mut S,
+) -> Result<(), SinkFault>
+    requires digits { stamp.now.digits ≡ thirteen_digits event.now.tick.0 }
+    requires failures { S.failures sink.old < 2 ^ 64 - 1 }
+    ensures ok { OnOk result (Appends (S.taken sink.old) (S.taken sink.new) (line_of event.now)) }
+    ensures quiet { OnOk result (S.failures sink.new ≡ S.failures sink.old) }
+    ensures failed { OnErr result (S.failures sink.new ≡ S.failures sink.old + 1) }
+    ensures beginning { OnErr result (TakesBeginning (S.taken sink.old) (S.taken sink.new) (line_of event.now)) }
 {
-    let mut line = Line::new();
-    push_bytes(&mut line, &digits(event.tick.0));
-    push_text(&mut line, " ");
-    push_partition(&mut line, &event.partition);
-    push_text(&mut line, " ");
-    push_kind(&mut line, &event.kind);
-    push_text(&mut line, "\n");
-    line
+    line.clear();
+    push_line(line, &stamp.digits, event);
+    put_all(sink, line.as_slice())
+}
+
+fn push_line(line: &mut Line, digits: &[u8; 13], event: &Event)
+    requires empty { line.old.items ≡ [] }
+    requires digits { digits.now ≡ thirteen_digits event.now.tick.0 }
+    ensures { line.new.items ≡ line_of event.now }
+{
+    push_bytes(line, digits);
+    push_text(line, " ");
+    push_partition(line, &event.partition);
+    push_text(line, " ");
+    push_kind(line, &event.kind);
+    push_text(line, "\n");
 }
 
 fn push_bytes(line: &mut Line, bytes: &[u8])

@@ -1,11 +1,11 @@
 //! The error handler: its creation, its start, and the errors that it asks for.
 
-ghost use Rattle.std.specs.Prelude.{◌≡◌, pos};
+ghost use Rattle.std.specs.Prelude.{◌≡◌, pos, true};
 ghost use Rattle.apex_types.specs.Room.{HasRoom, Grows};
 ghost use Rattle.apex_meaning.specs.HealthServices as meaning;
 ghost use Rattle.apex_meaning.specs.Processes.{row_of};
 ghost use Rattle.apex_meaning.specs.Sharing.{both};
-ghost use Rattle.apex_meaning.specs.Step.{IsMade};
+ghost use Rattle.apex_meaning.specs.Step.{IsMade, nothing};
 
 use crate::errors::Errors;
 use crate::respond::is_handler_created;
@@ -112,6 +112,24 @@ fn begin_if_dormant(table: &mut ProcessTable, out: &mut Out)
             out.actions.push(Action::Begin(Runner::Handler));
         }
     }
+}
+
+/// Whether the handler is not dormant, or was not created.
+fn cannot_begin(table: &ProcessTable) -> bool
+    ensures { result ≡ true → meaning.begins_if_dormant table.now (row_of table.now Runner.Handler) ≡ nothing table.now }
+{
+    match table.row(Runner::Handler) {
+        Some(row) => !(row.created && is_dormant(&row)),
+        None => true,
+    }
+}
+
+/// Whether [`start_handler`] would change nothing: the mode is not normal, no error waits, or the
+/// handler is not dormant.
+pub fn handler_stays(table: &ProcessTable, errors: &Errors, mode: Mode) -> bool
+    ensures { result ≡ true → meaning.starts_handler mode (both table.now errors.now) ≡ nothing table.now }
+{
+    mode != Mode::Normal || !errors.is_waiting() || cannot_begin(table)
 }
 
 /// In normal mode a dormant error handler starts if an error waits for it, and is ready.

@@ -1,6 +1,9 @@
 pub mod ByKind
 pub mod DueOrder
 pub mod DueView
+pub mod Levels
 pub mod Lists
 pub mod OneHome
+pub mod Ready
+pub mod Timers
 pub mod View

@@ -2,6 +2,7 @@
 
 ghost use Rattle.std.specs.Prelude.{◌≡◌, ◌<◌, [], slice_get, IfSome};
 ghost use Rattle.links.specs.DueOrder.{AreFrom, behind_earlier, due_at, without};
+ghost use Rattle.links.specs.Timers.{HasThoseDue};
 
 use crate::dues::{self, DueEntry, Dues};
 use apex_types::{MOST_PROCESSES, ProcessIndex, Ticks};
@@ -42,6 +43,13 @@ impl DueList {
         ensures below { IfSome result (λ entry. entry.process.0 < MOST_PROCESSES) }
     {
         self.dues.first().copied()
+    }
+
+    /// A bit for each process whose tick is not later than now: bit 0 is that of process 0.
+    pub fn due_by(&self, now: Ticks) -> u64
+        ensures { HasThoseDue now.0 self.now result }
+    {
+        dues::due_by(&self.dues, now)
     }
 
     /// Nothing is due for a process any longer.

@@ -1,7 +1,8 @@
 //! Entries in the order of their ticks.
 
 ghost use Rattle.std.specs.Prelude.{◌≡◌, ℕ, ◌<◌, ◌≤◌, length};
-ghost use Rattle.links.specs.DueOrder.{behind_earlier, times_due, without};
+ghost use Rattle.links.specs.DueOrder.{AreDueBelow, AreInOrder, behind_earlier, times_due, without};
+ghost use Rattle.links.specs.Timers.{HasThoseDue};
 
 use apex_types::{MOST_PROCESSES, ProcessIndex, Ticks};
 use arrayvec::ArrayVec;
@@ -52,4 +53,19 @@ pub(crate) fn enter(dues: &mut Dues, entry: DueEntry)
         place += 1;
     }
     dues.insert(place, entry);
+}
+
+/// A bit for each process whose tick is not later than now: bit 0 is that of process 0.
+pub(crate) fn due_by(dues: &Dues, now: Ticks) -> u64
+    requires below { AreDueBelow MOST_PROCESSES dues.now.items }
+    requires ordered { AreInOrder dues.now.items }
+    ensures { HasThoseDue now.0 dues.now.items result }
+{
+    let mut mask = 0;
+    let mut place = 0;
+    while place < dues.len() && dues[place].tick.0 <= now.0 {
+        mask |= 1 << dues[place].process.0;
+        place += 1;
+    }
+    mask
 }

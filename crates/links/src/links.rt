@@ -37,7 +37,7 @@ impl Model for Links {
 
 impl Links {
     /// So many empty lists. An error is one of memory.
-    pub fn new(alloc: Global, lists: u8) -> Result<Links, AllocError>
+    pub fn new(alloc: Global, lists: u16) -> Result<Links, AllocError>
         ensures { IfOk result (λ links. links ≡ replicate lists []) }
     {
         Ok(Links {

@@ -15,7 +15,7 @@ use std::alloc::{AllocError, Global};
 pub struct ListId(pub u8);
 
 /// So many empty lists.
-pub(crate) fn empty_lists(alloc: Global, count: u8) -> Result<Vec<Entries>, AllocError>
+pub(crate) fn empty_lists(alloc: Global, count: u16) -> Result<Vec<Entries>, AllocError>
     ensures { IfOk result (λ lists. map entries_of lists.items ≡ replicate count []) }
 {
     let mut lists = Vec::with_capacity(alloc, usize::from(count))?;

@@ -65,7 +65,7 @@ impl WaitingLists {
         ensures { IfOk result (λ lists. lists ≡ fresh_queues) }
     {
         Ok(WaitingLists {
-            lists: Links::new(alloc, ALL_LISTS)?,
+            lists: Links::new(alloc, u16::from(ALL_LISTS))?,
         })
     }
 

@@ -1,3 +1,4 @@
+pub mod Bursts
 pub mod Lawful
 pub mod LinesOfTicks
 pub mod Loaded
@@ -8,3 +9,4 @@ pub mod Taken
 pub mod Texts
 pub mod Ways
 pub mod Written
+pub mod Parts

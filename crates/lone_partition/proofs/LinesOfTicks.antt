@@ -26,7 +26,7 @@ module _ {L : Type 0} (tick_of : L → ℕ) where
   own_stays t l ls e = ap (λ (b : Bool). if b then l ∷ lines_in tick_of t ls else lines_in tick_of t ls) ((Decides-eqb (tick_of l) t).1 e)
 
   -- no line is of a tick before all of them
-  none_before : (t u : ℕ) (ls : List L) → t < u → AreFrom tick_of u ls → lines_in tick_of t ls ≡ []
+  pub none_before : (t u : ℕ) (ls : List L) → t < u → AreFrom tick_of u ls → lines_in tick_of t ls ≡ []
   none_before t u [] h order = refl
   none_before t u (l ∷ ls) h order =
       let from : u ≤ tick_of l = order.0 in

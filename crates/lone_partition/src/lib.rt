@@ -12,6 +12,7 @@ mod input;
 mod lines;
 mod load;
 mod lone;
+mod pieces;
 mod running;
 mod sending;
 mod step;

@@ -1,7 +1,8 @@
 //! A partition that runs alone, tick by tick.
 
-ghost use Rattle.std.specs.Prelude.{◌≡◌, ◌≤◌, ◌<◌, ◌-◌, ◌^◌, [], Some};
-ghost use Rattle.apex_meaning.specs.Module.{first_tick, next_tick as meant_next};
+ghost use Rattle.std.specs.Prelude.{◌≡◌, ◌≤◌, ◌<◌, ◌+◌, ◌-◌, ◌^◌, [], Some};
+ghost use Rattle.apex_meaning.specs.Module.{first_tick};
+ghost use Rattle.apex_meaning.specs.Windows.{at_tick};
 ghost use Rattle.isolation.specs.Alone.{alone_from, trace_alone};
 ghost use Rattle.partition.specs.Members.{member_of};
 ghost use Rattle.lone_partition.specs.Around.{around};
@@ -11,6 +12,7 @@ ghost use Rattle.lone_partition.specs.Written.{AreWritten};
 
 use crate::lines::split_tick;
 use crate::lone::LonePartition;
+use crate::pieces::advance;
 use crate::step::{Step, write_step};
 use crate::surroundings::Surroundings;
 use crate::ticking::tick;
@@ -24,6 +26,9 @@ const FIRST_TICK: At = At {
     now: Ticks(0),
     origin: Ticks(0),
 };
+
+/// The most ticks that are made at once.
+const MOST_AT_ONCE: u32 = 4_000_000_000;
 
 /// The memory of a lone partition has one part, whose number is 1.
 const ONLY_PART: PartitionId = PartitionId(1);
@@ -107,25 +112,45 @@ fn run_ticks<E: Executor, S: Sink>(
     ensures { AreWritten (alone_from (around surroundings.now) inputs.now ticks (Some first_tick) (member_of E.Executor partition.old mem.old)) (S.taken sink.old) (S.taken sink.new) (S.failures sink.old) (S.failures sink.new) result }
 {
     let mut at = FIRST_TICK;
+    let mut left = ticks;
     let mut lines = inputs;
-    for _ in 0..ticks {
+    while left > 0 {
+        let most = at_once(left);
+        let count = advance(surroundings, lines, partition, mem, at, most, events, sink)?;
+        if count > 0 {
+            at = later_tick(at, count);
+            left -= u64::from(count);
+            continue;
+        }
         let (own, later) = split_tick(lines, at.now);
         let Some(last) = tick(surroundings, own, partition, mem, at, events, sink)? else {
             return Ok(());
         };
-        at = next_tick(last);
+        at = later_tick(last, 1);
         lines = later;
+        left -= 1;
     }
     Ok(())
 }
 
-/// The tick after a tick, with the same origin.
-fn next_tick(at: At) -> At
-    requires { at.now.0 ≤ 2 ^ 40 }
-    ensures { result ≡ meant_next at }
+/// So many ticks, or the most that are made at once.
+fn at_once(ticks: u64) -> u32
+    ensures { result ≤ ticks }
+{
+    if ticks < u64::from(MOST_AT_ONCE) {
+        ticks as u32
+    } else {
+        MOST_AT_ONCE
+    }
+}
+
+/// The tick so many ticks after a tick, with the same origin.
+pub(crate) fn later_tick(at: At, count: u32) -> At
+    requires { at.now.0 + count ≤ 2 ^ 40 }
+    ensures { result ≡ at_tick at (at.now.0 + count) }
 {
     At {
-        now: Ticks(at.now.0 + 1),
+        now: Ticks(at.now.0 + u64::from(count)),
         origin: at.origin,
     }
 }

@@ -23,7 +23,7 @@ pub own_stays : (t : ℕ) (l : DeviceLine) (ls : List DeviceLine) → l.tick.0 �
 own_stays t l ls e = ap (λ (b : Bool). if b then l ∷ of_tick t ls else of_tick t ls) ((Decides-eqb l.tick.0 t).1 e)
 
 -- no line is of a tick before all of them
-none_before : (t u : ℕ) (ls : List DeviceLine) → t < u → AreFrom u ls → of_tick t ls ≡ []
+pub none_before : (t u : ℕ) (ls : List DeviceLine) → t < u → AreFrom u ls → of_tick t ls ≡ []
 none_before t u [] h order = refl
 none_before t u (l ∷ ls) h order =
     let from : u ≤ l.tick.0 = order.0 in

@@ -1,5 +1,6 @@
 pub mod Brought
 pub mod Built
+pub mod Bursts
 pub mod Collecting
 pub mod Costed
 pub mod DeviceLines
@@ -9,6 +10,7 @@ pub mod Isolated
 pub mod Lawful
 pub mod Machines
 pub mod Members
+pub mod Parts
 pub mod Moves
 pub mod Named
 pub mod SameTraces
@@ -17,6 +19,7 @@ pub mod Told
 pub mod Texts
 pub mod Refused
 pub mod Replayed
+pub mod Runs
 pub mod Shutdown
 pub mod Standing
 pub mod Unseen

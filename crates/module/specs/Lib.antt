@@ -10,6 +10,7 @@ pub mod Lines
 pub mod Loading
 pub mod Machines
 pub mod Members
+pub mod Pieces
 pub mod Promises
 pub mod Telling
 pub mod Views

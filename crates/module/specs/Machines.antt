@@ -1,5 +1,5 @@
 -- A machine that runs an image tick by tick, and what a tick of it promises.
-use Rattle.std.specs.Prelude.{◌≡◌, ◌<◌, ◌^◌, ℕ, zero, suc, ◌+◌, Bool, true, false, List, Option, Result, Ok, Err, ◌⊎◌}
+use Rattle.std.specs.Prelude.{◌≡◌, ◌≤◌, ◌<◌, ◌^◌, ℕ, zero, suc, ◌+◌, Bool, true, false, List, Option, Result, Ok, Err, ◌⊎◌}
 use Rattle.std.specs.Io.KnownBytes.{Appends}
 use Rattle.apex_types.specs.Line.{text_of}
 use Rattle.apex_types.specs.Sink.{TakesBeginning}
@@ -10,6 +10,7 @@ use Rattle.apex_meaning.specs.Module.{Course, of_tick}
 use Rattle.apex_meaning.specs.TwoMeanings.{machine_module}
 use Rattle.image.specs.Views.{image_of}
 use Rattle.partition_base.specs.contracts.machine.MachineExecutor.TheImpl.{ghosts as executor}
+use Rattle.module.specs.Pieces.{HasRun, IsBrokenOff}
 use Rattle.module.specs.Standing.{Standing, at_first, after, ticks}
 use Rattle.module.specs.Views.{standing_of}
 use Rattle.module.specs.declared.fault.RunFault.{RunFault}
@@ -69,3 +70,10 @@ HaveTicked lines zero m last old new before now answer = (answer ≡ Ok tt) × I
 HaveTicked lines (suc n) m last old new before now answer =
     ((f : RunFault) × (answer ≡ Err f) × HasTicked (of_tick m.standing.now lines) m last old new before now answer)
     ⊎ ((next : Machine) × (mid : Option (List ℕ)) × (between : ℕ) × HasTicked (of_tick m.standing.now lines) m next old mid before between (Ok tt) × HaveTicked lines n next last mid new between now answer)
+
+-- Some of so many ticks were made at once, as many as are answered, unless the sink failed.
+abbrev pub HasRunOn : List DeviceLine → ℕ → Machine → Machine → Option (List ℕ) → Option (List ℕ) → ℕ → ℕ → Result ℕ RunFault → Type 0
+HasRunOn lines most m next old new before now (Ok n) =
+    (next.image ≡ m.image) × (next.failed ≡ false) × (n ≤ most) × (next.standing.now ≡ m.standing.now + n) × HasRun (machine_module m.image).plan lines n m.standing next.standing old new before now
+HasRunOn lines most m next old new before now (Err fault.Write) = IsBrokenOff (machine_module m.image).plan lines most m.standing old new before now
+HasRunOn lines most m next old new before now (Err _) = ⊥

@@ -17,6 +17,7 @@ mod load_fault;
 mod machine;
 mod member;
 mod naming;
+mod pieces;
 mod replaying;
 mod restart;
 mod running;

@@ -1,6 +1,6 @@
 //! An image that runs tick by tick.
 
-ghost use Rattle.std.specs.Prelude.{◌≡◌, ◌<◌, ◌≤◌, ◌-◌, ◌^◌, ℕ, List, Option, Result, Ok, is_none, IfOk, IfErr};
+ghost use Rattle.std.specs.Prelude.{◌≡◌, ◌<◌, ◌≤◌, ◌+◌, ◌-◌, ◌^◌, ℕ, List, Option, Result, Ok, false, is_none, IfOk, IfErr, OnOk};
 ghost use Rattle.apex_meaning.specs.DeviceText.{verdict_for};
 ghost use Rattle.apex_meaning.specs.Module.{of_tick};
 ghost use Rattle.image.specs.Views.{image_of};
@@ -9,7 +9,7 @@ ghost use Rattle.apex_meaning.specs.ImageLimits.{IsLawful};
 ghost use Rattle.apex_meaning.specs.TwoMeanings.{machine_module, machine_trace};
 ghost use Rattle.module.specs.Isolated.{WritesAlone};
 ghost use Rattle.module.specs.Machines as machines;
-ghost use Rattle.module.specs.Machines.{HasTicked, HaveTicked, fresh_machine, machine_of};
+ghost use Rattle.module.specs.Machines.{HasRunOn, HasTicked, HaveTicked, fresh_machine, machine_of};
 ghost use Rattle.module.specs.Standing.{lines_of};
 ghost use Rattle.module.specs.Promises.{AreRefused, RunsImage};
 ghost use Rattle.module.specs.Written.{AreFrom};
@@ -82,6 +82,33 @@ impl Machine {
         ensures { result ≡ is_none (machine_of self.now).standing.origin }
     {
         self.module.origin.is_none()
+    }
+
+    /// Some of so many ticks at once, all of them before the first of these lines of the devices, which
+    /// are of the next tick or later ones: how many they were. Where it is none, the next tick is made
+    /// alone.
+    ///
+    /// # Errors
+    ///
+    /// [`RunFault::Write`] where the sink fails: it has taken a beginning of the lines of these ticks.
+    pub(crate) fn advance<S: Sink>(
+        &mut self,
+        lines: &[DeviceLine],
+        most: u32,
+        sink: &mut S,
+    ) -> Result<u32, RunFault>
+        requires sound { (machine_of self.old).failed ≡ false }
+        requires soon { (machine_of self.old).standing.now + most ≤ 2 ^ 40 }
+        requires order { AreFrom (machine_of self.old).standing.now lines.now }
+        requires failures { S.failures sink.old < 2 ^ 64 - 1 }
+        ensures order { OnOk result (AreFrom (machine_of self.new).standing.now lines.now) }
+        ensures run { HasRunOn lines.now most (machine_of self.old) (machine_of self.new) (S.taken sink.old) (S.taken sink.new) (S.failures sink.old) (S.failures sink.new) result }
+    {
+        let Ok(count) = self.module.advance(lines, most, sink) else {
+            self.has_failed = true;
+            return Err(RunFault::Write);
+        };
+        Ok(count)
     }
 
     /// The next tick, with the devices' lines of this tick in their order. The lines of its trace go into

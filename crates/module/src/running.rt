@@ -51,6 +51,20 @@ pub fn run<S: Sink>(
     run_ticks(&mut machine, &lines, ticks, sink)
 }
 
+/// The most ticks that are made at once.
+const MOST_AT_ONCE: u32 = 4_000_000_000;
+
+/// So many ticks, or the most that are made at once.
+fn at_once(ticks: u64) -> u32
+    ensures { result ≤ ticks }
+{
+    if ticks < u64::from(MOST_AT_ONCE) {
+        ticks as u32
+    } else {
+        MOST_AT_ONCE
+    }
+}
+
 /// So many ticks of a machine, with these lines of the devices; after a shutdown nothing happens.
 fn run_ticks<S: Sink>(
     machine: &mut Machine,
@@ -69,6 +83,11 @@ fn run_ticks<S: Sink>(
     let mut left = ticks;
     let mut lines = devices;
     while left > 0 && !machine.is_shut_down() {
+        let count = machine.advance(lines, at_once(left), sink)?;
+        if count > 0 {
+            left -= u64::from(count);
+            continue;
+        }
         let (now, later) = split_tick(lines, machine.now());
         machine.tick(now, sink)?;
         lines = later;

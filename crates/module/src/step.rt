@@ -67,7 +67,7 @@ fn step_member<E: Executor>(
 }
 
 /// The number of the partition at a place.
-fn number_at(place: usize) -> PartitionId
+pub fn number_at(place: usize) -> PartitionId
     requires { place < 16 }
     ensures number { result.0 ≡ place + 1 }
     ensures place { place_of result ≡ place }

@@ -1,1 +1,3 @@
+pub mod AtRest
 pub mod Leaving
+pub mod Quiet

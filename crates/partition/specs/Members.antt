@@ -1,9 +1,11 @@
 -- A partition with its memory, as the member of the definitions.
-use Rattle.std.specs.Prelude.{◌≡◌, List, ◌++◌}
+use Rattle.std.specs.Prelude.{◌≡◌, ℕ, ◌+◌, List, ◌++◌}
+use Rattle.apex_types.specs.declared.identity.At.{At}
 use Rattle.apex_types.specs.declared.event.Event.{Event}
 use Rattle.apex_types.specs.declared.process.Action.{Action}
 use Rattle.apex_meaning.specs.Kernel.{Kernel}
 use Rattle.apex_meaning.specs.Partition.{Member, Moved, with_world, act, act_all}
+use Rattle.bursts.specs.Running.{Goes, advances_by}
 use Rattle.partition_base.specs.declared.executor.Executor.{Ghosts}
 use Rattle.partition.specs.declared.partition.Partition.{Partition}
 
@@ -26,3 +28,11 @@ acts_all actions x = with_world x (act_all x.engine actions x.world)
 -- A member moved: this is the one after it, and its lines come behind those that were there.
 abbrev pub IsMoved : {C : Type 0} → Moved C → Member C → Member C → List Event → List Event → Type 0
 IsMoved m before after old new = (after ≡ with_world before m.world) × (new ≡ old ++ m.lines)
+
+-- Ticks of a member from one on: it is now this one, they told these lines, and were so many.
+abbrev pub HasGone : {C : Type 0} → At → Member C → Member C → List Event → ℕ → Type 0
+HasGone at before after lines ticks = (after ≡ with_world before after.world) × Goes before.engine at.origin.0 before.world at.now.0 (record { control = after.world; words = at.now.0 + ticks; told = lines; ticks = ticks })
+
+-- n ticks of a member from one on, or those up to the first with a line: so many.
+abbrev pub HasAdvanced : {C : Type 0} → At → ℕ → Member C → Member C → List Event → ℕ → Type 0
+HasAdvanced at n before after lines ticks = (after ≡ with_world before after.world) × (advances_by before.engine at.origin.0 n before.world at.now.0 ≡ record { control = after.world; words = at.now.0 + ticks; told = lines; ticks = ticks })

@@ -1,12 +1,14 @@
 //! The kernel's state of one partition, in parts with an owner each.
 
-ghost use Rattle.std.specs.Prelude.{◌≡◌, ◌≤◌, ◌+◌, ◌^◌, IfOk};
+ghost use Rattle.std.specs.Prelude.{◌≡◌, ◌<◌, ◌≤◌, ◌+◌, ◌^◌, ℕ, IfOk};
 ghost use Rattle.apex_types.specs.Room.{HasRoom, Grows};
 ghost use Rattle.apex_meaning.specs.Kernel.{of_processes};
 ghost use Rattle.apex_meaning.specs.Partition as tick;
 ghost use Rattle.apex_meaning.specs.PartitionServices.{next_release_of};
 ghost use Rattle.apex_meaning.specs.Processes.{subject};
-ghost use Rattle.apex_meaning.specs.Step.{IsMade};
+ghost use Rattle.apex_meaning.specs.Step.{IsMade, nothing};
+ghost use Rattle.apex_meaning.specs.Windows.{tick_from};
+ghost use Rattle.bursts.specs.Quiet.{HasNothingDue};
 ghost use Rattle.partition.specs.Fresh.{AreWithinLimits, idle_kernel};
 ghost use Rattle.partition.specs.View.{fixed_of};
 
@@ -14,7 +16,7 @@ use crate::fixed::Fixed;
 use apex_types::{
     At, ErrorKind, Mode, Name, Out, PortRow, Runner, Section, StartCondition, Subject,
 };
-use health::{Errors, free_places, start_handler};
+use health::{Errors, free_places, handler_stays, start_handler};
 use ports::Ports;
 use process_table_base::{Points, ProcessTable};
 use std::alloc::{AllocError, Global};
@@ -114,6 +116,24 @@ impl Kernel {
         let mode = self.mode;
         start_handler(&mut self.processes, &self.errors, mode, out);
         self.processes.choose(mode, out);
+    }
+
+    /// How many of so many ticks, this one the first, come before anything is due, if neither the start of
+    /// the error handler nor the choice of who runs would change anything now; else none.
+    #[tactic(auto, using(crate::proofs::Quiet::quiet_due, crate::proofs::Quiet::choice_stays))]
+    pub(crate) fn quiet_ticks(&self, at: At, k: u32) -> u32
+        ensures within { result ≤ k }
+        ensures choice { 0 < result → tick.chooses_with_handler self.now ≡ nothing self.now }
+        ensures due { (i : ℕ) → i < result → HasNothingDue (tick_from at.origin.0 (at.now.0 + i)) self.now }
+    {
+        let mode = self.mode;
+        if !handler_stays(&self.processes, &self.errors, mode) {
+            return 0;
+        }
+        if !self.processes.choice_stays(mode) {
+            return 0;
+        }
+        self.processes.quiet_ticks(at.now, k)
     }
 
     /// Due times and deadlines are treated; the mode of the Clear that a missed deadline leads to, if it

@@ -2,6 +2,7 @@
 #![tactic(auto)]
 
 mod acting;
+mod advance;
 mod errors;
 mod fixed;
 mod kernel;
@@ -11,6 +12,7 @@ mod object_services;
 mod partition;
 mod port_services;
 mod services;
+mod still;
 mod tick;
 
 pub use fixed::Fixed;

@@ -49,4 +49,11 @@ impl<E: Executor> Partition<E> {
     {
         &self.kernel
     }
+
+    /// What runs its processes, to be read.
+    pub fn executor(&self) -> &E
+        ensures { result.now ≡ self.now.executor }
+    {
+        &self.executor
+    }
 }

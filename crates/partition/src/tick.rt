@@ -1,6 +1,6 @@
 //! A partition, tick by tick.
 
-ghost use Rattle.std.specs.Prelude.{◌≡◌, ◌≤◌, ◌+◌, ◌++◌, ◌^◌, [], length};
+ghost use Rattle.std.specs.Prelude.{◌≡◌, ◌≤◌, ◌+◌, ◌++◌, ◌^◌, [], length, true};
 ghost use Rattle.apex_types.specs.Room.{IsEmpty};
 ghost use Rattle.apex_meaning.specs.Partition as meaning;
 ghost use Rattle.apex_meaning.specs.Step.{IsMade};
@@ -9,7 +9,7 @@ ghost use Rattle.processor.specs.Views.{asks_of};
 
 use crate::acting::{act_all, tell};
 use crate::partition::Partition;
-use apex_types::{At, Events, Mode, Name, Runner, StartCondition, Words, array_of};
+use apex_types::{At, Events, Mode, Name, Out, Runner, StartCondition, Words, array_of};
 use partition_base::Executor;
 use processor::Outcome;
 
@@ -23,6 +23,9 @@ impl<E: Executor> Partition<E> {
         ensures events { events.new.items ≡ events.old.items ++ meaning.told name at self.old.out.lines.items }
         ensures empty { IsEmpty self.new.out }
     {
+        if is_empty(&self.out) {
+            return;
+        }
         act_all(
             &mut self.kernel,
             &mut self.executor,
@@ -173,6 +176,7 @@ impl<E: Executor> Partition<E> {
         requires idle { IsEmpty self.old.out }
         requires room { length events.old.items + 94 ≤ 256 }
         ensures fits { E.laid mem.new ≡ E.layout self.new.executor }
+        ensures idle { IsEmpty self.new.out }
         ensures moved { let x = member_of E.Executor self.old mem.old in IsMoved (meaning.spending_phase x.engine at x.world) x (member_of E.Executor self.new mem.new) events.old.items events.new.items }
     {
         if let Some(runner) = self.kernel.running() {
@@ -182,7 +186,7 @@ impl<E: Executor> Partition<E> {
 
     /// The words that a call hands in: those of its array, at most 16.
     #[tactic(auto, using(apex_meaning::proofs::Numbers::handed_words))]
-    fn given(&self, mem: &E::Mem, outcome: &Outcome) -> Words
+    pub(crate) fn given(&self, mem: &E::Mem, outcome: &Outcome) -> Words
         ensures { result.items ≡ meaning.given (asks_of outcome.now) (E.words mem.now) }
     {
         match outcome {
@@ -201,12 +205,20 @@ impl<E: Executor> Partition<E> {
         requires fits { E.laid mem.old ≡ E.layout self.old.executor }
         requires empty { events.old.items ≡ [] }
         ensures fits { E.laid mem.new ≡ E.layout self.new.executor }
+        ensures idle { IsEmpty self.new.out }
         ensures moved { let x = member_of E.Executor self.old mem.old in IsMoved (meaning.advances at x) x (member_of E.Executor self.new mem.new) events.old.items events.new.items }
     {
         self.out.clear();
         self.prepare(mem, at, events);
         self.spend_chosen(mem, at, events);
     }
+}
+
+/// Whether nothing happened, and nothing is asked for.
+fn is_empty(out: &Out) -> bool
+    ensures { result ≡ true → IsEmpty out.now }
+{
+    out.lines.is_empty() && out.actions.is_empty()
 }
 
 /// How many words of an array of a size a call hands in, at most 16.

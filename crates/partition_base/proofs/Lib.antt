@@ -1,2 +1,3 @@
+pub mod Bursts
 pub mod Layouts
 pub mod Places

@@ -1,3 +1,4 @@
+pub mod Bursting
 pub mod Slots
 pub mod Sections
 pub mod Machines

@@ -1,13 +1,15 @@
 //! The processor as the kernel sees it: who runs, over a partition's memory.
 
-ghost use Rattle.std.specs.Prelude.{◌≡◌, ◌≤◌, ℕ, ℤ, List, Option, Some, None, map, slice_set};
+ghost use Rattle.std.specs.Prelude.{true, ◌≡◌, ◌≤◌, ℕ, ℤ, List, Option, Some, None, map, slice_set};
 ghost use Rattle.apex_types.specs.Runners.{place_of};
 ghost use Rattle.apex_meaning.specs.Engine.{Engine, Ticked};
 ghost use Rattle.apex_meaning.specs.Partition.{control_at, no_control, replied, ticked, message_from, written};
+ghost use Rattle.bursts.specs.Bursts.{is_nothing};
 ghost use Rattle.processor.specs.Views.{asks_of};
+ghost use Rattle.partition_base.specs.Bursting.{burst_at};
 
 use apex_types::{Runner, Words};
-use processor::Outcome;
+use processor::{Burst, Outcome};
 
 /// Runs INIT, the error handler and the processes of one partition. A runner without a control has
 /// nothing left to do; a process that does not exist never has a control. No call takes memory.
@@ -66,6 +68,16 @@ pub trait Executor {
         ensures controls { controls self.new mem.new ≡ slice_set (controls self.old mem.old) (place_of runner) (ticked (engine self.old) (control_at (controls self.old mem.old) (place_of runner)) (words mem.old)).control }
         ensures words { words mem.new ≡ (ticked (engine self.old) (control_at (controls self.old mem.old) (place_of runner)) (words mem.old)).words }
         ensures asks { asks_of result ≡ (ticked (engine self.old) (control_at (controls self.old mem.old) (place_of runner)) (words mem.old)).asks };
+
+    /// So many ticks of the runner, or those up to the first in which it asks for something: how many
+    /// they were, and what the last one came to.
+    fn advance(&mut self, mem: &mut Self::Mem, runner: Runner, k: u32) -> Burst
+        requires { laid mem.old ≡ layout self.old }
+        ensures fits { laid mem.new ≡ layout self.new }
+        ensures engine { engine self.new ≡ engine self.old }
+        ensures initial { initial self.new ≡ initial self.old }
+        ensures burst { record { control = controls self.new mem.new; words = words mem.new; told = asks_of result.outcome; ticks = result.ticks } ≡ burst_at (engine self.old) k (place_of runner) (controls self.old mem.old) (words mem.old) }
+        ensures whole { is_nothing (asks_of result.outcome) ≡ true → result.ticks ≡ k };
 
     /// The answer to the runner's service call: the code, then the outputs.
     fn reply(&mut self, mem: &mut Self::Mem, runner: Runner, answer: &Words)

@@ -14,7 +14,7 @@ ghost use Rattle.partition_base.specs.Slots.{AreFittingBodies, stack_of_body, is
 use crate::executor::Executor;
 use crate::slot::{self, Slot};
 use apex_types::{BodyRow, ProcessRow, Runner, Section, Words};
-use processor::{Code, Outcome};
+use processor::{Burst, Code, Outcome};
 use regions::{MemoryPlan, PartitionMem, Region};
 use std::alloc::{AllocError, Global};
 
@@ -203,6 +203,10 @@ impl Executor for Machine {
 
     fn tick(&mut self, mem: &mut PartitionMem, runner: Runner) -> Outcome {
         slot::tick_at(&mut self.slots, runner.place(), mem, &self.code)
+    }
+
+    fn advance(&mut self, mem: &mut PartitionMem, runner: Runner, k: u32) -> Burst {
+        slot::advance_at(&mut self.slots, runner.place(), mem, &self.code, k)
     }
 
     fn reply(&mut self, mem: &mut PartitionMem, runner: Runner, answer: &Words) {

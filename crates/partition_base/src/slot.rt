@@ -1,17 +1,19 @@
 //! The slots of a partition: those of INIT, of its error handler and of its processes.
 
-ghost use Rattle.std.specs.Prelude.{◌≡◌, ◌<◌, ℤ, List, length, map, slice_get, slice_set, Some, None, false};
+ghost use Rattle.std.specs.Prelude.{◌≡◌, ◌<◌, ℤ, List, length, map, slice_get, slice_set, Some, None, true, false};
 ghost use Rattle.apex_types.specs.declared.identity.Runner.{Runner};
 ghost use Rattle.apex_types.specs.declared.row.BodyRow.{BodyRow};
 ghost use Rattle.apex_meaning.specs.MachineControl.{machine_engine, machine_start};
 ghost use Rattle.apex_meaning.specs.Partition.{control_at, no_control, replied, ticked};
 ghost use Rattle.processor.specs.Fitting.{IsFittingBody};
+ghost use Rattle.bursts.specs.Bursts.{burst, is_nothing};
 ghost use Rattle.processor.specs.Views.{asks_of};
 ghost use Rattle.regions.specs.Space.{put, stacks_of, zeros};
+ghost use Rattle.partition_base.specs.Bursting.{burst_at};
 ghost use Rattle.partition_base.specs.Slots.{alone, control_of_slot, controls_from, stack_lengths};
 
 use apex_types::BodyRow;
-use processor::{Code, Context, Outcome, step};
+use processor::{Burst, Code, Context, Outcome, advance, step};
 use regions::PartitionMem;
 
 /// A runner on the processor: its context, and whether it has something left to do.
@@ -64,6 +66,24 @@ impl Slot {
             return Outcome::Busy;
         }
         step(&mut self.context, memory, code)
+    }
+
+    /// So many ticks on the own stack, or those up to the first in which something is asked, where
+    /// something is left to do.
+    fn advance(&mut self, memory: &mut PartitionMem, code: &Code, k: u32) -> Burst
+        ensures burst { (bodies : Runner → BodyRow) → record { control = control_of_slot self.new memory.new.stack; words = memory.new.words; told = asks_of result.outcome; ticks = result.ticks } ≡ burst (ticked (machine_engine code.now.instructions.items code.now.routines.items bodies)) k (control_of_slot self.old memory.old.stack) memory.old.words }
+        ensures memory { memory.new ≡ put memory.old memory.new.stack memory.new.words }
+        ensures stack { length memory.new.stack ≡ length memory.old.stack }
+        ensures length { length memory.new.words ≡ length memory.old.words }
+        ensures whole { is_nothing (asks_of result.outcome) ≡ true → result.ticks ≡ k }
+    {
+        if !self.is_active {
+            return Burst {
+                ticks: k,
+                outcome: Outcome::Busy,
+            };
+        }
+        advance(&mut self.context, memory, code, k)
     }
 
     /// The answer to a service call, where something is left to do.
@@ -145,6 +165,35 @@ pub(crate) fn tick_at(
     match slots.get_mut(place) {
         Some(slot) => slot.tick(memory, code),
         None => Outcome::Busy,
+    }
+}
+
+/// So many ticks of the runner of a place, or those up to the first in which it asks for something.
+#[tactic(auto, using(crate::proofs::Places::views))]
+pub(crate) fn advance_at(
+    slots: &mut Vec<Slot>,
+    place: usize,
+    memory: &mut PartitionMem,
+    code: &Code,
+    k: u32,
+) -> Burst
+    ensures burst { (bodies : Runner → BodyRow) → record { control = controls_from slots.new.items (stacks_of memory.new); words = memory.new.words; told = asks_of result.outcome; ticks = result.ticks } ≡ burst_at (machine_engine code.now.instructions.items code.now.routines.items bodies) k place (controls_from slots.old.items (stacks_of memory.old)) memory.old.words }
+    ensures stacks { stack_lengths memory.new ≡ stack_lengths memory.old }
+    ensures length { length memory.new.words ≡ length memory.old.words }
+    ensures whole { is_nothing (asks_of result.outcome) ≡ true → result.ticks ≡ k }
+{
+    if !memory.select(place) {
+        return Burst {
+            ticks: k,
+            outcome: Outcome::Busy,
+        };
+    }
+    match slots.get_mut(place) {
+        Some(slot) => slot.advance(memory, code, k),
+        None => Burst {
+            ticks: k,
+            outcome: Outcome::Busy,
+        },
     }
 }
 

@@ -1,2 +1,6 @@
-pub mod Announced
 pub mod Bounds
+pub mod FirstOf
+pub mod Quiet
+pub mod Released
+pub mod Timed
+pub mod Treating

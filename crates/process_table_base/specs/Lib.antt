@@ -1,5 +1,8 @@
-pub mod Announced
 pub mod Bounds
+pub mod DueMask
+pub mod LeastNumber
 pub mod Own
-pub mod View
+pub mod RecordView
+pub mod Timed
 pub mod Treating
+pub mod View

@@ -1,23 +1,31 @@
 //! The choice of who runs.
 
-ghost use Rattle.std.specs.Prelude.{◌≡◌, ◌≤◌, ◌+◌, length};
+ghost use Rattle.std.specs.Prelude.{◌≡◌, ◌↔◌, ◌≤◌, ◌+◌, ◌^◌, ℕ, true, Some, length};
 ghost use Rattle.apex_types.specs.Room.{HasRoom, Grows};
+ghost use Rattle.apex_types.specs.declared.identity.Runner.{Runner as Process};
+ghost use Rattle.apex_meaning.specs.Choice.{IsNumbered, Picks};
 ghost use Rattle.apex_meaning.specs.Partition as meaning;
-ghost use Rattle.apex_meaning.specs.Step.{IsMade};
+ghost use Rattle.apex_meaning.specs.Step.{IsMade, nothing};
 
 use crate::table::{ProcessTable, is_same};
 use apex_types::{EventKind, Lock, Mode, Out, ProcessState, ProcessStatus, Runner};
 
 impl ProcessTable {
     /// Who is to run: before the normal start INIT; then the handler if it is ready, the one that
-    /// holds the lock, or the first of those that are ready.
-    pub fn pick(&self, mode: Mode) -> Option<Runner>
-        ensures { result ≡ meaning.pick mode self.now }
+    /// holds the lock, or the first of those that are ready. Whatever numbers the ready ones have taken
+    /// in their order, that is the one of the highest priority with the least number. Each record that
+    /// is read adds one to `reads`; at most three are.
+    #[tactic(auto, using(apex_meaning::proofs::Choosing::chosen))]
+    pub fn pick(&self, mode: Mode, reads: &mut u64) -> Option<Runner>
+        requires { reads.old ≤ 2 ^ 32 }
+        ensures chosen { result ≡ meaning.pick mode self.now }
+        ensures picks { (number : ℕ → ℕ) (next : ℕ) (runner : Process) → IsNumbered number next self.now.ready → (result ≡ Some runner ↔ Picks number mode self.now runner) }
+        ensures reads { reads.new ≤ reads.old + 3 }
     {
         match mode {
             Mode::Idle => None,
             Mode::Normal => {
-                if is_ready(self.row(Runner::Handler)) {
+                if is_ready(self.read(Runner::Handler, reads)) {
                     Some(Runner::Handler)
                 } else {
                     self.pick_unless_held()
@@ -80,6 +88,14 @@ impl ProcessTable {
         }
     }
 
+    /// Whether a choice would change nothing: the one chosen is the one that runs, or there is neither.
+    pub fn choice_stays(&self, mode: Mode) -> bool
+        ensures { result ≡ true → meaning.chooses mode self.now ≡ nothing self.now }
+    {
+        let mut reads = 0;
+        are_same(self.running(), self.pick(mode, &mut reads))
+    }
+
     /// A change of the chosen one writes that the old one is ready and that the new one runs.
     pub fn choose(&mut self, mode: Mode, out: &mut Out)
         requires { HasRoom 2 out.old }
@@ -87,7 +103,8 @@ impl ProcessTable {
         ensures grows { Grows 2 out.old out.new }
     {
         let running = self.running();
-        let chosen = self.pick(mode);
+        let mut reads = 0;
+        let chosen = self.pick(mode, &mut reads);
         if are_same(running, chosen) {
             return;
         }

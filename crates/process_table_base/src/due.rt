@@ -6,7 +6,10 @@ ghost use Rattle.apex_types.specs.Runners.{place_of};
 ghost use Rattle.apex_meaning.specs.Due as meaning;
 ghost use Rattle.apex_meaning.specs.Processes.{row_of};
 ghost use Rattle.apex_meaning.specs.Step.{IsMade};
+ghost use Rattle.links.specs.Timers.{IsDueMask};
 ghost use Rattle.process_table_base.specs.Bounds.{IsBounded};
+ghost use Rattle.process_table_base.specs.DueMask.{IsSplit};
+ghost use Rattle.process_table_base.specs.Timed.{deadlines, due_times};
 ghost use Rattle.process_table_base.specs.Treating.{IsTreated};
 
 use crate::start::released_at;
@@ -142,24 +145,31 @@ impl ProcessTable {
         self.treat_deadline(at, free, action, process, out)
     }
 
-    /// Each process in number order, until one of them leads to a Clear.
-    fn treat_all(&mut self, at: At, free: u8, action: PartitionAction, out: &mut Out) -> Treated
+    /// Each process of the mask in number order, until one of them leads to a Clear.
+    fn treat_all(
+        &mut self,
+        at: At,
+        free: u8,
+        action: PartitionAction,
+        mask: u64,
+        out: &mut Out,
+    ) -> Treated
         requires now { at.now.0 ≤ 2 ^ 40 }
         requires room { HasRoom 93 out.old }
+        requires few { length self.old.rows ≤ MOST_RUNNERS }
+        requires mask { IsDueMask at.now.0 (due_times self.old.rows) (deadlines self.old.rows) mask }
         ensures treated { IsTreated (meaning.due at free action self.old) self.new out.old out.new result }
         ensures grows { Grows 93 out.old out.new }
     {
-        let mut left = self.count().saturating_sub(2);
-        let mut place = 0u8;
+        let mut left = mask;
         let mut free = free;
-        while left > 0 {
-            let treated = self.treat(at, free, action, ProcessIndex(place), out);
+        while let Some((process, rest)) = split_first(left) {
+            let treated = self.treat(at, free, action, process, out);
             if treated.clears.is_some() {
                 return treated;
             }
             free = treated.free;
-            left -= 1;
-            place += 1;
+            left = rest;
         }
         Treated { free, clears: None }
     }
@@ -173,13 +183,21 @@ impl ProcessTable {
         ensures treated { IsTreated (meaning.due at free action self.old) self.new out.old out.new result }
         ensures grows { Grows 93 out.old out.new }
     {
-        if !self.may_be_due(at.now) {
-            return Treated { free, clears: None };
-        }
-        let treated = self.treat_all(at, free, action, out);
-        self.renew_dues(at.now);
-        treated
+        let mask = self.due_mask(at.now);
+        self.treat_all(at, free, action, mask, out)
     }
+}
+
+/// The first process that has a bit, and the bits of the others.
+fn split_first(mask: u64) -> Option<(ProcessIndex, u64)>
+    ensures { IsSplit mask result }
+{
+    if mask == 0 {
+        return None;
+    }
+    let place = mask.trailing_zeros();
+    let rest = mask & !(1 << place);
+    Some((ProcessIndex(place as u8), rest))
 }
 
 /// One that suspended itself is suspended no longer at its time-out; any other stays suspended.
@@ -205,7 +223,7 @@ fn tick_of(due: Due) -> Ticks
     }
 }
 
-pub(crate) fn is_past(now: Ticks, tick: Option<Ticks>) -> bool
+fn is_past(now: Ticks, tick: Option<Ticks>) -> bool
     ensures { result ≡ meaning.is_past now.0 tick }
 {
     match tick {

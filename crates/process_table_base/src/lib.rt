@@ -2,18 +2,18 @@
 //! of one process that services are made of.
 #![tactic(auto)]
 
-mod announce;
 mod change;
 mod choice;
 mod due;
 mod duration;
 mod find;
 mod message;
-mod order;
 mod own;
+mod records;
 mod serve;
 mod start;
 mod table;
+mod timers;
 mod waiting;
 
 pub use change::answer;

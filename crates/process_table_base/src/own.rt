@@ -1,11 +1,14 @@
 //! Changes of one process by its number: each by the record that the table has of it. Where the table
 //! has none, nothing happens.
 
-ghost use Rattle.std.specs.Prelude.{◌≡◌, ◌<◌, ◌≤◌, ◌+◌, ◌^◌, length};
+ghost use Rattle.std.specs.Prelude.{◌≡◌, ◌<◌, ◌≤◌, ◌+◌, ◌^◌, ℕ, length};
 ghost use Rattle.apex_types.specs.Room.{HasRoom, Grows};
+ghost use Rattle.apex_types.specs.declared.codes.Discipline.{Discipline};
+ghost use Rattle.apex_types.specs.declared.identity.ListKey.{ListKey as Key};
 ghost use Rattle.apex_meaning.specs.Processes as meaning;
 ghost use Rattle.apex_meaning.specs.Step.{IsMade};
 ghost use Rattle.apex_meaning.specs.Waiting.{gives};
+ghost use Rattle.apex_meaning.specs.WaitingOrder.{AreQueues};
 ghost use Rattle.process_table_base.specs.Own.{own_change, own_step};
 
 use crate::table::ProcessTable;
@@ -24,8 +27,10 @@ impl ProcessTable {
     }
 
     /// The service in which it waits answers with outputs of 0, if it waits in one; then it is ready.
+    /// Those who wait on keep their order.
     pub fn release(&mut self, runner: Runner, code: ReturnCode, out: &mut Out)
         requires { HasRoom 2 out.old }
+        ensures order { (disciplines : Key → Discipline) (number : ℕ → ℕ) (next : ℕ) → AreQueues disciplines number next self.old.queues → AreQueues disciplines number next self.new.queues }
         ensures step { IsMade (own_step self.old runner (λ r. meaning.released self.old runner r code)) self.new out.old out.new }
         ensures grows { Grows 2 out.old out.new }
     {

@@ -1,39 +1,36 @@
 //! The records of a partition's processes, and the few ways in which they change.
 
-ghost use Rattle.std.specs.Prelude.{◌≡◌, ◌<◌, ◌≤◌, [], ◌∷◌, length, map, slice_get, slice_set, IfOk, IfSome, None, option_map, false};
+ghost use Rattle.std.specs.Prelude.{◌≡◌, ◌<◌, ◌≤◌, ◌+◌, ◌-◌, ◌^◌, ℕ, length, map, IfOk, IfSome};
 ghost use Rattle.apex_types.specs.Runners.{place_of};
-ghost use Rattle.apex_types.specs.declared.process.Lock.TheVariants as free;
-ghost use Rattle.apex_meaning.specs.PartitionServices.{cleared_processes, forgotten, ready_init, started_rows};
+ghost use Rattle.apex_meaning.specs.PartitionServices.{cleared_processes};
 ghost use Rattle.apex_meaning.specs.Partition.{first_ready};
 ghost use Rattle.apex_meaning.specs.Processes as meaning;
 ghost use Rattle.apex_meaning.specs.ProcessServices.{level_of};
-ghost use Rattle.apex_meaning.specs.TwoMeanings.{fresh_row, fresh_processes, init_row, handler_row, machine_row, no_message, ticks};
-ghost use Rattle.process_table_base.specs.Announced.{AreAnnounced, IsQuiet, next_of, record_of, renewed};
-ghost use Rattle.process_table_base.specs.Bounds.{IsBounded, AreShort};
+ghost use Rattle.apex_meaning.specs.TwoMeanings.{fresh_processes, machine_row, no_message};
+ghost use Rattle.links.specs.Timers.{IsDueMask, IsNextDue, number_of};
+ghost use Rattle.process_table_base.specs.Bounds.{AreShort, IsBounded};
+ghost use Rattle.process_table_base.specs.Timed.{AreQuiet, deadlines, due_times};
 
-use crate::announce::{announce, next_of, next_tick, renew};
-use crate::order::{self, Order};
+use crate::records::Records;
 use apex_types::{
-    Lock, MOST_PROCESSES, MOST_RUNNERS, Mode, Priority, ProcessIndex, ProcessRow, ProcessState,
-    ProcessStatus, Runner, Subject, Ticks, Wait, Words,
+    Entry, Lock, MOST_PROCESSES, MOST_RUNNERS, Mode, ProcessRow, ProcessStatus, Runner, Ticks,
+    Words,
 };
-use links::{DueList, WaitingLists};
+use links::{ReadyLists, WaitingLists};
 use std::alloc::{AllocError, Global};
 use std::marker::Model;
 
 /// The processes of a partition: the records of INIT, of the error handler and of each process; those
 /// that are ready; the one that runs; the preemption lock; and those that wait for objects and ports,
-/// with what they hand in. It keeps a list of what is due. A contract sees it as the processes of the
-/// definitions.
+/// with what they hand in. A contract sees it as the processes of the definitions.
 #[derive(Drop)]
 pub struct ProcessTable {
-    rows: Vec<ProcessStatus>,
-    ready: Order,
+    records: Records,
+    ready: ReadyLists,
     running: Option<Runner>,
     lock: Lock,
     pub(crate) queues: WaitingLists,
     pub(crate) handed: Vec<Words>,
-    dues: DueList,
 }
 
 impl Model for ProcessTable {
@@ -42,60 +39,9 @@ impl Model for ProcessTable {
 
     ghost Value = { meaning.Processes };
 
-    ghost use Rattle.process_table_base.specs.View.{processes_of, IsSound};
+    ghost use Rattle.process_table_base.specs.View.{processes_of};
 
     ghost view = { processes_of };
-
-    ghost invariant = { IsSound };
-}
-
-/// A count of ticks, where there is one.
-fn ticks(count: Option<u64>) -> Option<Ticks>
-    ensures { result ≡ option_map ticks count }
-{
-    match count {
-        Some(count) => Some(Ticks(count)),
-        None => None,
-    }
-}
-
-/// The record of one with a priority, before it is created.
-fn fresh_row(
-    who: Subject,
-    priority: Priority,
-    period: Option<u64>,
-    capacity: Option<u64>,
-) -> ProcessStatus
-    ensures { result ≡ fresh_row who priority period capacity }
-{
-    ProcessStatus {
-        who,
-        base_priority: priority,
-        period: ticks(period),
-        capacity: ticks(capacity),
-        created: false,
-        state: ProcessState::Dormant,
-        current_priority: priority,
-        suspended: false,
-        wait: Wait::Nothing,
-        due: None,
-        release: Ticks(0),
-        deadline: None,
-    }
-}
-
-/// INIT, the handler and the processes, none of them created.
-fn fresh_rows(alloc: Global, processes: &[ProcessRow]) -> Result<Vec<ProcessStatus>, AllocError>
-    ensures { IfOk result (λ rows. rows.items ≡ init_row ∷ handler_row ∷ map machine_row processes.now) }
-{
-    let mut rows = Vec::with_capacity(alloc, processes.len())?;
-    rows.push(fresh_row(Subject::Init, Priority(0), None, None))?;
-    rows.push(fresh_row(Subject::Handler, Priority(0), None, None))?;
-    for process in processes {
-        let who = Subject::Process(process.name);
-        rows.push(fresh_row(who, process.priority, process.period, process.capacity))?;
-    }
-    Ok(rows)
 }
 
 /// No process has handed in a message.
@@ -111,31 +57,40 @@ fn no_messages(alloc: Global, processes: &[ProcessRow]) -> Result<Vec<Words>, Al
 
 impl ProcessTable {
     /// No process is created, and none runs or waits. An error is one of memory.
-    #[tactic(auto, using(crate::proofs::Bounds::bounds))]
     pub fn new(alloc: Global, processes: &[ProcessRow]) -> Result<ProcessTable, AllocError>
         requires few { length processes.now ≤ MOST_PROCESSES }
         requires short { AreShort processes.now }
         ensures { IfOk result (λ table. table ≡ fresh_processes (map machine_row processes.now)) }
     {
         Ok(ProcessTable {
-            rows: fresh_rows(alloc, processes)?,
-            ready: Order::new(),
+            records: Records::new(alloc, processes)?,
+            ready: ReadyLists::new(alloc)?,
             running: None,
             lock: Lock::Free,
             queues: WaitingLists::new(alloc)?,
             handed: no_messages(alloc, processes)?,
-            dues: DueList::new(),
         })
     }
 
     /// The record of INIT, of the handler or of a process, where there is such a process.
-    #[tactic(auto, using(crate::proofs::Bounds::bounds))]
     pub fn row(&self, runner: Runner) -> Option<ProcessStatus>
         ensures row { result ≡ meaning.row_of self.now runner }
         ensures within { IfSome result (λ row. place_of runner < MOST_RUNNERS) }
         ensures bounded { IfSome result IsBounded }
     {
-        record_at(&self.rows, runner.place())
+        let mut reads = 0;
+        self.read(runner, &mut reads)
+    }
+
+    /// The same; each reading is counted.
+    pub(crate) fn read(&self, runner: Runner, reads: &mut u64) -> Option<ProcessStatus>
+        requires { reads.old < 2 ^ 64 - 1 }
+        ensures row { result ≡ meaning.row_of self.now runner }
+        ensures within { IfSome result (λ row. place_of runner < MOST_RUNNERS) }
+        ensures bounded { IfSome result IsBounded }
+        ensures reads { reads.new ≡ reads.old + 1 }
+    {
+        self.records.read(runner, reads)
     }
 
     /// How many records there are.
@@ -143,7 +98,7 @@ impl ProcessTable {
         ensures count { result ≡ length self.now.rows }
         ensures few { result ≤ MOST_RUNNERS }
     {
-        self.rows.len() as u8
+        self.records.count()
     }
 
     /// The one that is running, which is the one chosen last.
@@ -185,16 +140,14 @@ impl ProcessTable {
 
     /// No process is created, and no one runs, waits or holds the lock. Unless the mode is idle, INIT
     /// is ready.
-    #[tactic(auto, using(crate::proofs::Bounds::bounds))]
     pub fn clear(&mut self, mode: Mode)
         ensures { self.new ≡ cleared_processes mode self.old }
     {
-        restart_all(&mut self.rows, mode);
+        self.records.restart(mode);
         self.ready.clear();
         self.running = None;
         self.lock = Lock::Free;
         self.queues.clear();
-        self.dues = DueList::new();
     }
 
     /// The first of those that are ready.
@@ -207,32 +160,33 @@ impl ProcessTable {
         }
     }
 
-    #[tactic(auto, using(crate::proofs::Bounds::bounds))]
     pub(crate) fn put_row(&mut self, runner: Runner, row: ProcessStatus)
         requires { IsBounded row }
         ensures { self.new ≡ meaning.put_row self.old runner row }
     {
-        put_at(&mut self.rows, &mut self.dues, runner, row);
+        self.records.put(runner, row);
     }
 
-    #[tactic(auto, using(crate::proofs::Bounds::bounds))]
     pub(crate) fn put_ready(&mut self, runner: Runner, row: ProcessStatus)
         requires runner { place_of runner < MOST_RUNNERS }
         requires bounded { IsBounded row }
         ensures { self.new ≡ meaning.put_ready self.old runner row }
     {
         let priority = row.current_priority;
-        put_at(&mut self.rows, &mut self.dues, runner, row);
-        order::enter_ready(&mut self.ready, runner, priority);
+        self.records.put(runner, row);
+        if let Runner::Process(process) = runner {
+            self.ready.push_back(Entry { process, priority });
+        }
     }
 
-    #[tactic(auto, using(crate::proofs::Bounds::bounds))]
     pub(crate) fn put_unready(&mut self, runner: Runner, row: ProcessStatus)
         requires { IsBounded row }
         ensures { self.new ≡ meaning.put_unready self.old runner row }
     {
-        put_at(&mut self.rows, &mut self.dues, runner, row);
-        order::leave_ready(&mut self.ready, runner);
+        self.records.put(runner, row);
+        if let Runner::Process(process) = runner {
+            self.ready.remove(process);
+        }
         self.running = not_running(runner, self.running);
     }
 
@@ -245,120 +199,45 @@ impl ProcessTable {
         self.leave_queues(runner);
     }
 
-    /// Whether something may be due by a tick. Nothing is, if the first of the list is later.
-    pub(crate) fn may_be_due(&self, now: Ticks) -> bool
-        ensures { result ≡ false → IsQuiet now.0 self.now.rows }
+    /// The least due time or deadline of the processes, or none.
+    pub fn next_due(&self) -> Option<Ticks>
+        ensures { IsNextDue (due_times self.now.rows) (deadlines self.now.rows) (number_of result) }
     {
-        match self.dues.first() {
-            Some(entry) => entry.tick.0 <= now.0,
-            None => false,
+        self.records.next_due()
+    }
+
+    /// How many of so many ticks, this one the first, come before anything is due: in each of them no
+    /// due time and no deadline of a process has come. None where one is due at this tick or before it.
+    #[tactic(auto, using(crate::proofs::Quiet::quiet_for_ever, crate::proofs::Quiet::quiet_before))]
+    pub fn quiet_ticks(&self, now: Ticks, k: u32) -> u32
+        ensures within { result ≤ k }
+        ensures quiet { (i : ℕ) → i < result → AreQuiet (now.0 + i) self.now.rows }
+    {
+        match self.next_due() {
+            Some(tick) => {
+                let left = tick.0.saturating_sub(now.0);
+                if left < u64::from(k) { left as u32 } else { k }
+            }
+            None => k,
         }
     }
 
-    /// The first of the list is announced anew by its record, if its tick is past. Answers whether it
-    /// was.
-    fn renew_first(&mut self, now: Ticks) -> bool
-        ensures { self.new ≡ self.old }
+    /// A bit for each process whose due time or deadline is not later than now: bit 0 is that of
+    /// process 0.
+    pub(crate) fn due_mask(&self, now: Ticks) -> u64
+        ensures few { length self.now.rows ≤ MOST_RUNNERS }
+        ensures mask { IsDueMask now.0 (due_times self.now.rows) (deadlines self.now.rows) result }
     {
-        match self.dues.first() {
-            Some(entry) if entry.tick.0 <= now.0 => {
-                renew_process(&mut self.dues, entry.process, &self.rows);
-                true
-            }
-            _ => false,
-        }
-    }
-
-    /// Whoever stands in the list with a tick that is past is announced anew.
-    pub(crate) fn renew_dues(&mut self, now: Ticks)
-        ensures { self.new ≡ self.old }
-    {
-        for _ in 0..self.count() {
-            if !self.renew_first(now) {
-                return;
-            }
-        }
+        self.records.due_mask(now)
     }
 
     /// This one waits in no list.
-    #[tactic(auto, using(crate::proofs::Bounds::bounds))]
     pub(crate) fn leave_queues(&mut self, runner: Runner)
         ensures { self.new ≡ meaning.no_longer_waits self.old runner }
     {
         if let Runner::Process(process) = runner {
             self.queues.remove(process);
         }
-    }
-}
-
-/// The record of one that is no longer created.
-fn forgotten(row: &ProcessStatus) -> ProcessStatus
-    ensures { result ≡ forgotten row.now }
-{
-    ProcessStatus {
-        created: false,
-        state: ProcessState::Dormant,
-        current_priority: row.base_priority,
-        suspended: false,
-        wait: Wait::Nothing,
-        due: None,
-        release: Ticks(0),
-        deadline: None,
-        ..*row
-    }
-}
-
-fn forget_all(rows: &mut Vec<ProcessStatus>)
-    ensures { rows.new.items ≡ map forgotten rows.old.items }
-{
-    for row in rows.iter_mut() {
-        *row = forgotten(row);
-    }
-}
-
-fn ready_init(rows: &mut Vec<ProcessStatus>)
-    ensures { rows.new.items ≡ ready_init (slice_get rows.old.items 0) rows.old.items }
-{
-    if let Some(row) = rows.get_mut(0) {
-        row.state = ProcessState::Ready;
-    }
-}
-
-fn record_at(rows: &[ProcessStatus], place: usize) -> Option<ProcessStatus>
-    ensures { result ≡ slice_get rows.now place }
-{
-    rows.get(place).copied()
-}
-
-/// A process stands in the list of what is due by its record alone.
-fn renew_process(dues: &mut DueList, process: ProcessIndex, rows: &[ProcessStatus])
-    requires { process.0 < MOST_PROCESSES }
-    ensures { dues.new ≡ renewed process (next_of (record_of rows.now process.0)) dues.old }
-{
-    let row = record_at(rows, Runner::Process(process).place());
-    renew(dues, process, next_of(row));
-}
-
-/// Nobody is created; unless the mode is idle, INIT is ready.
-fn restart_all(rows: &mut Vec<ProcessStatus>, mode: Mode)
-    ensures { rows.new.items ≡ started_rows mode (map forgotten rows.old.items) }
-{
-    forget_all(rows);
-    if mode != Mode::Idle {
-        ready_init(rows);
-    }
-}
-
-/// Puts a record in its place, where there is one, and announces what is due by it.
-fn put_at(rows: &mut Vec<ProcessStatus>, dues: &mut DueList, runner: Runner, row: ProcessStatus)
-    requires few { length rows.old.items ≤ MOST_RUNNERS }
-    requires announced { AreAnnounced rows.old.items dues.old }
-    ensures rows { rows.new.items ≡ slice_set rows.old.items (place_of runner) row }
-    ensures announced { AreAnnounced rows.new.items dues.new }
-{
-    if let Some(place) = rows.get_mut(runner.place()) {
-        announce(dues, runner, next_tick(place), next_tick(&row));
-        *place = row;
     }
 }
 

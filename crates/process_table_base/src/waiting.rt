@@ -1,13 +1,18 @@
 //! Those that wait for an object or a port, and how they are released.
 
-ghost use Rattle.std.specs.Prelude.{◌≡◌, ◌<◌, ◌≤◌, ◌+◌, ◌*◌, ◌^◌, ◌++◌, length, true, IfSome, Some, slice_set};
+ghost use Rattle.std.specs.Prelude.{◌≡◌, ◌<◌, ◌≤◌, ◌+◌, ◌*◌, ◌^◌, ◌++◌, ℕ, length, true, IfSome, Some, slice_set};
 ghost use Rattle.apex_types.specs.Room.{HasRoom, Grows};
 ghost use Rattle.apex_types.specs.Runners.{place_of};
+ghost use Rattle.apex_types.specs.declared.codes.Discipline.{Discipline};
+ghost use Rattle.apex_types.specs.declared.identity.ListKey.{ListKey as Key};
 ghost use Rattle.apex_meaning.specs.Durations.{is_duration};
 ghost use Rattle.apex_meaning.specs.Processes as processes;
+ghost use Rattle.apex_meaning.specs.Queues.{list_at};
 ghost use Rattle.apex_meaning.specs.Step.{IsMade};
 ghost use Rattle.apex_meaning.specs.Waiting as meaning;
+ghost use Rattle.apex_meaning.specs.WaitingOrder.{AreQueues};
 ghost use Rattle.process_table_base.specs.Bounds.{IsBounded};
+ghost use Rattle.process_table_base.specs.LeastNumber.{IsLeast};
 
 use crate::change::zeros;
 use crate::duration::time_out;
@@ -73,9 +78,12 @@ impl ProcessTable {
         }
     }
 
-    /// The first who waits in a list, with its record.
+    /// The first who waits in a list, with its record: whatever numbers those who wait have taken in
+    /// their order, that is the one with the least number, by priority the one of the highest priority
+    /// with the least number.
     pub fn first_waiting(&self, list: ListKey) -> Option<(Runner, ProcessStatus)>
         ensures found { result ≡ meaning.first_waiting self.now list }
+        ensures least { (disciplines : Key → Discipline) (number : ℕ → ℕ) (next : ℕ) → AreQueues disciplines number next self.now.queues → IfSome result (λ found. IsLeast (disciplines list) number (list_at self.now.queues list) found.0) }
         ensures own { IfSome result (λ found. processes.row_of self.now found.0 ≡ Some found.1) }
         ensures within { IfSome result (λ found. place_of found.0 < MOST_RUNNERS) }
         ensures bounded { IfSome result (λ found. IsBounded found.1) }

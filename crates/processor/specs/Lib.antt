@@ -1,2 +1,4 @@
+pub mod Costs
 pub mod Fitting
+pub mod Turns
 pub mod Views

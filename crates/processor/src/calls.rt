@@ -1,7 +1,6 @@
 //! Routines and services: CALL, RET and SVC.
 
-ghost use Rattle.std.specs.Prelude.{◌≡◌, ◌-◌, ◌+◌, ◌≤◌, ◌++◌, ◌∷◌, [], pos, replicate, slice_get};
-ghost use Rattle.regions.specs.Space.{put};
+ghost use Rattle.std.specs.Prelude.{◌≡◌, ◌-◌, ◌+◌, ◌≤◌, ◌++◌, ◌∷◌, [], pos, replicate, slice_get, slice_set};
 ghost use Rattle.apex_meaning.specs.MachineControl.{popped, saved_within};
 ghost use Rattle.apex_meaning.specs.Words.{put_words};
 ghost use Rattle.processor.specs.Fitting.{IsFittingRoutine};
@@ -10,29 +9,41 @@ use crate::access::{holds, load};
 use crate::code::Code;
 use crate::context::{Context, stack_word};
 use crate::outcome::Outcome;
+use crate::registers::Registers;
+use crate::turn::Turn;
 use apex_types::{Call, ErrorKind, RoutineRow, Service, Words, array_of, call_of};
-use regions::{PartitionMem, Region};
+use regions::{PartitionMem, Reach};
 
-/// Sets the words of the own stack from one place up to another to 0.
-fn clear(memory: &mut PartitionMem, from: u32, to: u32)
-    ensures { memory.new ≡ put memory.old (put_words memory.old.stack from (replicate (to - from) (pos 0))) memory.old.words }
+/// Changes a word of a stack, where there is one.
+#[tactic(auto, using(std::proofs::lemmas::List::set_past))]
+fn set(stack: &mut [i64], place: u32, v: i64)
+    ensures { stack.new ≡ slice_set stack.old place v }
+{
+    if (place as usize) < stack.len() {
+        stack[place as usize] = v;
+    }
+}
+
+/// Sets the words of a stack from one place up to another to 0.
+fn clear(stack: &mut [i64], from: u32, to: u32)
+    ensures { stack.new ≡ put_words stack.old from (replicate (to - from) (pos 0)) }
 {
     for place in from..to {
-        let _ = memory.store(Region::Stack, place as usize, 0);
+        set(stack, place, 0);
     }
 }
 
 /// Clears the locals of a routine whose frame begins at a place, and saves behind its slots the
 /// instruction after the call and the caller's frame.
-fn save(memory: &mut PartitionMem, frame: u32, routine: &RoutineRow, next: u32, caller: u32)
+fn save(stack: &mut [i64], frame: u32, routine: &RoutineRow, next: u32, caller: u32)
     requires fits { IsFittingRoutine routine.now }
     requires small { frame ≤ 65_535 }
-    ensures { memory.new ≡ put memory.old (put_words memory.old.stack (frame + routine.now.parameters) (replicate (routine.now.slots - routine.now.parameters) (pos 0) ++ pos next ∷ pos caller ∷ [])) memory.old.words }
+    ensures { stack.new ≡ put_words stack.old (frame + routine.now.parameters) (replicate (routine.now.slots - routine.now.parameters) (pos 0) ++ pos next ∷ pos caller ∷ []) }
 {
     let slots = frame + u32::from(routine.slots);
-    clear(memory, frame + u32::from(routine.parameters), slots);
-    let _ = memory.store(Region::Stack, slots as usize, i64::from(next));
-    let _ = memory.store(Region::Stack, slots as usize + 1, i64::from(caller));
+    clear(stack, frame + u32::from(routine.parameters), slots);
+    set(stack, slots, i64::from(next));
+    set(stack, slots + 1, i64::from(caller));
 }
 
 /// The words of the own stack from one place up to another, at most 16.
@@ -48,91 +59,93 @@ fn popped(memory: &PartitionMem, from: u32, to: u32) -> Words
     words
 }
 
-/// A saved word of the own stack up to a limit.
-fn saved(memory: &PartitionMem, place: usize, limit: u32) -> Option<u32>
-    ensures { result ≡ saved_within limit (slice_get memory.now.stack place) }
+/// A saved word of a stack up to a limit.
+fn saved(stack: &[i64], place: usize, limit: u32) -> Option<u32>
+    ensures { result ≡ saved_within limit (slice_get stack.now place) }
 {
-    let word = load(memory, Region::Stack, place)?;
+    let word = load(stack, place)?;
     if word < 0 || word > i64::from(limit) {
         return None;
     }
     Some(word as u32)
 }
 
-impl Context {
-    ghost use Rattle.std.specs.Prelude.{◌≡◌, ◌+◌, ◌-◌, ◌<◌, ◌≤◌, ◌^◌, []};
-    ghost use Rattle.apex_meaning.specs.MachineControl.{executes, enters_at, arguments, calls};
-    ghost use Rattle.processor.specs.Views.{control_of, outcome_of, IsChanged};
+impl Registers {
+    ghost use Rattle.std.specs.Prelude.{true, ◌≡◌, ◌+◌, ◌-◌, ◌<◌, ◌≤◌, ◌^◌, []};
+    ghost use Rattle.apex_meaning.specs.MachineControl.{executes, enters_at};
+    ghost use Rattle.processor.specs.Turns.{after, does, is_done};
     ghost use Rattle.apex_types.specs.declared.instruction.Instr.{Instr};
-    ghost use Rattle.apex_meaning.specs.ServiceTable.{argument_words, call_of};
 
     /// Enters a routine, the frame of which begins at its arguments.
-    fn enter_at(&mut self, memory: &mut PartitionMem, frame: u32, routine: &RoutineRow) -> Outcome
+    fn enter_at(&mut self, reach: &mut Reach, frame: u32, routine: &RoutineRow) -> Turn
         requires next { self.old.pc + 1 < 2 ^ 32 }
         requires fits { IsFittingRoutine routine.now }
         requires small { frame ≤ 65_536 }
-        ensures control { control_of self.new memory.new ≡ (enters_at frame routine.now (control_of self.old memory.old) memory.old.words).control }
-        ensures memory { IsChanged (enters_at frame routine.now (control_of self.old memory.old) memory.old.words) memory.old memory.new }
-        ensures outcome { result ≡ outcome_of (enters_at frame routine.now (control_of self.old memory.old) memory.old.words).asks }
+        ensures effect { after result self.new reach.new ≡ does (enters_at frame routine.now) self.old reach.old }
+        ensures done { is_done result ≡ true }
     {
-        if memory.stack_len() < (frame + routine.frame) as usize {
-            return Outcome::Fault(ErrorKind::StackOverflow);
+        if reach.stack.len() < (frame + routine.frame) as usize {
+            return Turn::Fault(ErrorKind::StackOverflow);
         }
-        save(memory, frame, routine, self.pc + 1, self.fp);
+        save(&mut reach.stack, frame, routine, self.pc + 1, self.fp);
         self.pc = routine.entry;
         self.fp = frame;
         self.spent = 0;
-        self.awaits = 0;
         self.sp = frame + u32::from(routine.slots) + 2;
-        Outcome::Local
+        Turn::Goes
     }
 
     /// CALL: the routine of that number, from 0.
-    pub(crate) fn enter(&mut self, memory: &mut PartitionMem, code: &Code, x: u32) -> Outcome
+    pub(crate) fn enter(&mut self, reach: &mut Reach, code: &Code, x: u32) -> Turn
         requires next { self.old.pc + 1 < 2 ^ 32 }
-        ensures control { control_of self.new memory.new ≡ (executes code.now.routines.items (Instr.Call x) (control_of self.old memory.old) memory.old.words).control }
-        ensures memory { IsChanged (executes code.now.routines.items (Instr.Call x) (control_of self.old memory.old) memory.old.words) memory.old memory.new }
-        ensures outcome { result ≡ outcome_of (executes code.now.routines.items (Instr.Call x) (control_of self.old memory.old) memory.old.words).asks }
+        ensures effect { after result self.new reach.new ≡ does (executes code.now.routines.items (Instr.Call x)) self.old reach.old }
+        ensures done { is_done result ≡ true }
     {
         match code.routines.get(x as usize) {
             Some(routine) => {
                 let parameters = u32::from(routine.parameters);
                 if self.operands() < parameters {
-                    return Outcome::Fault(ErrorKind::IllegalRequest);
+                    return Turn::Fault(ErrorKind::IllegalRequest);
                 }
-                self.enter_at(memory, self.sp - parameters, routine)
+                self.enter_at(reach, self.sp - parameters, routine)
             }
-            None => Outcome::Fault(ErrorKind::IllegalRequest),
+            None => Turn::Fault(ErrorKind::IllegalRequest),
         }
     }
 
     /// RET: gives the top operand back to the frame and the instruction that were saved behind `x` words.
-    pub(crate) fn give_back(&mut self, memory: &mut PartitionMem, x: u32) -> Outcome
-        ensures control { control_of self.new memory.new ≡ (executes [] (Instr.Return x) (control_of self.old memory.old) memory.old.words).control }
-        ensures memory { IsChanged (executes [] (Instr.Return x) (control_of self.old memory.old) memory.old.words) memory.old memory.new }
-        ensures outcome { result ≡ outcome_of (executes [] (Instr.Return x) (control_of self.old memory.old) memory.old.words).asks }
+    pub(crate) fn give_back(&mut self, reach: &mut Reach, x: u32) -> Turn
+        ensures effect { after result self.new reach.new ≡ does (executes [] (Instr.Return x)) self.old reach.old }
+        ensures done { is_done result ≡ true }
     {
-        if self.operands() < 1 {
-            return Outcome::Fault(ErrorKind::IllegalRequest);
+        if self.sp <= self.fp {
+            return Turn::Fault(ErrorKind::IllegalRequest);
         }
         let place = self.fp as usize + x as usize;
         match (
-            saved(memory, place, 65_536),
-            saved(memory, place + 1, self.fp),
+            saved(&reach.stack, place, 65_536),
+            saved(&reach.stack, place + 1, self.fp),
         ) {
             (Some(pc), Some(fp)) => {
-                let value = self.top(memory);
-                let _ = memory.store(Region::Stack, self.fp as usize, value);
+                let value = self.top(reach);
+                set(&mut reach.stack, self.fp, value);
                 self.pc = pc;
                 self.spent = 0;
-                self.awaits = 0;
                 self.sp = self.fp + 1;
                 self.fp = fp;
-                Outcome::Local
+                Turn::Goes
             }
-            _ => Outcome::Fault(ErrorKind::MemoryViolation),
+            _ => Turn::Fault(ErrorKind::MemoryViolation),
         }
     }
+}
+
+impl Context {
+    ghost use Rattle.std.specs.Prelude.{◌≡◌, ◌+◌, ◌-◌, ◌<◌, ◌≤◌, ◌^◌, []};
+    ghost use Rattle.apex_meaning.specs.MachineControl.{executes, arguments, calls};
+    ghost use Rattle.processor.specs.Views.{control_of, outcome_of, IsChanged};
+    ghost use Rattle.apex_types.specs.declared.instruction.Instr.{Instr};
+    ghost use Rattle.apex_meaning.specs.ServiceTable.{argument_words, call_of};
 
     /// The call that the operands on top are the arguments of.
     #[tactic(auto, using(crate::proofs::Arguments::few))]

@@ -1,11 +1,13 @@
 //! The modelled processor: its instructions as bytes, and what one tick of it does.
 //!
-//! A process has a [`Context`]; [`step`] spends one tick on its next instruction. An instruction
-//! takes as many ticks as the table says, and has its effect, or its fault, in the last of them.
+//! A process has a [`Context`]; [`step`] spends one tick on its next instruction, and [`advance`]
+//! many. An instruction takes as many ticks as the table says, and has its effect, or its fault, in
+//! the last of them.
 #![tactic(auto)]
 
 mod access;
 mod arithmetic;
+mod burst;
 mod calls;
 mod code;
 mod codec;
@@ -13,9 +15,11 @@ mod context;
 mod execute;
 mod memory;
 mod outcome;
+mod registers;
+mod turn;
 
+pub use burst::{advance, step};
 pub use code::Code;
 pub use codec::{decode, encode, encode_and_decode_agree, fields, op_name};
 pub use context::Context;
-pub use execute::step;
-pub use outcome::Outcome;
+pub use outcome::{Burst, Outcome};

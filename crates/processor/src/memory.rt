@@ -1,198 +1,188 @@
 //! Loads and stores: the data, the frame, the arrays and the regions.
 
 use crate::access::{element, element_place, load, load_at};
-use crate::context::Context;
-use crate::outcome::Outcome;
+use crate::registers::Registers;
+use crate::turn::Turn;
 use apex_types::ErrorKind;
-use regions::{PartitionMem, Region};
+use regions::{Reach, Region};
 
-impl Context {
-    ghost use Rattle.std.specs.Prelude.{◌≡◌, ◌+◌, ◌-◌, ◌<◌, ◌≤◌, ◌^◌, []};
+impl Registers {
+    ghost use Rattle.std.specs.Prelude.{true, ◌≡◌, ◌+◌, ◌-◌, ◌<◌, ◌≤◌, ◌^◌, []};
     ghost use Rattle.regions.specs.Rights.{number_of};
     ghost use Rattle.apex_meaning.specs.MachineControl.{executes, stored, changes_data, changes_stack, loads_region, stores_region};
-    ghost use Rattle.processor.specs.Views.{control_of, outcome_of, IsChanged};
+    ghost use Rattle.processor.specs.Turns.{after, does, is_done};
     ghost use Rattle.apex_types.specs.declared.instruction.Instr.{Instr};
 
     /// LDG: a word of the data.
-    pub(crate) fn load_data(&mut self, memory: &mut PartitionMem, x: u32) -> Outcome
+    pub(crate) fn load_data(&mut self, reach: &mut Reach, x: u32) -> Turn
         requires next { self.old.pc + 1 < 2 ^ 32 }
-        ensures control { control_of self.new memory.new ≡ (executes [] (Instr.LoadData x) (control_of self.old memory.old) memory.old.words).control }
-        ensures memory { IsChanged (executes [] (Instr.LoadData x) (control_of self.old memory.old) memory.old.words) memory.old memory.new }
-        ensures outcome { result ≡ outcome_of (executes [] (Instr.LoadData x) (control_of self.old memory.old) memory.old.words).asks }
+        ensures effect { after result self.new reach.new ≡ does (executes [] (Instr.LoadData x)) self.old reach.old }
+        ensures done { is_done result ≡ true }
     {
-        let v = load(memory, Region::Data, x as usize);
-        self.push_or(memory, ErrorKind::MemoryViolation, self.sp, v)
+        let v = load(&reach.words, x as usize);
+        self.push_or(reach, ErrorKind::MemoryViolation, self.sp, v)
     }
 
     /// Changes a word of the data, with so many operands popped.
-    fn store_word(
-        &mut self,
-        memory: &mut PartitionMem,
-        popped: u32,
-        place: usize,
-        v: i64,
-    ) -> Outcome
+    fn store_word(&mut self, reach: &mut Reach, popped: u32, place: usize, v: i64) -> Turn
         requires next { self.old.pc + 1 < 2 ^ 32 }
         requires operands { popped ≤ self.old.sp }
-        ensures control { control_of self.new memory.new ≡ (changes_data popped (stored memory.old.words place v) (control_of self.old memory.old) memory.old.words).control }
-        ensures memory { IsChanged (changes_data popped (stored memory.old.words place v) (control_of self.old memory.old) memory.old.words) memory.old memory.new }
-        ensures outcome { result ≡ outcome_of (changes_data popped (stored memory.old.words place v) (control_of self.old memory.old) memory.old.words).asks }
+        ensures effect { after result self.new reach.new ≡ does (changes_data popped (stored reach.old.words.items place v)) self.old reach.old }
+        ensures done { is_done result ≡ true }
     {
-        match memory.store(Region::Data, place, v) {
-            Ok(()) => self.go_on(self.pc + 1, self.sp - popped),
-            Err(error) => Outcome::Fault(error),
+        if place >= reach.words.len() {
+            return Turn::Fault(ErrorKind::MemoryViolation);
         }
+        reach.words[place] = v;
+        self.go_on(self.pc + 1, self.sp - popped)
     }
 
     /// Changes a word of the own stack, with so many operands popped.
-    fn store_own(&mut self, memory: &mut PartitionMem, popped: u32, place: usize, v: i64) -> Outcome
+    #[tactic(auto, using(crate::proofs::Stack::words))]
+    fn store_own(&mut self, reach: &mut Reach, popped: u32, place: usize, v: i64) -> Turn
         requires next { self.old.pc + 1 < 2 ^ 32 }
         requires operands { popped ≤ self.old.sp }
-        ensures control { control_of self.new memory.new ≡ (changes_stack popped (stored memory.old.stack place v) (control_of self.old memory.old) memory.old.words).control }
-        ensures memory { IsChanged (changes_stack popped (stored memory.old.stack place v) (control_of self.old memory.old) memory.old.words) memory.old memory.new }
-        ensures outcome { result ≡ outcome_of (changes_stack popped (stored memory.old.stack place v) (control_of self.old memory.old) memory.old.words).asks }
+        ensures effect { after result self.new reach.new ≡ does (changes_stack popped (stored reach.old.stack.items place v)) self.old reach.old }
+        ensures done { is_done result ≡ true }
     {
-        match memory.store(Region::Stack, place, v) {
-            Ok(()) => self.go_on(self.pc + 1, self.sp - popped),
-            Err(error) => Outcome::Fault(error),
+        if place >= reach.stack.len() {
+            return Turn::Fault(ErrorKind::MemoryViolation);
         }
+        reach.stack[place] = v;
+        self.go_on(self.pc + 1, self.sp - popped)
     }
 
     /// STG: pops into a word of the data.
-    pub(crate) fn store_data(&mut self, memory: &mut PartitionMem, x: u32) -> Outcome
+    pub(crate) fn store_data(&mut self, reach: &mut Reach, x: u32) -> Turn
         requires next { self.old.pc + 1 < 2 ^ 32 }
-        ensures control { control_of self.new memory.new ≡ (executes [] (Instr.StoreData x) (control_of self.old memory.old) memory.old.words).control }
-        ensures memory { IsChanged (executes [] (Instr.StoreData x) (control_of self.old memory.old) memory.old.words) memory.old memory.new }
-        ensures outcome { result ≡ outcome_of (executes [] (Instr.StoreData x) (control_of self.old memory.old) memory.old.words).asks }
+        ensures effect { after result self.new reach.new ≡ does (executes [] (Instr.StoreData x)) self.old reach.old }
+        ensures done { is_done result ≡ true }
     {
-        if self.operands() < 1 {
-            return Outcome::Fault(ErrorKind::IllegalRequest);
+        if self.sp <= self.fp {
+            return Turn::Fault(ErrorKind::IllegalRequest);
         }
-        let v = self.top(memory);
-        self.store_word(memory, 1, x as usize, v)
+        let v = self.top(reach);
+        self.store_word(reach, 1, x as usize, v)
     }
 
     /// LDL: a word of the frame.
-    pub(crate) fn load_local(&mut self, memory: &mut PartitionMem, x: u32) -> Outcome
+    pub(crate) fn load_local(&mut self, reach: &mut Reach, x: u32) -> Turn
         requires next { self.old.pc + 1 < 2 ^ 32 }
-        ensures control { control_of self.new memory.new ≡ (executes [] (Instr.LoadLocal x) (control_of self.old memory.old) memory.old.words).control }
-        ensures memory { IsChanged (executes [] (Instr.LoadLocal x) (control_of self.old memory.old) memory.old.words) memory.old memory.new }
-        ensures outcome { result ≡ outcome_of (executes [] (Instr.LoadLocal x) (control_of self.old memory.old) memory.old.words).asks }
+        ensures effect { after result self.new reach.new ≡ does (executes [] (Instr.LoadLocal x)) self.old reach.old }
+        ensures done { is_done result ≡ true }
     {
-        let v = load(memory, Region::Stack, self.fp as usize + x as usize);
-        self.push_or(memory, ErrorKind::MemoryViolation, self.sp, v)
+        let v = load(&reach.stack, self.fp as usize + x as usize);
+        self.push_or(reach, ErrorKind::MemoryViolation, self.sp, v)
     }
 
     /// STL: pops into a word of the frame.
-    pub(crate) fn store_local(&mut self, memory: &mut PartitionMem, x: u32) -> Outcome
+    pub(crate) fn store_local(&mut self, reach: &mut Reach, x: u32) -> Turn
         requires next { self.old.pc + 1 < 2 ^ 32 }
-        ensures control { control_of self.new memory.new ≡ (executes [] (Instr.StoreLocal x) (control_of self.old memory.old) memory.old.words).control }
-        ensures memory { IsChanged (executes [] (Instr.StoreLocal x) (control_of self.old memory.old) memory.old.words) memory.old memory.new }
-        ensures outcome { result ≡ outcome_of (executes [] (Instr.StoreLocal x) (control_of self.old memory.old) memory.old.words).asks }
+        ensures effect { after result self.new reach.new ≡ does (executes [] (Instr.StoreLocal x)) self.old reach.old }
+        ensures done { is_done result ≡ true }
     {
-        if self.operands() < 1 {
-            return Outcome::Fault(ErrorKind::IllegalRequest);
+        if self.sp <= self.fp {
+            return Turn::Fault(ErrorKind::IllegalRequest);
         }
         let place = self.fp as usize + x as usize;
-        let v = self.top(memory);
-        self.store_own(memory, 1, place, v)
+        let v = self.top(reach);
+        self.store_own(reach, 1, place, v)
     }
 
     /// LDA: an element of the array of `size` words at `x`.
-    pub(crate) fn load_element(&mut self, memory: &mut PartitionMem, x: u32, size: i64) -> Outcome
+    pub(crate) fn load_element(&mut self, reach: &mut Reach, x: u32, size: i64) -> Turn
         requires next { self.old.pc + 1 < 2 ^ 32 }
-        ensures control { control_of self.new memory.new ≡ (executes [] (Instr.LoadElement x size) (control_of self.old memory.old) memory.old.words).control }
-        ensures memory { IsChanged (executes [] (Instr.LoadElement x size) (control_of self.old memory.old) memory.old.words) memory.old memory.new }
-        ensures outcome { result ≡ outcome_of (executes [] (Instr.LoadElement x size) (control_of self.old memory.old) memory.old.words).asks }
+        ensures effect { after result self.new reach.new ≡ does (executes [] (Instr.LoadElement x size)) self.old reach.old }
+        ensures done { is_done result ≡ true }
     {
-        if self.operands() < 1 {
-            return Outcome::Fault(ErrorKind::IllegalRequest);
+        if self.sp <= self.fp {
+            return Turn::Fault(ErrorKind::IllegalRequest);
         }
-        let v = element(memory, x, size, self.top(memory));
-        self.push_or(memory, ErrorKind::MemoryViolation, self.sp - 1, v)
+        let v = element(&reach.words, x, size, self.top(reach));
+        self.push_or(reach, ErrorKind::MemoryViolation, self.sp - 1, v)
     }
 
     /// STA: pops into an element of the array of `size` words at `x`.
-    pub(crate) fn store_element(&mut self, memory: &mut PartitionMem, x: u32, size: i64) -> Outcome
+    pub(crate) fn store_element(&mut self, reach: &mut Reach, x: u32, size: i64) -> Turn
         requires next { self.old.pc + 1 < 2 ^ 32 }
-        ensures control { control_of self.new memory.new ≡ (executes [] (Instr.StoreElement x size) (control_of self.old memory.old) memory.old.words).control }
-        ensures memory { IsChanged (executes [] (Instr.StoreElement x size) (control_of self.old memory.old) memory.old.words) memory.old memory.new }
-        ensures outcome { result ≡ outcome_of (executes [] (Instr.StoreElement x size) (control_of self.old memory.old) memory.old.words).asks }
+        ensures effect { after result self.new reach.new ≡ does (executes [] (Instr.StoreElement x size)) self.old reach.old }
+        ensures done { is_done result ≡ true }
     {
-        if self.operands() < 2 {
-            return Outcome::Fault(ErrorKind::IllegalRequest);
+        if self.sp < self.fp + 2 {
+            return Turn::Fault(ErrorKind::IllegalRequest);
         }
-        let v = self.top(memory);
-        match element_place(memory, x, size, self.below_top(memory)) {
-            Some(place) => self.store_word(memory, 2, place, v),
-            None => Outcome::Fault(ErrorKind::MemoryViolation),
+        let v = self.top(reach);
+        match element_place(&reach.words, x, size, self.below_top(reach)) {
+            Some(place) => self.store_word(reach, 2, place, v),
+            None => Turn::Fault(ErrorKind::MemoryViolation),
         }
     }
 
     /// The effect of LDR for a known region.
-    fn load_known(&mut self, memory: &mut PartitionMem, region: Region) -> Outcome
+    fn load_known(&mut self, reach: &mut Reach, region: Region) -> Turn
         requires next { self.old.pc + 1 < 2 ^ 32 }
         requires operands { 1 ≤ self.old.sp }
-        ensures control { control_of self.new memory.new ≡ (loads_region (number_of region) (control_of self.old memory.old) memory.old.words).control }
-        ensures memory { IsChanged (loads_region (number_of region) (control_of self.old memory.old) memory.old.words) memory.old memory.new }
-        ensures outcome { result ≡ outcome_of (loads_region (number_of region) (control_of self.old memory.old) memory.old.words).asks }
+        ensures effect { after result self.new reach.new ≡ does (loads_region (number_of region)) self.old reach.old }
+        ensures done { is_done result ≡ true }
     {
-        let v = load_at(memory, region, self.top(memory));
-        self.push_or(memory, ErrorKind::MemoryViolation, self.sp - 1, v)
+        let address = self.top(reach);
+        let v = match region {
+            Region::Code => None,
+            Region::Data => load_at(&reach.words, address),
+            Region::Stack => load_at(&reach.stack, address),
+        };
+        self.push_or(reach, ErrorKind::MemoryViolation, self.sp - 1, v)
     }
 
     /// The effect of STR for a known region.
-    fn store_known(&mut self, memory: &mut PartitionMem, region: Region) -> Outcome
+    fn store_known(&mut self, reach: &mut Reach, region: Region) -> Turn
         requires next { self.old.pc + 1 < 2 ^ 32 }
         requires operands { 2 ≤ self.old.sp }
-        ensures control { control_of self.new memory.new ≡ (stores_region (number_of region) (control_of self.old memory.old) memory.old.words).control }
-        ensures memory { IsChanged (stores_region (number_of region) (control_of self.old memory.old) memory.old.words) memory.old memory.new }
-        ensures outcome { result ≡ outcome_of (stores_region (number_of region) (control_of self.old memory.old) memory.old.words).asks }
+        ensures effect { after result self.new reach.new ≡ does (stores_region (number_of region)) self.old reach.old }
+        ensures done { is_done result ≡ true }
     {
-        let address = self.below_top(memory);
+        let address = self.below_top(reach);
         if address < 0 {
-            return Outcome::Fault(ErrorKind::MemoryViolation);
+            return Turn::Fault(ErrorKind::MemoryViolation);
         }
         let place = address.unsigned_abs() as usize;
-        let v = self.top(memory);
+        let v = self.top(reach);
         match region {
-            Region::Code => Outcome::Fault(ErrorKind::MemoryViolation),
-            Region::Data => self.store_word(memory, 2, place, v),
-            Region::Stack => self.store_own(memory, 2, place, v),
+            Region::Code => Turn::Fault(ErrorKind::MemoryViolation),
+            Region::Data => self.store_word(reach, 2, place, v),
+            Region::Stack => self.store_own(reach, 2, place, v),
         }
     }
 
     /// LDR: the word of a region at the address popped.
     #[tactic(auto, using(crate::proofs::Stack::regions))]
-    pub(crate) fn load_region(&mut self, memory: &mut PartitionMem, x: u32) -> Outcome
+    pub(crate) fn load_region(&mut self, reach: &mut Reach, x: u32) -> Turn
         requires next { self.old.pc + 1 < 2 ^ 32 }
-        ensures control { control_of self.new memory.new ≡ (executes [] (Instr.LoadRegion x) (control_of self.old memory.old) memory.old.words).control }
-        ensures memory { IsChanged (executes [] (Instr.LoadRegion x) (control_of self.old memory.old) memory.old.words) memory.old memory.new }
-        ensures outcome { result ≡ outcome_of (executes [] (Instr.LoadRegion x) (control_of self.old memory.old) memory.old.words).asks }
+        ensures effect { after result self.new reach.new ≡ does (executes [] (Instr.LoadRegion x)) self.old reach.old }
+        ensures done { is_done result ≡ true }
     {
         let Some(region) = Region::from_number(x) else {
-            return Outcome::Fault(ErrorKind::IllegalRequest);
+            return Turn::Fault(ErrorKind::IllegalRequest);
         };
-        if self.operands() < 1 {
-            return Outcome::Fault(ErrorKind::IllegalRequest);
+        if self.sp <= self.fp {
+            return Turn::Fault(ErrorKind::IllegalRequest);
         }
-        self.load_known(memory, region)
+        self.load_known(reach, region)
     }
 
     /// STR: pops a word into the word of a region at the address popped below it.
     #[tactic(auto, using(crate::proofs::Stack::regions))]
-    pub(crate) fn store_region(&mut self, memory: &mut PartitionMem, x: u32) -> Outcome
+    pub(crate) fn store_region(&mut self, reach: &mut Reach, x: u32) -> Turn
         requires next { self.old.pc + 1 < 2 ^ 32 }
-        ensures control { control_of self.new memory.new ≡ (executes [] (Instr.StoreRegion x) (control_of self.old memory.old) memory.old.words).control }
-        ensures memory { IsChanged (executes [] (Instr.StoreRegion x) (control_of self.old memory.old) memory.old.words) memory.old memory.new }
-        ensures outcome { result ≡ outcome_of (executes [] (Instr.StoreRegion x) (control_of self.old memory.old) memory.old.words).asks }
+        ensures effect { after result self.new reach.new ≡ does (executes [] (Instr.StoreRegion x)) self.old reach.old }
+        ensures done { is_done result ≡ true }
     {
         let Some(region) = Region::from_number(x) else {
-            return Outcome::Fault(ErrorKind::IllegalRequest);
+            return Turn::Fault(ErrorKind::IllegalRequest);
         };
-        if self.operands() < 2 {
-            return Outcome::Fault(ErrorKind::IllegalRequest);
+        if self.sp < self.fp + 2 {
+            return Turn::Fault(ErrorKind::IllegalRequest);
         }
-        self.store_known(memory, region)
+        self.store_known(reach, region)
     }
 }

@@ -7,9 +7,11 @@
 mod memory;
 mod partition_mem;
 mod plan;
+mod reach;
 mod region;
 
 pub use memory::Memory;
 pub use partition_mem::PartitionMem;
 pub use plan::MemoryPlan;
+pub use reach::Reach;
 pub use region::{Region, Rights};

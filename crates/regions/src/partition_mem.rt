@@ -1,31 +1,34 @@
 //! The memory of one partition.
 
-ghost use Rattle.std.specs.Prelude.{◌≡◌, ◌≤◌, ◌<◌, All, IfOk, true, false, nat_lt, length, map, slice_get, slice_set};
+ghost use Rattle.std.specs.Prelude.{◌≡◌, ◌≤◌, All, IfOk, Some, [], true, false, nat_lt, length, map, slice_get, slice_set};
 ghost use Rattle.std.specs.Option.{ok_or};
 ghost use Rattle.apex_types.specs.declared.codes.ErrorKind.{ErrorKind};
 ghost use Rattle.regions.specs.Space.{Space, seen, stacks_of, put, planned, loaded, is_within, allowed, stored, zeros};
 
 use crate::plan::MemoryPlan;
+use crate::reach::Reach;
 use crate::region::Region;
 use apex_types::ErrorKind;
 use std::alloc::{AllocError, Global};
 use std::marker::Model;
+use std::mem;
 
 /// The words of one partition: its data, and the stacks of those that run in it. One of the stacks
 /// is the own stack of the one that runs; the others cannot be reached until they are selected.
 #[derive(Drop)]
 pub struct PartitionMem {
-    words: Vec<i64>,
-    stacks: Vec<Vec<i64>>,
+    reach: Reach,
+    /// All stacks, with none in the place of the own one.
+    rest: Vec<Vec<i64>>,
     own: usize,
 }
 
 impl Model for PartitionMem {
     ghost Value = { Space };
 
-    ghost view = { λ m. seen m.words.items (map (λ v. v.items) m.stacks.items) m.own };
+    ghost view = { λ m. record { words = m.reach.words.items; stack = m.reach.stack.items; rest = map (λ v. v.items) m.rest.items; own = m.own } };
 
-    ghost invariant = { λ m. (m.own < length m.stacks.items) × All (λ v. length v.items ≤ 65_535) m.stacks.items };
+    ghost invariant = { λ m. (slice_get (map (λ v. v.items) m.rest.items) m.own ≡ Some []) × All (λ v. length v.items ≤ 65_535) m.rest.items };
 }
 
 /// Stacks of zeros, of these lengths.
@@ -48,13 +51,20 @@ fn word_at(words: &[i64], place: usize) -> Result<i64, ErrorKind>
 }
 
 impl PartitionMem {
+    ghost use Rattle.std.specs.Borrow.{sem, Lends};
+    ghost use Rattle.regions.specs.contracts.partition_mem.PartitionMem.{the_row};
+    ghost use Rattle.regions.specs.contracts.reach.Reach.{the_row as reach_row};
+
     /// The initial data and stacks of zeros; the first stack is selected. An error is one of memory.
     pub(crate) fn new(alloc: Global, plan: &MemoryPlan) -> Result<PartitionMem, AllocError>
         ensures { IfOk result (λ memory. memory ≡ planned plan.now) }
     {
+        let words = Vec::from_slice(alloc, &plan.initial)?;
+        let mut rest = zeroed_stacks(alloc, &plan.stacks)?;
+        let stack = mem::replace(&mut rest[0], Vec::new(alloc));
         Ok(PartitionMem {
-            words: Vec::from_slice(alloc, &plan.initial)?,
-            stacks: zeroed_stacks(alloc, &plan.stacks)?,
+            reach: Reach { words, stack },
+            rest,
             own: 0,
         })
     }
@@ -69,8 +79,8 @@ impl PartitionMem {
         }
         match region {
             Region::Code => Err(ErrorKind::MemoryViolation),
-            Region::Data => word_at(&self.words, offset),
-            Region::Stack => word_at(&self.stacks[self.own], offset),
+            Region::Data => word_at(&self.reach.words, offset),
+            Region::Stack => word_at(&self.reach.stack, offset),
         }
     }
 
@@ -80,10 +90,10 @@ impl PartitionMem {
         ensures result { result ≡ allowed (nat_lt place (length self.old.words)) }
         ensures words { self.new ≡ put self.old self.old.stack (slice_set self.old.words place word) }
     {
-        if place >= self.words.len() {
+        if place >= self.reach.words.len() {
             return Err(ErrorKind::MemoryViolation);
         }
-        self.words[place] = word;
+        self.reach.words[place] = word;
         Ok(())
     }
 
@@ -93,10 +103,10 @@ impl PartitionMem {
         ensures result { result ≡ allowed (nat_lt place (length self.old.stack)) }
         ensures words { self.new ≡ put self.old (slice_set self.old.stack place word) self.old.words }
     {
-        if place >= self.stacks[self.own].len() {
+        if place >= self.reach.stack.len() {
             return Err(ErrorKind::MemoryViolation);
         }
-        self.stacks[self.own][place] = word;
+        self.reach.stack[place] = word;
         Ok(())
     }
 
@@ -117,18 +127,28 @@ impl PartitionMem {
         }
     }
 
+    /// What the one that runs may touch. After the loan it is as the borrower left it, and the other stacks
+    /// are as they were.
+    pub fn reach(&mut self) -> &mut Reach
+        ensures* back { sem 𝓛 (Lends the_row reach_row self.entry result (λ r. put self.entry.now r.stack.items r.words.items)) }
+        ensures words { result.now.words.items ≡ self.old.words }
+        ensures stack { result.now.stack.items ≡ self.old.stack }
+    {
+        &mut self.reach
+    }
+
     /// The data.
     pub fn data(&self) -> &[i64]
         ensures { result.now ≡ self.now.words }
     {
-        &self.words
+        &self.reach.words
     }
 
     /// How many words the data have.
     pub fn data_len(&self) -> usize
         ensures { result ≡ length self.now.words }
     {
-        self.words.len()
+        self.reach.words.len()
     }
 
     /// How many words the own stack has, at most 65,535.
@@ -136,7 +156,7 @@ impl PartitionMem {
         ensures words { result ≡ length self.now.stack }
         ensures most { result ≤ 65_535 }
     {
-        self.stacks[self.own].len()
+        self.reach.stack.len()
     }
 
     /// The data become these words, which are as many.
@@ -144,7 +164,7 @@ impl PartitionMem {
         requires { length words.now ≡ length self.old.words }
         ensures { self.new ≡ put self.old self.old.stack words.now }
     {
-        self.words.copy_from_slice(words);
+        self.reach.words.copy_from_slice(words);
     }
 
     /// All words of the own stack become 0.
@@ -152,7 +172,7 @@ impl PartitionMem {
     pub fn clear_stack(&mut self)
         ensures { self.new ≡ put self.old (zeros (length self.old.stack)) self.old.words }
     {
-        self.stacks[self.own].fill(0);
+        self.reach.stack.fill(0);
     }
 
     /// The stack at a place becomes the own one. The answer is whether there is one; if not,
@@ -163,9 +183,11 @@ impl PartitionMem {
         ensures selected { result ≡ true → self.new ≡ seen self.old.words (stacks_of self.old) place }
         ensures same { result ≡ false → self.new ≡ self.old }
     {
-        if place >= self.stacks.len() {
+        if place >= self.rest.len() {
             return false;
         }
+        mem::swap(&mut self.reach.stack, &mut self.rest[self.own]);
+        mem::swap(&mut self.reach.stack, &mut self.rest[place]);
         self.own = place;
         true
     }

@@ -7,7 +7,7 @@ ghost use Rattle.scripted.specs.Plays.{control_of, script_of};
 use crate::part::Part;
 use apex_types::{Runner, Words};
 use partition_base::{Executor, message, put};
-use processor::Outcome;
+use processor::{Burst, Outcome};
 use regions::PartitionMem;
 
 /// Plays the scripts of INIT, of the error handler and of the processes, in this order.
@@ -15,6 +15,31 @@ use regions::PartitionMem;
 pub struct Scripted {
     pub parts: Vec<Part>,
     pub initial: Vec<i64>,
+    calls: u64,
+}
+
+impl Scripted {
+    ghost use Rattle.std.specs.Prelude.{◌≡◌};
+
+    /// Parts that are not begun, and the initial data.
+    pub fn new(parts: Vec<Part>, initial: Vec<i64>) -> Scripted
+        ensures parts { result.parts ≡ parts }
+        ensures initial { result.initial ≡ initial }
+        ensures calls { result.calls ≡ 0 }
+    {
+        Scripted {
+            parts,
+            initial,
+            calls: 0,
+        }
+    }
+
+    /// How often it was called for ticks, whether for one or for many at once.
+    pub fn calls(&self) -> u64
+        ensures { result ≡ self.now.calls }
+    {
+        self.calls
+    }
 }
 
 /// No part has anything left to do.
@@ -69,9 +94,22 @@ impl Executor for Scripted {
 
     #[tactic(auto, using(crate::proofs::Parts::views))]
     fn tick(&mut self, _mem: &mut PartitionMem, runner: Runner) -> Outcome {
+        self.calls = self.calls.saturating_add(1);
         match self.parts.get_mut(runner.place()) {
             Some(part) => part.tick(),
             None => Outcome::Busy,
+        }
+    }
+
+    #[tactic(auto, using(crate::proofs::Parts::views))]
+    fn advance(&mut self, _mem: &mut PartitionMem, runner: Runner, k: u32) -> Burst {
+        self.calls = self.calls.saturating_add(1);
+        match self.parts.get_mut(runner.place()) {
+            Some(part) => part.advance(k),
+            None => Burst {
+                ticks: k,
+                outcome: Outcome::Busy,
+            },
         }
     }
 

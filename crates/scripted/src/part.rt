@@ -1,12 +1,13 @@
 //! A runner with its script.
 
-ghost use Rattle.std.specs.Prelude.{◌≡◌, ◌<◌, ℤ, List, Some, None, length};
+ghost use Rattle.std.specs.Prelude.{◌≡◌, ◌<◌, ℤ, List, Some, None, true, length};
 ghost use Rattle.apex_meaning.specs.Partition.{ticked};
+ghost use Rattle.bursts.specs.Bursts.{burst, is_nothing};
 ghost use Rattle.processor.specs.Views.{asks_of};
 ghost use Rattle.scripted.specs.Plays.{control_of, script_of};
 ghost use Rattle.scripted.specs.Scripts.{script_engine};
 
-use processor::Outcome;
+use processor::{Burst, Outcome};
 
 /// A runner with its script.
 #[derive(Drop)]
@@ -61,5 +62,28 @@ impl Part {
         let outcome = self.outcomes[place];
         self.next = Some(place + 1);
         outcome
+    }
+
+    /// So many of the script, or those up to the first that asks for something.
+    pub(crate) fn advance(&mut self, k: u32) -> Burst
+        ensures burst { (scripts : _) (words : List ℤ) → record { control = control_of self.new; words = words; told = asks_of result.outcome; ticks = result.ticks } ≡ burst (ticked (script_engine scripts)) k (control_of self.old) words }
+        ensures script { script_of self.new ≡ script_of self.old }
+        ensures whole { is_nothing (asks_of result.outcome) ≡ true → result.ticks ≡ k }
+    {
+        let mut left = k;
+        while left > 0 {
+            let outcome = self.tick();
+            left -= 1;
+            if !outcome.is_quiet() {
+                return Burst {
+                    ticks: k - left,
+                    outcome,
+                };
+            }
+        }
+        Burst {
+            ticks: k,
+            outcome: Outcome::Busy,
+        }
     }
 }

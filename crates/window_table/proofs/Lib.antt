@@ -5,3 +5,4 @@ pub mod PortNames
 pub mod Reading
 pub mod Rules
 pub mod OwnWindows
+pub mod Changes

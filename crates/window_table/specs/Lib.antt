@@ -2,3 +2,4 @@ pub mod Schedules
 pub mod Views
 pub mod Keys
 pub mod Answers
+pub mod Edges

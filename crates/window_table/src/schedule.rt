@@ -1,6 +1,7 @@
 //! The major frame: whose tick it is, whose window ends, and when a partition is released next.
 
-ghost use Rattle.std.specs.Prelude.{◌≡◌, ◌<◌, ◌==◌, IfOk, filter};
+ghost use Rattle.std.specs.Prelude.{◌≡◌, ◌<◌, ◌==◌, ◌+◌, ◌%◌, min, IfOk, filter};
+ghost use Rattle.window_table.specs.Edges.{until_edge};
 ghost use Rattle.apex_meaning.specs.Windows.{is_within, ends_at, releases, BeginWithin};
 
 use apex_types::{At, PartitionId, Ticks, WindowRow};
@@ -32,6 +33,29 @@ fn ends_at(frame: u32, place: Ticks, window: &WindowRow) -> bool
     (u64::from(window.offset) + u64::from(window.length)) % u64::from(frame) == place.0
 }
 
+/// How many ticks after a place of a frame an edge comes; how many are left of the frame where none does.
+fn until_edge(frame: u32, place: Ticks, edge: u64) -> u64
+    requires within { place.0 < frame }
+    ensures computed { result ≡ until_edge frame place.0 edge }
+    ensures some { 0 < result }
+{
+    if place.0 < edge {
+        edge - place.0
+    } else {
+        u64::from(frame) - place.0
+    }
+}
+
+/// The same of the two edges of a window, the nearer one.
+fn until_edges(frame: u32, place: Ticks, window: &WindowRow) -> u64
+    requires within { place.0 < frame }
+    ensures computed { result ≡ min (until_edge frame place.0 window.now.offset) (until_edge frame place.0 ((window.now.offset + window.now.length) % frame)) }
+    ensures some { 0 < result }
+{
+    let end = (u64::from(window.offset) + u64::from(window.length)) % u64::from(frame);
+    until_edge(frame, place, u64::from(window.offset)).min(until_edge(frame, place, end))
+}
+
 /// Whether a window is a release window of a partition.
 pub fn releases(partition: PartitionId, window: &WindowRow) -> bool
     ensures { result ≡ releases partition.0 window.now }
@@ -58,9 +82,10 @@ fn own_windows(
 }
 
 impl Schedule {
-    ghost use Rattle.std.specs.Prelude.{◌≡◌, ◌≤◌, ◌<◌, ◌+◌, ◌^◌, option_map, IsTrue, IfOk};
+    ghost use Rattle.std.specs.Prelude.{◌≡◌, ◌≤◌, ◌<◌, ◌+◌, ◌^◌, ℕ, None, option_map, IsTrue, IfOk};
     ghost use Rattle.apex_meaning.specs.Windows.{at_tick, schedule_of_partition, phase, owner, ended, has_release, until_start, until_one_of, next_release, IsNextRelease};
     ghost use Rattle.window_table.specs.Schedules.{schedule_of};
+    ghost use Rattle.window_table.specs.Edges.{until_edges};
 
     /// The same schedule once more. An error is one of memory.
     pub fn try_clone(&self, alloc: Global) -> Result<Schedule, AllocError>
@@ -130,6 +155,30 @@ impl Schedule {
             }
         }
         None
+    }
+
+    /// How many ticks it is from a place of the frame to the next edge of a window, or to the frame's end.
+    #[tactic(auto, using(std::proofs::lemmas::List::drop_more, crate::proofs::Changes::until_one))]
+    fn until_next_edge(&self, place: Ticks) -> u64
+        requires within { place.0 < self.now.frame }
+        ensures computed { result ≡ until_edges self.now.frame place.0 self.now.windows.items }
+        ensures some { 0 < result }
+    {
+        let mut least = u64::from(self.frame) - place.0;
+        for window in self.windows.as_slice() {
+            least = least.min(until_edges(self.frame, place, window));
+        }
+        least
+    }
+
+    /// For how many ticks from this one on the owner stays and, behind this one, no window ends; at least one.
+    pub fn until_change(&self, at: At) -> u64
+        requires past { at.origin.0 ≤ at.now.0 }
+        ensures some { 0 < result }
+        ensures owner { (i : ℕ) → i < result → owner (schedule_of self.now) (at_tick at (at.now.0 + i)) ≡ owner (schedule_of self.now) at }
+        ensures ended { (i : ℕ) → 0 < i → i < result → ended (schedule_of self.now) (at_tick at (at.now.0 + i)) ≡ None }
+    {
+        self.until_next_edge(self.phase(at))
     }
 
     /// How many ticks after a tick, at least one and at most a frame, a window starts next.

@@ -64,26 +64,27 @@ const HEALTH: HealthTable = HealthTable {
     hardware_fault: PartitionAction::Ignore,
 };
 
-/// INIT creates and starts the process and enters normal mode, a call a tick. The process asks for
-/// the time in its second tick, and is faulty in its third.
-fn scripted(alloc: Global) -> Result<Scripted, AllocError>
+/// What the ticks of the process come to: it asks for the time in the second, and is faulty in the third.
+fn fault_script(alloc: Global) -> Result<Vec<Outcome>, AllocError> {
+    let time = Outcome::Call(Call::GetTime);
+    let fault = Outcome::Fault(ErrorKind::NumericError);
+    Ok(vec![in alloc; Outcome::Local, time, fault]?)
+}
+
+/// INIT creates and starts the process and enters normal mode, a call a tick. The process plays its
+/// script.
+fn scripted(alloc: Global, process: Vec<Outcome>) -> Result<Scripted, AllocError>
     ensures { IfOk result (λ executor. layout_of executor ≡ 0 ∷ []) }
 {
     let create = Outcome::Call(Call::CreateProcess { name: 1 });
     let start = Outcome::Call(Call::Start { process: 1 });
     let normal = Outcome::Call(Call::SetPartitionMode { mode: 3 });
     let init = vec![in alloc; create, start, normal]?;
-    let time = Outcome::Call(Call::GetTime);
-    let fault = Outcome::Fault(ErrorKind::NumericError);
-    let process = vec![in alloc; Outcome::Local, time, fault]?;
     let mut parts = Vec::new(alloc);
     parts.push(Part::new(init))?;
     parts.push(Part::new(Vec::new(alloc)))?;
     parts.push(Part::new(process))?;
-    Ok(Scripted {
-        parts,
-        initial: Vec::new(alloc),
-    })
+    Ok(Scripted::new(parts, Vec::new(alloc)))
 }
 
 /// A memory of one partition without data, and with a stack of no words.
@@ -99,11 +100,11 @@ fn memory(alloc: Global) -> Result<Memory, AllocError>
     Memory::new(alloc, &plan)
 }
 
-/// The partition of the table, with the process `p`.
-fn partition(rt: &impl Abort, alloc: Global) -> Partition<Scripted>
+/// The partition of the table, with the process `p`, which plays its script.
+fn partition(rt: &impl Abort, alloc: Global, script: Vec<Outcome>) -> Partition<Scripted>
     ensures { layout_of result.executor ≡ 0 ∷ [] }
 {
-    let executor = scripted(alloc).expect(rt, "memory");
+    let executor = scripted(alloc, script).expect(rt, "memory");
     let fixed = Fixed {
         name: name(rt, b"flight"),
         number: PartitionId(1),
@@ -190,7 +191,8 @@ fn expect_lines(rt: &impl Abort, alloc: Global, events: &Events, lines: &str) {
 #[tactic(auto, using(scripted::proofs::Parts::laid_first))]
 fn scripts_are_played(rt: HostRuntime) {
     let alloc = rt.alloc();
-    let mut partition = partition(&rt, alloc);
+    let script = fault_script(alloc).expect(&rt, "memory");
+    let mut partition = partition(&rt, alloc, script);
     let mut memory = memory(alloc).expect(&rt, "memory");
     let mem = memory.lend(PartitionId(1));
     let mut events = Events::new();
@@ -206,4 +208,34 @@ fn scripts_are_played(rt: HostRuntime) {
     expect_tick(&rt, alloc, &mut partition, mem, 4, ASKED);
     expect_tick(&rt, alloc, &mut partition, mem, 5, FAULTY);
     expect_tick(&rt, alloc, &mut partition, mem, 6, "");
+}
+
+/// The process of an empty script is busy for ever. While nothing happens, the partition asks its
+/// executor for many ticks at once.
+#[test]
+#[tactic(auto, using(scripted::proofs::Parts::laid_first))]
+fn a_thousand_silent_ticks_are_at_most_two_calls(rt: HostRuntime) {
+    let alloc = rt.alloc();
+    let mut partition = partition(&rt, alloc, Vec::new(alloc));
+    let mut memory = memory(alloc).expect(&rt, "memory");
+    let mem = memory.lend(PartitionId(1));
+    let mut events = Events::new();
+    let start = At {
+        now: Ticks(0),
+        origin: Ticks(0),
+    };
+    partition.clear(mem, start, StartCondition::NormalStart, &mut events);
+    expect_tick(&rt, alloc, &mut partition, mem, 0, CREATED);
+    expect_tick(&rt, alloc, &mut partition, mem, 1, STARTED);
+    expect_tick(&rt, alloc, &mut partition, mem, 2, NORMAL);
+    expect_tick(&rt, alloc, &mut partition, mem, 3, RUNNING);
+    let before = partition.executor().calls();
+    let at = At {
+        now: Ticks(4),
+        origin: Ticks(0),
+    };
+    let mut events = Events::new();
+    assert_eq!(rt; partition.advance(mem, at, 1000, &mut events), 1000);
+    assert!(rt; events.is_empty());
+    assert!(rt; partition.executor().calls().saturating_sub(before) <= 2);
 }

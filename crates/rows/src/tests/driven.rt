@@ -4,7 +4,7 @@
 ghost use Rattle.std.specs.Prelude.{◌≡◌};
 
 use super::sinks::narrow_sink;
-use super::texts::{SMALLEST, TABLE};
+use super::texts::{FIRST, FIRST_TRACE, SMALLEST, TABLE};
 use apex_types::Sink;
 use image::load_image;
 use module::{BuildAndRunFault, Machine, RunFault, build, split_tick};
@@ -12,9 +12,6 @@ use std::alloc::{AllocGlobal, Global};
 
 /// The device text: the partition meets two faults.
 const DEVICES: &str = "2 FAULT a\n4 FAULT a\n";
-
-/// The ticks that are run.
-const TICKS: u64 = 8;
 
 const TRACE: &str = "\
 0000000000000 a MODE COLD_START
@@ -27,22 +24,34 @@ const TRACE: &str = "\
 0000000000004 a MODE NORMAL
 ";
 
-/// Builds the module, and writes the trace of its image.
-fn build_and_drive<S: Sink>(alloc: Global, sink: &mut S) -> Result<(), BuildAndRunFault>
+/// Builds the module of a source, and writes the trace of its image.
+fn build_and_drive<S: Sink>(
+    alloc: Global,
+    source: &str,
+    devices: &str,
+    ticks: u64,
+    sink: &mut S,
+) -> Result<(), BuildAndRunFault>
     requires { S.failures sink.old ≡ 0 }
 {
-    let image = build(alloc, TABLE.as_bytes(), &[SMALLEST.as_bytes()])?;
-    Ok(drive(alloc, image.as_slice(), sink)?)
+    let image = build(alloc, TABLE.as_bytes(), &[source.as_bytes()])?;
+    Ok(drive(alloc, image.as_slice(), devices, ticks, sink)?)
 }
 
-/// Loads the image, and runs it tick by tick.
-fn drive<S: Sink>(alloc: Global, image: &[u8], sink: &mut S) -> Result<(), RunFault>
+/// Loads the image, and runs it for so many ticks, one by one.
+fn drive<S: Sink>(
+    alloc: Global,
+    image: &[u8],
+    devices: &str,
+    ticks: u64,
+    sink: &mut S,
+) -> Result<(), RunFault>
     requires { S.failures sink.old ≡ 0 }
 {
     let mut machine = Machine::load(alloc, load_image(alloc, image)?)?;
-    let devices = machine.devices(alloc, DEVICES.as_bytes())?;
+    let devices = machine.devices(alloc, devices.as_bytes())?;
     let mut lines = devices.as_slice();
-    while machine.now() < TICKS {
+    while machine.now() < ticks {
         let (now, later) = split_tick(lines, machine.now());
         machine.tick(now, sink)?;
         lines = later;
@@ -52,7 +61,15 @@ fn drive<S: Sink>(alloc: Global, image: &[u8], sink: &mut S) -> Result<(), RunFa
 
 #[test]
 fn a_machine_with_a_device_text(rt: HostRuntime) {
-    let mut sink = narrow_sink(512, false);
-    assert!(rt; build_and_drive(rt.alloc(), &mut sink).is_ok());
+    let mut sink = narrow_sink(1024, false);
+    assert!(rt; build_and_drive(rt.alloc(), SMALLEST, DEVICES, 8, &mut sink).is_ok());
     assert_eq!(rt; sink.taken.as_slice(), TRACE.as_bytes());
+}
+
+/// `mb` without words runs the first module with many ticks at once. One by one they write the same.
+#[test]
+fn the_first_module_tick_by_tick(rt: HostRuntime) {
+    let mut sink = narrow_sink(1024, false);
+    assert!(rt; build_and_drive(rt.alloc(), FIRST, "", 128, &mut sink).is_ok());
+    assert_eq!(rt; sink.taken.as_slice(), FIRST_TRACE.as_bytes());
 }

@@ -15,7 +15,7 @@ use std::process::Abort;
 /// error or, if it stalls, by a count of 0.
 #[derive(Drop)]
 pub struct NarrowSink {
-    pub taken: ArrayVec<u8, 512>,
+    pub taken: ArrayVec<u8, 1024>,
     room: usize,
     is_stalling: bool,
     pub failures: u64,

@@ -52,7 +52,30 @@ pub static SMALLEST_IMAGE: [u8; 164] = [
     0, 0, 0, 128, 0, 0, 0, 1, 0, 0, 0, 0,
 ];
 
-/// The trace of the stored first module: a process that reports when it asked for the time.
+/// The source of the stored first module: a process that reports when it asked for the time.
+pub const FIRST: &str = "\
+array m[2];
+
+init stack 16 {
+    local r;
+    local i;
+    CREATE_PROCESS(p) -> r, i;
+    START(i) -> r;
+    SET_PARTITION_MODE(3) -> r;
+}
+
+process p priority 5 period -1 capacity -1 stack 16 {
+    local r;
+    local t;
+    work 3;
+    GET_TIME() -> r, t;
+    m[0] := t;
+    m[1] := 7;
+    REPORT_APPLICATION_MESSAGE(m, 2) -> r;
+}
+";
+
+/// The trace of the stored first module.
 pub static FIRST_TRACE: &str = "\
 0000000000000 a MODE COLD_START
 0000000000000 a STATE INIT READY

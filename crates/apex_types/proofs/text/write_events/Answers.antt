@@ -9,13 +9,14 @@ loop-event-preserved g c =
     let split = c.in-Some.ensures.cases.0 in
     let left = rw split at c.loop-event.invariant.under_way in
     record {
-      under_way = under_way_more _ _ _ _ (line_of c.in-Some.event.now) (text_of c.in-Some.others.now) left c.in_ok-write_event.ensures.ok;
+      under_way = under_way_more _ _ _ _ (line_of c.in-Some.event.now) (text_of c.in-Some.others.now) left c.in_ok-write_line.ensures.ok;
+      stamp = search rules;
       quiet = search rules;
     }
 
-pub returns-in_err-write_event-clause-beginning : goal.returns-in_err-write_event-clause-beginning
-returns-in_err-write_event-clause-beginning g c =
+pub returns-in_err-write_line-clause-beginning : goal.returns-in_err-write_line-clause-beginning
+returns-in_err-write_line-clause-beginning g c =
     let split = c.in-Some.ensures.cases.0 in
     let left = rw split at c.loop-event.invariant.under_way in
-    let out : TakesBeginning (g.S.Sink.taken c.args.sink.now) (g.S.Sink.taken c.write_event.new.sink) (text_of c.args.events.now) = under_way_fails _ _ _ _ (line_of c.in-Some.event.now) (text_of c.in-Some.others.now) left c.in_err-write_event.ensures.beginning in
+    let out : TakesBeginning (g.S.Sink.taken c.args.sink.now) (g.S.Sink.taken c.write_line.new.sink) (text_of c.args.events.now) = under_way_fails _ _ _ _ (line_of c.in-Some.event.now) (text_of c.in-Some.others.now) left c.in_err-write_line.ensures.beginning in
     err_at c.from_residual.result out

@@ -3,6 +3,7 @@ use Rattle.apex_meaning.specs.Module.{of_tick}
 use Rattle.module.specs.Machines.{Machine, machine_of}
 use Rattle.module.specs.Written.{AreFrom}
 use Rattle.module.proofs.Machines.{begins_with, goes_on, ends_early, only_write, run_fails, nothing_left, shut_down}
+use Rattle.module.proofs.Runs.{only_broken, runs_by, breaks_by}
 use Rattle.module.proofs.running.run_ticks.Goals as goal
 
 pub loop-left-init : goal.loop-left-init
@@ -18,43 +19,84 @@ loop-left-init g c =
       quiet = refl;
     }
 
+pub returns-in_err-count-clause-trace : goal.returns-in_err-count-clause-trace
+returns-in_err-count-clause-trace g c =
+    let i = c.loop-left.invariant in
+    let failed = only_broken c.loop-left.lines.now c.at_once.result (machine_of c.loop-left.machine) (machine_of c.advance.new.self) _ _ _ _ c.in_err-count.field-0.0 c.in_err-count.ensures.run in
+    run_fails _ _ _ c.in_err-count.field-0.0 _ (search rules) failed.0
+    (breaks_by (machine_of c.args.machine.now).image (machine_of c.loop-left.machine) c.loop-left.lines.now c.loop-left.left c.at_once.result c.at_once.ensures i.image i.under_way failed.1)
+
 pub returns-in_err-tick-clause-trace : goal.returns-in_err-tick-clause-trace
 returns-in_err-tick-clause-trace g c =
     let i = c.loop-left.invariant in
-    let m = machine_of c.loop-left.machine in
+    let image = (machine_of c.args.machine.now).image in
+    let n = c.in_ok-count.count in
+    let h = c.in_ok-count.ensures.run in
+    let m = machine_of c.advance.new.self in
     let lines = c.loop-left.lines.now in
-    let one : c.loop-left.left ≡ suc (c.loop-left.left - 1) = omega arith in
+    let left = c.loop-left.left in
+    let none : n ≡ 0 = omega (arith, c.if-count-gt0.false) in
+    let same : left ≡ n + left = omega (arith, none) in
+    let way = runs_by image (machine_of c.loop-left.machine) m lines left n left same i.image i.under_way h.4 in
+    let one : left ≡ suc (left - 1) = omega arith in
     let now = c.now.ensures in
     let own = c.split_tick.ensures in
-    let failed = only_write c.in_err-tick.field-0.0 i.failed (omega (arith, i.limit)) c.in_err-tick.ensures in
+    let failed = only_write c.in_err-tick.field-0.0 h.1 (omega (arith, i.limit, h.3, none)) c.in_err-tick.ensures in
     run_fails _ _ _ c.in_err-tick.field-0.0 _ (search rules) failed.0
-    (ends_early (machine_of c.args.machine.now).image m (machine_of c.tick.new.self) lines c.split_tick.result.0.now c.split_tick.result.1.now c.loop-left.left (c.loop-left.left - 1) one i.image
+    (ends_early image m (machine_of c.tick.new.self) lines c.split_tick.result.0.now c.split_tick.result.1.now left (left - 1) one (h.0 ∙ i.image)
     (subst (λ t. of_tick t c.split_tick.result.0.now ≡ of_tick t lines) now (own.of_tick ∙ own.own))
-    (λ u h. own.rest u (omega (arith, h, now)))
-    i.under_way failed.1)
+    (λ u k. own.rest u (omega (arith, k, now)))
+    way failed.1)
 
 pub loop-left-preserved : goal.loop-left-preserved
 loop-left-preserved g c =
     let i = c.loop-left.invariant in
-    let m = machine_of c.loop-left.machine in
+    let image = (machine_of c.args.machine.now).image in
+    let n = c.in_ok-count.count in
+    let h = c.in_ok-count.ensures.run in
+    let m = machine_of c.advance.new.self in
     let next = machine_of c.tick.new.self in
     let lines = c.loop-left.lines.now in
     let later = c.split_tick.result.1.now in
-    let one : c.loop-left.left ≡ suc (c.loop-left.left - 1) = omega arith in
+    let left = c.loop-left.left in
+    let none : n ≡ 0 = omega (arith, c.if-count-gt0.false) in
+    let same : left ≡ n + left = omega (arith, none) in
+    let way = runs_by image (machine_of c.loop-left.machine) m lines left n left same i.image i.under_way h.4 in
+    let one : left ≡ suc (left - 1) = omega arith in
     let now = c.now.ensures in
     let own = c.split_tick.ensures in
     let gone = c.in_ok-tick.ensures.2 in
     let after : next.standing.now ≡ m.standing.now + 1 = ap (λ s. s.now) gone.standing in
     record {
-      image = gone.image ∙ i.image;
+      image = gone.image ∙ h.0 ∙ i.image;
       failed = gone.failed;
       order = subst (λ u. AreFrom u later) (ap (λ n. n + 1) now ∙ sym after) own.later;
-      limit = omega (arith, after, i.limit);
-      under_way = goes_on (machine_of c.args.machine.now).image m next lines c.split_tick.result.0.now later c.loop-left.left (c.loop-left.left - 1) one i.image
+      limit = omega (arith, after, i.limit, h.3, none);
+      under_way = goes_on image m next lines c.split_tick.result.0.now later left (left - 1) one (h.0 ∙ i.image)
           (subst (λ t. of_tick t c.split_tick.result.0.now ≡ of_tick t lines) now (own.of_tick ∙ own.own))
-          (λ u h. own.rest u (omega (arith, h, now)))
-          i.under_way gone;
-      quiet = gone.quiet ∙ i.quiet;
+          (λ u k. own.rest u (omega (arith, k, now)))
+          way gone;
+      quiet = gone.quiet ∙ h.4.quiet ∙ i.quiet;
+    }
+
+pub loop-left-preserved-then-count-gt0 : goal.loop-left-preserved-then-count-gt0
+loop-left-preserved-then-count-gt0 g c =
+    let i = c.loop-left.invariant in
+    let image = (machine_of c.args.machine.now).image in
+    let n = c.in_ok-count.count in
+    let h = c.in_ok-count.ensures.run in
+    let next = machine_of c.advance.new.self in
+    let lines = c.loop-left.lines.now in
+    let left = c.loop-left.left in
+    let rest = left - c.from-left.result in
+    let same : left ≡ n + rest = omega (arith, h.2, c.at_once.ensures, c.from-left.ensures) in
+    record {
+      image = h.0 ∙ i.image;
+      failed = h.1;
+      order = c.in_ok-count.ensures.order;
+      limit = omega (arith, i.limit, h.3, same);
+      under_way = runs_by image (machine_of c.loop-left.machine) next lines left n rest same i.image i.under_way h.4;
+      quiet = h.4.quiet ∙ i.quiet;
     }
 
 pub returns-else-not-is_shut_down-clause-trace : goal.returns-else-not-is_shut_down-clause-trace

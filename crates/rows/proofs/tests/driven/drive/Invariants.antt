@@ -10,4 +10,4 @@ invariant-loop-lines g l = record {
 }
 
 abbrev pub decreases-loop-lines : goal.decreases-loop-lines
-decreases-loop-lines g l = 8 - (machine_of l.machine).standing.now
+decreases-loop-lines g l = l.fn.ticks - (machine_of l.machine).standing.now

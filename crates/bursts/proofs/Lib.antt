@@ -1,0 +1,4 @@
+pub mod Until
+pub mod Quiet
+pub mod Pieces
+pub mod Running

@@ -1,0 +1,3 @@
+pub mod Bursts
+pub mod Quiet
+pub mod Running

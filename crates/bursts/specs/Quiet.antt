@@ -1,0 +1,42 @@
+-- Ticks in which nothing happens: of a partition, and of the module.
+use Rattle.std.specs.Prelude.{◌≡◌, ◌⊎◌, ℕ, ◌<◌, ◌≤◌, List, [], Some, None, slice_get}
+use Rattle.apex_types.specs.declared.device.DeviceLine.{DeviceLine}
+use Rattle.apex_types.specs.declared.identity.At.{At}
+use Rattle.apex_types.specs.declared.identity.PortId.{PortId}
+use Rattle.apex_meaning.specs.Arrival as arrival
+use Rattle.apex_meaning.specs.Image.{at_number}
+use Rattle.apex_meaning.specs.Kernel.{Kernel, with_ports}
+use Rattle.apex_meaning.specs.Module.{of_tick}
+use Rattle.apex_meaning.specs.Partition.{Member, chooses_with_handler, treats_due, messages_to_move, place_of_port}
+use Rattle.apex_meaning.specs.Step.{nothing}
+use Rattle.apex_meaning.specs.Windows.{tick_from}
+
+-- Nobody runs, nobody is chosen, and the handler does not start.
+pub record IsIdle (k : Kernel) : Type 0 where
+  pub nobody : k.processes.running ≡ None
+  pub chosen : chooses_with_handler k ≡ nothing k
+
+-- Nothing is due at a tick: no process is treated, and no Clear follows.
+pub record HasNothingDue (at : At) (k : Kernel) : Type 0 where
+  pub treated : (treats_due at k).step ≡ nothing k.processes
+  pub clears : (treats_due at k).clears ≡ None
+
+-- no message of a port can move, and nobody who waits at it can enter
+abbrev pub IsAtRest : Kernel → PortId → Type 0
+IsAtRest k port =
+    (messages_to_move (at_number k.ports.ports port.0) ≡ None)
+    ⊎ ((messages_to_move (at_number k.ports.ports port.0) ≡ Some 0) × (arrival.admits (with_ports k) (place_of_port port) ≡ nothing (with_ports k)))
+
+-- A partition in which nothing happens in any tick from one on, before a limit.
+pub record IsStill (origin from limit : ℕ) (k : Kernel) : Type 0 where
+  pub idle : IsIdle k
+  pub due : (t : ℕ) → from ≤ t → t < limit → HasNothingDue (tick_from origin t) k
+  pub ports : (port : PortId) → IsAtRest k port
+
+-- the same of each partition
+abbrev pub AreStill : {C : Type 0} → ℕ → ℕ → ℕ → List (Member C) → Type 0
+AreStill origin from limit members = (place : ℕ) (x : Member _) → slice_get members place ≡ Some x → IsStill origin from limit x.world.kernel
+
+-- no line of the devices is of a tick from one on, before another
+abbrev pub HaveNoLines : ℕ → ℕ → List DeviceLine → Type 0
+HaveNoLines from limit lines = (t : ℕ) → from ≤ t → t < limit → of_tick t lines ≡ []

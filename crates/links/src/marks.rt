@@ -1,0 +1,36 @@
+//! A bit for each priority.
+
+ghost use Rattle.std.specs.Prelude.{◌≡◌, ◌<◌, ◌*◌, ◌+◌, ℕ, slice_index, if◌then◌else◌, ◌==◌};
+ghost use Rattle.std.specs.Int.{bit_at};
+ghost use Rattle.links.specs.Levels.{IsFirstMark};
+
+/// The level of a priority is 255 less the priority: bit b of word w is that of level 64 * w + b.
+pub(crate) type Marks = [u64; 4];
+
+/// Sets the bit of a level where its list has any, and clears it where it has none.
+pub(crate) fn put(marks: &mut Marks, level: u8, any: bool)
+    ensures { (w b : ℕ) → b < 64 → bit_at (slice_index marks.new w) b ≡ (if 64 * w + b == level then (if any then 1 else 0) else bit_at (slice_index marks.old w) b) }
+{
+    let word = usize::from(level / 64);
+    let bit = 1 << (level % 64);
+    if any {
+        marks[word] |= bit;
+    } else {
+        marks[word] &= !bit;
+    }
+}
+
+/// The least level whose bit is set.
+pub(crate) fn first(marks: &Marks) -> Option<u8>
+    ensures { IsFirstMark marks.now result }
+{
+    let mut word = 0;
+    while word < 4 && marks[word] == 0 {
+        word += 1;
+    }
+    if word < 4 {
+        Some(word as u8 * 64 + marks[word].trailing_zeros() as u8)
+    } else {
+        None
+    }
+}

@@ -1,0 +1,90 @@
+//! Those that are ready.
+
+ghost use Rattle.std.specs.Prelude.{◌≡◌, ◌<◌, ◌≤◌, [], slice_get, IfOk, IfSome};
+ghost use Rattle.apex_meaning.specs.Entries.{behind_equals, without};
+
+use crate::links::Links;
+use crate::lists::ListId;
+use crate::marks::{self, Marks};
+use apex_types::{Entry, MOST_PROCESSES, ProcessIndex};
+use std::alloc::{AllocError, Global};
+use std::marker::Model;
+
+/// A list for each number that a priority may have.
+const LEVELS: u16 = 256;
+
+/// Those that are ready, a list for each priority. A contract sees the lists one behind another, that
+/// of the highest priority first.
+#[derive(Drop)]
+pub struct ReadyLists {
+    lists: Links,
+    marks: Marks,
+}
+
+impl Model for ReadyLists {
+    ghost use Rattle.std.specs.Prelude.{List};
+    ghost use Rattle.apex_types.specs.declared.process.Entry.{Entry as Item};
+
+    ghost Value = { List Item };
+
+    ghost use Rattle.links.specs.Ready.{entries_of, IsSound};
+
+    ghost view = { entries_of };
+
+    ghost invariant = { IsSound };
+}
+
+impl ReadyLists {
+    /// Nobody is ready. An error is one of memory.
+    pub fn new(alloc: Global) -> Result<ReadyLists, AllocError>
+        ensures { IfOk result (λ ready. ready ≡ []) }
+    {
+        Ok(ReadyLists {
+            lists: Links::new(alloc, LEVELS)?,
+            marks: [0; 4],
+        })
+    }
+
+    /// The first of the highest priority.
+    pub fn first(&self) -> Option<Entry>
+        ensures { result ≡ slice_get self.now 0 }
+    {
+        match marks::first(&self.marks) {
+            Some(level) => self.lists.first(ListId(level)),
+            None => None,
+        }
+    }
+
+    /// A process is ready no longer.
+    pub fn remove(&mut self, process: ProcessIndex)
+        ensures { self.new ≡ without process.0 self.old }
+    {
+        match self.lists.which(process) {
+            Some(list) => {
+                self.lists.remove(process);
+                let any = self.lists.count(list) > 0;
+                marks::put(&mut self.marks, list.0, any);
+            }
+            None => {}
+        }
+    }
+
+    /// A process is ready, behind its equals.
+    pub fn push_back(&mut self, entry: Entry)
+        requires { entry.process.0 < MOST_PROCESSES }
+        ensures { self.new ≡ behind_equals entry (without entry.process.0 self.old) }
+    {
+        self.remove(entry.process);
+        let level = 255 - entry.priority.0;
+        self.lists.push_back(ListId(level), entry);
+        marks::put(&mut self.marks, level, true);
+    }
+
+    /// Nobody is ready.
+    pub fn clear(&mut self)
+        ensures { self.new ≡ [] }
+    {
+        self.lists.clear();
+        self.marks = [0; 4];
+    }
+}

@@ -1,0 +1,256 @@
+-- Many ticks of a partition alone, at once.
+use Rattle.std.proofs.Common.{◌≡◌, inl, inr, ℕ, zero, suc, ◌+◌, ◌-◌, ◌<◌, ◌≤◌, Bool, true, false, cond, List, [], ◌∷◌, ◌++◌, length, Option, Some, None, Result, Ok, Err, IfOk, refl, sym, ap, subst, ◌∙◌, arith}
+use Rattle.std.specs.Prelude.{option_map, is_some}
+use Rattle.std.proofs.KnownBytes.{Appends-nil}
+use Rattle.apex_types.proofs.Writing.{IsUnderWay, under_way_more, under_way_fails}
+use Rattle.apex_types.specs.Line.{text_of}
+use Rattle.apex_types.specs.Sink.{TakesBeginning}
+use Rattle.apex_types.specs.declared.event.Event.{Event}
+use Rattle.apex_types.specs.declared.identity.At.{At}
+use Rattle.apex_types.specs.declared.identity.PortId.{PortId}
+use Rattle.apex_types.specs.declared.sink.SinkFault.{SinkFault}
+use Rattle.apex_meaning.specs.Kernel.{of_ports}
+use Rattle.apex_meaning.specs.Module.{next_tick, ports_of}
+use Rattle.apex_meaning.specs.Partition.{Member, Moved, World, moved, with_world, tick}
+use Rattle.apex_meaning.specs.Windows.{at_tick, tick_from, owner, ended}
+use Rattle.isolation.specs.Alone.{Gone, Path, Surroundings, and_then, alone_from, goes, inputs_in, keeps_on, sends_ended, sends_port, sends_ports, sends_so_many, stays, tick_alone, ticks_own}
+use Rattle.isolation.specs.declared.input.InputLine.{InputLine}
+use Rattle.partition.specs.Members.{HasAdvanced}
+use Rattle.bursts.specs.Bursts.{Burst, later, alone}
+use Rattle.bursts.specs.Quiet.{IsAtRest, IsStill}
+use Rattle.bursts.specs.Running.{is_silent, advances_by, partition_tick}
+use Rattle.bursts.proofs.Quiet.{idle_tick}
+use Rattle.lone_partition.proofs.LinesOfTicks.{inputs_are, none_before}
+use Rattle.lone_partition.proofs.Texts.{text_append}
+use Rattle.lone_partition.specs.Lines.{AreFrom, inputs_of, tick_of_input}
+use Rattle.lone_partition.specs.Pieces.{IsWithin, LeadsTo, HasRun, HasRunSome, IsBrokenOff, HasAdvancedWritten}
+
+-- nothing comes to the partition in a tick from one on, before another
+abbrev pub HaveNoInputs : ℕ → ℕ → List InputLine → Type 0
+HaveNoInputs from limit inputs = (t : ℕ) → from ≤ t → t < limit → inputs_in t inputs ≡ []
+
+silent_none : (ls : List Event) → is_silent ls ≡ true → ls ≡ []
+silent_none [] h = refl
+silent_none (l ∷ ls) h = absurd (cc)
+
+module _ {C : Type 0} (s : Surroundings) where
+  -- ---- a tick in which nothing happens
+
+  port_rests : (at : At) (x : Member C) (port : PortId) → IsAtRest x.world.kernel port → sends_port s at port x ≡ stays x
+  port_rests at x port (inl none) = ap (sends_so_many s at port x) none
+  port_rests at x port (inr both) =
+      ap (sends_so_many s at port x) both.0
+      ∙ ap (λ k. goes (λ (y : Member C). moved at x.engine (of_ports x.world.kernel k) x.world) x) both.1
+
+  ports_rest : (n number : ℕ) (at : At) (x : Member C) → ((port : PortId) → IsAtRest x.world.kernel port) → sends_ports n number s at x ≡ stays x
+  ports_rest zero number at x h = refl
+  ports_rest (suc n) number at x h =
+      ap (λ (g : Gone (Member C)). and_then g (sends_ports n (number + 1) s at)) (port_rests at x (record { 0 = number }) (h (record { 0 = number })))
+      ∙ ports_rest n (number + 1) at x h
+
+  ended_rests : (at : At) (x : Member C) (b : Bool) → ((port : PortId) → IsAtRest x.world.kernel port) → sends_ended s at x b ≡ stays x
+  ended_rests at x true h = ports_rest (length (ports_of x)) 1 at x h
+  ended_rests at x false h = refl
+
+  owner_rests : (at : At) (x : Member C) (b : Bool) → tick x.engine at x.world ≡ record { world = x.world; lines = [] } → ticks_own at x b ≡ stays x
+  owner_rests at x true h = ap (λ (m : Moved C). goes (λ (y : Member C). m) x) h
+  owner_rests at x false h = refl
+
+  -- a tick before the limit, in which nothing comes, changes nothing and writes nothing
+  still_tick : (inputs : List InputLine) (origin t from limit : ℕ) (x : Member C) → from ≤ t → t < limit → IsStill origin from limit x.world.kernel → inputs_in t inputs ≡ []
+      → tick_alone s (tick_from origin t) (inputs_in t inputs) x ≡ keeps_on (tick_from origin t) (stays x)
+  still_tick inputs origin t from limit x there below h none =
+      let at = tick_from origin t in
+      ap (λ is. tick_alone s at is x) none
+      ∙ ap (λ (g : Gone (Member C)). keeps_on at (and_then g (λ y. ticks_own at y (is_some (owner s.schedule at))))) (ended_rests at x (is_some (ended s.schedule at)) h.ports)
+      ∙ ap (keeps_on at) (owner_rests at x (is_some (owner s.schedule at)) (idle_tick x.engine at x.world h.idle (h.due t there below)))
+
+  -- so many ticks that each leave the partition as it is are one jump
+  still_ticks : (inputs : List InputLine) (origin n m t : ℕ) (x : Member C)
+      → ((i : ℕ) → i < n → tick_alone s (tick_from origin (t + i)) (inputs_in (t + i) inputs) x ≡ keeps_on (tick_from origin (t + i)) (stays x))
+      → alone_from s inputs (n + m) (Some (tick_from origin t)) x ≡ alone_from s inputs m (Some (tick_from origin (t + n))) x
+  still_ticks inputs origin zero m t x h =
+      let same : 0 + m ≡ m = omega arith in
+      let here : t ≡ t + 0 = omega arith in
+      ap (λ k. alone_from s inputs k (Some (tick_from origin t)) x) same ∙ ap (λ u. alone_from s inputs m (Some (tick_from origin u)) x) here
+  still_ticks inputs origin (suc n) m t x h =
+      let one_more : suc n + m ≡ suc (n + m) = omega arith in
+      let now : t + 0 ≡ t = omega arith in
+      let there : t + 1 + n ≡ t + suc n = omega arith in
+      let first = subst (λ u. tick_alone s (tick_from origin u) (inputs_in u inputs) x ≡ keeps_on (tick_from origin u) (stays x)) now (h 0 (omega arith)) in
+      let next : (i : ℕ) → i < n → tick_alone s (tick_from origin (t + 1 + i)) (inputs_in (t + 1 + i) inputs) x ≡ keeps_on (tick_from origin (t + 1 + i)) (stays x) = λ i below.
+      let u : t + suc i ≡ t + 1 + i = omega arith in
+      subst (λ u. tick_alone s (tick_from origin u) (inputs_in u inputs) x ≡ keeps_on (tick_from origin u) (stays x)) u (h (suc i) (omega (arith, below))) in
+      ap (λ k. alone_from s inputs k (Some (tick_from origin t)) x) one_more
+      ∙ ap (λ (r : Path (Member C)). r.lines ++ alone_from s inputs (n + m) (option_map next_tick r.at) r.state) first
+      ∙ still_ticks inputs origin n m (t + 1) x next
+      ∙ ap (λ u. alone_from s inputs m (Some (tick_from origin u)) x) there
+
+  pub leads_still : (inputs : List InputLine) (n origin now : ℕ) (x : Member C) → HaveNoInputs now (now + n) inputs → IsStill origin now (now + n) x.world.kernel → LeadsTo s inputs n (tick_from origin now) x [] x
+  leads_still inputs n origin now x none still m =
+      still_ticks inputs origin n m now x (λ i below. still_tick inputs origin (now + i) now (now + n) x (omega arith) (omega (arith, below)) still (none (now + i) (omega arith) (omega (arith, below))))
+
+  -- ---- a tick without an owner
+
+  within_tick : (inputs : List InputLine) (origin t : ℕ) (owns : Option ℕ) (x : Member C) → IsWithin s inputs origin t owns
+      → tick_alone s (tick_from origin t) (inputs_in t inputs) x ≡ keeps_on (tick_from origin t) (ticks_own (tick_from origin t) x (is_some owns))
+  within_tick inputs origin t owns x h =
+      let at = tick_from origin t in
+      ap (λ is. tick_alone s at is x) h.inputs
+      ∙ ap (λ o. keeps_on at (and_then (sends_ended s at x (is_some o)) (λ y. ticks_own at y (is_some (owner s.schedule at))))) h.ended
+      ∙ ap (λ o. keeps_on at (ticks_own at x (is_some o))) h.owner
+
+  pub leads_empty : (inputs : List InputLine) (n origin now : ℕ) (x : Member C) → ((i : ℕ) → i < n → IsWithin s inputs origin (now + i) None) → LeadsTo s inputs n (tick_from origin now) x [] x
+  leads_empty inputs n origin now x h m =
+      still_ticks inputs origin n m now x (λ i below. within_tick inputs origin (now + i) None x (h i below))
+
+  -- ---- a piece of its own window
+
+  first_tick : (inputs : List InputLine) (origin number k t : ℕ) (x : Member C) → IsWithin s inputs origin t (Some number)
+      → alone_from s inputs (suc k) (Some (tick_from origin t)) x ≡ (tick x.engine (tick_from origin t) x.world).lines ++ alone_from s inputs k (Some (tick_from origin (t + 1))) (with_world x (tick x.engine (tick_from origin t) x.world).world)
+  first_tick inputs origin number k t x h =
+      ap (λ (r : Path (Member C)). r.lines ++ alone_from s inputs k (option_map next_tick r.at) r.state) (within_tick inputs origin t (Some number) x h)
+
+  abbrev Piece : List InputLine → (origin m t : ℕ) → Member C → Burst (World C) ℕ (List Event) → Type 0
+  Piece inputs origin m t x b = alone_from s inputs (b.ticks + m) (Some (tick_from origin t)) x ≡ b.told ++ alone_from s inputs m (Some (tick_from origin b.words)) (with_world x b.control)
+
+  -- while its window goes on and nothing comes, ticks of the partition alone are its ticks
+  piece : (inputs : List InputLine) (origin number n m t : ℕ) (x : Member C) → ((i : ℕ) → i < n → IsWithin s inputs origin (t + i) (Some number)) → Piece inputs origin m t x (advances_by x.engine origin n x.world t)
+  piece inputs origin number zero m t x h =
+      let same : 0 + m ≡ m = omega arith in
+      ap (λ k. alone_from s inputs k (Some (tick_from origin t)) x) same
+  piece inputs origin number (suc n) m t x h =
+      let now : t + 0 ≡ t = omega arith in
+      let a : IsWithin s inputs origin t (Some number) = subst (λ u. IsWithin s inputs origin u (Some number)) now (h 0 (omega arith)) in
+      let k = tick x.engine (tick_from origin t) x.world in
+      let y = with_world x k.world in
+      let next : (i : ℕ) → i < n → IsWithin s inputs origin (t + 1 + i) (Some number) = λ i below.
+      let u : t + suc i ≡ t + 1 + i = omega arith in subst (λ v. IsWithin s inputs origin v (Some number)) u (h (suc i) (omega (arith, below))) in
+      let b = advances_by x.engine origin n k.world (t + 1) in
+      let rest : Piece inputs origin m (t + 1) y b = piece inputs origin number n m (t + 1) y next in
+      let one_more : 1 + b.ticks + m ≡ suc (b.ticks + m) = omega arith in
+      let once : 1 + m ≡ suc m = omega arith in
+      let step : (q : Bool) → is_silent k.lines ≡ q → Piece inputs origin m t x (cond q (later 1 b) (alone (partition_tick x.engine origin x.world t))) =
+      λ q. elim q as (λ q. is_silent k.lines ≡ q → Piece inputs origin m t x (cond q (later 1 b) (alone (partition_tick x.engine origin x.world t)))) [
+        | true ↦ λ e. ap (λ j. alone_from s inputs j (Some (tick_from origin t)) x) one_more
+            ∙ first_tick inputs origin number (b.ticks + m) t x a
+            ∙ ap (λ ls. ls ++ alone_from s inputs (b.ticks + m) (Some (tick_from origin (t + 1))) y) (silent_none k.lines e)
+            ∙ rest
+        | false ↦ λ e. ap (λ j. alone_from s inputs j (Some (tick_from origin t)) x) once ∙ first_tick inputs origin number m t x a
+      ] in
+      step (is_silent k.lines) refl
+
+  pub leads_on : (inputs : List InputLine) (k n origin now number : ℕ) (x y : Member C) (told : List Event) → ((i : ℕ) → i < k → IsWithin s inputs origin (now + i) (Some number)) → HasAdvanced (tick_from origin now) k x y told n
+      → LeadsTo s inputs n (tick_from origin now) x told y
+  leads_on inputs k n origin now number x y told h g m =
+      let b = advances_by x.engine origin k x.world now in
+      let count : b.ticks ≡ n = ap (λ (b : Burst (World C) ℕ (List Event)). b.ticks) g.1 in
+      let until : b.words ≡ now + n = ap (λ (b : Burst (World C) ℕ (List Event)). b.words) g.1 in
+      let tells : b.told ≡ told = ap (λ (b : Burst (World C) ℕ (List Event)). b.told) g.1 in
+      let world : b.control ≡ y.world = ap (λ (b : Burst (World C) ℕ (List Event)). b.control) g.1 in
+      ap (λ j. alone_from s inputs (j + m) (Some (tick_from origin now)) x) (sym count)
+      ∙ piece inputs origin number k m now x h
+      ∙ ap (λ (es : List Event). es ++ alone_from s inputs m (Some (tick_from origin b.words)) (with_world x b.control)) tells
+      ∙ ap (λ u. told ++ alone_from s inputs m (Some (tick_from origin u)) (with_world x b.control)) until
+      ∙ ap (λ (w : World C). told ++ alone_from s inputs m (Some (tick_from origin (now + n))) (with_world x w)) world
+      ∙ ap (λ (z : Member C). told ++ alone_from s inputs m (Some (tick_from origin (now + n))) z) (sym g.0)
+
+-- ---- the lines of the inputs
+
+pub from_lower : (t u : ℕ) (ls : List InputLine) → t ≤ u → AreFrom tick_of_input u ls → AreFrom tick_of_input t ls
+from_lower t u [] h order = tt
+from_lower t u (l ∷ ls) h order = let there : u ≤ l.tick.0 = order.0 in (omega (arith, h, there), order.1)
+
+none_comes : (t u : ℕ) (ls : List InputLine) → t < u → AreFrom tick_of_input u ls → inputs_in t ls ≡ []
+none_comes t u ls below order = inputs_are t ls ∙ ap inputs_of (none_before tick_of_input t u ls below order)
+
+-- nothing comes in so many ticks, all of them before a change
+pub is_within : (s : Surroundings) (lines : List InputLine) (k change : ℕ) (at : At) (owns : Option ℕ) → k ≤ change → AreFrom tick_of_input (at.now.0 + k) lines
+    → ended s.schedule at ≡ None → ((i : ℕ) → 0 < i → i < change → ended s.schedule (at_tick at (at.now.0 + i)) ≡ None)
+    → owner s.schedule at ≡ owns → ((i : ℕ) → i < change → owner s.schedule (at_tick at (at.now.0 + i)) ≡ owner s.schedule at)
+    → (i : ℕ) → i < k → IsWithin s lines at.origin.0 (at.now.0 + i) owns
+is_within s lines k change at owns few order over none is same zero below =
+    let here : at.now.0 + 0 ≡ at.now.0 = omega arith in
+    record {
+      inputs = none_comes (at.now.0 + 0) (at.now.0 + k) lines (omega (arith, below)) order;
+      ended = ap (λ t. ended s.schedule (at_tick at t)) here ∙ over;
+      owner = same 0 (omega (arith, few, below)) ∙ is;
+    }
+is_within s lines k change at owns few order over none is same (suc i) below =
+    record {
+      inputs = none_comes (at.now.0 + suc i) (at.now.0 + k) lines (omega (arith, below)) order;
+      ended = none (suc i) (omega arith) (omega (arith, few, below));
+      owner = same (suc i) (omega (arith, few, below)) ∙ is;
+    }
+
+module _ {C : Type 0} (s : Surroundings) (lines : List InputLine) where
+  -- ---- as the code meets them
+
+  pub run_nothing : (k : ℕ) (at : At) (x : Member C) (taken : Option (List ℕ)) (failures : ℕ) → HasRunSome s lines k at x x taken taken failures failures (Ok 0)
+  run_nothing k at x taken failures =
+      let none : 0 ≤ k = omega arith in
+      let here : at.now.0 ≡ at.now.0 + 0 = omega arith in
+      let leads : LeadsTo s lines 0 at x [] x = λ m.
+      let same : 0 + m ≡ m = omega arith in
+      ap (λ k. alone_from s lines k (Some at) x) same ∙ ap (λ t. alone_from s lines m (Some (at_tick at t)) x) here in
+      (none, record { told = []; leads = leads; written = Appends-nil taken; quiet = refl })
+
+  pub run_still : (k : ℕ) (at : At) (x : Member C) (taken : Option (List ℕ)) (failures : ℕ) → AreFrom tick_of_input (at.now.0 + k) lines → IsStill at.origin.0 at.now.0 (at.now.0 + k) x.world.kernel
+      → HasRunSome s lines k at x x taken taken failures failures (Ok k)
+  run_still k at x taken failures order still =
+      let all : k ≤ k = omega arith in
+      let none : HaveNoInputs at.now.0 (at.now.0 + k) lines = λ t from below. none_comes t (at.now.0 + k) lines below order in
+      (all, record { told = []; leads = leads_still s lines k at.origin.0 at.now.0 x none still; written = Appends-nil taken; quiet = refl })
+
+  pub run_empty : (k : ℕ) (at : At) (x : Member C) (taken : Option (List ℕ)) (failures : ℕ) → ((i : ℕ) → i < k → IsWithin s lines at.origin.0 (at.now.0 + i) None) → HasRunSome s lines k at x x taken taken failures failures (Ok k)
+  run_empty k at x taken failures h =
+      let all : k ≤ k = omega arith in
+      (all, record { told = []; leads = leads_empty s lines k at.origin.0 at.now.0 x h; written = Appends-nil taken; quiet = refl })
+
+  pub run_piece : (k number : ℕ) (at : At) (x y : Member C) (old new : Option (List ℕ)) (before after : ℕ) (r : Result ℕ SinkFault) → ((i : ℕ) → i < k → IsWithin s lines at.origin.0 (at.now.0 + i) (Some number))
+      → HasAdvancedWritten at k x y old new before after r → HasRunSome s lines k at x y old new before after r
+  run_piece k number at x y old new before after (Ok n) h (within, told, moved, written, quiet) =
+      (within, record { told = told; leads = leads_on s lines k n at.origin.0 at.now.0 number x y told h moved; written = written; quiet = quiet })
+  run_piece k number at x y old new before after (Err f) h (n, told, within, moved, beginning, failed) =
+      record { ticks = n; told = told; next = y; within = within; leads = leads_on s lines k n at.origin.0 at.now.0 number x y told h moved; beginning = beginning; failed = failed }
+
+  -- some of fewer ticks are some of more
+  pub run_fewer : (m k : ℕ) (at : At) (x y : Member C) (old new : Option (List ℕ)) (before after : ℕ) (r : Result ℕ SinkFault) → m ≤ k → HasRunSome s lines m at x y old new before after r → HasRunSome s lines k at x y old new before after r
+  run_fewer m k at x y old new before after (Ok n) few h = let all : n ≤ k = let within : n ≤ m = h.0 in omega (arith, within, few) in (all, h.1)
+  run_fewer m k at x y old new before after (Err f) few h = record { ticks = h.ticks; told = h.told; next = h.next; within = omega (arith, h.within, few); leads = h.leads; beginning = h.beginning; failed = h.failed }
+
+  -- the inputs are still ahead
+  pub still_ahead : (k : ℕ) (at : At) (x y : Member C) (old new : Option (List ℕ)) (before after : ℕ) (r : Result ℕ SinkFault) → AreFrom tick_of_input (at.now.0 + k) lines → HasRunSome s lines k at x y old new before after r
+      → IfOk r (λ n. AreFrom tick_of_input (at.now.0 + n) lines)
+  still_ahead k at x y old new before after (Ok n) order h = from_lower (at.now.0 + n) (at.now.0 + k) lines (let within : n ≤ k = h.0 in omega (arith, within)) order
+  still_ahead k at x y old new before after (Err f) order h = tt
+
+  -- ---- the text of a run
+
+  pub runs_on : {old mid new : Option (List ℕ)} {text : List ℕ} {before between : ℕ} (left n k : ℕ) (at : At) (x y : Member C) → left ≡ n + k
+      → IsUnderWay old mid text (text_of (alone_from s lines left (Some at) x)) → HasRun s lines n at x y mid new before between
+      → IsUnderWay old new text (text_of (alone_from s lines k (Some (at_tick at (at.now.0 + n))) y))
+  runs_on {old = old} {mid = mid} {new = new} {text = text} left n k at x y count way h =
+      let rest = alone_from s lines k (Some (at_tick at (at.now.0 + n))) y in
+      let split : text_of (alone_from s lines left (Some at) x) ≡ text_of h.told ++ text_of rest =
+      ap text_of (ap (λ j. alone_from s lines j (Some at) x) count ∙ h.leads k) ∙ text_append h.told rest in
+      under_way_more old mid new text (text_of h.told) _ (subst (IsUnderWay old mid text) split way) h.written
+
+  pub breaks_off : {old mid new : Option (List ℕ)} {text : List ℕ} {before between : ℕ} (left k : ℕ) (at : At) (x : Member C) → k ≤ left
+      → IsUnderWay old mid text (text_of (alone_from s lines left (Some at) x)) → IsBrokenOff s lines k at x mid new before between
+      → TakesBeginning old new text
+  breaks_off {old = old} {mid = mid} {new = new} {text = text} left k at x few way h =
+      let count : left ≡ h.ticks + (left - h.ticks) = omega (arith, few, h.within) in
+      let rest = alone_from s lines (left - h.ticks) (Some (at_tick at (at.now.0 + h.ticks))) h.next in
+      let split : text_of (alone_from s lines left (Some at) x) ≡ text_of h.told ++ text_of rest =
+      ap text_of (ap (λ j. alone_from s lines j (Some at) x) count ∙ h.leads (left - h.ticks)) ∙ text_append h.told rest in
+      under_way_fails old mid new text (text_of h.told) _ (subst (IsUnderWay old mid text) split way) h.beginning
+
+  -- none of these ticks was made at once
+  pub none_made : {old mid new : Option (List ℕ)} {text : List ℕ} {before between : ℕ} (left n : ℕ) (at : At) (x y : Member C) → n ≡ 0
+      → IsUnderWay old mid text (text_of (alone_from s lines left (Some at) x)) → HasRun s lines n at x y mid new before between
+      → IsUnderWay old new text (text_of (alone_from s lines left (Some at) y))
+  none_made {old = old} {new = new} {text = text} left n at x y none way h =
+      let same : left ≡ n + left = omega (arith, none) in
+      let here : at.now.0 + n ≡ at.now.0 = omega (arith, none) in
+      subst (λ t. IsUnderWay old new text (text_of (alone_from s lines left (Some (at_tick at t)) y))) here (runs_on left n left at x y same way h)

@@ -1,0 +1,243 @@
+-- Many ticks of the module at once, between two standings.
+use Rattle.std.proofs.Common.{◌≡◌, ◌⊎◌, inl, inr, ℕ, zero, suc, ◌+◌, ◌-◌, ◌<◌, ◌≤◌, List, [], ◌∷◌, ◌++◌, length, Option, Some, None, refl, sym, ap, subst, ◌∙◌, arith, Result, Ok, Err, OnOk}
+use Rattle.std.specs.Prelude.{slice_get, slice_set, option_map}
+use Rattle.std.proofs.lemmas.Option.{none-some, same_Some}
+use Rattle.std.proofs.KnownBytes.{Appends-nil}
+use Rattle.apex_types.specs.declared.sink.SinkFault.{SinkFault}
+use Rattle.apex_types.specs.Line.{text_of}
+use Rattle.apex_types.specs.Sink.{TakesBeginning}
+use Rattle.apex_types.proofs.Writing.{IsUnderWay, under_way_more, under_way_fails}
+use Rattle.apex_types.specs.declared.device.DeviceLine.{DeviceLine}
+use Rattle.apex_types.specs.declared.event.Event.{Event}
+use Rattle.apex_types.specs.declared.identity.At.{At}
+use Rattle.apex_meaning.specs.Kernel.{Kernel}
+use Rattle.apex_meaning.specs.Module.{Plan, trace_from}
+use Rattle.apex_meaning.specs.Partition.{Member, World, with_world}
+use Rattle.apex_meaning.specs.Windows.{Schedule, at_tick, tick_from, owner, ended}
+use Rattle.bursts.specs.Bursts.{Burst}
+use Rattle.partition.specs.Members.{HasAdvanced}
+use Rattle.bursts.specs.Quiet.{IsStill, AreStill, HaveNoLines}
+use Rattle.bursts.specs.Running.{advances_by}
+use Rattle.bursts.proofs.Quiet.{jump}
+use Rattle.bursts.proofs.Pieces.{IsAlone, piece, HasNobody, empty_piece}
+use Rattle.module.specs.Pieces.{LeadsTo, HasRun, HasRunSome, IsBrokenOff, HasMoved, HasMovedWritten}
+use Rattle.module.specs.Standing.{Standing, lines_of}
+use Rattle.module.specs.Written.{AreFrom}
+use Rattle.module.proofs.DeviceLines.{none_before}
+use Rattle.module.proofs.Standing.{later_is}
+use Rattle.module.proofs.Texts.{text_append}
+
+abbrev pub standing_at : {C : Type 0} → List (Member C) → (now origin : ℕ) → Standing C
+standing_at ms now origin = record { members = ms; now = now; origin = Some origin }
+
+-- ---- the lines of the devices
+
+pub from_lower : (t u : ℕ) (ls : List DeviceLine) → t ≤ u → AreFrom u ls → AreFrom t ls
+from_lower t u [] h order = tt
+from_lower t u (l ∷ ls) h order = let there : u ≤ l.tick.0 = order.0 in (omega (arith, h, there), order.1)
+
+no_lines : (t u : ℕ) (ls : List DeviceLine) → AreFrom u ls → HaveNoLines t u ls
+no_lines t u ls order = λ v from below. none_before v u ls below order
+
+-- ---- no tick at all
+
+pub leads_nowhere : {C : Type 0} (plan : Plan) (lines : List DeviceLine) (s : Standing C) → LeadsTo plan lines 0 s [] s
+leads_nowhere plan lines s m = let same : 0 + m ≡ m = omega arith in ap (λ k. lines_of plan lines k s) same
+
+-- ---- ticks in which nothing happens, and ticks without an owner
+
+pub leads_still : {C : Type 0} (plan : Plan) (lines : List DeviceLine) (n now origin : ℕ) (ms : List (Member C)) → 0 < now → AreFrom (now + n) lines → AreStill origin now (now + n) ms
+    → LeadsTo plan lines n (standing_at ms now origin) [] (standing_at ms (now + n) origin)
+leads_still plan lines n now origin ms begun order still m =
+    later_is plan lines (n + m) now ms (Some origin) begun
+    ∙ jump plan lines origin now (now + n) ms still n m now (omega arith) (omega arith) (no_lines now (now + n) lines order)
+    ∙ sym (later_is plan lines m (now + n) ms (Some origin) (omega (arith, begun)))
+
+pub leads_empty : {C : Type 0} (plan : Plan) (lines : List DeviceLine) (n now origin : ℕ) (ms : List (Member C)) → 0 < now → AreFrom (now + n) lines
+    → ((i : ℕ) → i < n → owner plan.schedule (tick_from origin (now + i)) ≡ None) → ((i : ℕ) → i < n → ended plan.schedule (tick_from origin (now + i)) ≡ None)
+    → LeadsTo plan lines n (standing_at ms now origin) [] (standing_at ms (now + n) origin)
+leads_empty plan lines n now origin ms begun order owned over m =
+    let nobody : (i : ℕ) → i < n → HasNobody plan lines origin (now + i) = λ i below.
+    record { lines = none_before (now + i) (now + n) lines (omega (arith, below)) order; ended = over i below; owner = owned i below } in
+    later_is plan lines (n + m) now ms (Some origin) begun
+    ∙ empty_piece plan lines origin n m now ms nobody
+    ∙ sym (later_is plan lines m (now + n) ms (Some origin) (omega (arith, begun)))
+
+-- ---- a piece of a window
+
+moved_leads : {C : Type 0} (plan : Plan) (lines : List DeviceLine) (k n now origin place : ℕ) (ms next : List (Member C)) (told : List Event) (o : Option (Member C)) → slice_get ms place ≡ o
+    → 0 < now → ((i : ℕ) → i < k → IsAlone plan lines origin place (now + i)) → HasMoved (tick_from origin now) k place ms o next told n
+    → LeadsTo plan lines n (standing_at ms now origin) told (standing_at next (now + n) origin)
+moved_leads plan lines k n now origin place ms next told None e begun lone h m =
+    let count : n + m ≡ m = let none : n ≡ 0 = h.2 in omega (arith, none) in
+    let here : now ≡ now + n = let none : n ≡ 0 = h.2 in omega (arith, none) in
+    ap (λ j. lines_of plan lines j (standing_at ms now origin)) count
+    ∙ ap (λ ls. lines_of plan lines m (standing_at ls now origin)) (sym h.0)
+    ∙ ap (λ u. lines_of plan lines m (standing_at next u origin)) here
+    ∙ ap (λ (es : List Event). es ++ lines_of plan lines m (standing_at next (now + n) origin)) (sym h.1)
+moved_leads plan lines k n now origin place ms next told (Some x) e begun lone h m =
+    let b = advances_by x.engine origin k x.world now in
+    let after = slice_set ms place (with_world x b.control) in
+    let count : b.ticks ≡ n = ap (λ (b : Burst (World _) ℕ (List Event)). b.ticks) h.1 in
+    let until : b.words ≡ now + n = ap (λ (b : Burst (World _) ℕ (List Event)). b.words) h.1 in
+    let tells : b.told ≡ told = ap (λ (b : Burst (World _) ℕ (List Event)). b.told) h.1 in
+    later_is plan lines (n + m) now ms (Some origin) begun
+    ∙ ap (λ j. trace_from plan lines (j + m) (Some (tick_from origin now)) ms) (sym count)
+    ∙ piece plan lines origin place k m now ms x lone e
+    ∙ ap (λ (es : List Event). es ++ trace_from plan lines m (Some (tick_from origin b.words)) after) tells
+    ∙ ap (λ u. told ++ trace_from plan lines m (Some (tick_from origin u)) after) until
+    ∙ ap (λ ls. told ++ trace_from plan lines m (Some (tick_from origin (now + n))) ls) (sym h.0)
+    ∙ ap (λ (es : List Event). told ++ es) (sym (later_is plan lines m (now + n) next (Some origin) (omega (arith, begun))))
+
+pub leads_moved : {C : Type 0} (plan : Plan) (lines : List DeviceLine) (k n now origin place : ℕ) (ms next : List (Member C)) (told : List Event) → 0 < now → AreFrom (now + k) lines
+    → ((i : ℕ) → i < k → owner plan.schedule (tick_from origin (now + i)) ≡ Some (suc place)) → ((i : ℕ) → i < k → ended plan.schedule (tick_from origin (now + i)) ≡ None)
+    → HasMoved (tick_from origin now) k place ms (slice_get ms place) next told n
+    → LeadsTo plan lines n (standing_at ms now origin) told (standing_at next (now + n) origin)
+leads_moved plan lines k n now origin place ms next told begun order owned over h =
+    let lone : (i : ℕ) → i < k → IsAlone plan lines origin place (now + i) = λ i below.
+    record { lines = none_before (now + i) (now + k) lines (omega (arith, below)) order; ended = over i below; owner = owned i below } in
+    moved_leads plan lines k n now origin place ms next told (slice_get ms place) refl begun lone h
+
+-- what a partition's ticks come to, among the others
+pub has_moved : {C : Type 0} (at : At) (k place n : ℕ) (ms : List (Member C)) (x y : Member C) (next : List (Member C)) (told : List Event) → next ≡ slice_set ms place y
+    → HasAdvanced at k x y told n → HasMoved at k place ms (Some x) next told n
+has_moved at k place n ms x y next told same h =
+    let control : (advances_by x.engine at.origin.0 k x.world at.now.0).control ≡ y.world = ap (λ (b : Burst (World _) ℕ (List Event)). b.control) h.1 in (
+      same ∙ ap (λ (z : Member _). slice_set ms place z) (h.0 ∙ ap (λ (w : World _). with_world x w) (sym control)),
+      h.1 ∙ ap (λ (w : World _). record { control = w; words = at.now.0 + n; told = told; ticks = n }) (sym control),
+    )
+
+-- ---- still partitions
+
+apart : (a b : ℕ) → (a < b) ⊎ (b ≤ a)
+apart a zero = inr (omega arith)
+apart zero (suc b) = inl (omega arith)
+apart (suc a) (suc b) = elim (apart a b) [ inl h ↦ inl (omega (arith, h)) | inr h ↦ inr (omega (arith, h)) ]
+
+past : {A : Type 0} (xs : List A) (place : ℕ) → length xs ≤ place → slice_get xs place ≡ None
+past [] place h = refl
+past (x ∷ xs) zero h = absurd (omega (arith, h))
+past (x ∷ xs) (suc place) h = past xs place (omega (arith, h))
+
+still_sooner : (origin now n m : ℕ) (k : Kernel) → m ≤ n → IsStill origin now (now + n) k → IsStill origin now (now + m) k
+still_sooner origin now n m k h s = record { idle = s.idle; due = λ t from below. s.due t from (omega (arith, h, below)); ports = s.ports }
+
+-- the partitions before a place are still
+abbrev pub AreStillBefore : {C : Type 0} → (origin now n place : ℕ) → List (Member C) → Type 0
+AreStillBefore origin now n place ms = (q : ℕ) → q < place → (x : Member _) → slice_get ms q ≡ Some x → IsStill origin now (now + n) x.world.kernel
+
+seen : {C : Type 0} (o : Option (Member C)) (k : Kernel) (x : Member C) → Some k ≡ option_map (λ (x : Member C). x.world.kernel) o → o ≡ Some x → k ≡ x.world.kernel
+seen None k x e f = absurd (none-some x f)
+seen (Some y) k x e f = same_Some k y.world.kernel e ∙ ap (λ (z : Member _). z.world.kernel) (same_Some y x f)
+
+pub one_more_still : {C : Type 0} (origin now n m place : ℕ) (ms : List (Member C)) (k : Kernel) → m ≤ n → Some k ≡ option_map (λ (x : Member C). x.world.kernel) (slice_get ms place)
+    → AreStillBefore origin now n place ms → IsStill origin now (now + m) k → AreStillBefore origin now m (place + 1) ms
+one_more_still origin now n m place ms k h there before here q below x e = elim (apart q place) [
+  | inl less ↦ still_sooner origin now n m x.world.kernel h (before q less x e)
+  | inr more ↦
+      let same : q ≡ place = omega (arith, below, more) in
+      subst (λ (k : Kernel). IsStill origin now (now + m) k) (seen (slice_get ms place) k x there (ap (slice_get ms) (sym same) ∙ e)) here
+]
+
+pub all_still : {C : Type 0} (origin now n place : ℕ) (ms : List (Member C)) → length ms ≤ place → AreStillBefore origin now n place ms → AreStill origin now (now + n) ms
+all_still origin now n place ms h before q x e = elim (apart q place) [
+  | inl less ↦ before q less x e
+  | inr more ↦ absurd (none-some x (sym (past ms q (omega (arith, h, more))) ∙ e))
+]
+
+-- ---- the text of a run
+
+pub runs_on : {C : Type 0} {old mid new : Option (List ℕ)} {text : List ℕ} {before between : ℕ} (plan : Plan) (lines : List DeviceLine) (s next : Standing C) (left n k : ℕ) → left ≡ n + k
+    → IsUnderWay old mid text (text_of (lines_of plan lines left s)) → HasRun plan lines n s next mid new before between
+    → IsUnderWay old new text (text_of (lines_of plan lines k next))
+runs_on {old = old} {mid = mid} {new = new} {text = text} plan lines s next left n k count way h =
+    let split : text_of (lines_of plan lines left s) ≡ text_of h.told ++ text_of (lines_of plan lines k next) =
+    ap text_of (ap (λ j. lines_of plan lines j s) count ∙ h.leads k) ∙ text_append h.told (lines_of plan lines k next) in
+    under_way_more old mid new text (text_of h.told) _ (rw split at way) h.written
+
+pub breaks_off : {C : Type 0} {old mid new : Option (List ℕ)} {text : List ℕ} {before between : ℕ} (plan : Plan) (lines : List DeviceLine) (s : Standing C) (left k : ℕ) → k ≤ left
+    → IsUnderWay old mid text (text_of (lines_of plan lines left s)) → IsBrokenOff plan lines k s mid new before between
+    → TakesBeginning old new text
+breaks_off {old = old} {mid = mid} {new = new} {text = text} plan lines s left k few way h =
+    let count : left ≡ h.ticks + (left - h.ticks) = omega (arith, few, h.within) in
+    let rest = left - h.ticks in
+    let split : text_of (lines_of plan lines left s) ≡ text_of h.told ++ text_of (lines_of plan lines rest h.next) =
+    ap text_of (ap (λ j. lines_of plan lines j s) count ∙ h.leads rest) ∙ text_append h.told (lines_of plan lines rest h.next) in
+    under_way_fails old mid new text (text_of h.told) _ (rw split at way) h.beginning
+
+-- ---- as the code meets them
+
+pub run_nothing : {C : Type 0} (plan : Plan) (lines : List DeviceLine) (k : ℕ) (s : Standing C) (taken : Option (List ℕ)) (failures : ℕ) → HasRunSome plan lines k s s taken taken failures failures (Ok 0)
+run_nothing plan lines k s taken failures =
+    let none : 0 ≤ k = omega arith in
+    let same : s.now ≡ s.now + 0 = omega arith in
+    (none, same, record { told = []; leads = leads_nowhere plan lines s; written = Appends-nil taken; quiet = refl })
+
+lift : {C : Type 0} (plan : Plan) (lines : List DeviceLine) (n t origin : ℕ) (s : Standing C) (told : List Event) (ms : List (Member C)) → t ≡ s.now → s.origin ≡ Some origin
+    → LeadsTo plan lines n (standing_at s.members t origin) told (standing_at ms (t + n) origin) → LeadsTo plan lines n s told (record { members = ms; now = s.now + n; origin = s.origin })
+lift plan lines n t origin s told ms here from h =
+    subst (λ (o : Option ℕ). LeadsTo plan lines n (record { members = s.members; now = s.now; origin = o }) told (record { members = ms; now = s.now + n; origin = o })) (sym from)
+    (subst (λ u. LeadsTo plan lines n (standing_at s.members u origin) told (standing_at ms (u + n) origin)) here h)
+
+pub run_still : {C : Type 0} (plan : Plan) (lines : List DeviceLine) (k t origin : ℕ) (s : Standing C) (taken : Option (List ℕ)) (failures : ℕ) → t ≡ s.now → s.origin ≡ Some origin
+    → 0 < t → AreFrom (t + k) lines → AreStill origin t (t + k) s.members
+    → HasRunSome plan lines k s (record { members = s.members; now = s.now + k; origin = s.origin }) taken taken failures failures (Ok k)
+run_still plan lines k t origin s taken failures here from begun order still =
+    let all : k ≤ k = omega arith in
+    (all, refl, record { told = []; leads = lift plan lines k t origin s [] s.members here from (leads_still plan lines k t origin s.members begun order still); written = Appends-nil taken; quiet = refl })
+
+pub run_empty : {C : Type 0} (plan : Plan) (lines : List DeviceLine) (k t origin : ℕ) (s : Standing C) (taken : Option (List ℕ)) (failures : ℕ) → t ≡ s.now → s.origin ≡ Some origin
+    → 0 < t → AreFrom (t + k) lines
+    → ((i : ℕ) → i < k → owner plan.schedule (tick_from origin (t + i)) ≡ None) → ((i : ℕ) → i < k → ended plan.schedule (tick_from origin (t + i)) ≡ None)
+    → HasRunSome plan lines k s (record { members = s.members; now = s.now + k; origin = s.origin }) taken taken failures failures (Ok k)
+run_empty plan lines k t origin s taken failures here from begun order owned over =
+    let all : k ≤ k = omega arith in
+    (all, refl, record { told = []; leads = lift plan lines k t origin s [] s.members here from (leads_empty plan lines k t origin s.members begun order owned over); written = Appends-nil taken; quiet = refl })
+
+pub run_piece : {C : Type 0} {old new : Option (List ℕ)} {before after : ℕ} (plan : Plan) (lines : List DeviceLine) (k n t origin place : ℕ) (s : Standing C) (ms : List (Member C)) → t ≡ s.now → s.origin ≡ Some origin
+    → 0 < t → AreFrom (t + k) lines
+    → ((i : ℕ) → i < k → owner plan.schedule (tick_from origin (t + i)) ≡ Some (suc place)) → ((i : ℕ) → i < k → ended plan.schedule (tick_from origin (t + i)) ≡ None)
+    → HasMovedWritten (tick_from origin t) k place s.members (slice_get s.members place) ms old new before after (Ok n)
+    → HasRunSome plan lines k s (record { members = ms; now = s.now + n; origin = s.origin }) old new before after (Ok n)
+run_piece plan lines k n t origin place s ms here from begun order owned over (within, told, moved, written, quiet) =
+    (within, refl, record { told = told; leads = lift plan lines n t origin s told ms here from (leads_moved plan lines k n t origin place s.members ms told begun order owned over moved); written = written; quiet = quiet })
+
+pub run_broken : {C : Type 0} (old new : Option (List ℕ)) (before after : ℕ) (plan : Plan) (lines : List DeviceLine) (k t origin place : ℕ) (s next : Standing C) (ms : List (Member C)) (f : SinkFault) (r : Result ℕ SinkFault) → r ≡ Err f → t ≡ s.now → s.origin ≡ Some origin
+    → 0 < t → AreFrom (t + k) lines
+    → ((i : ℕ) → i < k → owner plan.schedule (tick_from origin (t + i)) ≡ Some (suc place)) → ((i : ℕ) → i < k → ended plan.schedule (tick_from origin (t + i)) ≡ None)
+    → HasMovedWritten (tick_from origin t) k place s.members (slice_get s.members place) ms old new before after (Err f)
+    → HasRunSome plan lines k s next old new before after r
+run_broken old new before after plan lines k t origin place s next ms f r is here from begun order owned over (n, told, within, moved, beginning, failed) =
+    subst (HasRunSome plan lines k s next old new before after) (sym is)
+    (record {
+      ticks = n;
+      told = told;
+      next = record { members = ms; now = s.now + n; origin = s.origin };
+      within = within;
+      leads = lift plan lines n t origin s told ms here from (leads_moved plan lines k n t origin place s.members ms told begun order owned over moved);
+      beginning = beginning;
+      failed = failed;
+    })
+
+-- some of fewer ticks are some of more
+pub run_fewer : {C : Type 0} (old new : Option (List ℕ)) (before after : ℕ) (plan : Plan) (lines : List DeviceLine) (m k : ℕ) (s next : Standing C) (r : Result ℕ SinkFault) → m ≤ k → HasRunSome plan lines m s next old new before after r → HasRunSome plan lines k s next old new before after r
+run_fewer old new before after plan lines m k s next (Ok n) few h = let all : n ≤ k = let within : n ≤ m = h.0 in omega (arith, within, few) in (all, h.1, h.2)
+run_fewer old new before after plan lines m k s next (Err f) few h = record { ticks = h.ticks; told = h.told; next = h.next; within = omega (arith, h.within, few); leads = h.leads; beginning = h.beginning; failed = h.failed }
+
+-- the lines of the devices are still ahead
+pub still_ahead : {C : Type 0} (old new : Option (List ℕ)) (before after : ℕ) (plan : Plan) (lines : List DeviceLine) (k t : ℕ) (s next : Standing C) (r : Result ℕ SinkFault) → t ≡ s.now → AreFrom (t + k) lines → HasRunSome plan lines k s next old new before after r → OnOk r (AreFrom next.now lines)
+still_ahead old new before after plan lines k t s next (Ok n) here order h =
+    let lower : next.now ≤ t + k = let within : n ≤ k = h.0 in let later : next.now ≡ s.now + n = h.1 in omega (arith, within, later, here) in
+    from_lower next.now (t + k) lines lower order
+still_ahead old new before after plan lines k t s next (Err f) here order h = tt
+
+-- ---- up to the next change of the owner
+
+pub owner_kept : (s : Schedule) (at : At) (o : Option ℕ) (count change : ℕ) → count ≤ change → owner s at ≡ o → ((i : ℕ) → i < change → owner s (at_tick at (at.now.0 + i)) ≡ owner s at)
+    → (i : ℕ) → i < count → owner s (tick_from at.origin.0 (at.now.0 + i)) ≡ o
+owner_kept s at o count change few is h i below = h i (omega (arith, few, below)) ∙ is
+
+pub none_ended : (s : Schedule) (at : At) (count change : ℕ) → count ≤ change → ended s at ≡ None → ((i : ℕ) → 0 < i → i < change → ended s (at_tick at (at.now.0 + i)) ≡ None)
+    → (i : ℕ) → i < count → ended s (tick_from at.origin.0 (at.now.0 + i)) ≡ None
+none_ended s at count change few is h zero below = let same : at.now.0 + 0 ≡ at.now.0 = omega arith in ap (λ t. ended s (tick_from at.origin.0 t)) same ∙ is
+none_ended s at count change few is h (suc i) below = h (suc i) (omega arith) (omega (arith, few, below))

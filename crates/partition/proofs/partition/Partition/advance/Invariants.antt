@@ -1,0 +1,22 @@
+use Rattle.std.proofs.Common.{◌≡◌, ◌≤◌, ◌-◌}
+use Rattle.apex_types.specs.Room.{IsEmpty}
+use Rattle.apex_meaning.specs.Partition.{with_world}
+use Rattle.bursts.specs.Running.{SoFar}
+use Rattle.partition.specs.Members.{member_of}
+use Rattle.partition.proofs.partition.Partition.advance.Given as goal
+
+-- the ticks so far, and where nothing is told yet those that are left
+abbrev pub invariant-loop-left : goal.invariant-loop-left
+invariant-loop-left g l =
+    let x = member_of g.E.Executor l.fn.self l.fn.mem in
+    let y = member_of g.E.Executor l.self l.mem in
+    record {
+      same : y ≡ with_world x y.world;
+      whole : SoFar x.engine l.at.origin.0 l.k (l.k - l.left) x.world l.at.now.0 y.world l.events.items;
+      within : l.left ≤ l.k;
+      fits : g.E.Executor.laid l.mem ≡ g.E.Executor.layout l.self.executor;
+      idle : IsEmpty l.self.out;
+    }
+
+abbrev pub decreases-loop-left : goal.decreases-loop-left
+decreases-loop-left g l = l.left

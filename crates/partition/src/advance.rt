@@ -1,0 +1,146 @@
+//! Many ticks of a partition at once.
+
+ghost use Rattle.std.specs.Prelude.{◌≡◌, ◌≤◌, ◌<◌, ◌+◌, ◌^◌, ℕ, [], length, Some, None};
+ghost use Rattle.apex_types.specs.Room.{IsEmpty};
+ghost use Rattle.apex_meaning.specs.Partition as meaning;
+ghost use Rattle.apex_meaning.specs.Step.{nothing};
+ghost use Rattle.apex_meaning.specs.Windows.{tick_from};
+ghost use Rattle.bursts.specs.Quiet.{HasNothingDue};
+ghost use Rattle.bursts.specs.Running.{advances_by, burst_of, with_control};
+ghost use Rattle.partition.specs.Members.{member_of, HasAdvanced, HasGone, IsMoved};
+ghost use Rattle.processor.specs.Views.{asks_of};
+
+use crate::partition::Partition;
+use apex_types::{At, Events, Runner, Ticks};
+use partition_base::Executor;
+use processor::{Burst, Outcome};
+
+impl<E: Executor> Partition<E> {
+    /// So many ticks of the one that runs, or those up to the first in which it asks for something. What it
+    /// asks for is not yet done.
+    fn run_for(&mut self, mem: &mut E::Mem, runner: Runner, k: u32) -> Burst
+        requires some { 0 < k }
+        requires fits { E.laid mem.old ≡ E.layout self.old.executor }
+        requires idle { IsEmpty self.old.out }
+        ensures fits { E.laid mem.new ≡ E.layout self.new.executor }
+        ensures idle { IsEmpty self.new.out }
+        ensures world { let x = member_of E.Executor self.old mem.old in let b = burst_of x.engine k runner x.world in member_of E.Executor self.new mem.new ≡ meaning.with_world x (with_control x.world runner b.control b.words) }
+        ensures told { let x = member_of E.Executor self.old mem.old in asks_of result.outcome ≡ (burst_of x.engine k runner x.world).told }
+        ensures ticks { let x = member_of E.Executor self.old mem.old in result.ticks ≡ (burst_of x.engine k runner x.world).ticks }
+        ensures within { result.ticks ≤ k }
+        ensures some { 0 < result.ticks }
+    {
+        self.executor.advance(mem, runner, k)
+    }
+
+    /// What a tick of the one that runs came to is treated, and what it asks for is done.
+    fn settle(
+        &mut self,
+        mem: &mut E::Mem,
+        at: At,
+        runner: Runner,
+        outcome: Outcome,
+        events: &mut Events,
+    )
+        requires past { at.origin.0 ≤ at.now.0 }
+        requires now { at.now.0 ≤ 2 ^ 40 }
+        requires fits { E.laid mem.old ≡ E.layout self.old.executor }
+        requires idle { IsEmpty self.old.out }
+        requires empty { events.old.items ≡ [] }
+        ensures fits { E.laid mem.new ≡ E.layout self.new.executor }
+        ensures idle { IsEmpty self.new.out }
+        ensures moved { let x = member_of E.Executor self.old mem.old in IsMoved (meaning.moved at x.engine (meaning.treats_asked at x.world.kernel runner (asks_of outcome) (meaning.given (asks_of outcome) x.world.words)) x.world) x (member_of E.Executor self.new mem.new) events.old.items events.new.items }
+    {
+        let name = self.kernel.name();
+        let words = self.given(mem, &outcome);
+        self.kernel.treat(at, runner, outcome, words, &mut self.out);
+        self.finish(mem, name, at, events);
+    }
+
+    /// Ticks of the one that runs, while nothing is due and the choice stays: how many they were. It asks
+    /// for something in the last one alone, so this one alone is treated.
+    fn burst(
+        &mut self,
+        mem: &mut E::Mem,
+        at: At,
+        runner: Runner,
+        k: u32,
+        events: &mut Events,
+    ) -> u32
+        requires some { 0 < k }
+        requires past { at.origin.0 ≤ at.now.0 }
+        requires soon { at.now.0 + k ≤ 2 ^ 40 }
+        requires fits { E.laid mem.old ≡ E.layout self.old.executor }
+        requires idle { IsEmpty self.old.out }
+        requires empty { events.old.items ≡ [] }
+        requires runs { self.old.kernel.processes.running ≡ Some runner }
+        requires choice { meaning.chooses_with_handler self.old.kernel ≡ nothing self.old.kernel }
+        requires due { (i : ℕ) → i < k → HasNothingDue (tick_from at.origin.0 (at.now.0 + i)) self.old.kernel }
+        ensures fits { E.laid mem.new ≡ E.layout self.new.executor }
+        ensures idle { IsEmpty self.new.out }
+        ensures within { result ≤ k }
+        ensures some { 0 < result }
+        ensures gone { HasGone at (member_of E.Executor self.old mem.old) (member_of E.Executor self.new mem.new) events.new.items result }
+    {
+        let burst = self.run_for(mem, runner, k);
+        let last = At {
+            now: Ticks(at.now.0 + (u64::from(burst.ticks) - 1)),
+            origin: at.origin,
+        };
+        self.settle(mem, last, runner, burst.outcome, events);
+        burst.ticks
+    }
+}
+
+impl<E: Executor> Partition<E> {
+    /// Ticks of the partition, at least one: how many they were. Where something is due or the choice may
+    /// change it is one whole tick; else the one that runs goes on until it asks for something, and where
+    /// nobody runs nothing happens.
+    fn phase(&mut self, mem: &mut E::Mem, at: At, k: u32, events: &mut Events) -> u32
+        requires some { 0 < k }
+        requires past { at.origin.0 ≤ at.now.0 }
+        requires soon { at.now.0 + k ≤ 2 ^ 40 }
+        requires fits { E.laid mem.old ≡ E.layout self.old.executor }
+        requires idle { IsEmpty self.old.out }
+        requires empty { events.old.items ≡ [] }
+        ensures fits { E.laid mem.new ≡ E.layout self.new.executor }
+        ensures idle { IsEmpty self.new.out }
+        ensures within { result ≤ k }
+        ensures some { 0 < result }
+        ensures gone { HasGone at (member_of E.Executor self.old mem.old) (member_of E.Executor self.new mem.new) events.new.items result }
+    {
+        let quiet = self.kernel.quiet_ticks(at, k);
+        if quiet == 0 {
+            self.tick(mem, at, events);
+            return 1;
+        }
+        match self.kernel.running() {
+            None => quiet,
+            Some(runner) => self.burst(mem, at, runner, quiet, events),
+        }
+    }
+
+    /// `k` ticks of the partition, this one the first, or those up to the first with an event: how many
+    /// they were. The partition is then as so many calls of [`Partition::tick`] leave it, and the events
+    /// are those of the last one. Nothing from outside of the partition may happen in these ticks.
+    pub fn advance(&mut self, mem: &mut E::Mem, at: At, k: u32, events: &mut Events) -> u32
+        requires past { at.origin.0 ≤ at.now.0 }
+        requires soon { at.now.0 + k ≤ 2 ^ 40 }
+        requires fits { E.laid mem.old ≡ E.layout self.old.executor }
+        requires empty { events.old.items ≡ [] }
+        ensures fits { E.laid mem.new ≡ E.layout self.new.executor }
+        ensures within { result ≤ k }
+        ensures advanced { HasAdvanced at k (member_of E.Executor self.old mem.old) (member_of E.Executor self.new mem.new) events.new.items result }
+    {
+        self.out.clear();
+        let mut left = k;
+        while left > 0 && events.is_empty() {
+            let now = At {
+                now: Ticks(at.now.0 + u64::from(k - left)),
+                origin: at.origin,
+            };
+            left -= self.phase(mem, now, left, events);
+        }
+        k - left
+    }
+}

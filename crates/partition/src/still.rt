@@ -1,0 +1,62 @@
+//! A partition in which nothing happens.
+
+ghost use Rattle.std.specs.Prelude.{◌≡◌, ◌≤◌, ◌<◌, ◌+◌, ℕ, true};
+ghost use Rattle.apex_types.specs.declared.identity.PortId.{PortId};
+ghost use Rattle.apex_types.specs.declared.identity.TheConstants.{MOST_OBJECTS};
+ghost use Rattle.apex_meaning.specs.Arrival as arrival;
+ghost use Rattle.apex_meaning.specs.Kernel.{with_ports};
+ghost use Rattle.apex_meaning.specs.Step.{nothing};
+ghost use Rattle.bursts.specs.Quiet.{IsAtRest, IsStill};
+
+use crate::kernel::Kernel;
+use apex_types::{At, ListKey};
+
+impl Kernel {
+    /// Whether nobody waits at the port at a place.
+    #[tactic(auto, using(crate::proofs::AtRest::nobody_enters))]
+    fn nobody_waits(&self, place: u8) -> bool
+        requires { place < MOST_OBJECTS }
+        ensures { result ≡ true → arrival.admits (with_ports self.now) place ≡ nothing (with_ports self.now) }
+    {
+        self.processes.waiting_count(ListKey::Port(place)) == 0
+    }
+
+    /// Whether no message of the port at a place can move, and nobody who waits at it can enter.
+    fn port_rests(&self, place: u8) -> bool
+        requires { place < MOST_OBJECTS }
+        ensures { result ≡ true → IsAtRest self.now (record { 0 = place + 1 }) }
+    {
+        match self.ports.is_source(place) {
+            Some(true) => self.ports.message_count(place) == Some(0) && self.nobody_waits(place),
+            _ => true,
+        }
+    }
+
+    /// Whether [`Kernel::port_rests`] holds of all ports.
+    fn ports_rest(&self) -> bool
+        ensures { result ≡ true → (port : PortId) → IsAtRest self.now port }
+    {
+        for place in 0..self.ports.count() {
+            if !self.port_rests(place) {
+                return false;
+            }
+        }
+        true
+    }
+
+    /// How many of so many ticks, this one the first, come in which nothing happens in the partition:
+    /// nobody runs or is chosen, nothing is due, no message can leave a port, and nobody who waits at a
+    /// port can enter it. None where something may happen at this tick.
+    pub fn still_ticks(&self, at: At, k: u32) -> u32
+        ensures within { result ≤ k }
+        ensures still { 0 < result → IsStill at.origin.0 at.now.0 (at.now.0 + result) self.now }
+    {
+        if self.running().is_some() {
+            return 0;
+        }
+        if !self.ports_rest() {
+            return 0;
+        }
+        self.quiet_ticks(at, k)
+    }
+}

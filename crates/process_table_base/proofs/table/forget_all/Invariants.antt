@@ -1,6 +1,0 @@
-use Rattle.std.proofs.Common.{◌≡◌, ◌≤◌, ◌++◌, length, map, take, drop}
-use Rattle.apex_meaning.specs.PartitionServices.{forgotten}
-use Rattle.process_table_base.proofs.table.forget_all.Given as goal
-
-abbrev pub invariant-loop-row : goal.invariant-loop-row
-invariant-loop-row l = (l.row-index ≤ length l.row-items) × (take l.row-index l.row-items ++ map forgotten (drop l.row-index l.row-items) ≡ map forgotten l.fn.rows.items)

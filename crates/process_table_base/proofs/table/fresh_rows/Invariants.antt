@@ -1,6 +1,0 @@
-use Rattle.std.proofs.Common.{◌≡◌, ◌∷◌, map, take}
-use Rattle.apex_meaning.specs.TwoMeanings.{init_row, handler_row, machine_row}
-use Rattle.process_table_base.proofs.table.fresh_rows.Given as goal
-
-abbrev pub invariant-loop-process : goal.invariant-loop-process
-invariant-loop-process l = l.rows.items ≡ init_row ∷ handler_row ∷ map machine_row (take l.process-index l.processes)
