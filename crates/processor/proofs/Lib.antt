@@ -1,7 +1,7 @@
 pub mod Arguments
 pub mod Bursts
 pub mod Bytes
-pub mod Costs
+pub mod Entries
 pub mod Outcomes
 pub mod Spelling
 pub mod Stack
