@@ -1,3 +1,4 @@
+pub mod Digits
 pub mod NameText
 pub mod Numbers
 pub mod Writing

@@ -24,12 +24,12 @@ type Line = ArrayVec<u8, 512>;
 struct Stamp {
     tick: Ticks,
     digits: [u8; 13],
+    ghost same: { digits ≡ thirteen_digits tick.0 },
 }
 
 impl Stamp {
     fn new(tick: Ticks) -> Stamp
-        ensures digits { result.digits ≡ thirteen_digits result.tick.0 }
-        ensures tick { result.tick ≡ tick }
+        ensures { result.tick ≡ tick }
     {
         Stamp {
             tick,
@@ -37,14 +37,27 @@ impl Stamp {
         }
     }
 
-    /// The digits of this tick, which stay where it is the same one.
+    /// The digits of another tick. Most ticks follow one of the same thousand, and share its first ten digits.
+    fn digits_of(&self, tick: Ticks) -> [u8; 13]
+        ensures { result ≡ thirteen_digits tick.0 }
+    {
+        if self.tick.0 / 1_000 != tick.0 / 1_000 {
+            return digits(tick.0);
+        }
+        let mut digits = self.digits;
+        put_last_digits(&mut digits, tick.0);
+        digits
+    }
+
+    /// The stamp of this tick, which stays where it is the same one.
     fn renew(&mut self, tick: Ticks)
-        requires { self.old.digits ≡ thirteen_digits self.old.tick.0 }
-        ensures digits { self.new.digits ≡ thirteen_digits self.new.tick.0 }
-        ensures tick { self.new.tick ≡ tick }
+        ensures { self.new.tick ≡ tick }
     {
         if self.tick.0 != tick.0 {
-            *self = Stamp::new(tick);
+            *self = Stamp {
+                tick,
+                digits: self.digits_of(tick),
+            };
         }
     }
 }
@@ -61,25 +74,45 @@ pub fn write_event<S: Sink>(event: &Event, sink: &mut S) -> Result<(), SinkFault
     write_line(&Stamp::new(event.tick), event, &mut Line::new(), sink)
 }
 
-/// Writes the lines of events, in their order. An error is answered only where the sink failed;
-/// then a beginning of their text is out.
-#[tactic(auto, using(crate::proofs::Writing::under_way))]
-pub fn write_events<S: Sink>(events: &[Event], sink: &mut S) -> Result<(), SinkFault>
-    requires { S.failures sink.old < 2 ^ 64 - 1 }
-    ensures ok { OnOk result (Appends (S.taken sink.old) (S.taken sink.new) (text_of events.now)) }
-    ensures quiet { OnOk result (S.failures sink.new ≡ S.failures sink.old) }
-    ensures failed { OnErr result (S.failures sink.new ≡ S.failures sink.old + 1) }
-    ensures beginning { OnErr result (TakesBeginning (S.taken sink.old) (S.taken sink.new) (text_of events.now)) }
-{
-    let mut line = Line::new();
-    let mut stamp = Stamp::new(Ticks(0));
-    let mut rest = events;
-    while let Some((event, others)) = rest.split_first() {
-        stamp.renew(event.tick);
-        write_line(&stamp, event, &mut line, sink)?;
-        rest = others;
+/// Writes the lines of a trace. It keeps what they share: the buffer in which a line is put together, and
+/// the digits of the last tick.
+#[derive(Drop)]
+pub struct TraceWriter {
+    line: Line,
+    stamp: Stamp,
+}
+
+impl TraceWriter {
+    /// A writer that has written no line.
+    pub fn new() -> TraceWriter {
+        TraceWriter {
+            line: Line::new(),
+            stamp: Stamp::new(Ticks(0)),
+        }
     }
-    Ok(())
+
+    /// Writes the lines of events, in their order. An error is answered only where the sink failed;
+    /// then a beginning of their text is out.
+    #[tactic(auto, using(crate::proofs::Writing::under_way))]
+    pub fn write_events<S: Sink>(
+        &mut self,
+        events: &[Event],
+        sink: &mut S,
+    ) -> Result<(), SinkFault>
+        requires { S.failures sink.old < 2 ^ 64 - 1 }
+        ensures ok { OnOk result (Appends (S.taken sink.old) (S.taken sink.new) (text_of events.now)) }
+        ensures quiet { OnOk result (S.failures sink.new ≡ S.failures sink.old) }
+        ensures failed { OnErr result (S.failures sink.new ≡ S.failures sink.old + 1) }
+        ensures beginning { OnErr result (TakesBeginning (S.taken sink.old) (S.taken sink.new) (text_of events.now)) }
+    {
+        let mut rest = events;
+        while let Some((event, others)) = rest.split_first() {
+            self.stamp.renew(event.tick);
+            write_line(&self.stamp, event, &mut self.line, sink)?;
+            rest = others;
+        }
+        Ok(())
+    }
 }
 
 /// Writes the line of an event, which is put together in a buffer that other lines have used.
@@ -89,7 +122,7 @@ fn write_line<S: Sink>(
     line: &mut Line,
     sink: &mut S,
 ) -> Result<(), SinkFault>
-    requires digits { stamp.now.digits ≡ thirteen_digits event.now.tick.0 }
+    requires tick { stamp.now.tick ≡ event.now.tick }
     requires failures { S.failures sink.old < 2 ^ 64 - 1 }
     ensures ok { OnOk result (Appends (S.taken sink.old) (S.taken sink.new) (line_of event.now)) }
     ensures quiet { OnOk result (S.failures sink.new ≡ S.failures sink.old) }
@@ -155,6 +188,16 @@ fn digits(number: u64) -> [u8; 13]
         digit(number, 10),
         digit(number, 1),
     ]
+}
+
+/// The digits of a number become those of another one of the same thousand.
+#[tactic(auto, using(crate::proofs::Digits::same_thousand))]
+fn put_last_digits(digits: &mut [u8; 13], number: u64)
+    ensures { (other : ℕ) → digits.old ≡ thirteen_digits other → other / 1000 ≡ number / 1000 → digits.new ≡ thirteen_digits number }
+{
+    digits[10] = digit(number, 100);
+    digits[11] = digit(number, 10);
+    digits[12] = digit(number, 1);
 }
 
 fn push_partition(line: &mut Line, partition: &Option<Name>)

@@ -4,5 +4,6 @@ pub mod DueMask
 pub mod DueOrder
 pub mod Exact
 pub mod FirstMark
+pub mod Leaving
 pub mod Levels
 pub mod OneHome

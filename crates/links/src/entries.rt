@@ -1,8 +1,9 @@
 //! One list.
 
-ghost use Rattle.std.specs.Prelude.{◌≡◌, ◌<◌, length, slice_get};
+ghost use Rattle.std.specs.Prelude.{◌≡◌, ◌<◌, ◌≤◌, length, slice_get};
 ghost use Rattle.apex_meaning.specs.Entries.{behind_equals, without};
 ghost use Rattle.apex_meaning.specs.Queues.{joined};
+ghost use Rattle.apex_meaning.specs.Ready.{times_listed};
 
 use apex_types::{Discipline, Entry, MOST_PROCESSES, ProcessIndex};
 use arrayvec::ArrayVec;
@@ -20,11 +21,18 @@ pub(crate) fn front(entries: &[Entry]) -> Option<Entry>
     entries.first().copied()
 }
 
-/// Takes a process out of the list.
+/// Takes a process out of the list, in which it stands once at most.
 pub(crate) fn leave(entries: &mut Entries, process: ProcessIndex)
+    requires { times_listed process.0 entries.old.items ≤ 1 }
     ensures { entries.new.items ≡ without process.0 entries.old.items }
 {
-    entries.retain(|entry| process.0 != entry.process.0);
+    let mut place = 0;
+    while place < entries.len() && entries[place].process.0 != process.0 {
+        place += 1;
+    }
+    if place < entries.len() {
+        entries.remove(place);
+    }
 }
 
 /// Puts an entry behind all that have its priority or a higher one.

@@ -3,6 +3,7 @@
 ghost use Rattle.std.specs.Prelude.{◌≡◌, ◌<◌, ◌≤◌, [], length, map, replicate, slice_get, IfOk};
 ghost use Rattle.apex_meaning.specs.Entries.{without};
 ghost use Rattle.apex_meaning.specs.Queues.{joined, list_in};
+ghost use Rattle.apex_meaning.specs.Ready.{times_listed};
 ghost use Rattle.links.specs.Lists.{emptied_each, put_in};
 ghost use Rattle.links.specs.OneHome.{entries_of};
 
@@ -67,8 +68,9 @@ pub(crate) fn copy_at(lists: &[Entries], list: ListId) -> Entries
     }
 }
 
-/// Takes a process out of a list.
+/// Takes a process out of a list, in which it stands once at most.
 pub(crate) fn leave_at(lists: &mut Vec<Entries>, list: ListId, process: ProcessIndex)
+    requires { times_listed process.0 (list_in (map entries_of lists.old.items) list.0) ≤ 1 }
     ensures { map entries_of lists.new.items ≡ put_in (map entries_of lists.old.items) list.0 (without process.0 (list_in (map entries_of lists.old.items) list.0)) }
 {
     if let Some(entries) = lists.get_mut(usize::from(list.0)) {

@@ -1,9 +1,13 @@
--- what passes the test is left
-use Rattle.std.proofs.Common.{not, rules}
-use Rattle.arrayvec.proofs.ArrayVecLemmas.{filter-from_retain}
-use Rattle.apex_types.specs.declared.process.Entry.{Entry}
-use Rattle.apex_meaning.specs.Entries.{is_entry_of}
+use Rattle.std.proofs.Common.{◌≡◌, ◌∙◌, ◌<◌, length, rules}
+use Rattle.links.proofs.Leaving.{leaves-at, same-process}
 use Rattle.links.proofs.entries.leave.Goals as goal
+use Rattle.links.proofs.entries.leave.Goals.{then-loop-place-test+else-deref-place, else-loop-place-test}
 
-pub returns : goal.returns
-returns c = filter-from_retain _ (λ (e : Entry). not (is_entry_of c.args.process.0 e)) _ (λ x b f' y h. search rules) _ _ c.retain.ensures.filtered
+pub returns-then-place-len : goal.returns-then-place-len
+returns-then-place-len c =
+    let inside : c.loop-place.place < length c.args.entries.now.items = search rules in
+    let same : c.remove.result.process.0 ≡ c.args.process.0 = elim c.loop-place-test.branch [
+      | then-loop-place-test+else-deref-place w ↦ same-process _ _ _ _ _ _ inside w.deref.ensures.0 c.remove.ensures.value w.if-deref-place.false
+      | else-loop-place-test w ↦ search rules
+    ] in
+    c.remove.ensures.items ∙ leaves-at c.args.process.0 c.loop-place.place c.remove.result c.args.entries.now.items inside c.remove.ensures.value same c.requires c.loop-place.invariant.1

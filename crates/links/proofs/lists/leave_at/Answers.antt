@@ -1,7 +1,12 @@
 use Rattle.std.proofs.Common.{rules}
 use Rattle.apex_meaning.specs.Entries.{without}
+use Rattle.links.proofs.Leaving.{once-in}
 use Rattle.links.proofs.OneHome.{put-entries}
 use Rattle.links.proofs.lists.leave_at.Goals as goal
+
+pub leave-requires : goal.leave-requires
+leave-requires c =
+    once-in c.args.lists.now.items c.from.result c.args.list.0 c.args.process.0 c.in-Some.entries.now c.from.ensures (search rules) c.in-Some.ensures.value c.requires
 
 pub returns-in-Some : goal.returns-in-Some
 returns-in-Some c =

@@ -2,7 +2,7 @@ use Rattle.std.proofs.Common.{rules}
 use Rattle.apex_types.specs.Line.{line_of, text_of}
 use Rattle.apex_types.specs.Sink.{TakesBeginning}
 use Rattle.apex_types.proofs.Writing.{under_way_more, under_way_fails, err_at}
-use Rattle.apex_types.proofs.text.write_events.Goals as goal
+use Rattle.apex_types.proofs.text.TraceWriter.write_events.Goals as goal
 
 pub loop-event-preserved : goal.loop-event-preserved
 loop-event-preserved g c =
@@ -10,7 +10,6 @@ loop-event-preserved g c =
     let left = rw split at c.loop-event.invariant.under_way in
     record {
       under_way = under_way_more _ _ _ _ (line_of c.in-Some.event.now) (text_of c.in-Some.others.now) left c.in_ok-write_line.ensures.ok;
-      stamp = search rules;
       quiet = search rules;
     }
 
