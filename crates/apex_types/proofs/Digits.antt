@@ -1,5 +1,5 @@
 -- The digits of numbers of the same thousand.
-use Rattle.std.proofs.Common.{◌≡◌, ℕ, ◌+◌, ◌/◌, ◌%◌, List, [], ◌∷◌, refl, arith}
+use Rattle.std.proofs.Common.{◌≡◌, ℕ, ◌+◌, ◌/◌, ◌%◌, refl, arith}
 use Rattle.std.specs.Prelude.{slice_set}
 use Rattle.apex_types.specs.Line.{thirteen_digits}
 

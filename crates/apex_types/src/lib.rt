@@ -50,4 +50,4 @@ pub use row::{
 pub use service::{ArrayPlace, Call, SERVICES, Service};
 pub use shape::{ArgumentKind, ServiceClass, Shape};
 pub use sink::{Sink, SinkFault, WriterSink, put_all};
-pub use text::{TraceWriter, write_event};
+pub use text::{TraceBuffer, write_event};

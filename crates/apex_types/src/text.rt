@@ -8,7 +8,7 @@ ghost use Rattle.apex_types.specs.Line.{culprit_text, kind_text, line_of, partit
 ghost use Rattle.apex_types.specs.Sink.{TakesBeginning};
 
 use crate::codes::{ErrorKind, Response, ReturnCode};
-use crate::event::{Event, EventKind, Subject};
+use crate::event::{Event, EventKind, Events, Subject};
 use crate::identity::Ticks;
 use crate::name::Name;
 use crate::service::Service;
@@ -74,43 +74,67 @@ pub fn write_event<S: Sink>(event: &Event, sink: &mut S) -> Result<(), SinkFault
     write_line(&Stamp::new(event.tick), event, &mut Line::new(), sink)
 }
 
-/// Writes the lines of a trace. It keeps what they share: the buffer in which a line is put together, and
-/// the digits of the last tick.
+/// Writes the lines of events, in their order.
+#[tactic(auto, using(crate::proofs::Writing::under_way))]
+fn write_all<S: Sink>(
+    stamp: &mut Stamp,
+    line: &mut Line,
+    events: &[Event],
+    sink: &mut S,
+) -> Result<(), SinkFault>
+    requires { S.failures sink.old < 2 ^ 64 - 1 }
+    ensures ok { OnOk result (Appends (S.taken sink.old) (S.taken sink.new) (text_of events.now)) }
+    ensures quiet { OnOk result (S.failures sink.new ≡ S.failures sink.old) }
+    ensures failed { OnErr result (S.failures sink.new ≡ S.failures sink.old + 1) }
+    ensures beginning { OnErr result (TakesBeginning (S.taken sink.old) (S.taken sink.new) (text_of events.now)) }
+{
+    let mut rest = events;
+    while let Some((event, others)) = rest.split_first() {
+        stamp.renew(event.tick);
+        write_line(stamp, event, line, sink)?;
+        rest = others;
+    }
+    Ok(())
+}
+
+/// The events of a step until they are written, and what their lines share: the buffer in which a line is
+/// put together, and the digits of the last tick.
 #[derive(Drop)]
-pub struct TraceWriter {
+pub struct TraceBuffer {
+    pub events: Events,
     line: Line,
     stamp: Stamp,
 }
 
-impl TraceWriter {
-    /// A writer that has written no line.
-    pub fn new() -> TraceWriter {
-        TraceWriter {
+impl TraceBuffer {
+    /// A buffer without events.
+    pub fn new() -> TraceBuffer
+        ensures { result.events.items ≡ [] }
+    {
+        TraceBuffer {
+            events: Events::new(),
             line: Line::new(),
             stamp: Stamp::new(Ticks(0)),
         }
     }
 
-    /// Writes the lines of events, in their order. An error is answered only where the sink failed;
-    /// then a beginning of their text is out.
-    #[tactic(auto, using(crate::proofs::Writing::under_way))]
-    pub fn write_events<S: Sink>(
-        &mut self,
-        events: &[Event],
-        sink: &mut S,
-    ) -> Result<(), SinkFault>
+    /// Writes the lines of the events, in their order; then no events are left. An error is answered only
+    /// where the sink failed; then a beginning of their text is out.
+    pub fn write_events<S: Sink>(&mut self, sink: &mut S) -> Result<(), SinkFault>
         requires { S.failures sink.old < 2 ^ 64 - 1 }
-        ensures ok { OnOk result (Appends (S.taken sink.old) (S.taken sink.new) (text_of events.now)) }
+        ensures ok { OnOk result (Appends (S.taken sink.old) (S.taken sink.new) (text_of self.old.events.items)) }
+        ensures empty { OnOk result (self.new.events.items ≡ []) }
         ensures quiet { OnOk result (S.failures sink.new ≡ S.failures sink.old) }
         ensures failed { OnErr result (S.failures sink.new ≡ S.failures sink.old + 1) }
-        ensures beginning { OnErr result (TakesBeginning (S.taken sink.old) (S.taken sink.new) (text_of events.now)) }
+        ensures beginning { OnErr result (TakesBeginning (S.taken sink.old) (S.taken sink.new) (text_of self.old.events.items)) }
     {
-        let mut rest = events;
-        while let Some((event, others)) = rest.split_first() {
-            self.stamp.renew(event.tick);
-            write_line(&self.stamp, event, &mut self.line, sink)?;
-            rest = others;
-        }
+        write_all(
+            &mut self.stamp,
+            &mut self.line,
+            self.events.as_slice(),
+            sink,
+        )?;
+        self.events.clear();
         Ok(())
     }
 }

@@ -7,7 +7,7 @@ ghost use Rattle.lone_partition.specs.Lines.{inputs_of};
 ghost use Rattle.lone_partition.specs.Written.{IsOfTick, IsPathWritten};
 
 use crate::step::{Step, write_step};
-use apex_types::{At, Events, ModuleAction, Sink, SinkFault, StartCondition};
+use apex_types::{At, ModuleAction, Sink, SinkFault, StartCondition, TraceBuffer};
 use isolation::{Input, InputLine};
 use partition::Partition;
 use partition_base::Executor;
@@ -21,16 +21,16 @@ fn meet_fault<E: Executor, S: Sink>(
     partition: &mut Partition<E>,
     mem: &mut E::Mem,
     at: At,
-    events: &mut Events,
+    trace: &mut TraceBuffer,
     sink: &mut S,
 ) -> Result<Option<At>, SinkFault>
     requires fits { E.laid mem.old ≡ E.layout partition.old.executor }
     requires past { at.origin.0 ≤ at.now.0 }
     requires now { at.now.0 ≤ 2 ^ 40 }
-    requires empty { events.old.items ≡ [] }
+    requires empty { trace.old.events.items ≡ [] }
     requires failures { S.failures sink.old < 2 ^ 64 - 1 }
     ensures fits { E.laid mem.new ≡ E.layout partition.new.executor }
-    ensures empty { OnOk result (events.new.items ≡ []) }
+    ensures empty { OnOk result (trace.new.events.items ≡ []) }
     ensures of_tick { IfOk result (IsOfTick at) }
     ensures written { IsPathWritten (meets_fault at action (member_of E.Executor partition.old mem.old)) (member_of E.Executor partition.new mem.new) (S.taken sink.old) (S.taken sink.new) (S.failures sink.old) (S.failures sink.new) result }
 {
@@ -43,7 +43,7 @@ fn meet_fault<E: Executor, S: Sink>(
                 origin: at.now,
             };
             let step = Step::Start(StartCondition::HmModuleRestart);
-            write_step(partition, mem, origin, &step, events, sink)?;
+            write_step(partition, mem, origin, &step, trace, sink)?;
             Ok(Some(origin))
         }
     }
@@ -56,30 +56,30 @@ fn take<E: Executor, S: Sink>(
     partition: &mut Partition<E>,
     mem: &mut E::Mem,
     at: At,
-    events: &mut Events,
+    trace: &mut TraceBuffer,
     sink: &mut S,
 ) -> Result<Option<At>, SinkFault>
     requires fits { E.laid mem.old ≡ E.layout partition.old.executor }
     requires past { at.origin.0 ≤ at.now.0 }
     requires now { at.now.0 ≤ 2 ^ 40 }
-    requires empty { events.old.items ≡ [] }
+    requires empty { trace.old.events.items ≡ [] }
     requires failures { S.failures sink.old < 2 ^ 64 - 1 }
     ensures fits { E.laid mem.new ≡ E.layout partition.new.executor }
-    ensures empty { OnOk result (events.new.items ≡ []) }
+    ensures empty { OnOk result (trace.new.events.items ≡ []) }
     ensures of_tick { IfOk result (IsOfTick at) }
     ensures written { IsPathWritten (takes fault at input.now (member_of E.Executor partition.old mem.old)) (member_of E.Executor partition.new mem.new) (S.taken sink.old) (S.taken sink.new) (S.failures sink.old) (S.failures sink.new) result }
 {
     match input {
         Input::Arrive(port, message) => {
             let step = Step::Arrive(*port, copied(message));
-            write_step(partition, mem, at, &step, events, sink)?;
+            write_step(partition, mem, at, &step, trace, sink)?;
             Ok(Some(at))
         }
         Input::PartitionFault => {
-            write_step(partition, mem, at, &Step::BreakDown, events, sink)?;
+            write_step(partition, mem, at, &Step::BreakDown, trace, sink)?;
             Ok(Some(at))
         }
-        Input::ModuleFault => meet_fault(fault, partition, mem, at, events, sink),
+        Input::ModuleFault => meet_fault(fault, partition, mem, at, trace, sink),
     }
 }
 
@@ -91,22 +91,22 @@ pub fn take_all<E: Executor, S: Sink>(
     partition: &mut Partition<E>,
     mem: &mut E::Mem,
     at: At,
-    events: &mut Events,
+    trace: &mut TraceBuffer,
     sink: &mut S,
 ) -> Result<Option<At>, SinkFault>
     requires fits { E.laid mem.old ≡ E.layout partition.old.executor }
     requires past { at.origin.0 ≤ at.now.0 }
     requires now { at.now.0 ≤ 2 ^ 40 }
-    requires empty { events.old.items ≡ [] }
+    requires empty { trace.old.events.items ≡ [] }
     requires failures { S.failures sink.old < 2 ^ 64 - 1 }
     ensures fits { E.laid mem.new ≡ E.layout partition.new.executor }
-    ensures empty { OnOk result (events.new.items ≡ []) }
+    ensures empty { OnOk result (trace.new.events.items ≡ []) }
     ensures of_tick { IfOk result (IsOfTick at) }
     ensures written { IsPathWritten (takes_all fault at (inputs_of lines.now) (member_of E.Executor partition.old mem.old)) (member_of E.Executor partition.new mem.new) (S.taken sink.old) (S.taken sink.new) (S.failures sink.old) (S.failures sink.new) result }
 {
     let mut last = at;
     for line in lines {
-        match take(fault, &line.input, partition, mem, last, events, sink)? {
+        match take(fault, &line.input, partition, mem, last, trace, sink)? {
             Some(next) => last = next,
             None => return Ok(None),
         }

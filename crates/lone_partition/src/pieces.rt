@@ -10,7 +10,7 @@ ghost use Rattle.lone_partition.specs.Pieces.{HasAdvancedWritten, HasRunSome, Is
 
 use crate::running::later_tick;
 use crate::surroundings::Surroundings;
-use apex_types::{At, Events, Sink, SinkFault, Ticks, write_events};
+use apex_types::{At, Sink, SinkFault, Ticks, TraceBuffer};
 use isolation::InputLine;
 use partition::Partition;
 use partition_base::Executor;
@@ -22,21 +22,20 @@ fn write_advance<E: Executor, S: Sink>(
     mem: &mut E::Mem,
     at: At,
     most: u32,
-    events: &mut Events,
+    trace: &mut TraceBuffer,
     sink: &mut S,
 ) -> Result<u32, SinkFault>
     requires fits { E.laid mem.old ≡ E.layout partition.old.executor }
     requires past { at.origin.0 ≤ at.now.0 }
     requires soon { at.now.0 + most ≤ 2 ^ 40 }
-    requires empty { events.old.items ≡ [] }
+    requires empty { trace.old.events.items ≡ [] }
     requires failures { S.failures sink.old < 2 ^ 64 - 1 }
     ensures fits { E.laid mem.new ≡ E.layout partition.new.executor }
-    ensures empty { OnOk result (events.new.items ≡ []) }
+    ensures empty { OnOk result (trace.new.events.items ≡ []) }
     ensures written { HasAdvancedWritten at most (member_of E.Executor partition.old mem.old) (member_of E.Executor partition.new mem.new) (S.taken sink.old) (S.taken sink.new) (S.failures sink.old) (S.failures sink.new) result }
 {
-    let count = partition.advance(mem, at, most, events);
-    write_events(events.as_slice(), sink)?;
-    events.clear();
+    let count = partition.advance(mem, at, most, &mut trace.events);
+    trace.write_events(sink)?;
     Ok(count)
 }
 
@@ -47,22 +46,22 @@ fn write_piece<E: Executor, S: Sink>(
     mem: &mut E::Mem,
     at: At,
     most: u32,
-    events: &mut Events,
+    trace: &mut TraceBuffer,
     sink: &mut S,
 ) -> Result<u32, SinkFault>
     requires fits { E.laid mem.old ≡ E.layout partition.old.executor }
     requires past { at.origin.0 ≤ at.now.0 }
     requires soon { at.now.0 + most ≤ 2 ^ 40 }
-    requires empty { events.old.items ≡ [] }
+    requires empty { trace.old.events.items ≡ [] }
     requires failures { S.failures sink.old < 2 ^ 64 - 1 }
     ensures fits { E.laid mem.new ≡ E.layout partition.new.executor }
-    ensures empty { OnOk result (events.new.items ≡ []) }
+    ensures empty { OnOk result (trace.new.events.items ≡ []) }
     ensures run { (s : Around) (lines : List InputLine) (number : ℕ) → ((i : ℕ) → i < most → IsWithin s lines at.origin.0 (at.now.0 + i) (Some number)) → HasRunSome s lines most at (member_of E.Executor partition.old mem.old) (member_of E.Executor partition.new mem.new) (S.taken sink.old) (S.taken sink.new) (S.failures sink.old) (S.failures sink.new) result }
 {
     let mut left = most;
     while left > 0 {
         let now = later_tick(at, most - left);
-        let count = write_advance(partition, mem, now, left, events, sink)?;
+        let count = write_advance(partition, mem, now, left, trace, sink)?;
         if count == 0 {
             return Ok(most - left);
         }
@@ -104,16 +103,16 @@ fn advance_window<E: Executor, S: Sink>(
     mem: &mut E::Mem,
     at: At,
     most: u32,
-    events: &mut Events,
+    trace: &mut TraceBuffer,
     sink: &mut S,
 ) -> Result<u32, SinkFault>
     requires fits { E.laid mem.old ≡ E.layout partition.old.executor }
     requires past { at.origin.0 ≤ at.now.0 }
     requires soon { at.now.0 + most ≤ 2 ^ 40 }
-    requires empty { events.old.items ≡ [] }
+    requires empty { trace.old.events.items ≡ [] }
     requires failures { S.failures sink.old < 2 ^ 64 - 1 }
     ensures fits { E.laid mem.new ≡ E.layout partition.new.executor }
-    ensures empty { OnOk result (events.new.items ≡ []) }
+    ensures empty { OnOk result (trace.new.events.items ≡ []) }
     ensures run { (lines : List InputLine) → AreFrom tick_of_input (at.now.0 + most) lines → HasRunSome (around surroundings.now) lines most at (member_of E.Executor partition.old mem.old) (member_of E.Executor partition.new mem.new) (S.taken sink.old) (S.taken sink.new) (S.failures sink.old) (S.failures sink.new) result }
 {
     let schedule = &surroundings.schedule;
@@ -122,7 +121,7 @@ fn advance_window<E: Executor, S: Sink>(
     }
     let count = at_most(schedule.until_change(at), most);
     match schedule.owner(at) {
-        Some(_) => write_piece(partition, mem, at, count, events, sink),
+        Some(_) => write_piece(partition, mem, at, count, trace, sink),
         None => Ok(count),
     }
 }
@@ -137,17 +136,17 @@ pub fn advance<E: Executor, S: Sink>(
     mem: &mut E::Mem,
     at: At,
     most: u32,
-    events: &mut Events,
+    trace: &mut TraceBuffer,
     sink: &mut S,
 ) -> Result<u32, SinkFault>
     requires fits { E.laid mem.old ≡ E.layout partition.old.executor }
     requires past { at.origin.0 ≤ at.now.0 }
     requires soon { at.now.0 + most ≤ 2 ^ 40 }
     requires order { AreFrom tick_of_input at.now.0 lines.now }
-    requires empty { events.old.items ≡ [] }
+    requires empty { trace.old.events.items ≡ [] }
     requires failures { S.failures sink.old < 2 ^ 64 - 1 }
     ensures fits { E.laid mem.new ≡ E.layout partition.new.executor }
-    ensures empty { OnOk result (events.new.items ≡ []) }
+    ensures empty { OnOk result (trace.new.events.items ≡ []) }
     ensures order { IfOk result (λ count. AreFrom tick_of_input (at.now.0 + count) lines.now) }
     ensures run { HasRunSome (around surroundings.now) lines.now most at (member_of E.Executor partition.old mem.old) (member_of E.Executor partition.new mem.new) (S.taken sink.old) (S.taken sink.new) (S.failures sink.old) (S.failures sink.new) result }
 {
@@ -156,5 +155,5 @@ pub fn advance<E: Executor, S: Sink>(
     if still > 0 {
         return Ok(still);
     }
-    advance_window(surroundings, partition, mem, at, quiet, events, sink)
+    advance_window(surroundings, partition, mem, at, quiet, trace, sink)
 }

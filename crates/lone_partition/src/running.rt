@@ -16,7 +16,7 @@ use crate::pieces::advance;
 use crate::step::{Step, write_step};
 use crate::surroundings::Surroundings;
 use crate::ticking::tick;
-use apex_types::{At, Events, PartitionId, Sink, SinkFault, StartCondition, Ticks};
+use apex_types::{At, PartitionId, Sink, SinkFault, StartCondition, Ticks, TraceBuffer};
 use isolation::InputLine;
 use partition::Partition;
 use partition_base::Executor;
@@ -80,16 +80,16 @@ fn run_alone<E: Executor, S: Sink>(
     if ticks == 0 {
         return Ok(());
     }
-    let mut events = Events::new();
+    let mut trace = TraceBuffer::new();
     let start = Step::Start(StartCondition::NormalStart);
-    write_step(partition, mem, FIRST_TICK, &start, &mut events, sink)?;
+    write_step(partition, mem, FIRST_TICK, &start, &mut trace, sink)?;
     run_ticks(
         surroundings,
         partition,
         mem,
         inputs,
         ticks,
-        &mut events,
+        &mut trace,
         sink,
     )
 }
@@ -101,13 +101,13 @@ fn run_ticks<E: Executor, S: Sink>(
     mem: &mut E::Mem,
     inputs: &[InputLine],
     ticks: u64,
-    events: &mut Events,
+    trace: &mut TraceBuffer,
     sink: &mut S,
 ) -> Result<(), SinkFault>
     requires fits { E.laid mem.old ≡ E.layout partition.old.executor }
     requires ticks { ticks ≤ 2 ^ 40 }
     requires order { AreInOrder inputs.now }
-    requires empty { events.old.items ≡ [] }
+    requires empty { trace.old.events.items ≡ [] }
     requires failures { S.failures sink.old < 2 ^ 64 - 1 }
     ensures { AreWritten (alone_from (around surroundings.now) inputs.now ticks (Some first_tick) (member_of E.Executor partition.old mem.old)) (S.taken sink.old) (S.taken sink.new) (S.failures sink.old) (S.failures sink.new) result }
 {
@@ -116,14 +116,14 @@ fn run_ticks<E: Executor, S: Sink>(
     let mut lines = inputs;
     while left > 0 {
         let most = at_once(left);
-        let count = advance(surroundings, lines, partition, mem, at, most, events, sink)?;
+        let count = advance(surroundings, lines, partition, mem, at, most, trace, sink)?;
         if count > 0 {
             at = later_tick(at, count);
             left -= u64::from(count);
             continue;
         }
         let (own, later) = split_tick(lines, at.now);
-        let Some(last) = tick(surroundings, own, partition, mem, at, events, sink)? else {
+        let Some(last) = tick(surroundings, own, partition, mem, at, trace, sink)? else {
             return Ok(());
         };
         at = later_tick(last, 1);

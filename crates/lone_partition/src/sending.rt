@@ -10,7 +10,7 @@ ghost use Rattle.lone_partition.specs.Written.{IsWritten};
 
 use crate::step::{Step, write_step};
 use crate::surroundings::Surroundings;
-use apex_types::{At, Events, Name, PortId, Sink, SinkFault, Words};
+use apex_types::{At, Name, PortId, Sink, SinkFault, TraceBuffer, Words};
 use partition::{Kernel, Partition};
 use partition_base::Executor;
 
@@ -21,21 +21,21 @@ fn go_out<E: Executor, S: Sink>(
     partition: &mut Partition<E>,
     mem: &mut E::Mem,
     at: At,
-    events: &mut Events,
+    trace: &mut TraceBuffer,
     sink: &mut S,
 ) -> Result<(), SinkFault>
     requires fits { E.laid mem.old ≡ E.layout partition.old.executor }
     requires past { at.origin.0 ≤ at.now.0 }
     requires now { at.now.0 ≤ 2 ^ 40 }
-    requires empty { events.old.items ≡ [] }
+    requires empty { trace.old.events.items ≡ [] }
     requires failures { S.failures sink.old < 2 ^ 64 - 1 }
     ensures fits { E.laid mem.new ≡ E.layout partition.new.executor }
-    ensures empty { OnOk result (events.new.items ≡ []) }
+    ensures empty { OnOk result (trace.new.events.items ≡ []) }
     ensures written { IsWritten (goes_by_way at message way (member_of E.Executor partition.old mem.old)) (member_of E.Executor partition.new mem.new) (S.taken sink.old) (S.taken sink.new) (S.failures sink.old) (S.failures sink.new) result }
 {
     if let Some(channel) = way {
         let step = Step::GoOut(channel, message);
-        write_step(partition, mem, at, &step, events, sink)?;
+        write_step(partition, mem, at, &step, trace, sink)?;
     }
     Ok(())
 }
@@ -47,23 +47,23 @@ fn send_message<E: Executor, S: Sink>(
     mem: &mut E::Mem,
     at: At,
     port: PortId,
-    events: &mut Events,
+    trace: &mut TraceBuffer,
     sink: &mut S,
 ) -> Result<(), SinkFault>
     requires fits { E.laid mem.old ≡ E.layout partition.old.executor }
     requires past { at.origin.0 ≤ at.now.0 }
     requires now { at.now.0 ≤ 2 ^ 40 }
-    requires empty { events.old.items ≡ [] }
+    requires empty { trace.old.events.items ≡ [] }
     requires failures { S.failures sink.old < 2 ^ 64 - 1 }
     ensures fits { E.laid mem.new ≡ E.layout partition.new.executor }
-    ensures empty { OnOk result (events.new.items ≡ []) }
+    ensures empty { OnOk result (trace.new.events.items ≡ []) }
     ensures written { IsWritten (sends_message (around surroundings.now) at port (member_of E.Executor partition.old mem.old)) (member_of E.Executor partition.new mem.new) (S.taken sink.old) (S.taken sink.new) (S.failures sink.old) (S.failures sink.new) result }
 {
     let step = Step::Leave(port);
-    match write_step(partition, mem, at, &step, events, sink)? {
+    match write_step(partition, mem, at, &step, trace, sink)? {
         Some(message) => {
             let way = surroundings.way_out(port);
-            go_out(way, message, partition, mem, at, events, sink)
+            go_out(way, message, partition, mem, at, trace, sink)
         }
         None => Ok(()),
     }
@@ -77,20 +77,20 @@ fn send_messages<E: Executor, S: Sink>(
     mem: &mut E::Mem,
     at: At,
     port: PortId,
-    events: &mut Events,
+    trace: &mut TraceBuffer,
     sink: &mut S,
 ) -> Result<(), SinkFault>
     requires fits { E.laid mem.old ≡ E.layout partition.old.executor }
     requires past { at.origin.0 ≤ at.now.0 }
     requires now { at.now.0 ≤ 2 ^ 40 }
-    requires empty { events.old.items ≡ [] }
+    requires empty { trace.old.events.items ≡ [] }
     requires failures { S.failures sink.old < 2 ^ 64 - 1 }
     ensures fits { E.laid mem.new ≡ E.layout partition.new.executor }
-    ensures empty { OnOk result (events.new.items ≡ []) }
+    ensures empty { OnOk result (trace.new.events.items ≡ []) }
     ensures written { IsWritten (sends_messages count (around surroundings.now) at port (member_of E.Executor partition.old mem.old)) (member_of E.Executor partition.new mem.new) (S.taken sink.old) (S.taken sink.new) (S.failures sink.old) (S.failures sink.new) result }
 {
     for _ in 0..count {
-        send_message(surroundings, partition, mem, at, port, events, sink)?;
+        send_message(surroundings, partition, mem, at, port, trace, sink)?;
     }
     Ok(())
 }
@@ -113,23 +113,23 @@ fn send_port<E: Executor, S: Sink>(
     mem: &mut E::Mem,
     at: At,
     port: PortId,
-    events: &mut Events,
+    trace: &mut TraceBuffer,
     sink: &mut S,
 ) -> Result<(), SinkFault>
     requires fits { E.laid mem.old ≡ E.layout partition.old.executor }
     requires past { at.origin.0 ≤ at.now.0 }
     requires now { at.now.0 ≤ 2 ^ 40 }
-    requires empty { events.old.items ≡ [] }
+    requires empty { trace.old.events.items ≡ [] }
     requires failures { S.failures sink.old < 2 ^ 64 - 1 }
     ensures fits { E.laid mem.new ≡ E.layout partition.new.executor }
-    ensures empty { OnOk result (events.new.items ≡ []) }
+    ensures empty { OnOk result (trace.new.events.items ≡ []) }
     ensures written { IsWritten (sends_port (around surroundings.now) at port (member_of E.Executor partition.old mem.old)) (member_of E.Executor partition.new mem.new) (S.taken sink.old) (S.taken sink.new) (S.failures sink.old) (S.failures sink.new) result }
 {
     let Some(count) = count_to_send(partition.kernel(), port) else {
         return Ok(());
     };
-    send_messages(count, surroundings, partition, mem, at, port, events, sink)?;
-    write_step(partition, mem, at, &Step::Admit(port), events, sink)?;
+    send_messages(count, surroundings, partition, mem, at, port, trace, sink)?;
+    write_step(partition, mem, at, &Step::Admit(port), trace, sink)?;
     Ok(())
 }
 
@@ -140,21 +140,21 @@ pub fn send_ports<E: Executor, S: Sink>(
     partition: &mut Partition<E>,
     mem: &mut E::Mem,
     at: At,
-    events: &mut Events,
+    trace: &mut TraceBuffer,
     sink: &mut S,
 ) -> Result<(), SinkFault>
     requires fits { E.laid mem.old ≡ E.layout partition.old.executor }
     requires past { at.origin.0 ≤ at.now.0 }
     requires now { at.now.0 ≤ 2 ^ 40 }
-    requires empty { events.old.items ≡ [] }
+    requires empty { trace.old.events.items ≡ [] }
     requires failures { S.failures sink.old < 2 ^ 64 - 1 }
     ensures fits { E.laid mem.new ≡ E.layout partition.new.executor }
-    ensures empty { OnOk result (events.new.items ≡ []) }
+    ensures empty { OnOk result (trace.new.events.items ≡ []) }
     ensures written { IsWritten (sends_ports count 1 (around surroundings.now) at (member_of E.Executor partition.old mem.old)) (member_of E.Executor partition.new mem.new) (S.taken sink.old) (S.taken sink.new) (S.failures sink.old) (S.failures sink.new) result }
 {
     for place in 0..count {
         let port = PortId(place + 1);
-        send_port(surroundings, partition, mem, at, port, events, sink)?;
+        send_port(surroundings, partition, mem, at, port, trace, sink)?;
     }
     Ok(())
 }

@@ -7,7 +7,7 @@ ghost use Rattle.partition.specs.Members.{member_of};
 ghost use Rattle.lone_partition.specs.Steps.{leaving_in, step_of};
 ghost use Rattle.lone_partition.specs.Written.{IsWritten};
 
-use apex_types::{At, Events, Name, PortId, Sink, SinkFault, StartCondition, Words, write_events};
+use apex_types::{At, Events, Name, PortId, Sink, SinkFault, StartCondition, TraceBuffer, Words};
 use partition::Partition;
 use partition_base::Executor;
 use process_table_base::copied;
@@ -72,21 +72,20 @@ pub fn write_step<E: Executor, S: Sink>(
     mem: &mut E::Mem,
     at: At,
     step: &Step,
-    events: &mut Events,
+    trace: &mut TraceBuffer,
     sink: &mut S,
 ) -> Result<Option<Words>, SinkFault>
     requires fits { E.laid mem.old ≡ E.layout partition.old.executor }
     requires past { at.origin.0 ≤ at.now.0 }
     requires now { at.now.0 ≤ 2 ^ 40 }
-    requires empty { events.old.items ≡ [] }
+    requires empty { trace.old.events.items ≡ [] }
     requires failures { S.failures sink.old < 2 ^ 64 - 1 }
     ensures fits { E.laid mem.new ≡ E.layout partition.new.executor }
-    ensures empty { OnOk result (events.new.items ≡ []) }
+    ensures empty { OnOk result (trace.new.events.items ≡ []) }
     ensures message { IfOk result (λ m. m ≡ leaving_in step.now (member_of E.Executor partition.old mem.old)) }
     ensures written { IsWritten (goes (step_of at step.now) (member_of E.Executor partition.old mem.old)) (member_of E.Executor partition.new mem.new) (S.taken sink.old) (S.taken sink.new) (S.failures sink.old) (S.failures sink.new) result }
 {
-    let message = step_member(partition, mem, at, step, events);
-    write_events(events.as_slice(), sink)?;
-    events.clear();
+    let message = step_member(partition, mem, at, step, &mut trace.events);
+    trace.write_events(sink)?;
     Ok(message)
 }

@@ -11,7 +11,7 @@ use crate::input::take_all;
 use crate::sending::send_ports;
 use crate::step::{Step, write_step};
 use crate::surroundings::Surroundings;
-use apex_types::{At, Events, Sink, SinkFault};
+use apex_types::{At, Sink, SinkFault, TraceBuffer};
 use isolation::InputLine;
 use partition::Partition;
 use partition_base::Executor;
@@ -23,21 +23,21 @@ fn send_ended<E: Executor, S: Sink>(
     partition: &mut Partition<E>,
     mem: &mut E::Mem,
     at: At,
-    events: &mut Events,
+    trace: &mut TraceBuffer,
     sink: &mut S,
 ) -> Result<(), SinkFault>
     requires fits { E.laid mem.old ≡ E.layout partition.old.executor }
     requires past { at.origin.0 ≤ at.now.0 }
     requires now { at.now.0 ≤ 2 ^ 40 }
-    requires empty { events.old.items ≡ [] }
+    requires empty { trace.old.events.items ≡ [] }
     requires failures { S.failures sink.old < 2 ^ 64 - 1 }
     ensures fits { E.laid mem.new ≡ E.layout partition.new.executor }
-    ensures empty { OnOk result (events.new.items ≡ []) }
+    ensures empty { OnOk result (trace.new.events.items ≡ []) }
     ensures written { IsWritten (sends_ended (around surroundings.now) at (member_of E.Executor partition.old mem.old) ends) (member_of E.Executor partition.new mem.new) (S.taken sink.old) (S.taken sink.new) (S.failures sink.old) (S.failures sink.new) result }
 {
     if ends {
         let count = partition.kernel().port_count();
-        send_ports(count, surroundings, partition, mem, at, events, sink)
+        send_ports(count, surroundings, partition, mem, at, trace, sink)
     } else {
         Ok(())
     }
@@ -49,20 +49,20 @@ fn tick_own<E: Executor, S: Sink>(
     partition: &mut Partition<E>,
     mem: &mut E::Mem,
     at: At,
-    events: &mut Events,
+    trace: &mut TraceBuffer,
     sink: &mut S,
 ) -> Result<(), SinkFault>
     requires fits { E.laid mem.old ≡ E.layout partition.old.executor }
     requires past { at.origin.0 ≤ at.now.0 }
     requires now { at.now.0 ≤ 2 ^ 40 }
-    requires empty { events.old.items ≡ [] }
+    requires empty { trace.old.events.items ≡ [] }
     requires failures { S.failures sink.old < 2 ^ 64 - 1 }
     ensures fits { E.laid mem.new ≡ E.layout partition.new.executor }
-    ensures empty { OnOk result (events.new.items ≡ []) }
+    ensures empty { OnOk result (trace.new.events.items ≡ []) }
     ensures written { IsWritten (ticks_own at (member_of E.Executor partition.old mem.old) owns) (member_of E.Executor partition.new mem.new) (S.taken sink.old) (S.taken sink.new) (S.failures sink.old) (S.failures sink.new) result }
 {
     if owns {
-        write_step(partition, mem, at, &Step::Tick, events, sink)?;
+        write_step(partition, mem, at, &Step::Tick, trace, sink)?;
     }
     Ok(())
 }
@@ -73,16 +73,16 @@ fn send_and_tick<E: Executor, S: Sink>(
     partition: &mut Partition<E>,
     mem: &mut E::Mem,
     at: At,
-    events: &mut Events,
+    trace: &mut TraceBuffer,
     sink: &mut S,
 ) -> Result<(), SinkFault>
     requires fits { E.laid mem.old ≡ E.layout partition.old.executor }
     requires past { at.origin.0 ≤ at.now.0 }
     requires now { at.now.0 ≤ 2 ^ 40 }
-    requires empty { events.old.items ≡ [] }
+    requires empty { trace.old.events.items ≡ [] }
     requires failures { S.failures sink.old < 2 ^ 64 - 1 }
     ensures fits { E.laid mem.new ≡ E.layout partition.new.executor }
-    ensures empty { OnOk result (events.new.items ≡ []) }
+    ensures empty { OnOk result (trace.new.events.items ≡ []) }
     ensures written { IsWritten (done_in (sends_and_ticks (around surroundings.now) at (member_of E.Executor partition.old mem.old))) (member_of E.Executor partition.new mem.new) (S.taken sink.old) (S.taken sink.new) (S.failures sink.old) (S.failures sink.new) result }
 {
     let ended = surroundings.schedule.ended(at);
@@ -93,10 +93,10 @@ fn send_and_tick<E: Executor, S: Sink>(
         partition,
         mem,
         at,
-        events,
+        trace,
         sink,
     )?;
-    tick_own(owner.is_some(), partition, mem, at, events, sink)
+    tick_own(owner.is_some(), partition, mem, at, trace, sink)
 }
 
 /// A tick of the partition alone, with what comes to it in this tick. It answers the tick with the
@@ -107,22 +107,22 @@ pub fn tick<E: Executor, S: Sink>(
     partition: &mut Partition<E>,
     mem: &mut E::Mem,
     at: At,
-    events: &mut Events,
+    trace: &mut TraceBuffer,
     sink: &mut S,
 ) -> Result<Option<At>, SinkFault>
     requires fits { E.laid mem.old ≡ E.layout partition.old.executor }
     requires past { at.origin.0 ≤ at.now.0 }
     requires now { at.now.0 ≤ 2 ^ 40 }
-    requires empty { events.old.items ≡ [] }
+    requires empty { trace.old.events.items ≡ [] }
     requires failures { S.failures sink.old < 2 ^ 64 - 1 }
     ensures fits { E.laid mem.new ≡ E.layout partition.new.executor }
-    ensures empty { OnOk result (events.new.items ≡ []) }
+    ensures empty { OnOk result (trace.new.events.items ≡ []) }
     ensures of_tick { IfOk result (IsOfTick at) }
     ensures written { IsPathWritten (tick_alone (around surroundings.now) at (inputs_of lines.now) (member_of E.Executor partition.old mem.old)) (member_of E.Executor partition.new mem.new) (S.taken sink.old) (S.taken sink.new) (S.failures sink.old) (S.failures sink.new) result }
 {
-    let Some(last) = take_all(surroundings.fault, lines, partition, mem, at, events, sink)? else {
+    let Some(last) = take_all(surroundings.fault, lines, partition, mem, at, trace, sink)? else {
         return Ok(None);
     };
-    send_and_tick(surroundings, partition, mem, last, events, sink)?;
+    send_and_tick(surroundings, partition, mem, last, trace, sink)?;
     Ok(Some(last))
 }

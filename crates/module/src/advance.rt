@@ -8,7 +8,9 @@ ghost use Rattle.module.specs.Written.{done_in, IsOfTick, IsCourseWritten, IsWri
 
 use crate::member::Members;
 use crate::step::Step;
-use apex_types::{At, DeviceLine, Events, PartitionId, Sink, SinkFault, StartCondition, Ticks};
+use apex_types::{
+    At, DeviceLine, PartitionId, Sink, SinkFault, StartCondition, Ticks, TraceBuffer,
+};
 use image::Image;
 use partition_base::Executor;
 use regions::PartitionMem;
@@ -25,18 +27,18 @@ impl<E: Executor<Mem = PartitionMem>> Members<E> {
         &mut self,
         at: At,
         owner: Option<PartitionId>,
-        events: &mut Events,
+        trace: &mut TraceBuffer,
         sink: &mut S,
     ) -> Result<(), SinkFault>
         requires past { at.origin.0 ≤ at.now.0 }
         requires now { at.now.0 ≤ 2 ^ 40 }
-        requires empty { events.old.items ≡ [] }
+        requires empty { trace.old.events.items ≡ [] }
         requires failures { S.failures sink.old < 2 ^ 64 - 1 }
-        ensures empty { OnOk result (events.new.items ≡ []) }
+        ensures empty { OnOk result (trace.new.events.items ≡ []) }
         ensures written { IsWritten (meaning.ticks_owner at (members_in E.Executor self.old) (option_map (λ p. p.0) owner)) (members_in E.Executor self.new) (S.taken sink.old) (S.taken sink.new) (S.failures sink.old) (S.failures sink.new) result }
     {
         if let Some(partition) = owner {
-            self.write_step(partition, at, &Step::Tick, events, sink)?;
+            self.write_step(partition, at, &Step::Tick, trace, sink)?;
         }
         Ok(())
     }
@@ -46,19 +48,19 @@ impl<E: Executor<Mem = PartitionMem>> Members<E> {
         &mut self,
         plan: &Image,
         at: At,
-        events: &mut Events,
+        trace: &mut TraceBuffer,
         sink: &mut S,
     ) -> Result<(), SinkFault>
         requires past { at.origin.0 ≤ at.now.0 }
         requires now { at.now.0 ≤ 2 ^ 40 }
-        requires empty { events.old.items ≡ [] }
+        requires empty { trace.old.events.items ≡ [] }
         requires failures { S.failures sink.old < 2 ^ 64 - 1 }
-        ensures empty { OnOk result (events.new.items ≡ []) }
+        ensures empty { OnOk result (trace.new.events.items ≡ []) }
         ensures written { IsWritten (done_in (meaning.moves_and_ticks (plan_of plan.now) at (members_in E.Executor self.old))) (members_in E.Executor self.new) (S.taken sink.old) (S.taken sink.new) (S.failures sink.old) (S.failures sink.new) result }
     {
         let channels = plan.channels.as_slice();
-        self.move_ended(channels, at, plan.schedule.ended(at), events, sink)?;
-        self.tick_owner(at, plan.schedule.owner(at), events, sink)
+        self.move_ended(channels, at, plan.schedule.ended(at), trace, sink)?;
+        self.tick_owner(at, plan.schedule.owner(at), trace, sink)
     }
 
     /// A tick of the module with the devices' lines of this tick. It answers the tick with the origin that
@@ -69,22 +71,22 @@ impl<E: Executor<Mem = PartitionMem>> Members<E> {
         plan: &Image,
         at: At,
         lines: &[DeviceLine],
-        events: &mut Events,
+        trace: &mut TraceBuffer,
         sink: &mut S,
     ) -> Result<Option<At>, SinkFault>
         requires past { at.origin.0 ≤ at.now.0 }
         requires now { at.now.0 ≤ 2 ^ 40 }
-        requires empty { events.old.items ≡ [] }
+        requires empty { trace.old.events.items ≡ [] }
         requires failures { S.failures sink.old < 2 ^ 64 - 1 }
         requires lines { meaning.of_tick at.now.0 lines.now ≡ lines.now }
-        ensures empty { OnOk result (events.new.items ≡ []) }
+        ensures empty { OnOk result (trace.new.events.items ≡ []) }
         ensures of_tick { IfOk result (IsOfTick at) }
         ensures written { IsCourseWritten (meaning.module_tick (plan_of plan.now) at lines.now (members_in E.Executor self.old)) (members_in E.Executor self.new) (S.taken sink.old) (S.taken sink.new) (S.failures sink.old) (S.failures sink.new) result }
     {
-        let Some(last) = self.input_all(plan, at, lines, events, sink)? else {
+        let Some(last) = self.input_all(plan, at, lines, trace, sink)? else {
             return Ok(None);
         };
-        self.move_and_tick(plan, last, events, sink)?;
+        self.move_and_tick(plan, last, trace, sink)?;
         Ok(Some(last))
     }
 
@@ -92,16 +94,16 @@ impl<E: Executor<Mem = PartitionMem>> Members<E> {
     pub fn begin<S: Sink>(
         &mut self,
         at: At,
-        events: &mut Events,
+        trace: &mut TraceBuffer,
         sink: &mut S,
     ) -> Result<(), SinkFault>
-        requires empty { events.old.items ≡ [] }
+        requires empty { trace.old.events.items ≡ [] }
         requires failures { S.failures sink.old < 2 ^ 64 - 1 }
-        ensures empty { OnOk result (events.new.items ≡ []) }
+        ensures empty { OnOk result (trace.new.events.items ≡ []) }
         ensures written { IsWritten (begins at.now.0 (members_in E.Executor self.old)) (members_in E.Executor self.new) (S.taken sink.old) (S.taken sink.new) (S.failures sink.old) (S.failures sink.new) result }
     {
         if at.now.0 == 0 {
-            self.start_all(FIRST_TICK, StartCondition::NormalStart, events, sink)?;
+            self.start_all(FIRST_TICK, StartCondition::NormalStart, trace, sink)?;
         }
         Ok(())
     }
@@ -113,18 +115,18 @@ impl<E: Executor<Mem = PartitionMem>> Members<E> {
         plan: &Image,
         at: At,
         lines: &[DeviceLine],
-        events: &mut Events,
+        trace: &mut TraceBuffer,
         sink: &mut S,
     ) -> Result<Option<At>, SinkFault>
         requires past { at.origin.0 ≤ at.now.0 }
         requires now { at.now.0 ≤ 2 ^ 40 }
-        requires empty { events.old.items ≡ [] }
+        requires empty { trace.old.events.items ≡ [] }
         requires failures { S.failures sink.old < 2 ^ 64 - 1 }
         requires lines { meaning.of_tick at.now.0 lines.now ≡ lines.now }
         ensures of_tick { IfOk result (IsOfTick at) }
         ensures written { IsCourseWritten (begins_and_ticks (plan_of plan.now) at lines.now (members_in E.Executor self.old)) (members_in E.Executor self.new) (S.taken sink.old) (S.taken sink.new) (S.failures sink.old) (S.failures sink.new) result }
     {
-        self.begin(at, events, sink)?;
-        self.tick(plan, at, lines, events, sink)
+        self.begin(at, trace, sink)?;
+        self.tick(plan, at, lines, trace, sink)
     }
 }

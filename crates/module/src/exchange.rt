@@ -10,9 +10,7 @@ ghost use Rattle.module.specs.Written.{step_of, leaving_in, IsWritten};
 
 use crate::member::Members;
 use crate::step::Step;
-use apex_types::{
-    At, ChannelEnd, Events, PartitionId, PortId, Sink, SinkFault, Words, write_events,
-};
+use apex_types::{At, ChannelEnd, PartitionId, PortId, Sink, SinkFault, TraceBuffer, Words};
 use partition::Kernel;
 use partition_base::Executor;
 use process_table_base::copied;
@@ -27,20 +25,19 @@ impl<E: Executor<Mem = PartitionMem>> Members<E> {
         number: PartitionId,
         at: At,
         step: &Step,
-        events: &mut Events,
+        trace: &mut TraceBuffer,
         sink: &mut S,
     ) -> Result<Option<Words>, SinkFault>
         requires past { at.origin.0 ≤ at.now.0 }
         requires now { at.now.0 ≤ 2 ^ 40 }
-        requires empty { events.old.items ≡ [] }
+        requires empty { trace.old.events.items ≡ [] }
         requires failures { S.failures sink.old < 2 ^ 64 - 1 }
-        ensures empty { OnOk result (events.new.items ≡ []) }
+        ensures empty { OnOk result (trace.new.events.items ≡ []) }
         ensures message { IfOk result (λ m. m ≡ meaning.of_member None (leaving_in step.now) (at_number (members_in E.Executor self.old) number.0)) }
         ensures written { IsWritten (meaning.steps (step_of at step.now) (members_in E.Executor self.old) number.0) (members_in E.Executor self.new) (S.taken sink.old) (S.taken sink.new) (S.failures sink.old) (S.failures sink.new) result }
     {
-        let message = self.step(number, at, step, events);
-        write_events(events.as_slice(), sink)?;
-        events.clear();
+        let message = self.step(number, at, step, &mut trace.events);
+        trace.write_events(sink)?;
         Ok(message)
     }
 
@@ -51,24 +48,24 @@ impl<E: Executor<Mem = PartitionMem>> Members<E> {
         channel: &ChannelRow,
         message: &Words,
         end: ChannelEnd,
-        events: &mut Events,
+        trace: &mut TraceBuffer,
         sink: &mut S,
     ) -> Result<(), SinkFault>
         requires past { at.origin.0 ≤ at.now.0 }
         requires now { at.now.0 ≤ 2 ^ 40 }
-        requires empty { events.old.items ≡ [] }
+        requires empty { trace.old.events.items ≡ [] }
         requires failures { S.failures sink.old < 2 ^ 64 - 1 }
-        ensures empty { OnOk result (events.new.items ≡ []) }
+        ensures empty { OnOk result (trace.new.events.items ≡ []) }
         ensures written { IsWritten (meaning.delivers at (channel_of channel.now) message.now channel.now.source end (members_in E.Executor self.old)) (members_in E.Executor self.new) (S.taken sink.old) (S.taken sink.new) (S.failures sink.old) (S.failures sink.new) result }
     {
         match (end, channel.source) {
             (ChannelEnd::Port(partition, port), _) => {
                 let step = Step::Arrive(port, copied(message));
-                self.write_step(partition, at, &step, events, sink)?;
+                self.write_step(partition, at, &step, trace, sink)?;
             }
             (ChannelEnd::Device, ChannelEnd::Port(partition, _)) => {
                 let step = Step::GoOut(channel.name, copied(message));
-                self.write_step(partition, at, &step, events, sink)?;
+                self.write_step(partition, at, &step, trace, sink)?;
             }
             (ChannelEnd::Device, ChannelEnd::Device) => {}
         }
@@ -82,18 +79,18 @@ impl<E: Executor<Mem = PartitionMem>> Members<E> {
         channel: &ChannelRow,
         message: &Words,
         ends: &[ChannelEnd],
-        events: &mut Events,
+        trace: &mut TraceBuffer,
         sink: &mut S,
     ) -> Result<(), SinkFault>
         requires past { at.origin.0 ≤ at.now.0 }
         requires now { at.now.0 ≤ 2 ^ 40 }
-        requires empty { events.old.items ≡ [] }
+        requires empty { trace.old.events.items ≡ [] }
         requires failures { S.failures sink.old < 2 ^ 64 - 1 }
-        ensures empty { OnOk result (events.new.items ≡ []) }
+        ensures empty { OnOk result (trace.new.events.items ≡ []) }
         ensures written { IsWritten (meaning.delivers_all at (channel_of channel.now) message.now ends.now (members_in E.Executor self.old)) (members_in E.Executor self.new) (S.taken sink.old) (S.taken sink.new) (S.failures sink.old) (S.failures sink.new) result }
     {
         for end in ends {
-            self.deliver(at, channel, message, *end, events, sink)?;
+            self.deliver(at, channel, message, *end, trace, sink)?;
         }
         Ok(())
     }
@@ -105,14 +102,14 @@ impl<E: Executor<Mem = PartitionMem>> Members<E> {
         at: At,
         message: &Words,
         channel: Option<&ChannelRow>,
-        events: &mut Events,
+        trace: &mut TraceBuffer,
         sink: &mut S,
     ) -> Result<(), SinkFault>
         requires past { at.origin.0 ≤ at.now.0 }
         requires now { at.now.0 ≤ 2 ^ 40 }
-        requires empty { events.old.items ≡ [] }
+        requires empty { trace.old.events.items ≡ [] }
         requires failures { S.failures sink.old < 2 ^ 64 - 1 }
-        ensures empty { OnOk result (events.new.items ≡ []) }
+        ensures empty { OnOk result (trace.new.events.items ≡ []) }
         ensures written { IsWritten (meaning.goes_by at message.now (option_map (λ c. channel_of c.now) channel.entry) (members_in E.Executor self.old)) (members_in E.Executor self.new) (S.taken sink.old) (S.taken sink.new) (S.failures sink.old) (S.failures sink.new) result }
     {
         match channel {
@@ -121,7 +118,7 @@ impl<E: Executor<Mem = PartitionMem>> Members<E> {
                 channel,
                 message,
                 channel.destinations.as_slice(),
-                events,
+                trace,
                 sink,
             ),
             None => Ok(()),
@@ -135,21 +132,21 @@ impl<E: Executor<Mem = PartitionMem>> Members<E> {
         at: At,
         partition: PartitionId,
         port: PortId,
-        events: &mut Events,
+        trace: &mut TraceBuffer,
         sink: &mut S,
     ) -> Result<(), SinkFault>
         requires past { at.origin.0 ≤ at.now.0 }
         requires now { at.now.0 ≤ 2 ^ 40 }
-        requires empty { events.old.items ≡ [] }
+        requires empty { trace.old.events.items ≡ [] }
         requires failures { S.failures sink.old < 2 ^ 64 - 1 }
-        ensures empty { OnOk result (events.new.items ≡ []) }
+        ensures empty { OnOk result (trace.new.events.items ≡ []) }
         ensures written { IsWritten (meaning.moves_message (channels_of channels.now) at partition port (members_in E.Executor self.old)) (members_in E.Executor self.new) (S.taken sink.old) (S.taken sink.new) (S.failures sink.old) (S.failures sink.new) result }
     {
         let step = Step::Leave(port);
-        match self.write_step(partition, at, &step, events, sink)? {
+        match self.write_step(partition, at, &step, trace, sink)? {
             Some(message) => {
                 let channel = channel_from(channels, partition, port);
-                self.go_by(at, &message, channel, events, sink)
+                self.go_by(at, &message, channel, trace, sink)
             }
             None => Ok(()),
         }
@@ -163,18 +160,18 @@ impl<E: Executor<Mem = PartitionMem>> Members<E> {
         at: At,
         partition: PartitionId,
         port: PortId,
-        events: &mut Events,
+        trace: &mut TraceBuffer,
         sink: &mut S,
     ) -> Result<(), SinkFault>
         requires past { at.origin.0 ≤ at.now.0 }
         requires now { at.now.0 ≤ 2 ^ 40 }
-        requires empty { events.old.items ≡ [] }
+        requires empty { trace.old.events.items ≡ [] }
         requires failures { S.failures sink.old < 2 ^ 64 - 1 }
-        ensures empty { OnOk result (events.new.items ≡ []) }
+        ensures empty { OnOk result (trace.new.events.items ≡ []) }
         ensures written { IsWritten (meaning.moves_messages count (channels_of channels.now) at partition port (members_in E.Executor self.old)) (members_in E.Executor self.new) (S.taken sink.old) (S.taken sink.new) (S.failures sink.old) (S.failures sink.new) result }
     {
         for _ in 0..count {
-            self.move_message(channels, at, partition, port, events, sink)?;
+            self.move_message(channels, at, partition, port, trace, sink)?;
         }
         Ok(())
     }
@@ -217,21 +214,21 @@ impl<E: Executor<Mem = PartitionMem>> Members<E> {
         at: At,
         partition: PartitionId,
         port: PortId,
-        events: &mut Events,
+        trace: &mut TraceBuffer,
         sink: &mut S,
     ) -> Result<(), SinkFault>
         requires past { at.origin.0 ≤ at.now.0 }
         requires now { at.now.0 ≤ 2 ^ 40 }
-        requires empty { events.old.items ≡ [] }
+        requires empty { trace.old.events.items ≡ [] }
         requires failures { S.failures sink.old < 2 ^ 64 - 1 }
-        ensures empty { OnOk result (events.new.items ≡ []) }
+        ensures empty { OnOk result (trace.new.events.items ≡ []) }
         ensures written { IsWritten (meaning.moves_port (channels_of channels.now) at partition port (members_in E.Executor self.old)) (members_in E.Executor self.new) (S.taken sink.old) (S.taken sink.new) (S.failures sink.old) (S.failures sink.new) result }
     {
         let Some(count) = self.messages_to_move(partition, port) else {
             return Ok(());
         };
-        self.move_messages(count, channels, at, partition, port, events, sink)?;
-        self.write_step(partition, at, &Step::Admit(port), events, sink)?;
+        self.move_messages(count, channels, at, partition, port, trace, sink)?;
+        self.write_step(partition, at, &Step::Admit(port), trace, sink)?;
         Ok(())
     }
 
@@ -242,19 +239,19 @@ impl<E: Executor<Mem = PartitionMem>> Members<E> {
         channels: &[ChannelRow],
         at: At,
         partition: PartitionId,
-        events: &mut Events,
+        trace: &mut TraceBuffer,
         sink: &mut S,
     ) -> Result<(), SinkFault>
         requires past { at.origin.0 ≤ at.now.0 }
         requires now { at.now.0 ≤ 2 ^ 40 }
-        requires empty { events.old.items ≡ [] }
+        requires empty { trace.old.events.items ≡ [] }
         requires failures { S.failures sink.old < 2 ^ 64 - 1 }
-        ensures empty { OnOk result (events.new.items ≡ []) }
+        ensures empty { OnOk result (trace.new.events.items ≡ []) }
         ensures written { IsWritten (meaning.moves_ports count 1 (channels_of channels.now) at partition (members_in E.Executor self.old)) (members_in E.Executor self.new) (S.taken sink.old) (S.taken sink.new) (S.failures sink.old) (S.failures sink.new) result }
     {
         for place in 0..count {
             let port = PortId(place + 1);
-            self.move_port(channels, at, partition, port, events, sink)?;
+            self.move_port(channels, at, partition, port, trace, sink)?;
         }
         Ok(())
     }
@@ -276,21 +273,21 @@ impl<E: Executor<Mem = PartitionMem>> Members<E> {
         channels: &[ChannelRow],
         at: At,
         ended: Option<PartitionId>,
-        events: &mut Events,
+        trace: &mut TraceBuffer,
         sink: &mut S,
     ) -> Result<(), SinkFault>
         requires past { at.origin.0 ≤ at.now.0 }
         requires now { at.now.0 ≤ 2 ^ 40 }
-        requires empty { events.old.items ≡ [] }
+        requires empty { trace.old.events.items ≡ [] }
         requires failures { S.failures sink.old < 2 ^ 64 - 1 }
-        ensures empty { OnOk result (events.new.items ≡ []) }
+        ensures empty { OnOk result (trace.new.events.items ≡ []) }
         ensures written { IsWritten (meaning.moves_ended (channels_of channels.now) at (members_in E.Executor self.old) (option_map (λ p. p.0) ended)) (members_in E.Executor self.new) (S.taken sink.old) (S.taken sink.new) (S.failures sink.old) (S.failures sink.new) result }
     {
         let Some(partition) = ended else {
             return Ok(());
         };
         let count = self.port_count(partition);
-        self.move_ports(count, channels, at, partition, events, sink)
+        self.move_ports(count, channels, at, partition, trace, sink)
     }
 }
 

@@ -7,7 +7,7 @@ ghost use Rattle.module.specs.Written.{IsOfTick, IsCourseWritten};
 
 use crate::member::Members;
 use crate::step::Step;
-use apex_types::{At, DeviceInput, DeviceLine, Events, Sink, SinkFault};
+use apex_types::{At, DeviceInput, DeviceLine, Sink, SinkFault, TraceBuffer};
 use image::Image;
 use partition_base::Executor;
 use regions::PartitionMem;
@@ -20,28 +20,28 @@ impl<E: Executor<Mem = PartitionMem>> Members<E> {
         plan: &Image,
         at: At,
         input: &DeviceInput,
-        events: &mut Events,
+        trace: &mut TraceBuffer,
         sink: &mut S,
     ) -> Result<Option<At>, SinkFault>
         requires past { at.origin.0 ≤ at.now.0 }
         requires now { at.now.0 ≤ 2 ^ 40 }
-        requires empty { events.old.items ≡ [] }
+        requires empty { trace.old.events.items ≡ [] }
         requires failures { S.failures sink.old < 2 ^ 64 - 1 }
-        ensures empty { OnOk result (events.new.items ≡ []) }
+        ensures empty { OnOk result (trace.new.events.items ≡ []) }
         ensures of_tick { IfOk result (IsOfTick at) }
         ensures written { IsCourseWritten (meaning.inputs (plan_of plan.now) at input.now (members_in E.Executor self.old)) (members_in E.Executor self.new) (S.taken sink.old) (S.taken sink.new) (S.failures sink.old) (S.failures sink.new) result }
     {
         match input {
             DeviceInput::Message(channel, message) => {
                 let channel = plan.channels.get(usize::from(channel.0));
-                self.go_by(at, message, channel, events, sink)?;
+                self.go_by(at, message, channel, trace, sink)?;
                 Ok(Some(at))
             }
             DeviceInput::PartitionFault(partition) => {
-                self.write_step(*partition, at, &Step::BreakDown, events, sink)?;
+                self.write_step(*partition, at, &Step::BreakDown, trace, sink)?;
                 Ok(Some(at))
             }
-            DeviceInput::ModuleFault => self.break_module(at, plan.fault, events, sink),
+            DeviceInput::ModuleFault => self.break_module(at, plan.fault, trace, sink),
         }
     }
 
@@ -52,20 +52,20 @@ impl<E: Executor<Mem = PartitionMem>> Members<E> {
         plan: &Image,
         at: At,
         lines: &[DeviceLine],
-        events: &mut Events,
+        trace: &mut TraceBuffer,
         sink: &mut S,
     ) -> Result<Option<At>, SinkFault>
         requires past { at.origin.0 ≤ at.now.0 }
         requires now { at.now.0 ≤ 2 ^ 40 }
-        requires empty { events.old.items ≡ [] }
+        requires empty { trace.old.events.items ≡ [] }
         requires failures { S.failures sink.old < 2 ^ 64 - 1 }
-        ensures empty { OnOk result (events.new.items ≡ []) }
+        ensures empty { OnOk result (trace.new.events.items ≡ []) }
         ensures of_tick { IfOk result (IsOfTick at) }
         ensures written { IsCourseWritten (meaning.inputs_all (plan_of plan.now) at lines.now (members_in E.Executor self.old)) (members_in E.Executor self.new) (S.taken sink.old) (S.taken sink.new) (S.failures sink.old) (S.failures sink.new) result }
     {
         let mut last = at;
         for line in lines {
-            match self.input(plan, last, &line.input, events, sink)? {
+            match self.input(plan, last, &line.input, trace, sink)? {
                 Some(next) => last = next,
                 None => return Ok(None),
             }

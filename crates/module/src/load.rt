@@ -15,7 +15,7 @@ ghost use Rattle.module.specs.Views.{standing_of};
 ghost use Rattle.window_table.specs.Schedules.{schedule_of};
 
 use crate::member::{Members, Module};
-use apex_types::{Events, PartitionId, Ticks};
+use apex_types::{PartitionId, Ticks, TraceBuffer};
 use image::{Image, PartitionItem};
 use partition::{Fixed, Partition};
 use partition_base::{Machine, memory_plan};
@@ -38,7 +38,7 @@ impl Module<Machine> {
             members: Members { partitions, memory },
             now: Ticks(0),
             origin: Some(Ticks(0)),
-            events: Events::new(),
+            trace: TraceBuffer::new(),
         })
     }
 }

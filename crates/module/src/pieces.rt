@@ -11,7 +11,7 @@ ghost use Rattle.module.specs.Written.{AreFrom};
 
 use crate::member::{Members, Module};
 use crate::step::number_at;
-use apex_types::{At, DeviceLine, Events, Sink, SinkFault, Ticks, write_events};
+use apex_types::{At, DeviceLine, Events, Sink, SinkFault, Ticks, TraceBuffer};
 use partition_base::Executor;
 use regions::PartitionMem;
 
@@ -59,17 +59,17 @@ impl<E: Executor<Mem = PartitionMem>> Members<E> {
         place: usize,
         at: At,
         most: u32,
-        events: &mut Events,
+        trace: &mut TraceBuffer,
         sink: &mut S,
     ) -> Result<u32, SinkFault>
         requires past { at.origin.0 ≤ at.now.0 }
         requires soon { at.now.0 + most ≤ 2 ^ 40 }
-        requires empty { events.old.items ≡ [] }
+        requires empty { trace.old.events.items ≡ [] }
         requires failures { S.failures sink.old < 2 ^ 64 - 1 }
         ensures written { HasMovedWritten at most place (members_in E.Executor self.old) (slice_get (members_in E.Executor self.old) place) (members_in E.Executor self.new) (S.taken sink.old) (S.taken sink.new) (S.failures sink.old) (S.failures sink.new) result }
     {
-        let count = self.advance_at(place, at, most, events);
-        write_events(events.as_slice(), sink)?;
+        let count = self.advance_at(place, at, most, &mut trace.events);
+        trace.write_events(sink)?;
         Ok(count)
     }
 }
@@ -130,10 +130,10 @@ impl<E: Executor<Mem = PartitionMem>> Module<E> {
         ensures origin { OnOk result (self.new.origin ≡ self.old.origin) }
         ensures run { (lines : List DeviceLine) → AreFrom (at.now.0 + most) lines → HasRunSome (plan_of self.old.image) lines most (standing_of E.Executor self.old) (standing_of E.Executor self.new) (S.taken sink.old) (S.taken sink.new) (S.failures sink.old) (S.failures sink.new) result }
     {
-        self.events.clear();
+        self.trace.events.clear();
         let count = self
             .members
-            .write_advance(place, at, most, &mut self.events, sink)?;
+            .write_advance(place, at, most, &mut self.trace, sink)?;
         self.skip(count);
         Ok(count)
     }

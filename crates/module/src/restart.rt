@@ -8,8 +8,8 @@ ghost use Rattle.module.specs.Written.{IsOfTick, IsCourseWritten, IsWritten};
 use crate::member::Members;
 use crate::step::Step;
 use apex_types::{
-    At, ErrorKind, Event, EventKind, Events, ModuleAction, Response, Sink, SinkFault,
-    StartCondition, write_events,
+    At, ErrorKind, Event, EventKind, ModuleAction, Response, Sink, SinkFault, StartCondition,
+    TraceBuffer,
 };
 use partition_base::Executor;
 use regions::PartitionMem;
@@ -31,22 +31,21 @@ impl<E: Executor<Mem = PartitionMem>> Members<E> {
         &mut self,
         at: At,
         condition: StartCondition,
-        events: &mut Events,
+        trace: &mut TraceBuffer,
         sink: &mut S,
     ) -> Result<(), SinkFault>
         requires past { at.origin.0 ≤ at.now.0 }
         requires now { at.now.0 ≤ 2 ^ 40 }
-        requires empty { events.old.items ≡ [] }
+        requires empty { trace.old.events.items ≡ [] }
         requires failures { S.failures sink.old < 2 ^ 64 - 1 }
-        ensures empty { OnOk result (events.new.items ≡ []) }
+        ensures empty { OnOk result (trace.new.events.items ≡ []) }
         ensures written { IsWritten (meaning.starts_all at condition (members_in E.Executor self.old)) (members_in E.Executor self.new) (S.taken sink.old) (S.taken sink.new) (S.failures sink.old) (S.failures sink.new) result }
     {
         let step = Step::Start(condition);
         let mut place = 0;
         while place < self.partitions.len() {
-            self.step_at(place, at, &step, events);
-            write_events(events.as_slice(), sink)?;
-            events.clear();
+            self.step_at(place, at, &step, &mut trace.events);
+            trace.write_events(sink)?;
             place += 1;
         }
         Ok(())
@@ -57,36 +56,40 @@ impl<E: Executor<Mem = PartitionMem>> Members<E> {
         &self,
         at: At,
         action: ModuleAction,
-        events: &mut Events,
+        trace: &mut TraceBuffer,
         sink: &mut S,
     ) -> Result<(), SinkFault>
-        requires empty { events.old.items ≡ [] }
+        requires empty { trace.old.events.items ≡ [] }
         requires failures { S.failures sink.old < 2 ^ 64 - 1 }
-        ensures empty { OnOk result (events.new.items ≡ []) }
+        ensures empty { OnOk result (trace.new.events.items ≡ []) }
         ensures written { IsWritten (meaning.tells_fault at action (members_in E.Executor self.now)) (members_in E.Executor self.now) (S.taken sink.old) (S.taken sink.new) (S.failures sink.old) (S.failures sink.new) result }
     {
-        events.push(fault_line(at, action));
-        write_events(events.as_slice(), sink)?;
-        events.clear();
+        trace.events.push(fault_line(at, action));
+        trace.write_events(sink)?;
         Ok(())
     }
 
     /// A fault of the module resets it: this tick becomes the origin, and each partition in order clears
     /// to a cold start.
-    fn reset<S: Sink>(&mut self, at: At, events: &mut Events, sink: &mut S) -> Result<At, SinkFault>
+    fn reset<S: Sink>(
+        &mut self,
+        at: At,
+        trace: &mut TraceBuffer,
+        sink: &mut S,
+    ) -> Result<At, SinkFault>
         requires now { at.now.0 ≤ 2 ^ 40 }
-        requires empty { events.old.items ≡ [] }
+        requires empty { trace.old.events.items ≡ [] }
         requires failures { S.failures sink.old < 2 ^ 64 - 1 }
-        ensures empty { OnOk result (events.new.items ≡ []) }
+        ensures empty { OnOk result (trace.new.events.items ≡ []) }
         ensures origin { IfOk result (λ a. a ≡ meaning.as_origin at) }
         ensures written { IsWritten (meaning.then_goes (meaning.tells_fault at ModuleAction.Reset (members_in E.Executor self.old)) (meaning.starts_all (meaning.as_origin at) StartCondition.HmModuleRestart)) (members_in E.Executor self.new) (S.taken sink.old) (S.taken sink.new) (S.failures sink.old) (S.failures sink.new) result }
     {
-        self.tell_fault(at, ModuleAction::Reset, events, sink)?;
+        self.tell_fault(at, ModuleAction::Reset, trace, sink)?;
         let origin = At {
             now: at.now,
             origin: at.now,
         };
-        self.start_all(origin, StartCondition::HmModuleRestart, events, sink)?;
+        self.start_all(origin, StartCondition::HmModuleRestart, trace, sink)?;
         Ok(origin)
     }
 
@@ -96,28 +99,28 @@ impl<E: Executor<Mem = PartitionMem>> Members<E> {
         &mut self,
         at: At,
         action: ModuleAction,
-        events: &mut Events,
+        trace: &mut TraceBuffer,
         sink: &mut S,
     ) -> Result<Option<At>, SinkFault>
         requires past { at.origin.0 ≤ at.now.0 }
         requires now { at.now.0 ≤ 2 ^ 40 }
-        requires empty { events.old.items ≡ [] }
+        requires empty { trace.old.events.items ≡ [] }
         requires failures { S.failures sink.old < 2 ^ 64 - 1 }
-        ensures empty { OnOk result (events.new.items ≡ []) }
+        ensures empty { OnOk result (trace.new.events.items ≡ []) }
         ensures of_tick { IfOk result (IsOfTick at) }
         ensures written { IsCourseWritten (meaning.breaks_module at action (members_in E.Executor self.old)) (members_in E.Executor self.new) (S.taken sink.old) (S.taken sink.new) (S.failures sink.old) (S.failures sink.new) result }
     {
         match action {
             ModuleAction::Ignore => {
-                self.tell_fault(at, action, events, sink)?;
+                self.tell_fault(at, action, trace, sink)?;
                 Ok(Some(at))
             }
             ModuleAction::Shutdown => {
-                self.tell_fault(at, action, events, sink)?;
+                self.tell_fault(at, action, trace, sink)?;
                 Ok(None)
             }
             ModuleAction::Reset => {
-                let origin = self.reset(at, events, sink)?;
+                let origin = self.reset(at, trace, sink)?;
                 Ok(Some(origin))
             }
         }

@@ -56,9 +56,9 @@ impl<E: Executor<Mem = PartitionMem>> Module<E> {
             now: self.now,
             origin,
         };
-        self.events.clear();
+        self.trace.events.clear();
         self.members
-            .begin_and_tick(&self.image, at, lines, &mut self.events, sink)
+            .begin_and_tick(&self.image, at, lines, &mut self.trace, sink)
     }
 }
 

@@ -13,7 +13,7 @@ use crate::bringing::bring_in_all;
 use crate::collected::Collected;
 use crate::inputs_fault::InputsFault;
 use crate::member::{Members, Module};
-use apex_types::{At, DeviceLine, Events, PartitionId, Sink, SinkFault};
+use apex_types::{At, DeviceLine, PartitionId, Sink, SinkFault, TraceBuffer};
 use image::Image;
 use partition_base::Executor;
 use regions::PartitionMem;
@@ -41,18 +41,18 @@ impl<E: Executor<Mem = PartitionMem>> Members<E> {
         at: At,
         watched: PartitionId,
         inputs: &mut Collected,
-        events: &mut Events,
+        trace: &mut TraceBuffer,
     ) -> Result<(), InputsFault>
         requires past { at.origin.0 ≤ at.now.0 }
         requires now { at.now.0 ≤ 2 ^ 40 }
-        requires empty { events.old.items ≡ [] }
-        ensures empty { OnOk result (events.new.items ≡ []) }
+        requires empty { trace.old.events.items ≡ [] }
+        ensures empty { OnOk result (trace.new.events.items ≡ []) }
         ensures members { OnOk result (members_in E.Executor self.new ≡ (meaning.moves_and_ticks (plan_of plan.now) at (members_in E.Executor self.old)).members) }
         ensures inputs { AreCollected at.now.0 (brought_moved (plan_of plan.now) watched.0 (members_in E.Executor self.old) (Some at)) inputs.old.lines.items inputs.new.lines.items result }
     {
         let ended = plan.schedule.ended(at);
         self.bring_ended(plan.channels.as_slice(), ended, at.now, watched, inputs)?;
-        self.move_and_tick(plan, at, events, &mut Forgetful)?;
+        self.move_and_tick(plan, at, trace, &mut Forgetful)?;
         Ok(())
     }
 
@@ -65,21 +65,21 @@ impl<E: Executor<Mem = PartitionMem>> Members<E> {
         lines: &[DeviceLine],
         watched: PartitionId,
         inputs: &mut Collected,
-        events: &mut Events,
+        trace: &mut TraceBuffer,
     ) -> Result<Option<At>, InputsFault>
         requires past { at.origin.0 ≤ at.now.0 }
         requires now { at.now.0 ≤ 2 ^ 40 }
-        requires empty { events.old.items ≡ [] }
+        requires empty { trace.old.events.items ≡ [] }
         requires lines { meaning.of_tick at.now.0 lines.now ≡ lines.now }
         ensures of_tick { IfOk result (IsOfTick at) }
         ensures made { IfOk result (λ last. IsMadeUnseen (meaning.module_tick (plan_of plan.now) at lines.now (members_in E.Executor self.old)) last (members_in E.Executor self.new)) }
         ensures inputs { AreCollected at.now.0 (brought_tick (plan_of plan.now) watched.0 at lines.now (members_in E.Executor self.old)) inputs.old.lines.items inputs.new.lines.items result }
     {
         bring_in_all(plan, lines, at.now, watched, inputs)?;
-        let Some(last) = self.input_all(plan, at, lines, events, &mut Forgetful)? else {
+        let Some(last) = self.input_all(plan, at, lines, trace, &mut Forgetful)? else {
             return Ok(None);
         };
-        self.move_and_tick_watched(plan, last, watched, inputs, events)?;
+        self.move_and_tick_watched(plan, last, watched, inputs, trace)?;
         Ok(Some(last))
     }
 
@@ -92,18 +92,18 @@ impl<E: Executor<Mem = PartitionMem>> Members<E> {
         lines: &[DeviceLine],
         watched: PartitionId,
         inputs: &mut Collected,
-        events: &mut Events,
+        trace: &mut TraceBuffer,
     ) -> Result<Option<At>, InputsFault>
         requires past { at.origin.0 ≤ at.now.0 }
         requires now { at.now.0 ≤ 2 ^ 40 }
-        requires empty { events.old.items ≡ [] }
+        requires empty { trace.old.events.items ≡ [] }
         requires lines { meaning.of_tick at.now.0 lines.now ≡ lines.now }
         ensures of_tick { IfOk result (IsOfTick at) }
         ensures made { IfOk result (λ last. IsMadeUnseen (begins_and_ticks (plan_of plan.now) at lines.now (members_in E.Executor self.old)) last (members_in E.Executor self.new)) }
         ensures inputs { AreCollected at.now.0 (brought_tick (plan_of plan.now) watched.0 at lines.now (begins at.now.0 (members_in E.Executor self.old)).members) inputs.old.lines.items inputs.new.lines.items result }
     {
-        self.begin(at, events, &mut Forgetful)?;
-        self.tick_watched(plan, at, lines, watched, inputs, events)
+        self.begin(at, trace, &mut Forgetful)?;
+        self.tick_watched(plan, at, lines, watched, inputs, trace)
     }
 }
 
@@ -148,8 +148,8 @@ impl<E: Executor<Mem = PartitionMem>> Module<E> {
             now: self.now,
             origin,
         };
-        self.events.clear();
+        self.trace.events.clear();
         self.members
-            .begin_and_tick_watched(&self.image, at, lines, watched, inputs, &mut self.events)
+            .begin_and_tick_watched(&self.image, at, lines, watched, inputs, &mut self.trace)
     }
 }

@@ -9,9 +9,9 @@ use Rattle.module.proofs.member.Members.tell_fault.Goals as goal
 
 pub returns-in_err-write_events-clause-written : goal.returns-in_err-write_events-clause-written
 returns-in_err-write_events-clause-written g c =
-    let pushed : c.push.new.self.items ≡ c.args.events.now.items ++ c.fault_line.result ∷ [] = search rules in
-    let one : c.as_slice.result.now ≡ fault_line c.args.at c.args.action ∷ [] =
-    c.as_slice.ensures.value ∙ pushed ∙ ap (λ (es : List Event). es ++ c.fault_line.result ∷ []) c.requires.empty ∙ ap (λ (e : Event). e ∷ []) c.fault_line.ensures in
+    let pushed : c.push.new.self.items ≡ c.args.trace.now.events.items ++ c.fault_line.result ∷ [] = search rules in
+    let one : c.push.new.self.items ≡ fault_line c.args.at c.args.action ∷ [] =
+    pushed ∙ ap (λ (es : List Event). es ++ c.fault_line.result ∷ []) c.requires.empty ∙ ap (λ (e : Event). e ∷ []) c.fault_line.ensures in
     let cut = c.in_err-write_events.ensures in
     written_err _ c.in_err-write_events.field-0.0 _ (search rules) (record {
       beginning = subst (λ (es : List Event). TakesBeginning (g.S.Sink.taken c.args.sink.now) (g.S.Sink.taken c.write_events.new.sink) (text_of es)) one cut.beginning;
@@ -20,9 +20,9 @@ returns-in_err-write_events-clause-written g c =
 
 pub returns-clause-written : goal.returns-clause-written
 returns-clause-written g c =
-    let pushed : c.push.new.self.items ≡ c.args.events.now.items ++ c.fault_line.result ∷ [] = search rules in
-    let one : c.as_slice.result.now ≡ fault_line c.args.at c.args.action ∷ [] =
-    c.as_slice.ensures.value ∙ pushed ∙ ap (λ (es : List Event). es ++ c.fault_line.result ∷ []) c.requires.empty ∙ ap (λ (e : Event). e ∷ []) c.fault_line.ensures in
+    let pushed : c.push.new.self.items ≡ c.args.trace.now.events.items ++ c.fault_line.result ∷ [] = search rules in
+    let one : c.push.new.self.items ≡ fault_line c.args.at c.args.action ∷ [] =
+    pushed ∙ ap (λ (es : List Event). es ++ c.fault_line.result ∷ []) c.requires.empty ∙ ap (λ (e : Event). e ∷ []) c.fault_line.ensures in
     let out = c.in_ok-write_events.ensures in
     record {
       members = refl;

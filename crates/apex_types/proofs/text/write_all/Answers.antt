@@ -2,7 +2,7 @@ use Rattle.std.proofs.Common.{rules}
 use Rattle.apex_types.specs.Line.{line_of, text_of}
 use Rattle.apex_types.specs.Sink.{TakesBeginning}
 use Rattle.apex_types.proofs.Writing.{under_way_more, under_way_fails, err_at}
-use Rattle.apex_types.proofs.text.TraceWriter.write_events.Goals as goal
+use Rattle.apex_types.proofs.text.write_all.Goals as goal
 
 pub loop-event-preserved : goal.loop-event-preserved
 loop-event-preserved g c =

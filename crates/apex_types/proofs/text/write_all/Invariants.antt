@@ -1,7 +1,7 @@
 use Rattle.std.proofs.Common.{◌≡◌, length}
 use Rattle.apex_types.proofs.Writing.{IsUnderWay}
 use Rattle.apex_types.specs.Line.{text_of}
-use Rattle.apex_types.proofs.text.TraceWriter.write_events.Given as goal
+use Rattle.apex_types.proofs.text.write_all.Given as goal
 
 abbrev pub invariant-loop-event : goal.invariant-loop-event
 invariant-loop-event g l = record {
