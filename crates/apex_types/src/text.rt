@@ -14,22 +14,34 @@ use crate::name::Name;
 use crate::service::Service;
 use crate::sink::{Sink, SinkFault, put_all};
 use arrayvec::ArrayVec;
+use std::marker::Model;
 
 /// The bytes of one line. The longest has a tick of 13, two names of 30, a word of 6 and 16
 /// words of at most 20 bytes with a space before each.
 type Line = ArrayVec<u8, 512>;
 
-/// A tick with its digits, which the lines of this tick share.
-#[derive(Clone, Copy)]
+/// A tick with its digits, which the lines of this tick share. A contract sees it as the tick.
+#[derive(Drop)]
 struct Stamp {
     tick: Ticks,
     digits: [u8; 13],
-    ghost same: { digits ≡ thirteen_digits tick.0 },
+}
+
+impl Model for Stamp {
+    ghost use Rattle.std.specs.Prelude.{◌≡◌};
+    ghost use Rattle.apex_types.specs.Line.{thirteen_digits};
+    ghost use Rattle.apex_types.specs.declared.identity.Ticks.{Ticks as Tick};
+
+    ghost Value = { Tick };
+
+    ghost view = { λ s. s.tick };
+
+    ghost invariant = { λ s. s.digits ≡ thirteen_digits s.tick.0 };
 }
 
 impl Stamp {
     fn new(tick: Ticks) -> Stamp
-        ensures { result.tick ≡ tick }
+        ensures { result ≡ tick }
     {
         Stamp {
             tick,
@@ -37,28 +49,26 @@ impl Stamp {
         }
     }
 
-    /// The digits of another tick. Most ticks follow one of the same thousand, and share its first ten digits.
-    fn digits_of(&self, tick: Ticks) -> [u8; 13]
-        ensures { result ≡ thirteen_digits tick.0 }
+    fn digits(&self) -> &[u8; 13]
+        ensures { result.now ≡ thirteen_digits self.now.0 }
     {
-        if self.tick.0 / 1_000 != tick.0 / 1_000 {
-            return digits(tick.0);
-        }
-        let mut digits = self.digits;
-        put_last_digits(&mut digits, tick.0);
-        digits
+        &self.digits
     }
 
-    /// The stamp of this tick, which stays where it is the same one.
+    /// The stamp of another tick. Most ticks are of the same thousand as the one before, and share its
+    /// first ten digits.
     fn renew(&mut self, tick: Ticks)
-        ensures { self.new.tick ≡ tick }
+        ensures { self.new ≡ tick }
     {
-        if self.tick.0 != tick.0 {
-            *self = Stamp {
-                tick,
-                digits: self.digits_of(tick),
-            };
+        if self.tick.0 == tick.0 {
+            return;
         }
+        if self.tick.0 / 1_000 == tick.0 / 1_000 {
+            put_last_digits(&mut self.digits, tick.0);
+        } else {
+            self.digits = digits(tick.0);
+        }
+        self.tick = tick;
     }
 }
 
@@ -146,7 +156,7 @@ fn write_line<S: Sink>(
     line: &mut Line,
     sink: &mut S,
 ) -> Result<(), SinkFault>
-    requires tick { stamp.now.tick ≡ event.now.tick }
+    requires tick { stamp.now ≡ event.now.tick }
     requires failures { S.failures sink.old < 2 ^ 64 - 1 }
     ensures ok { OnOk result (Appends (S.taken sink.old) (S.taken sink.new) (line_of event.now)) }
     ensures quiet { OnOk result (S.failures sink.new ≡ S.failures sink.old) }
@@ -154,7 +164,7 @@ fn write_line<S: Sink>(
     ensures beginning { OnErr result (TakesBeginning (S.taken sink.old) (S.taken sink.new) (line_of event.now)) }
 {
     line.clear();
-    push_line(line, &stamp.digits, event);
+    push_line(line, stamp.digits(), event);
     put_all(sink, line.as_slice())
 }
 

@@ -2,5 +2,6 @@ pub mod Bounds
 pub mod FirstOf
 pub mod Quiet
 pub mod Released
+pub mod States
 pub mod Timed
 pub mod Treating

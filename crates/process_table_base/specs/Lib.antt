@@ -3,6 +3,7 @@ pub mod DueMask
 pub mod LeastNumber
 pub mod Own
 pub mod RecordView
+pub mod States
 pub mod Timed
 pub mod Treating
 pub mod View

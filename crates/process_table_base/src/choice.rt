@@ -54,13 +54,7 @@ impl ProcessTable {
             if let Some(row) = self.row(runner) {
                 out.lines
                     .push(EventKind::State(row.who, ProcessState::Ready));
-                self.put_row(
-                    runner,
-                    ProcessStatus {
-                        state: ProcessState::Ready,
-                        ..row
-                    },
-                );
+                self.set_state(runner, ProcessState::Ready);
                 self.set_running(None);
             }
         }
@@ -76,13 +70,7 @@ impl ProcessTable {
             if let Some(row) = self.row(runner) {
                 out.lines
                     .push(EventKind::State(row.who, ProcessState::Running));
-                self.put_row(
-                    runner,
-                    ProcessStatus {
-                        state: ProcessState::Running,
-                        ..row
-                    },
-                );
+                self.set_state(runner, ProcessState::Running);
                 self.set_running(Some(runner));
             }
         }

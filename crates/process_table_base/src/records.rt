@@ -6,6 +6,7 @@ ghost use Rattle.apex_meaning.specs.PartitionServices.{forgotten, ready_init, st
 ghost use Rattle.apex_meaning.specs.TwoMeanings.{fresh_row, handler_row, init_row, machine_row, ticks};
 ghost use Rattle.links.specs.Timers.{IsDueMask, IsNextDue, number_of};
 ghost use Rattle.process_table_base.specs.Bounds.{AreAllBounded, AreShort, IsBounded};
+ghost use Rattle.process_table_base.specs.States.{put_state};
 ghost use Rattle.process_table_base.specs.Timed.{AreTimed, deadlines, due_times};
 
 use crate::timers::Timers;
@@ -130,6 +131,13 @@ impl Records {
         put_at(&mut self.rows, &mut self.timers, runner, row);
     }
 
+    /// Another state in the record of a runner, where there is one.
+    pub(crate) fn set_state(&mut self, runner: Runner, state: ProcessState)
+        ensures { self.new ≡ put_state state (place_of runner) (slice_get self.old (place_of runner)) self.old }
+    {
+        set_state_at(&mut self.rows, runner.place(), state);
+    }
+
     /// Nobody is created; unless the mode is idle, INIT is ready.
     pub(crate) fn restart(&mut self, mode: Mode)
         ensures { self.new ≡ started_rows mode (map forgotten self.old) }
@@ -192,6 +200,15 @@ fn record_at(rows: &[ProcessStatus], place: usize) -> Option<ProcessStatus>
     ensures { result ≡ slice_get rows.now place }
 {
     rows.get(place).copied()
+}
+
+/// Another state in the record at a place, where there is one.
+fn set_state_at(rows: &mut Vec<ProcessStatus>, place: usize, state: ProcessState)
+    ensures { rows.new.items ≡ put_state state place (slice_get rows.old.items place) rows.old.items }
+{
+    if let Some(row) = rows.get_mut(place) {
+        row.state = state;
+    }
 }
 
 /// Nobody is created; unless the mode is idle, INIT is ready.

@@ -9,12 +9,13 @@ ghost use Rattle.apex_meaning.specs.ProcessServices.{level_of};
 ghost use Rattle.apex_meaning.specs.TwoMeanings.{fresh_processes, machine_row, no_message};
 ghost use Rattle.links.specs.Timers.{IsDueMask, IsNextDue, number_of};
 ghost use Rattle.process_table_base.specs.Bounds.{AreShort, IsBounded};
+ghost use Rattle.process_table_base.specs.States.{put_state};
 ghost use Rattle.process_table_base.specs.Timed.{AreQuiet, deadlines, due_times};
 
 use crate::records::Records;
 use apex_types::{
-    Entry, Lock, MOST_PROCESSES, MOST_RUNNERS, Mode, ProcessRow, ProcessStatus, Runner, Ticks,
-    Words,
+    Entry, Lock, MOST_PROCESSES, MOST_RUNNERS, Mode, ProcessRow, ProcessState, ProcessStatus,
+    Runner, Ticks, Words,
 };
 use links::{ReadyLists, WaitingLists};
 use std::alloc::{AllocError, Global};
@@ -165,6 +166,13 @@ impl ProcessTable {
         ensures { self.new ≡ meaning.put_row self.old runner row }
     {
         self.records.put(runner, row);
+    }
+
+    /// Another state in the record of a runner, where there is one. Its place in every list stays.
+    pub(crate) fn set_state(&mut self, runner: Runner, state: ProcessState)
+        ensures { self.new ≡ record self.old { rows = put_state state (place_of runner) (meaning.row_of self.old runner) self.old.rows } }
+    {
+        self.records.set_state(runner, state);
     }
 
     pub(crate) fn put_ready(&mut self, runner: Runner, row: ProcessStatus)

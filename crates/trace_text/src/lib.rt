@@ -1,6 +1,6 @@
 //! Reads the text of a trace back into its events.
 //!
-//! `apex_types::write_events` writes a trace; this crate is the way back. `read_line` reads one
+//! `apex_types::TraceBuffer` writes a trace; this crate is the way back. `read_line` reads one
 //! line, a `TraceReader` goes over a text line by line, and a `TraceStream` does the same over the
 //! bytes of a reader, however many they are.
 #![tactic(auto)]

@@ -6,7 +6,7 @@ ghost use Rattle.scripted.specs.Plays.{laid_of, layout_of};
 
 use apex_types::{
     At, BodyRow, Call, ErrorKind, Events, HealthTable, Name, PartitionAction, PartitionId,
-    Priority, ProcessRow, Section, StartCondition, Ticks, WriterSink, write_events,
+    Priority, ProcessRow, Section, StartCondition, Ticks, TraceBuffer, WriterSink,
 };
 use partition::{Fixed, Partition};
 use processor::Outcome;
@@ -172,18 +172,18 @@ fn expect_tick(
     requires { laid_of mem.old ≡ layout_of partition.old.executor }
     ensures { laid_of mem.new ≡ layout_of partition.new.executor }
 {
-    let mut events = Events::new();
+    let mut trace = TraceBuffer::new();
     let at = At {
         now: Ticks(u64::from(now)),
         origin: Ticks(0),
     };
-    partition.tick(mem, at, &mut events);
-    expect_lines(rt, alloc, &events, lines);
+    partition.tick(mem, at, &mut trace.events);
+    expect_lines(rt, alloc, &mut trace, lines);
 }
 
-fn expect_lines(rt: &impl Abort, alloc: Global, events: &Events, lines: &str) {
+fn expect_lines(rt: &impl Abort, alloc: Global, trace: &mut TraceBuffer, lines: &str) {
     let mut sink = WriterSink::new(Vec::new(alloc));
-    let _ = write_events(events.as_slice(), &mut sink);
+    let _ = trace.write_events(&mut sink);
     assert_eq!(rt; sink.writer.as_slice(), lines.as_bytes());
 }
 
