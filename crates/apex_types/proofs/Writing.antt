@@ -1,10 +1,12 @@
 -- A text that goes to a sink in parts.
-use Rattle.std.proofs.Common.{◌≡◌, ℕ, ◌+◌, ◌≤◌, List, [], ◌++◌, length, take, Option, Result, Ok, Err, OnErr, refl, sym, ap, subst, ◌∙◌, append_assoc, append-nil, length-append, arith}
+use Rattle.std.proofs.Common.{◌≡◌, ℕ, ◌+◌, ◌≤◌, List, [], ◌++◌, length, take, Option, Result, Ok, Err, OnErr, refl, sym, ap, subst, ◌∙◌, append_assoc, append-nil, codes, ◌∷◌, length-append, arith}
 use Rattle.std.proofs.KnownBytes.{Appends-nil, Appends-trans}
 use Rattle.std.proofs.Math.Seq.{take-append-add}
 use Rattle.std.proofs.lemmas.List.{take-append-le}
 use Rattle.std.specs.Io.KnownBytes.{Appends}
+use Rattle.apex_types.specs.Line.{kind_text, line_of, partition_text, text_of, thirteen_digits}
 use Rattle.apex_types.specs.Sink.{TakesBeginning}
+use Rattle.apex_types.specs.declared.event.Event.{Event}
 
 pub err_at : {A E P : Type 0} (answer : Result A E) → P → OnErr answer P
 err_at (Ok a) fact = tt
@@ -37,3 +39,11 @@ under_way_fails old mid new text line rest w (k, within, h) =
     (length w.done + k, bound, rw front (Appends-trans old mid new w.done (take k line) w.taken h))
 
 pub ruleset under_way = (under_way_start, under_way_more, under_way_end, under_way_fails)
+
+-- the line of an event behind a text is the text of this event behind it
+pub line_behind : (e : Event) (old new digits : List ℕ) → digits ≡ thirteen_digits e.tick.0
+    → new ≡ old ++ (digits ++ codes " " ++ partition_text e.partition ++ codes " " ++ kind_text e.kind ++ 10 ∷ []) → new ≡ old ++ text_of (e ∷ [])
+line_behind e old new digits same pushed =
+    let one : new ≡ old ++ line_of e =
+    subst (λ d. new ≡ old ++ (d ++ codes " " ++ partition_text e.partition ++ codes " " ++ kind_text e.kind ++ 10 ∷ [])) same pushed in
+    subst (λ line. new ≡ old ++ line) (sym (append-nil (line_of e))) one

@@ -1,5 +1,6 @@
 pub mod CodeWords
 pub mod Line
+pub mod Lines
 pub mod NameText
 pub mod OperatorCosts
 pub mod Room

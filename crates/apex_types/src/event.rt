@@ -1,5 +1,7 @@
 //! What a trace is made of.
 
+ghost use Rattle.std.specs.Prelude.{◌≡◌};
+
 use crate::codes::{ErrorKind, Mode, ProcessState, Response, ReturnCode};
 use crate::identity::Ticks;
 use crate::name::Name;
@@ -43,6 +45,34 @@ pub enum EventKind {
     Lost(Name, Words),
     /// A message left the module by a channel.
     Out(Name, Words),
+}
+
+/// The same message once more.
+pub fn copied(message: &Words) -> Words
+    ensures { result ≡ message.now }
+{
+    let mut copy = Words::new();
+    copy.try_extend_from_slice(message.as_slice()).unwrap();
+    copy
+}
+
+impl EventKind {
+    /// The same once more.
+    pub fn copied(&self) -> EventKind
+        ensures { result ≡ self.now }
+    {
+        match self {
+            EventKind::State(who, state) => EventKind::State(*who, *state),
+            EventKind::Return(who, service, code) => EventKind::Return(*who, *service, *code),
+            EventKind::Mode(mode) => EventKind::Mode(*mode),
+            EventKind::Error(error, who, response) => EventKind::Error(*error, *who, *response),
+            EventKind::Report(who, words) => EventKind::Report(*who, copied(words)),
+            EventKind::Move(port, words) => EventKind::Move(*port, copied(words)),
+            EventKind::Arrive(port, words) => EventKind::Arrive(*port, copied(words)),
+            EventKind::Lost(port, words) => EventKind::Lost(*port, copied(words)),
+            EventKind::Out(channel, words) => EventKind::Out(*channel, copied(words)),
+        }
+    }
 }
 
 /// One line of a trace: its tick, its partition (none for the module itself), and what happened.

@@ -11,6 +11,7 @@ pub mod device;
 pub mod event;
 pub mod identity;
 pub mod instruction;
+pub mod log;
 pub mod name;
 pub mod out;
 pub mod place;
@@ -33,12 +34,13 @@ pub use cost::{
 };
 pub use denotation::{Denotation, ObjectKind};
 pub use device::{DeviceFault, DeviceInput, DeviceLine};
-pub use event::{Event, EventKind, Events, Subject, Words};
+pub use event::{Event, EventKind, Events, Subject, Words, copied};
 pub use identity::{
     At, ChannelIndex, ListKey, MOST_ERRORS, MOST_OBJECTS, MOST_PROCESSES, MOST_RUNNERS,
     PartitionId, PortId, Priority, ProcessIndex, Runner, Ticks,
 };
 pub use instruction::{BinaryOperator, Instr, UnaryOperator};
+pub use log::EventLog;
 pub use name::Name;
 pub use out::{Actions, Happenings, Out};
 pub use place::Place;

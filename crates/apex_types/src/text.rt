@@ -1,6 +1,6 @@
 //! The text of a trace.
 
-ghost use Rattle.std.specs.Prelude.{◌≡◌, ℕ, ◌+◌, ◌-◌, ◌*◌, ◌/◌, ◌%◌, ◌^◌, ◌<◌, ◌≤◌, List, [], ◌∷◌, ◌++◌, length, All, OnErr, OnOk};
+ghost use Rattle.std.specs.Prelude.{◌≡◌, ℕ, ◌+◌, ◌-◌, ◌*◌, ◌/◌, ◌%◌, ◌^◌, ◌<◌, ◌≤◌, List, [], ◌∷◌, ◌++◌, codes, length, All, OnErr, OnOk};
 ghost use Rattle.std.specs.Fmt.{signed_decimal};
 ghost use Rattle.std.specs.Io.KnownBytes.{Appends};
 ghost use Rattle.arrayvec.specs.ArrayVec.{array_vec_len};
@@ -8,8 +8,9 @@ ghost use Rattle.apex_types.specs.Line.{culprit_text, kind_text, line_of, partit
 ghost use Rattle.apex_types.specs.Sink.{TakesBeginning};
 
 use crate::codes::{ErrorKind, Response, ReturnCode};
-use crate::event::{Event, EventKind, Events, Subject};
+use crate::event::{Event, EventKind, Subject};
 use crate::identity::Ticks;
+use crate::log::EventLog;
 use crate::name::Name;
 use crate::service::Service;
 use crate::sink::{Sink, SinkFault, put_all};
@@ -19,6 +20,9 @@ use std::marker::Model;
 /// The bytes of one line. The longest has a tick of 13, two names of 30, a word of 6 and 16
 /// words of at most 20 bytes with a space before each.
 type Line = ArrayVec<u8, 512>;
+
+/// The bytes of the lines of a step, which are at most 256.
+type Lines = ArrayVec<u8, 131_072>;
 
 /// A tick with its digits, which the lines of this tick share. A contract sees it as the tick.
 #[derive(Drop)]
@@ -81,116 +85,114 @@ pub fn write_event<S: Sink>(event: &Event, sink: &mut S) -> Result<(), SinkFault
     ensures failed { OnErr result (S.failures sink.new ≡ S.failures sink.old + 1) }
     ensures beginning { OnErr result (TakesBeginning (S.taken sink.old) (S.taken sink.new) (line_of event.now)) }
 {
-    write_line(&Stamp::new(event.tick), event, &mut Line::new(), sink)
+    let stamp = Stamp::new(event.tick);
+    let mut line = Line::new();
+    push_line(&mut line, stamp.digits(), &event.partition, &event.kind);
+    put_all(sink, line.as_slice())
 }
 
-/// Writes the lines of events, in their order.
-#[tactic(auto, using(crate::proofs::Writing::under_way))]
-fn write_all<S: Sink>(
-    stamp: &mut Stamp,
-    line: &mut Line,
-    events: &[Event],
-    sink: &mut S,
-) -> Result<(), SinkFault>
-    requires { S.failures sink.old < 2 ^ 64 - 1 }
-    ensures ok { OnOk result (Appends (S.taken sink.old) (S.taken sink.new) (text_of events.now)) }
-    ensures quiet { OnOk result (S.failures sink.new ≡ S.failures sink.old) }
-    ensures failed { OnErr result (S.failures sink.new ≡ S.failures sink.old + 1) }
-    ensures beginning { OnErr result (TakesBeginning (S.taken sink.old) (S.taken sink.new) (text_of events.now)) }
-{
-    let mut rest = events;
-    while let Some((event, others)) = rest.split_first() {
-        stamp.renew(event.tick);
-        write_line(stamp, event, line, sink)?;
-        rest = others;
-    }
-    Ok(())
-}
-
-/// The events of a step until they are written, and what their lines share: the buffer in which a line is
-/// put together, and the digits of the last tick.
+/// The lines of a step until they are written. An event becomes its line at once; the digits of the last
+/// tick are kept for the lines that come.
 #[derive(Drop)]
 pub struct TraceBuffer {
-    pub events: Events,
-    line: Line,
+    pub text: Lines,
     stamp: Stamp,
 }
 
 impl TraceBuffer {
-    /// A buffer without events.
+    /// A buffer without lines.
     pub fn new() -> TraceBuffer
-        ensures { result.events.items ≡ [] }
+        ensures { result.text.items ≡ [] }
     {
         TraceBuffer {
-            events: Events::new(),
-            line: Line::new(),
+            text: Lines::new(),
             stamp: Stamp::new(Ticks(0)),
         }
     }
 
-    /// Writes the lines of the events, in their order; then no events are left. An error is answered only
-    /// where the sink failed; then a beginning of their text is out.
+    /// Drops all lines.
+    pub fn clear(&mut self)
+        ensures { self.new.text.items ≡ [] }
+    {
+        self.text.clear();
+    }
+
+    /// Writes the lines; then none are left. An error is answered only where the sink failed; then a
+    /// beginning of their text is out.
     pub fn write_events<S: Sink>(&mut self, sink: &mut S) -> Result<(), SinkFault>
         requires { S.failures sink.old < 2 ^ 64 - 1 }
-        ensures ok { OnOk result (Appends (S.taken sink.old) (S.taken sink.new) (text_of self.old.events.items)) }
-        ensures empty { OnOk result (self.new.events.items ≡ []) }
+        ensures ok { OnOk result (Appends (S.taken sink.old) (S.taken sink.new) self.old.text.items) }
+        ensures empty { OnOk result (self.new.text.items ≡ []) }
         ensures quiet { OnOk result (S.failures sink.new ≡ S.failures sink.old) }
         ensures failed { OnErr result (S.failures sink.new ≡ S.failures sink.old + 1) }
-        ensures beginning { OnErr result (TakesBeginning (S.taken sink.old) (S.taken sink.new) (text_of self.old.events.items)) }
+        ensures beginning { OnErr result (TakesBeginning (S.taken sink.old) (S.taken sink.new) self.old.text.items) }
     {
-        write_all(
-            &mut self.stamp,
-            &mut self.line,
-            self.events.as_slice(),
-            sink,
-        )?;
-        self.events.clear();
+        put_all(sink, self.text.as_slice())?;
+        self.text.clear();
         Ok(())
     }
 }
 
-/// Writes the line of an event, which is put together in a buffer that other lines have used.
-fn write_line<S: Sink>(
-    stamp: &Stamp,
-    event: &Event,
-    line: &mut Line,
-    sink: &mut S,
-) -> Result<(), SinkFault>
-    requires tick { stamp.now ≡ event.now.tick }
-    requires failures { S.failures sink.old < 2 ^ 64 - 1 }
-    ensures ok { OnOk result (Appends (S.taken sink.old) (S.taken sink.new) (line_of event.now)) }
-    ensures quiet { OnOk result (S.failures sink.new ≡ S.failures sink.old) }
-    ensures failed { OnErr result (S.failures sink.new ≡ S.failures sink.old + 1) }
-    ensures beginning { OnErr result (TakesBeginning (S.taken sink.old) (S.taken sink.new) (line_of event.now)) }
-{
-    line.clear();
-    push_line(line, stamp.digits(), event);
-    put_all(sink, line.as_slice())
+impl EventLog for TraceBuffer {
+    ghost use Rattle.std.proofs.Common.{refl};
+    ghost use Rattle.apex_types.specs.Line.{text_of};
+    ghost use Rattle.apex_types.specs.Lines.{lines_left, no_text, text_of_both, whole_room};
+
+    ghost Piece = { ℕ };
+
+    ghost held = { λ log. log.text.items };
+
+    ghost pieces = { text_of };
+
+    ghost room = { λ log. lines_left log.text.items };
+
+    ghost none = { refl };
+
+    ghost more = { text_of_both };
+
+    ghost silent = { no_text };
+
+    ghost empty = { λ log h. whole_room log.text.items h };
+
+    fn tell(&mut self, tick: Ticks, partition: &Option<Name>, kind: &EventKind) {
+        self.stamp.renew(tick);
+        push_line(&mut self.text, self.stamp.digits(), partition, kind);
+    }
+
+    fn is_empty(&self) -> bool {
+        self.text.is_empty()
+    }
 }
 
-fn push_line(line: &mut Line, digits: &[u8; 13], event: &Event)
-    requires empty { line.old.items ≡ [] }
-    requires digits { digits.now ≡ thirteen_digits event.now.tick.0 }
-    ensures { line.new.items ≡ line_of event.now }
+/// Puts the line of an event behind those that are there.
+fn push_line<const N: usize>(
+    line: &mut ArrayVec<u8, N>,
+    digits: &[u8; 13],
+    partition: &Option<Name>,
+    kind: &EventKind,
+)
+    requires { array_vec_len line.old + 512 ≤ N }
+    ensures items { line.new.items ≡ line.old.items ++ (digits.now ++ codes " " ++ partition_text partition.now ++ codes " " ++ kind_text kind.now ++ 10 ∷ []) }
+    ensures len { array_vec_len line.new ≤ array_vec_len line.old + 512 }
 {
     push_bytes(line, digits);
     push_text(line, " ");
-    push_partition(line, &event.partition);
+    push_partition(line, partition);
     push_text(line, " ");
-    push_kind(line, &event.kind);
+    push_kind(line, kind);
     push_text(line, "\n");
 }
 
-fn push_bytes(line: &mut Line, bytes: &[u8])
-    requires { array_vec_len line.old + length bytes.now ≤ 512 }
+fn push_bytes<const N: usize>(line: &mut ArrayVec<u8, N>, bytes: &[u8])
+    requires { array_vec_len line.old + length bytes.now ≤ N }
     ensures items { line.new.items ≡ line.old.items ++ bytes.now }
     ensures len { array_vec_len line.new ≡ array_vec_len line.old + length bytes.now }
 {
     line.try_extend_from_slice(bytes).unwrap();
 }
 
-fn push_text(line: &mut Line, text: &str)
-    requires { array_vec_len line.old + length text.now ≤ 512 }
+fn push_text<const N: usize>(line: &mut ArrayVec<u8, N>, text: &str)
+    requires { array_vec_len line.old + length text.now ≤ N }
     ensures items { line.new.items ≡ line.old.items ++ text.now }
     ensures len { array_vec_len line.new ≡ array_vec_len line.old + length text.now }
 {
@@ -234,8 +236,8 @@ fn put_last_digits(digits: &mut [u8; 13], number: u64)
     digits[12] = digit(number, 1);
 }
 
-fn push_partition(line: &mut Line, partition: &Option<Name>)
-    requires { array_vec_len line.old + 30 ≤ 512 }
+fn push_partition<const N: usize>(line: &mut ArrayVec<u8, N>, partition: &Option<Name>)
+    requires { array_vec_len line.old + 30 ≤ N }
     ensures items { line.new.items ≡ line.old.items ++ partition_text partition.now }
     ensures len { array_vec_len line.new ≤ array_vec_len line.old + 30 }
 {
@@ -245,8 +247,8 @@ fn push_partition(line: &mut Line, partition: &Option<Name>)
     }
 }
 
-fn push_subject(line: &mut Line, who: &Subject)
-    requires { array_vec_len line.old + 30 ≤ 512 }
+fn push_subject<const N: usize>(line: &mut ArrayVec<u8, N>, who: &Subject)
+    requires { array_vec_len line.old + 30 ≤ N }
     ensures items { line.new.items ≡ line.old.items ++ subject_text who.now }
     ensures len { array_vec_len line.new ≤ array_vec_len line.old + 30 }
 {
@@ -257,8 +259,8 @@ fn push_subject(line: &mut Line, who: &Subject)
     }
 }
 
-fn push_culprit(line: &mut Line, who: &Option<Subject>)
-    requires { array_vec_len line.old + 30 ≤ 512 }
+fn push_culprit<const N: usize>(line: &mut ArrayVec<u8, N>, who: &Option<Subject>)
+    requires { array_vec_len line.old + 30 ≤ N }
     ensures items { line.new.items ≡ line.old.items ++ culprit_text who.now }
     ensures len { array_vec_len line.new ≤ array_vec_len line.old + 30 }
 {
@@ -268,8 +270,8 @@ fn push_culprit(line: &mut Line, who: &Option<Subject>)
     }
 }
 
-fn push_word(line: &mut Line, word: i64)
-    requires { array_vec_len line.old + 21 ≤ 512 }
+fn push_word<const N: usize>(line: &mut ArrayVec<u8, N>, word: i64)
+    requires { array_vec_len line.old + 21 ≤ N }
     ensures items { line.new.items ≡ line.old.items ++ 32 ∷ signed_decimal word }
     ensures len { array_vec_len line.new ≤ array_vec_len line.old + 21 }
 {
@@ -278,8 +280,8 @@ fn push_word(line: &mut Line, word: i64)
     push_text(line, buffer.format(word));
 }
 
-fn push_words(line: &mut Line, words: &[i64])
-    requires { array_vec_len line.old + 21 * length words.now ≤ 512 }
+fn push_words<const N: usize>(line: &mut ArrayVec<u8, N>, words: &[i64])
+    requires { array_vec_len line.old + 21 * length words.now ≤ N }
     ensures items { line.new.items ≡ line.old.items ++ words_text words.now }
     ensures len { array_vec_len line.new ≤ array_vec_len line.old + 21 * length words.now }
 {
@@ -289,8 +291,8 @@ fn push_words(line: &mut Line, words: &[i64])
 }
 
 /// The name of a port or channel, and the words of its message.
-fn push_message(line: &mut Line, name: &Name, words: &[i64])
-    requires { array_vec_len line.old + 30 + 21 * length words.now ≤ 512 }
+fn push_message<const N: usize>(line: &mut ArrayVec<u8, N>, name: &Name, words: &[i64])
+    requires { array_vec_len line.old + 30 + 21 * length words.now ≤ N }
     ensures items { line.new.items ≡ line.old.items ++ name.now ++ words_text words.now }
     ensures len { array_vec_len line.new ≤ array_vec_len line.old + 30 + 21 * length words.now }
 {
@@ -298,8 +300,13 @@ fn push_message(line: &mut Line, name: &Name, words: &[i64])
     push_words(line, words);
 }
 
-fn push_return(line: &mut Line, who: &Subject, service: Service, code: ReturnCode)
-    requires { array_vec_len line.old + 100 ≤ 512 }
+fn push_return<const N: usize>(
+    line: &mut ArrayVec<u8, N>,
+    who: &Subject,
+    service: Service,
+    code: ReturnCode,
+)
+    requires { array_vec_len line.old + 100 ≤ N }
     ensures items { line.new.items ≡ line.old.items ++ kind_text (EventKind.Return who.now service code) }
     ensures len { array_vec_len line.new ≤ array_vec_len line.old + 100 }
 {
@@ -312,8 +319,13 @@ fn push_return(line: &mut Line, who: &Subject, service: Service, code: ReturnCod
     push_text(line, buffer.format(code.number()));
 }
 
-fn push_error(line: &mut Line, error: ErrorKind, who: &Option<Subject>, response: Response)
-    requires { array_vec_len line.old + 100 ≤ 512 }
+fn push_error<const N: usize>(
+    line: &mut ArrayVec<u8, N>,
+    error: ErrorKind,
+    who: &Option<Subject>,
+    response: Response,
+)
+    requires { array_vec_len line.old + 100 ≤ N }
     ensures items { line.new.items ≡ line.old.items ++ kind_text (EventKind.Error error who.now response) }
     ensures len { array_vec_len line.new ≤ array_vec_len line.old + 100 }
 {
@@ -327,8 +339,8 @@ fn push_error(line: &mut Line, error: ErrorKind, who: &Option<Subject>, response
     push_text(line, response.action_word());
 }
 
-fn push_kind(line: &mut Line, kind: &EventKind)
-    requires { array_vec_len line.old + 400 ≤ 512 }
+fn push_kind<const N: usize>(line: &mut ArrayVec<u8, N>, kind: &EventKind)
+    requires { array_vec_len line.old + 400 ≤ N }
     ensures items { line.new.items ≡ line.old.items ++ kind_text kind.now }
     ensures len { array_vec_len line.new ≤ array_vec_len line.old + 400 }
 {

@@ -4,9 +4,8 @@ ghost use Rattle.std.specs.Prelude.{◌≡◌, ◌-◌, drop, length, slice_get,
 ghost use Rattle.apex_meaning.specs.Errors as meaning;
 ghost use Rattle.apex_meaning.specs.HealthServices.{is_waiting};
 
-use apex_types::{MOST_ERRORS, WaitingError};
+use apex_types::{MOST_ERRORS, WaitingError, copied};
 use circular_buffer::HeapCircularBuffer;
-use process_table_base::copied;
 use std::alloc::{AllocError, Global};
 use std::marker::Model;
 

@@ -7,11 +7,10 @@ ghost use Rattle.lone_partition.specs.Lines.{inputs_of};
 ghost use Rattle.lone_partition.specs.Written.{IsOfTick, IsPathWritten};
 
 use crate::step::{Step, write_step};
-use apex_types::{At, ModuleAction, Sink, SinkFault, StartCondition, TraceBuffer};
+use apex_types::{At, ModuleAction, Sink, SinkFault, StartCondition, TraceBuffer, copied};
 use isolation::{Input, InputLine};
 use partition::Partition;
 use partition_base::Executor;
-use process_table_base::copied;
 
 /// A fault of the module, whose line is no partition's: it is ignored, ends everything, or resets. Then
 /// this tick becomes the origin, and the partition clears to a cold start. After a shutdown there is no
@@ -27,10 +26,10 @@ fn meet_fault<E: Executor, S: Sink>(
     requires fits { E.laid mem.old ≡ E.layout partition.old.executor }
     requires past { at.origin.0 ≤ at.now.0 }
     requires now { at.now.0 ≤ 2 ^ 40 }
-    requires empty { trace.old.events.items ≡ [] }
+    requires empty { trace.old.text.items ≡ [] }
     requires failures { S.failures sink.old < 2 ^ 64 - 1 }
     ensures fits { E.laid mem.new ≡ E.layout partition.new.executor }
-    ensures empty { OnOk result (trace.new.events.items ≡ []) }
+    ensures empty { OnOk result (trace.new.text.items ≡ []) }
     ensures of_tick { IfOk result (IsOfTick at) }
     ensures written { IsPathWritten (meets_fault at action (member_of E.Executor partition.old mem.old)) (member_of E.Executor partition.new mem.new) (S.taken sink.old) (S.taken sink.new) (S.failures sink.old) (S.failures sink.new) result }
 {
@@ -62,10 +61,10 @@ fn take<E: Executor, S: Sink>(
     requires fits { E.laid mem.old ≡ E.layout partition.old.executor }
     requires past { at.origin.0 ≤ at.now.0 }
     requires now { at.now.0 ≤ 2 ^ 40 }
-    requires empty { trace.old.events.items ≡ [] }
+    requires empty { trace.old.text.items ≡ [] }
     requires failures { S.failures sink.old < 2 ^ 64 - 1 }
     ensures fits { E.laid mem.new ≡ E.layout partition.new.executor }
-    ensures empty { OnOk result (trace.new.events.items ≡ []) }
+    ensures empty { OnOk result (trace.new.text.items ≡ []) }
     ensures of_tick { IfOk result (IsOfTick at) }
     ensures written { IsPathWritten (takes fault at input.now (member_of E.Executor partition.old mem.old)) (member_of E.Executor partition.new mem.new) (S.taken sink.old) (S.taken sink.new) (S.failures sink.old) (S.failures sink.new) result }
 {
@@ -97,10 +96,10 @@ pub fn take_all<E: Executor, S: Sink>(
     requires fits { E.laid mem.old ≡ E.layout partition.old.executor }
     requires past { at.origin.0 ≤ at.now.0 }
     requires now { at.now.0 ≤ 2 ^ 40 }
-    requires empty { trace.old.events.items ≡ [] }
+    requires empty { trace.old.text.items ≡ [] }
     requires failures { S.failures sink.old < 2 ^ 64 - 1 }
     ensures fits { E.laid mem.new ≡ E.layout partition.new.executor }
-    ensures empty { OnOk result (trace.new.events.items ≡ []) }
+    ensures empty { OnOk result (trace.new.text.items ≡ []) }
     ensures of_tick { IfOk result (IsOfTick at) }
     ensures written { IsPathWritten (takes_all fault at (inputs_of lines.now) (member_of E.Executor partition.old mem.old)) (member_of E.Executor partition.new mem.new) (S.taken sink.old) (S.taken sink.new) (S.failures sink.old) (S.failures sink.new) result }
 {

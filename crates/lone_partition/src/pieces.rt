@@ -28,13 +28,13 @@ fn write_advance<E: Executor, S: Sink>(
     requires fits { E.laid mem.old ≡ E.layout partition.old.executor }
     requires past { at.origin.0 ≤ at.now.0 }
     requires soon { at.now.0 + most ≤ 2 ^ 40 }
-    requires empty { trace.old.events.items ≡ [] }
+    requires empty { trace.old.text.items ≡ [] }
     requires failures { S.failures sink.old < 2 ^ 64 - 1 }
     ensures fits { E.laid mem.new ≡ E.layout partition.new.executor }
-    ensures empty { OnOk result (trace.new.events.items ≡ []) }
+    ensures empty { OnOk result (trace.new.text.items ≡ []) }
     ensures written { HasAdvancedWritten at most (member_of E.Executor partition.old mem.old) (member_of E.Executor partition.new mem.new) (S.taken sink.old) (S.taken sink.new) (S.failures sink.old) (S.failures sink.new) result }
 {
-    let count = partition.advance(mem, at, most, &mut trace.events);
+    let count = partition.advance(mem, at, most, trace);
     trace.write_events(sink)?;
     Ok(count)
 }
@@ -52,10 +52,10 @@ fn write_piece<E: Executor, S: Sink>(
     requires fits { E.laid mem.old ≡ E.layout partition.old.executor }
     requires past { at.origin.0 ≤ at.now.0 }
     requires soon { at.now.0 + most ≤ 2 ^ 40 }
-    requires empty { trace.old.events.items ≡ [] }
+    requires empty { trace.old.text.items ≡ [] }
     requires failures { S.failures sink.old < 2 ^ 64 - 1 }
     ensures fits { E.laid mem.new ≡ E.layout partition.new.executor }
-    ensures empty { OnOk result (trace.new.events.items ≡ []) }
+    ensures empty { OnOk result (trace.new.text.items ≡ []) }
     ensures run { (s : Around) (lines : List InputLine) (number : ℕ) → ((i : ℕ) → i < most → IsWithin s lines at.origin.0 (at.now.0 + i) (Some number)) → HasRunSome s lines most at (member_of E.Executor partition.old mem.old) (member_of E.Executor partition.new mem.new) (S.taken sink.old) (S.taken sink.new) (S.failures sink.old) (S.failures sink.new) result }
 {
     let mut left = most;
@@ -109,10 +109,10 @@ fn advance_window<E: Executor, S: Sink>(
     requires fits { E.laid mem.old ≡ E.layout partition.old.executor }
     requires past { at.origin.0 ≤ at.now.0 }
     requires soon { at.now.0 + most ≤ 2 ^ 40 }
-    requires empty { trace.old.events.items ≡ [] }
+    requires empty { trace.old.text.items ≡ [] }
     requires failures { S.failures sink.old < 2 ^ 64 - 1 }
     ensures fits { E.laid mem.new ≡ E.layout partition.new.executor }
-    ensures empty { OnOk result (trace.new.events.items ≡ []) }
+    ensures empty { OnOk result (trace.new.text.items ≡ []) }
     ensures run { (lines : List InputLine) → AreFrom tick_of_input (at.now.0 + most) lines → HasRunSome (around surroundings.now) lines most at (member_of E.Executor partition.old mem.old) (member_of E.Executor partition.new mem.new) (S.taken sink.old) (S.taken sink.new) (S.failures sink.old) (S.failures sink.new) result }
 {
     let schedule = &surroundings.schedule;
@@ -143,10 +143,10 @@ pub fn advance<E: Executor, S: Sink>(
     requires past { at.origin.0 ≤ at.now.0 }
     requires soon { at.now.0 + most ≤ 2 ^ 40 }
     requires order { AreFrom tick_of_input at.now.0 lines.now }
-    requires empty { trace.old.events.items ≡ [] }
+    requires empty { trace.old.text.items ≡ [] }
     requires failures { S.failures sink.old < 2 ^ 64 - 1 }
     ensures fits { E.laid mem.new ≡ E.layout partition.new.executor }
-    ensures empty { OnOk result (trace.new.events.items ≡ []) }
+    ensures empty { OnOk result (trace.new.text.items ≡ []) }
     ensures order { IfOk result (λ count. AreFrom tick_of_input (at.now.0 + count) lines.now) }
     ensures run { HasRunSome (around surroundings.now) lines.now most at (member_of E.Executor partition.old mem.old) (member_of E.Executor partition.new mem.new) (S.taken sink.old) (S.taken sink.new) (S.failures sink.old) (S.failures sink.new) result }
 {

@@ -107,7 +107,7 @@ fn run_ticks<E: Executor, S: Sink>(
     requires fits { E.laid mem.old ≡ E.layout partition.old.executor }
     requires ticks { ticks ≤ 2 ^ 40 }
     requires order { AreInOrder inputs.now }
-    requires empty { trace.old.events.items ≡ [] }
+    requires empty { trace.old.text.items ≡ [] }
     requires failures { S.failures sink.old < 2 ^ 64 - 1 }
     ensures { AreWritten (alone_from (around surroundings.now) inputs.now ticks (Some first_tick) (member_of E.Executor partition.old mem.old)) (S.taken sink.old) (S.taken sink.new) (S.failures sink.old) (S.failures sink.new) result }
 {

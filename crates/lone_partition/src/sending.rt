@@ -27,10 +27,10 @@ fn go_out<E: Executor, S: Sink>(
     requires fits { E.laid mem.old ≡ E.layout partition.old.executor }
     requires past { at.origin.0 ≤ at.now.0 }
     requires now { at.now.0 ≤ 2 ^ 40 }
-    requires empty { trace.old.events.items ≡ [] }
+    requires empty { trace.old.text.items ≡ [] }
     requires failures { S.failures sink.old < 2 ^ 64 - 1 }
     ensures fits { E.laid mem.new ≡ E.layout partition.new.executor }
-    ensures empty { OnOk result (trace.new.events.items ≡ []) }
+    ensures empty { OnOk result (trace.new.text.items ≡ []) }
     ensures written { IsWritten (goes_by_way at message way (member_of E.Executor partition.old mem.old)) (member_of E.Executor partition.new mem.new) (S.taken sink.old) (S.taken sink.new) (S.failures sink.old) (S.failures sink.new) result }
 {
     if let Some(channel) = way {
@@ -53,10 +53,10 @@ fn send_message<E: Executor, S: Sink>(
     requires fits { E.laid mem.old ≡ E.layout partition.old.executor }
     requires past { at.origin.0 ≤ at.now.0 }
     requires now { at.now.0 ≤ 2 ^ 40 }
-    requires empty { trace.old.events.items ≡ [] }
+    requires empty { trace.old.text.items ≡ [] }
     requires failures { S.failures sink.old < 2 ^ 64 - 1 }
     ensures fits { E.laid mem.new ≡ E.layout partition.new.executor }
-    ensures empty { OnOk result (trace.new.events.items ≡ []) }
+    ensures empty { OnOk result (trace.new.text.items ≡ []) }
     ensures written { IsWritten (sends_message (around surroundings.now) at port (member_of E.Executor partition.old mem.old)) (member_of E.Executor partition.new mem.new) (S.taken sink.old) (S.taken sink.new) (S.failures sink.old) (S.failures sink.new) result }
 {
     let step = Step::Leave(port);
@@ -83,10 +83,10 @@ fn send_messages<E: Executor, S: Sink>(
     requires fits { E.laid mem.old ≡ E.layout partition.old.executor }
     requires past { at.origin.0 ≤ at.now.0 }
     requires now { at.now.0 ≤ 2 ^ 40 }
-    requires empty { trace.old.events.items ≡ [] }
+    requires empty { trace.old.text.items ≡ [] }
     requires failures { S.failures sink.old < 2 ^ 64 - 1 }
     ensures fits { E.laid mem.new ≡ E.layout partition.new.executor }
-    ensures empty { OnOk result (trace.new.events.items ≡ []) }
+    ensures empty { OnOk result (trace.new.text.items ≡ []) }
     ensures written { IsWritten (sends_messages count (around surroundings.now) at port (member_of E.Executor partition.old mem.old)) (member_of E.Executor partition.new mem.new) (S.taken sink.old) (S.taken sink.new) (S.failures sink.old) (S.failures sink.new) result }
 {
     for _ in 0..count {
@@ -119,10 +119,10 @@ fn send_port<E: Executor, S: Sink>(
     requires fits { E.laid mem.old ≡ E.layout partition.old.executor }
     requires past { at.origin.0 ≤ at.now.0 }
     requires now { at.now.0 ≤ 2 ^ 40 }
-    requires empty { trace.old.events.items ≡ [] }
+    requires empty { trace.old.text.items ≡ [] }
     requires failures { S.failures sink.old < 2 ^ 64 - 1 }
     ensures fits { E.laid mem.new ≡ E.layout partition.new.executor }
-    ensures empty { OnOk result (trace.new.events.items ≡ []) }
+    ensures empty { OnOk result (trace.new.text.items ≡ []) }
     ensures written { IsWritten (sends_port (around surroundings.now) at port (member_of E.Executor partition.old mem.old)) (member_of E.Executor partition.new mem.new) (S.taken sink.old) (S.taken sink.new) (S.failures sink.old) (S.failures sink.new) result }
 {
     let Some(count) = count_to_send(partition.kernel(), port) else {
@@ -146,10 +146,10 @@ pub fn send_ports<E: Executor, S: Sink>(
     requires fits { E.laid mem.old ≡ E.layout partition.old.executor }
     requires past { at.origin.0 ≤ at.now.0 }
     requires now { at.now.0 ≤ 2 ^ 40 }
-    requires empty { trace.old.events.items ≡ [] }
+    requires empty { trace.old.text.items ≡ [] }
     requires failures { S.failures sink.old < 2 ^ 64 - 1 }
     ensures fits { E.laid mem.new ≡ E.layout partition.new.executor }
-    ensures empty { OnOk result (trace.new.events.items ≡ []) }
+    ensures empty { OnOk result (trace.new.text.items ≡ []) }
     ensures written { IsWritten (sends_ports count 1 (around surroundings.now) at (member_of E.Executor partition.old mem.old)) (member_of E.Executor partition.new mem.new) (S.taken sink.old) (S.taken sink.new) (S.failures sink.old) (S.failures sink.new) result }
 {
     for place in 0..count {

@@ -2,15 +2,15 @@
 
 ghost use Rattle.std.specs.Prelude.{◌≡◌, ◌≤◌, ◌<◌, ◌-◌, ◌^◌, [], IfOk, OnOk};
 ghost use Rattle.apex_meaning.specs.Partition.{with_world};
+ghost use Rattle.apex_types.specs.Line.{text_of};
 ghost use Rattle.isolation.specs.Alone.{goes};
 ghost use Rattle.partition.specs.Members.{member_of};
 ghost use Rattle.lone_partition.specs.Steps.{leaving_in, step_of};
 ghost use Rattle.lone_partition.specs.Written.{IsWritten};
 
-use apex_types::{At, Events, Name, PortId, Sink, SinkFault, StartCondition, TraceBuffer, Words};
+use apex_types::{At, Name, PortId, Sink, SinkFault, StartCondition, TraceBuffer, Words, copied};
 use partition::Partition;
 use partition_base::Executor;
-use process_table_base::copied;
 
 /// What happens to a partition in a step.
 #[derive(Drop)]
@@ -37,27 +37,27 @@ pub fn step_member<E: Executor>(
     mem: &mut E::Mem,
     at: At,
     step: &Step,
-    events: &mut Events,
+    trace: &mut TraceBuffer,
 ) -> Option<Words>
     requires fits { E.laid mem.old ≡ E.layout partition.old.executor }
     requires past { at.origin.0 ≤ at.now.0 }
     requires now { at.now.0 ≤ 2 ^ 40 }
-    requires empty { events.old.items ≡ [] }
+    requires empty { trace.old.text.items ≡ [] }
     ensures fits { E.laid mem.new ≡ E.layout partition.new.executor }
     ensures member { let x = member_of E.Executor partition.old mem.old in member_of E.Executor partition.new mem.new ≡ with_world x (step_of at step.now x).world }
-    ensures lines { events.new.items ≡ (step_of at step.now (member_of E.Executor partition.old mem.old)).lines }
+    ensures lines { trace.new.text.items ≡ text_of (step_of at step.now (member_of E.Executor partition.old mem.old)).lines }
     ensures message { result ≡ leaving_in step.now (member_of E.Executor partition.old mem.old) }
 {
     match step {
-        Step::Start(condition) => partition.clear(mem, at, *condition, events),
-        Step::Arrive(port, message) => partition.arrive(mem, at, *port, copied(message), events),
-        Step::Leave(port) => return partition.move_one(mem, at, *port, events),
-        Step::Admit(port) => partition.admit(mem, at, *port, events),
+        Step::Start(condition) => partition.clear(mem, at, *condition, trace),
+        Step::Arrive(port, message) => partition.arrive(mem, at, *port, copied(message), trace),
+        Step::Leave(port) => return partition.move_one(mem, at, *port, trace),
+        Step::Admit(port) => partition.admit(mem, at, *port, trace),
         Step::GoOut(channel, message) => {
-            partition.go_out(mem, at, *channel, copied(message), events)
+            partition.go_out(mem, at, *channel, copied(message), trace)
         }
-        Step::BreakDown => partition.fault(mem, at, events),
-        Step::Tick => partition.tick(mem, at, events),
+        Step::BreakDown => partition.fault(mem, at, trace),
+        Step::Tick => partition.tick(mem, at, trace),
     }
     None
 }
@@ -78,14 +78,14 @@ pub fn write_step<E: Executor, S: Sink>(
     requires fits { E.laid mem.old ≡ E.layout partition.old.executor }
     requires past { at.origin.0 ≤ at.now.0 }
     requires now { at.now.0 ≤ 2 ^ 40 }
-    requires empty { trace.old.events.items ≡ [] }
+    requires empty { trace.old.text.items ≡ [] }
     requires failures { S.failures sink.old < 2 ^ 64 - 1 }
     ensures fits { E.laid mem.new ≡ E.layout partition.new.executor }
-    ensures empty { OnOk result (trace.new.events.items ≡ []) }
+    ensures empty { OnOk result (trace.new.text.items ≡ []) }
     ensures message { IfOk result (λ m. m ≡ leaving_in step.now (member_of E.Executor partition.old mem.old)) }
     ensures written { IsWritten (goes (step_of at step.now) (member_of E.Executor partition.old mem.old)) (member_of E.Executor partition.new mem.new) (S.taken sink.old) (S.taken sink.new) (S.failures sink.old) (S.failures sink.new) result }
 {
-    let message = step_member(partition, mem, at, step, &mut trace.events);
+    let message = step_member(partition, mem, at, step, trace);
     trace.write_events(sink)?;
     Ok(message)
 }

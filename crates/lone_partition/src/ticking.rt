@@ -29,10 +29,10 @@ fn send_ended<E: Executor, S: Sink>(
     requires fits { E.laid mem.old ≡ E.layout partition.old.executor }
     requires past { at.origin.0 ≤ at.now.0 }
     requires now { at.now.0 ≤ 2 ^ 40 }
-    requires empty { trace.old.events.items ≡ [] }
+    requires empty { trace.old.text.items ≡ [] }
     requires failures { S.failures sink.old < 2 ^ 64 - 1 }
     ensures fits { E.laid mem.new ≡ E.layout partition.new.executor }
-    ensures empty { OnOk result (trace.new.events.items ≡ []) }
+    ensures empty { OnOk result (trace.new.text.items ≡ []) }
     ensures written { IsWritten (sends_ended (around surroundings.now) at (member_of E.Executor partition.old mem.old) ends) (member_of E.Executor partition.new mem.new) (S.taken sink.old) (S.taken sink.new) (S.failures sink.old) (S.failures sink.new) result }
 {
     if ends {
@@ -55,10 +55,10 @@ fn tick_own<E: Executor, S: Sink>(
     requires fits { E.laid mem.old ≡ E.layout partition.old.executor }
     requires past { at.origin.0 ≤ at.now.0 }
     requires now { at.now.0 ≤ 2 ^ 40 }
-    requires empty { trace.old.events.items ≡ [] }
+    requires empty { trace.old.text.items ≡ [] }
     requires failures { S.failures sink.old < 2 ^ 64 - 1 }
     ensures fits { E.laid mem.new ≡ E.layout partition.new.executor }
-    ensures empty { OnOk result (trace.new.events.items ≡ []) }
+    ensures empty { OnOk result (trace.new.text.items ≡ []) }
     ensures written { IsWritten (ticks_own at (member_of E.Executor partition.old mem.old) owns) (member_of E.Executor partition.new mem.new) (S.taken sink.old) (S.taken sink.new) (S.failures sink.old) (S.failures sink.new) result }
 {
     if owns {
@@ -79,10 +79,10 @@ fn send_and_tick<E: Executor, S: Sink>(
     requires fits { E.laid mem.old ≡ E.layout partition.old.executor }
     requires past { at.origin.0 ≤ at.now.0 }
     requires now { at.now.0 ≤ 2 ^ 40 }
-    requires empty { trace.old.events.items ≡ [] }
+    requires empty { trace.old.text.items ≡ [] }
     requires failures { S.failures sink.old < 2 ^ 64 - 1 }
     ensures fits { E.laid mem.new ≡ E.layout partition.new.executor }
-    ensures empty { OnOk result (trace.new.events.items ≡ []) }
+    ensures empty { OnOk result (trace.new.text.items ≡ []) }
     ensures written { IsWritten (done_in (sends_and_ticks (around surroundings.now) at (member_of E.Executor partition.old mem.old))) (member_of E.Executor partition.new mem.new) (S.taken sink.old) (S.taken sink.new) (S.failures sink.old) (S.failures sink.new) result }
 {
     let ended = surroundings.schedule.ended(at);
@@ -113,10 +113,10 @@ pub fn tick<E: Executor, S: Sink>(
     requires fits { E.laid mem.old ≡ E.layout partition.old.executor }
     requires past { at.origin.0 ≤ at.now.0 }
     requires now { at.now.0 ≤ 2 ^ 40 }
-    requires empty { trace.old.events.items ≡ [] }
+    requires empty { trace.old.text.items ≡ [] }
     requires failures { S.failures sink.old < 2 ^ 64 - 1 }
     ensures fits { E.laid mem.new ≡ E.layout partition.new.executor }
-    ensures empty { OnOk result (trace.new.events.items ≡ []) }
+    ensures empty { OnOk result (trace.new.text.items ≡ []) }
     ensures of_tick { IfOk result (IsOfTick at) }
     ensures written { IsPathWritten (tick_alone (around surroundings.now) at (inputs_of lines.now) (member_of E.Executor partition.old mem.old)) (member_of E.Executor partition.new mem.new) (S.taken sink.old) (S.taken sink.new) (S.failures sink.old) (S.failures sink.new) result }
 {

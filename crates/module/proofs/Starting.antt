@@ -90,9 +90,11 @@ module _ (at : At) (reason : StartCondition) where
   pub step_members : {C : Type 0} (now next xs : List (Member C)) (n : ℕ) → now ≡ started_to n xs → n < length xs → next ≡ (starts_member now n (slice_get now n)).members → next ≡ started_to (n + 1) xs
   step_members now next xs n so_far h e = e ∙ ap (λ ms. (starts_member ms n (slice_get ms n)).members) so_far ∙ next_members xs n h
 
-  -- its lines, and those of the rest
-  pub step_text : {C : Type 0} (now xs : List (Member C)) (n : ℕ) (lines : List Event) → now ≡ started_to n xs → n < length xs → lines ≡ (starts_member now n (slice_get now n)).lines
-      → text_of (flat_map (start_lines at reason) (drop n xs)) ≡ text_of lines ++ text_of (flat_map (start_lines at reason) (drop (n + 1) xs))
-  step_text now xs n lines so_far h e =
-      let own : (starts_member (started_to n xs) n (slice_get (started_to n xs) n)).lines ≡ lines = sym (e ∙ ap (λ ms. (starts_member ms n (slice_get ms n)).lines) so_far) in
-      ap text_of (next_lines xs n h ∙ ap (λ (es : List Event). es ++ flat_map (start_lines at reason) (drop (n + 1) xs)) own) ∙ text_append lines (flat_map (start_lines at reason) (drop (n + 1) xs))
+  -- the text of its lines, and that of the rest
+  pub step_text : {C : Type 0} (now xs : List (Member C)) (n : ℕ) (text : List ℕ) → now ≡ started_to n xs → n < length xs → text ≡ text_of (starts_member now n (slice_get now n)).lines
+      → text_of (flat_map (start_lines at reason) (drop n xs)) ≡ text ++ text_of (flat_map (start_lines at reason) (drop (n + 1) xs))
+  step_text now xs n text so_far h e =
+      let rest = flat_map (start_lines at reason) (drop (n + 1) xs) in
+      let lines = (starts_member (started_to n xs) n (slice_get (started_to n xs) n)).lines in
+      let own : text_of lines ≡ text = sym (e ∙ ap (λ ms. text_of (starts_member ms n (slice_get ms n)).lines) so_far) in
+      ap text_of (next_lines xs n h) ∙ text_append lines rest ∙ ap (λ (t : List ℕ). t ++ text_of rest) own

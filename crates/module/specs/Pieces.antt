@@ -45,6 +45,10 @@ HasMoved at k place members (Some x) now told n =
     let b = advances_by x.engine at.origin.0 k x.world at.now.0 in
     (now ≡ slice_set members place (with_world x b.control)) × (b ≡ record { control = b.control; words = at.now.0 + n; told = told; ticks = n })
 
+-- the same, and this is the text of its lines
+abbrev pub HasMovedTelling : {C : Type 0} → At → ℕ → ℕ → List (Member C) → Option (Member C) → List (Member C) → List ℕ → ℕ → Type 0
+HasMovedTelling at k place members o now text n = (told : List Event) × HasMoved at k place members o now told n × (text ≡ text_of told)
+
 -- the same, and its lines were written, unless the sink failed
 abbrev pub HasMovedWritten : {C : Type 0} → At → ℕ → ℕ → List (Member C) → Option (Member C) → List (Member C) → Option (List ℕ) → Option (List ℕ) → ℕ → ℕ → Result ℕ SinkFault → Type 0
 HasMovedWritten at k place members o now old new before after (Ok n) = (n ≤ k) × (told : List Event) × HasMoved at k place members o now told n × Appends old new (text_of told) × (after ≡ before)

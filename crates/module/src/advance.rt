@@ -32,9 +32,9 @@ impl<E: Executor<Mem = PartitionMem>> Members<E> {
     ) -> Result<(), SinkFault>
         requires past { at.origin.0 ≤ at.now.0 }
         requires now { at.now.0 ≤ 2 ^ 40 }
-        requires empty { trace.old.events.items ≡ [] }
+        requires empty { trace.old.text.items ≡ [] }
         requires failures { S.failures sink.old < 2 ^ 64 - 1 }
-        ensures empty { OnOk result (trace.new.events.items ≡ []) }
+        ensures empty { OnOk result (trace.new.text.items ≡ []) }
         ensures written { IsWritten (meaning.ticks_owner at (members_in E.Executor self.old) (option_map (λ p. p.0) owner)) (members_in E.Executor self.new) (S.taken sink.old) (S.taken sink.new) (S.failures sink.old) (S.failures sink.new) result }
     {
         if let Some(partition) = owner {
@@ -53,9 +53,9 @@ impl<E: Executor<Mem = PartitionMem>> Members<E> {
     ) -> Result<(), SinkFault>
         requires past { at.origin.0 ≤ at.now.0 }
         requires now { at.now.0 ≤ 2 ^ 40 }
-        requires empty { trace.old.events.items ≡ [] }
+        requires empty { trace.old.text.items ≡ [] }
         requires failures { S.failures sink.old < 2 ^ 64 - 1 }
-        ensures empty { OnOk result (trace.new.events.items ≡ []) }
+        ensures empty { OnOk result (trace.new.text.items ≡ []) }
         ensures written { IsWritten (done_in (meaning.moves_and_ticks (plan_of plan.now) at (members_in E.Executor self.old))) (members_in E.Executor self.new) (S.taken sink.old) (S.taken sink.new) (S.failures sink.old) (S.failures sink.new) result }
     {
         let channels = plan.channels.as_slice();
@@ -76,10 +76,10 @@ impl<E: Executor<Mem = PartitionMem>> Members<E> {
     ) -> Result<Option<At>, SinkFault>
         requires past { at.origin.0 ≤ at.now.0 }
         requires now { at.now.0 ≤ 2 ^ 40 }
-        requires empty { trace.old.events.items ≡ [] }
+        requires empty { trace.old.text.items ≡ [] }
         requires failures { S.failures sink.old < 2 ^ 64 - 1 }
         requires lines { meaning.of_tick at.now.0 lines.now ≡ lines.now }
-        ensures empty { OnOk result (trace.new.events.items ≡ []) }
+        ensures empty { OnOk result (trace.new.text.items ≡ []) }
         ensures of_tick { IfOk result (IsOfTick at) }
         ensures written { IsCourseWritten (meaning.module_tick (plan_of plan.now) at lines.now (members_in E.Executor self.old)) (members_in E.Executor self.new) (S.taken sink.old) (S.taken sink.new) (S.failures sink.old) (S.failures sink.new) result }
     {
@@ -97,9 +97,9 @@ impl<E: Executor<Mem = PartitionMem>> Members<E> {
         trace: &mut TraceBuffer,
         sink: &mut S,
     ) -> Result<(), SinkFault>
-        requires empty { trace.old.events.items ≡ [] }
+        requires empty { trace.old.text.items ≡ [] }
         requires failures { S.failures sink.old < 2 ^ 64 - 1 }
-        ensures empty { OnOk result (trace.new.events.items ≡ []) }
+        ensures empty { OnOk result (trace.new.text.items ≡ []) }
         ensures written { IsWritten (begins at.now.0 (members_in E.Executor self.old)) (members_in E.Executor self.new) (S.taken sink.old) (S.taken sink.new) (S.failures sink.old) (S.failures sink.new) result }
     {
         if at.now.0 == 0 {
@@ -120,7 +120,7 @@ impl<E: Executor<Mem = PartitionMem>> Members<E> {
     ) -> Result<Option<At>, SinkFault>
         requires past { at.origin.0 ≤ at.now.0 }
         requires now { at.now.0 ≤ 2 ^ 40 }
-        requires empty { trace.old.events.items ≡ [] }
+        requires empty { trace.old.text.items ≡ [] }
         requires failures { S.failures sink.old < 2 ^ 64 - 1 }
         requires lines { meaning.of_tick at.now.0 lines.now ≡ lines.now }
         ensures of_tick { IfOk result (IsOfTick at) }

@@ -8,10 +8,9 @@ ghost use Rattle.module.specs.Views.{plan_of};
 
 use crate::collected::Collected;
 use crate::inputs_fault::InputsFault;
-use apex_types::{ChannelEnd, DeviceInput, DeviceLine, ModuleAction, PartitionId, Ticks, Words};
+use apex_types::{ChannelEnd, DeviceInput, DeviceLine, ModuleAction, PartitionId, Ticks, Words, copied};
 use image::Image;
 use isolation::Input;
-use process_table_base::copied;
 use window_table::ChannelRow;
 
 /// A message to this end, if that is a port of the watched partition.

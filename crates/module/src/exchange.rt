@@ -10,10 +10,9 @@ ghost use Rattle.module.specs.Written.{step_of, leaving_in, IsWritten};
 
 use crate::member::Members;
 use crate::step::Step;
-use apex_types::{At, ChannelEnd, PartitionId, PortId, Sink, SinkFault, TraceBuffer, Words};
+use apex_types::{At, ChannelEnd, PartitionId, PortId, Sink, SinkFault, TraceBuffer, Words, copied};
 use partition::Kernel;
 use partition_base::Executor;
-use process_table_base::copied;
 use regions::PartitionMem;
 use window_table::ChannelRow;
 
@@ -30,13 +29,13 @@ impl<E: Executor<Mem = PartitionMem>> Members<E> {
     ) -> Result<Option<Words>, SinkFault>
         requires past { at.origin.0 ≤ at.now.0 }
         requires now { at.now.0 ≤ 2 ^ 40 }
-        requires empty { trace.old.events.items ≡ [] }
+        requires empty { trace.old.text.items ≡ [] }
         requires failures { S.failures sink.old < 2 ^ 64 - 1 }
-        ensures empty { OnOk result (trace.new.events.items ≡ []) }
+        ensures empty { OnOk result (trace.new.text.items ≡ []) }
         ensures message { IfOk result (λ m. m ≡ meaning.of_member None (leaving_in step.now) (at_number (members_in E.Executor self.old) number.0)) }
         ensures written { IsWritten (meaning.steps (step_of at step.now) (members_in E.Executor self.old) number.0) (members_in E.Executor self.new) (S.taken sink.old) (S.taken sink.new) (S.failures sink.old) (S.failures sink.new) result }
     {
-        let message = self.step(number, at, step, &mut trace.events);
+        let message = self.step(number, at, step, trace);
         trace.write_events(sink)?;
         Ok(message)
     }
@@ -53,9 +52,9 @@ impl<E: Executor<Mem = PartitionMem>> Members<E> {
     ) -> Result<(), SinkFault>
         requires past { at.origin.0 ≤ at.now.0 }
         requires now { at.now.0 ≤ 2 ^ 40 }
-        requires empty { trace.old.events.items ≡ [] }
+        requires empty { trace.old.text.items ≡ [] }
         requires failures { S.failures sink.old < 2 ^ 64 - 1 }
-        ensures empty { OnOk result (trace.new.events.items ≡ []) }
+        ensures empty { OnOk result (trace.new.text.items ≡ []) }
         ensures written { IsWritten (meaning.delivers at (channel_of channel.now) message.now channel.now.source end (members_in E.Executor self.old)) (members_in E.Executor self.new) (S.taken sink.old) (S.taken sink.new) (S.failures sink.old) (S.failures sink.new) result }
     {
         match (end, channel.source) {
@@ -84,9 +83,9 @@ impl<E: Executor<Mem = PartitionMem>> Members<E> {
     ) -> Result<(), SinkFault>
         requires past { at.origin.0 ≤ at.now.0 }
         requires now { at.now.0 ≤ 2 ^ 40 }
-        requires empty { trace.old.events.items ≡ [] }
+        requires empty { trace.old.text.items ≡ [] }
         requires failures { S.failures sink.old < 2 ^ 64 - 1 }
-        ensures empty { OnOk result (trace.new.events.items ≡ []) }
+        ensures empty { OnOk result (trace.new.text.items ≡ []) }
         ensures written { IsWritten (meaning.delivers_all at (channel_of channel.now) message.now ends.now (members_in E.Executor self.old)) (members_in E.Executor self.new) (S.taken sink.old) (S.taken sink.new) (S.failures sink.old) (S.failures sink.new) result }
     {
         for end in ends {
@@ -107,9 +106,9 @@ impl<E: Executor<Mem = PartitionMem>> Members<E> {
     ) -> Result<(), SinkFault>
         requires past { at.origin.0 ≤ at.now.0 }
         requires now { at.now.0 ≤ 2 ^ 40 }
-        requires empty { trace.old.events.items ≡ [] }
+        requires empty { trace.old.text.items ≡ [] }
         requires failures { S.failures sink.old < 2 ^ 64 - 1 }
-        ensures empty { OnOk result (trace.new.events.items ≡ []) }
+        ensures empty { OnOk result (trace.new.text.items ≡ []) }
         ensures written { IsWritten (meaning.goes_by at message.now (option_map (λ c. channel_of c.now) channel.entry) (members_in E.Executor self.old)) (members_in E.Executor self.new) (S.taken sink.old) (S.taken sink.new) (S.failures sink.old) (S.failures sink.new) result }
     {
         match channel {
@@ -137,9 +136,9 @@ impl<E: Executor<Mem = PartitionMem>> Members<E> {
     ) -> Result<(), SinkFault>
         requires past { at.origin.0 ≤ at.now.0 }
         requires now { at.now.0 ≤ 2 ^ 40 }
-        requires empty { trace.old.events.items ≡ [] }
+        requires empty { trace.old.text.items ≡ [] }
         requires failures { S.failures sink.old < 2 ^ 64 - 1 }
-        ensures empty { OnOk result (trace.new.events.items ≡ []) }
+        ensures empty { OnOk result (trace.new.text.items ≡ []) }
         ensures written { IsWritten (meaning.moves_message (channels_of channels.now) at partition port (members_in E.Executor self.old)) (members_in E.Executor self.new) (S.taken sink.old) (S.taken sink.new) (S.failures sink.old) (S.failures sink.new) result }
     {
         let step = Step::Leave(port);
@@ -165,9 +164,9 @@ impl<E: Executor<Mem = PartitionMem>> Members<E> {
     ) -> Result<(), SinkFault>
         requires past { at.origin.0 ≤ at.now.0 }
         requires now { at.now.0 ≤ 2 ^ 40 }
-        requires empty { trace.old.events.items ≡ [] }
+        requires empty { trace.old.text.items ≡ [] }
         requires failures { S.failures sink.old < 2 ^ 64 - 1 }
-        ensures empty { OnOk result (trace.new.events.items ≡ []) }
+        ensures empty { OnOk result (trace.new.text.items ≡ []) }
         ensures written { IsWritten (meaning.moves_messages count (channels_of channels.now) at partition port (members_in E.Executor self.old)) (members_in E.Executor self.new) (S.taken sink.old) (S.taken sink.new) (S.failures sink.old) (S.failures sink.new) result }
     {
         for _ in 0..count {
@@ -219,9 +218,9 @@ impl<E: Executor<Mem = PartitionMem>> Members<E> {
     ) -> Result<(), SinkFault>
         requires past { at.origin.0 ≤ at.now.0 }
         requires now { at.now.0 ≤ 2 ^ 40 }
-        requires empty { trace.old.events.items ≡ [] }
+        requires empty { trace.old.text.items ≡ [] }
         requires failures { S.failures sink.old < 2 ^ 64 - 1 }
-        ensures empty { OnOk result (trace.new.events.items ≡ []) }
+        ensures empty { OnOk result (trace.new.text.items ≡ []) }
         ensures written { IsWritten (meaning.moves_port (channels_of channels.now) at partition port (members_in E.Executor self.old)) (members_in E.Executor self.new) (S.taken sink.old) (S.taken sink.new) (S.failures sink.old) (S.failures sink.new) result }
     {
         let Some(count) = self.messages_to_move(partition, port) else {
@@ -244,9 +243,9 @@ impl<E: Executor<Mem = PartitionMem>> Members<E> {
     ) -> Result<(), SinkFault>
         requires past { at.origin.0 ≤ at.now.0 }
         requires now { at.now.0 ≤ 2 ^ 40 }
-        requires empty { trace.old.events.items ≡ [] }
+        requires empty { trace.old.text.items ≡ [] }
         requires failures { S.failures sink.old < 2 ^ 64 - 1 }
-        ensures empty { OnOk result (trace.new.events.items ≡ []) }
+        ensures empty { OnOk result (trace.new.text.items ≡ []) }
         ensures written { IsWritten (meaning.moves_ports count 1 (channels_of channels.now) at partition (members_in E.Executor self.old)) (members_in E.Executor self.new) (S.taken sink.old) (S.taken sink.new) (S.failures sink.old) (S.failures sink.new) result }
     {
         for place in 0..count {
@@ -278,9 +277,9 @@ impl<E: Executor<Mem = PartitionMem>> Members<E> {
     ) -> Result<(), SinkFault>
         requires past { at.origin.0 ≤ at.now.0 }
         requires now { at.now.0 ≤ 2 ^ 40 }
-        requires empty { trace.old.events.items ≡ [] }
+        requires empty { trace.old.text.items ≡ [] }
         requires failures { S.failures sink.old < 2 ^ 64 - 1 }
-        ensures empty { OnOk result (trace.new.events.items ≡ []) }
+        ensures empty { OnOk result (trace.new.text.items ≡ []) }
         ensures written { IsWritten (meaning.moves_ended (channels_of channels.now) at (members_in E.Executor self.old) (option_map (λ p. p.0) ended)) (members_in E.Executor self.new) (S.taken sink.old) (S.taken sink.new) (S.failures sink.old) (S.failures sink.new) result }
     {
         let Some(partition) = ended else {

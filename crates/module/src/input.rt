@@ -25,9 +25,9 @@ impl<E: Executor<Mem = PartitionMem>> Members<E> {
     ) -> Result<Option<At>, SinkFault>
         requires past { at.origin.0 ≤ at.now.0 }
         requires now { at.now.0 ≤ 2 ^ 40 }
-        requires empty { trace.old.events.items ≡ [] }
+        requires empty { trace.old.text.items ≡ [] }
         requires failures { S.failures sink.old < 2 ^ 64 - 1 }
-        ensures empty { OnOk result (trace.new.events.items ≡ []) }
+        ensures empty { OnOk result (trace.new.text.items ≡ []) }
         ensures of_tick { IfOk result (IsOfTick at) }
         ensures written { IsCourseWritten (meaning.inputs (plan_of plan.now) at input.now (members_in E.Executor self.old)) (members_in E.Executor self.new) (S.taken sink.old) (S.taken sink.new) (S.failures sink.old) (S.failures sink.new) result }
     {
@@ -57,9 +57,9 @@ impl<E: Executor<Mem = PartitionMem>> Members<E> {
     ) -> Result<Option<At>, SinkFault>
         requires past { at.origin.0 ≤ at.now.0 }
         requires now { at.now.0 ≤ 2 ^ 40 }
-        requires empty { trace.old.events.items ≡ [] }
+        requires empty { trace.old.text.items ≡ [] }
         requires failures { S.failures sink.old < 2 ^ 64 - 1 }
-        ensures empty { OnOk result (trace.new.events.items ≡ []) }
+        ensures empty { OnOk result (trace.new.text.items ≡ []) }
         ensures of_tick { IfOk result (IsOfTick at) }
         ensures written { IsCourseWritten (meaning.inputs_all (plan_of plan.now) at lines.now (members_in E.Executor self.old)) (members_in E.Executor self.new) (S.taken sink.old) (S.taken sink.new) (S.failures sink.old) (S.failures sink.new) result }
     {

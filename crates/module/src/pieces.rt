@@ -4,14 +4,14 @@ ghost use Rattle.std.specs.Prelude.{◌≡◌, ◌≢◌, ◌≤◌, ◌<◌, �
 ghost use Rattle.apex_types.specs.declared.device.DeviceLine.{DeviceLine};
 ghost use Rattle.apex_meaning.specs.Windows.{tick_from, owner, ended};
 ghost use Rattle.bursts.specs.Quiet.{AreStill};
-ghost use Rattle.module.specs.Pieces.{HasMoved, HasMovedWritten, HasRunSome};
+ghost use Rattle.module.specs.Pieces.{HasMovedTelling, HasMovedWritten, HasRunSome};
 ghost use Rattle.module.specs.Standing.{ticks_in};
 ghost use Rattle.module.specs.Views.{members_in, plan_of, standing_of};
 ghost use Rattle.module.specs.Written.{AreFrom};
 
 use crate::member::{Members, Module};
 use crate::step::number_at;
-use apex_types::{At, DeviceLine, Events, Sink, SinkFault, Ticks, TraceBuffer};
+use apex_types::{At, DeviceLine, Sink, SinkFault, Ticks, TraceBuffer};
 use partition_base::Executor;
 use regions::PartitionMem;
 
@@ -38,19 +38,19 @@ impl<E: Executor<Mem = PartitionMem>> Members<E> {
     /// with an event; how many they were. It is lent its own part of the memory, and no other partition's
     /// memory changes.
     #[tactic(auto, using(crate::proofs::Members::others))]
-    fn advance_at(&mut self, place: usize, at: At, most: u32, events: &mut Events) -> u32
+    fn advance_at(&mut self, place: usize, at: At, most: u32, trace: &mut TraceBuffer) -> u32
         requires past { at.origin.0 ≤ at.now.0 }
         requires soon { at.now.0 + most ≤ 2 ^ 40 }
-        requires empty { events.old.items ≡ [] }
+        requires empty { trace.old.text.items ≡ [] }
         ensures within { result ≤ most }
-        ensures moved { HasMoved at most place (members_in E.Executor self.old) (slice_get (members_in E.Executor self.old) place) (members_in E.Executor self.new) events.new.items result }
+        ensures moved { HasMovedTelling at most place (members_in E.Executor self.old) (slice_get (members_in E.Executor self.old) place) (members_in E.Executor self.new) trace.new.text.items result }
         ensures others { (q : ℕ) → q ≢ place → slice_get self.new.memory q ≡ slice_get self.old.memory q }
     {
         if place >= self.partitions.len() {
             return 0;
         }
         let mem = self.memory.lend(number_at(place));
-        self.partitions[place].advance(mem, at, most, events)
+        self.partitions[place].advance(mem, at, most, trace)
     }
 
     /// The same, and the lines are written.
@@ -64,11 +64,11 @@ impl<E: Executor<Mem = PartitionMem>> Members<E> {
     ) -> Result<u32, SinkFault>
         requires past { at.origin.0 ≤ at.now.0 }
         requires soon { at.now.0 + most ≤ 2 ^ 40 }
-        requires empty { trace.old.events.items ≡ [] }
+        requires empty { trace.old.text.items ≡ [] }
         requires failures { S.failures sink.old < 2 ^ 64 - 1 }
         ensures written { HasMovedWritten at most place (members_in E.Executor self.old) (slice_get (members_in E.Executor self.old) place) (members_in E.Executor self.new) (S.taken sink.old) (S.taken sink.new) (S.failures sink.old) (S.failures sink.new) result }
     {
-        let count = self.advance_at(place, at, most, &mut trace.events);
+        let count = self.advance_at(place, at, most, trace);
         trace.write_events(sink)?;
         Ok(count)
     }
@@ -130,7 +130,7 @@ impl<E: Executor<Mem = PartitionMem>> Module<E> {
         ensures origin { OnOk result (self.new.origin ≡ self.old.origin) }
         ensures run { (lines : List DeviceLine) → AreFrom (at.now.0 + most) lines → HasRunSome (plan_of self.old.image) lines most (standing_of E.Executor self.old) (standing_of E.Executor self.new) (S.taken sink.old) (S.taken sink.new) (S.failures sink.old) (S.failures sink.new) result }
     {
-        self.trace.events.clear();
+        self.trace.clear();
         let count = self
             .members
             .write_advance(place, at, most, &mut self.trace, sink)?;

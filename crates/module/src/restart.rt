@@ -8,22 +8,11 @@ ghost use Rattle.module.specs.Written.{IsOfTick, IsCourseWritten, IsWritten};
 use crate::member::Members;
 use crate::step::Step;
 use apex_types::{
-    At, ErrorKind, Event, EventKind, ModuleAction, Response, Sink, SinkFault, StartCondition,
+    At, ErrorKind, EventKind, EventLog, ModuleAction, Response, Sink, SinkFault, StartCondition,
     TraceBuffer,
 };
 use partition_base::Executor;
 use regions::PartitionMem;
-
-/// The line of a fault of the module, which is no partition's.
-fn fault_line(at: At, action: ModuleAction) -> Event
-    ensures { result ≡ meaning.fault_line at action }
-{
-    Event {
-        tick: at.now,
-        partition: None,
-        kind: EventKind::Error(ErrorKind::HardwareFault, None, Response::Module(action)),
-    }
-}
 
 impl<E: Executor<Mem = PartitionMem>> Members<E> {
     /// Each partition in order clears to a cold start, for a reason.
@@ -36,22 +25,22 @@ impl<E: Executor<Mem = PartitionMem>> Members<E> {
     ) -> Result<(), SinkFault>
         requires past { at.origin.0 ≤ at.now.0 }
         requires now { at.now.0 ≤ 2 ^ 40 }
-        requires empty { trace.old.events.items ≡ [] }
+        requires empty { trace.old.text.items ≡ [] }
         requires failures { S.failures sink.old < 2 ^ 64 - 1 }
-        ensures empty { OnOk result (trace.new.events.items ≡ []) }
+        ensures empty { OnOk result (trace.new.text.items ≡ []) }
         ensures written { IsWritten (meaning.starts_all at condition (members_in E.Executor self.old)) (members_in E.Executor self.new) (S.taken sink.old) (S.taken sink.new) (S.failures sink.old) (S.failures sink.new) result }
     {
         let step = Step::Start(condition);
         let mut place = 0;
         while place < self.partitions.len() {
-            self.step_at(place, at, &step, &mut trace.events);
+            self.step_at(place, at, &step, trace);
             trace.write_events(sink)?;
             place += 1;
         }
         Ok(())
     }
 
-    /// A fault of the module is told.
+    /// A fault of the module is told. It is no partition's.
     fn tell_fault<S: Sink>(
         &self,
         at: At,
@@ -59,12 +48,13 @@ impl<E: Executor<Mem = PartitionMem>> Members<E> {
         trace: &mut TraceBuffer,
         sink: &mut S,
     ) -> Result<(), SinkFault>
-        requires empty { trace.old.events.items ≡ [] }
+        requires empty { trace.old.text.items ≡ [] }
         requires failures { S.failures sink.old < 2 ^ 64 - 1 }
-        ensures empty { OnOk result (trace.new.events.items ≡ []) }
+        ensures empty { OnOk result (trace.new.text.items ≡ []) }
         ensures written { IsWritten (meaning.tells_fault at action (members_in E.Executor self.now)) (members_in E.Executor self.now) (S.taken sink.old) (S.taken sink.new) (S.failures sink.old) (S.failures sink.new) result }
     {
-        trace.events.push(fault_line(at, action));
+        let error = EventKind::Error(ErrorKind::HardwareFault, None, Response::Module(action));
+        trace.tell(at.now, &None, &error);
         trace.write_events(sink)?;
         Ok(())
     }
@@ -78,9 +68,9 @@ impl<E: Executor<Mem = PartitionMem>> Members<E> {
         sink: &mut S,
     ) -> Result<At, SinkFault>
         requires now { at.now.0 ≤ 2 ^ 40 }
-        requires empty { trace.old.events.items ≡ [] }
+        requires empty { trace.old.text.items ≡ [] }
         requires failures { S.failures sink.old < 2 ^ 64 - 1 }
-        ensures empty { OnOk result (trace.new.events.items ≡ []) }
+        ensures empty { OnOk result (trace.new.text.items ≡ []) }
         ensures origin { IfOk result (λ a. a ≡ meaning.as_origin at) }
         ensures written { IsWritten (meaning.then_goes (meaning.tells_fault at ModuleAction.Reset (members_in E.Executor self.old)) (meaning.starts_all (meaning.as_origin at) StartCondition.HmModuleRestart)) (members_in E.Executor self.new) (S.taken sink.old) (S.taken sink.new) (S.failures sink.old) (S.failures sink.new) result }
     {
@@ -104,9 +94,9 @@ impl<E: Executor<Mem = PartitionMem>> Members<E> {
     ) -> Result<Option<At>, SinkFault>
         requires past { at.origin.0 ≤ at.now.0 }
         requires now { at.now.0 ≤ 2 ^ 40 }
-        requires empty { trace.old.events.items ≡ [] }
+        requires empty { trace.old.text.items ≡ [] }
         requires failures { S.failures sink.old < 2 ^ 64 - 1 }
-        ensures empty { OnOk result (trace.new.events.items ≡ []) }
+        ensures empty { OnOk result (trace.new.text.items ≡ []) }
         ensures of_tick { IfOk result (IsOfTick at) }
         ensures written { IsCourseWritten (meaning.breaks_module at action (members_in E.Executor self.old)) (members_in E.Executor self.new) (S.taken sink.old) (S.taken sink.new) (S.failures sink.old) (S.failures sink.new) result }
     {

@@ -56,7 +56,7 @@ impl<E: Executor<Mem = PartitionMem>> Module<E> {
             now: self.now,
             origin,
         };
-        self.trace.events.clear();
+        self.trace.clear();
         self.members
             .begin_and_tick(&self.image, at, lines, &mut self.trace, sink)
     }

@@ -45,8 +45,8 @@ impl<E: Executor<Mem = PartitionMem>> Members<E> {
     ) -> Result<(), InputsFault>
         requires past { at.origin.0 ≤ at.now.0 }
         requires now { at.now.0 ≤ 2 ^ 40 }
-        requires empty { trace.old.events.items ≡ [] }
-        ensures empty { OnOk result (trace.new.events.items ≡ []) }
+        requires empty { trace.old.text.items ≡ [] }
+        ensures empty { OnOk result (trace.new.text.items ≡ []) }
         ensures members { OnOk result (members_in E.Executor self.new ≡ (meaning.moves_and_ticks (plan_of plan.now) at (members_in E.Executor self.old)).members) }
         ensures inputs { AreCollected at.now.0 (brought_moved (plan_of plan.now) watched.0 (members_in E.Executor self.old) (Some at)) inputs.old.lines.items inputs.new.lines.items result }
     {
@@ -69,7 +69,7 @@ impl<E: Executor<Mem = PartitionMem>> Members<E> {
     ) -> Result<Option<At>, InputsFault>
         requires past { at.origin.0 ≤ at.now.0 }
         requires now { at.now.0 ≤ 2 ^ 40 }
-        requires empty { trace.old.events.items ≡ [] }
+        requires empty { trace.old.text.items ≡ [] }
         requires lines { meaning.of_tick at.now.0 lines.now ≡ lines.now }
         ensures of_tick { IfOk result (IsOfTick at) }
         ensures made { IfOk result (λ last. IsMadeUnseen (meaning.module_tick (plan_of plan.now) at lines.now (members_in E.Executor self.old)) last (members_in E.Executor self.new)) }
@@ -96,7 +96,7 @@ impl<E: Executor<Mem = PartitionMem>> Members<E> {
     ) -> Result<Option<At>, InputsFault>
         requires past { at.origin.0 ≤ at.now.0 }
         requires now { at.now.0 ≤ 2 ^ 40 }
-        requires empty { trace.old.events.items ≡ [] }
+        requires empty { trace.old.text.items ≡ [] }
         requires lines { meaning.of_tick at.now.0 lines.now ≡ lines.now }
         ensures of_tick { IfOk result (IsOfTick at) }
         ensures made { IfOk result (λ last. IsMadeUnseen (begins_and_ticks (plan_of plan.now) at lines.now (members_in E.Executor self.old)) last (members_in E.Executor self.new)) }
@@ -148,7 +148,7 @@ impl<E: Executor<Mem = PartitionMem>> Module<E> {
             now: self.now,
             origin,
         };
-        self.trace.events.clear();
+        self.trace.clear();
         self.members
             .begin_and_tick_watched(&self.image, at, lines, watched, inputs, &mut self.trace)
     }

@@ -1,3 +1,4 @@
 pub mod AtRest
 pub mod Leaving
 pub mod Quiet
+pub mod Told

@@ -2,6 +2,7 @@
 use Rattle.std.specs.Prelude.{◌≡◌, ℕ, ◌+◌, List, ◌++◌}
 use Rattle.apex_types.specs.declared.identity.At.{At}
 use Rattle.apex_types.specs.declared.event.Event.{Event}
+use Rattle.apex_types.specs.declared.log.EventLog.{Ghosts as Log}
 use Rattle.apex_types.specs.declared.process.Action.{Action}
 use Rattle.apex_meaning.specs.Kernel.{Kernel}
 use Rattle.apex_meaning.specs.Partition.{Member, Moved, with_world, act, act_all}
@@ -25,9 +26,17 @@ acts action x = with_world x (act x.engine action x.world)
 abbrev pub acts_all : {C : Type 0} → List Action → Member C → Member C
 acts_all actions x = with_world x (act_all x.engine actions x.world)
 
--- A member moved: this is the one after it, and its lines come behind those that were there.
-abbrev pub IsMoved : {C : Type 0} → Moved C → Member C → Member C → List Event → List Event → Type 0
-IsMoved m before after old new = (after ≡ with_world before m.world) × (new ≡ old ++ m.lines)
+-- The log holds what it held, and behind it these events.
+abbrev pub IsTold : {L : Type 0} → (g : Log L) → L → L → List Event → Type 0
+IsTold g old new events = g.held new ≡ g.held old ++ g.pieces events
+
+-- Some events were told, of which this is so.
+abbrev pub TellsSome : {L : Type 0} → (g : Log L) → L → L → (List Event → Type 0) → Type 0
+TellsSome g old new is_so = (told : List Event) × IsTold g old new told × is_so told
+
+-- A member moved: this is the one after it, and its lines were told.
+abbrev pub IsMoved : {C : Type 0} → Moved C → Member C → Member C → (List Event → Type 0) → Type 0
+IsMoved m before after is_told = (after ≡ with_world before m.world) × is_told m.lines
 
 -- Ticks of a member from one on: it is now this one, they told these lines, and were so many.
 abbrev pub HasGone : {C : Type 0} → At → Member C → Member C → List Event → ℕ → Type 0

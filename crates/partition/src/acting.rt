@@ -2,10 +2,10 @@
 
 ghost use Rattle.std.specs.Prelude.{◌≡◌, ◌≤◌, ◌+◌, [], ◌++◌, length};
 ghost use Rattle.apex_meaning.specs.Partition.{line, told};
-ghost use Rattle.partition.specs.Members.{member_at, acts, acts_all};
+ghost use Rattle.partition.specs.Members.{member_at, acts, acts_all, IsTold};
 
 use crate::kernel::Kernel;
-use apex_types::{Action, At, Event, EventKind, Events, Happenings, Name};
+use apex_types::{Action, At, EventLog, Happenings, Name};
 use partition_base::Executor;
 
 /// Does what the kernel asks of the processor, of the memory and of the errors that wait for the handler.
@@ -41,17 +41,16 @@ pub(crate) fn act_all<E: Executor>(
     }
 }
 
-/// What happened in a tick becomes lines of the partition.
-pub(crate) fn tell(name: Name, at: At, lines: &mut Happenings, events: &mut Events)
-    requires { length events.old.items + length lines.old.items ≤ 256 }
-    ensures events { events.new.items ≡ events.old.items ++ told name at lines.old.items }
+/// What happened in a tick is told as events of the partition.
+pub(crate) fn tell<L: EventLog>(name: Name, at: At, lines: &mut Happenings, log: &mut L)
+    requires { length lines.old.items ≤ L.room log.old }
+    ensures told { IsTold L.EventLog log.old log.new (told name at lines.old.items) }
+    ensures few { L.room log.old ≤ L.room log.new + length lines.old.items }
     ensures lines { lines.new.items ≡ [] }
 {
-    for kind in lines.drain(..) {
-        events.push(Event {
-            tick: at.now,
-            partition: Some(name),
-            kind,
-        });
+    let partition = Some(name);
+    for kind in lines.as_slice() {
+        log.tell(at.now, &partition, kind);
     }
+    lines.clear();
 }

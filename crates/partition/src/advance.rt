@@ -7,11 +7,11 @@ ghost use Rattle.apex_meaning.specs.Step.{nothing};
 ghost use Rattle.apex_meaning.specs.Windows.{tick_from};
 ghost use Rattle.bursts.specs.Quiet.{HasNothingDue};
 ghost use Rattle.bursts.specs.Running.{advances_by, burst_of, with_control};
-ghost use Rattle.partition.specs.Members.{member_of, HasAdvanced, HasGone, IsMoved};
+ghost use Rattle.partition.specs.Members.{member_of, HasAdvanced, HasGone, IsMoved, IsTold, TellsSome};
 ghost use Rattle.processor.specs.Views.{asks_of};
 
 use crate::partition::Partition;
-use apex_types::{At, Events, Runner, Ticks};
+use apex_types::{At, EventLog, Runner, Ticks};
 use partition_base::Executor;
 use processor::{Burst, Outcome};
 
@@ -34,45 +34,45 @@ impl<E: Executor> Partition<E> {
     }
 
     /// What a tick of the one that runs came to is treated, and what it asks for is done.
-    fn settle(
+    fn settle<L: EventLog>(
         &mut self,
         mem: &mut E::Mem,
         at: At,
         runner: Runner,
         outcome: Outcome,
-        events: &mut Events,
+        log: &mut L,
     )
         requires past { at.origin.0 ≤ at.now.0 }
         requires now { at.now.0 ≤ 2 ^ 40 }
         requires fits { E.laid mem.old ≡ E.layout self.old.executor }
         requires idle { IsEmpty self.old.out }
-        requires empty { events.old.items ≡ [] }
+        requires empty { L.held log.old ≡ [] }
         ensures fits { E.laid mem.new ≡ E.layout self.new.executor }
         ensures idle { IsEmpty self.new.out }
-        ensures moved { let x = member_of E.Executor self.old mem.old in IsMoved (meaning.moved at x.engine (meaning.treats_asked at x.world.kernel runner (asks_of outcome) (meaning.given (asks_of outcome) x.world.words)) x.world) x (member_of E.Executor self.new mem.new) events.old.items events.new.items }
+        ensures moved { let x = member_of E.Executor self.old mem.old in IsMoved (meaning.moved at x.engine (meaning.treats_asked at x.world.kernel runner (asks_of outcome) (meaning.given (asks_of outcome) x.world.words)) x.world) x (member_of E.Executor self.new mem.new) (IsTold L.EventLog log.old log.new) }
     {
         let name = self.kernel.name();
         let words = self.given(mem, &outcome);
         self.kernel.treat(at, runner, outcome, words, &mut self.out);
-        self.finish(mem, name, at, events);
+        self.finish(mem, name, at, log);
     }
 
     /// Ticks of the one that runs, while nothing is due and the choice stays: how many they were. It asks
     /// for something in the last one alone, so this one alone is treated.
-    fn burst(
+    fn burst<L: EventLog>(
         &mut self,
         mem: &mut E::Mem,
         at: At,
         runner: Runner,
         k: u32,
-        events: &mut Events,
+        log: &mut L,
     ) -> u32
         requires some { 0 < k }
         requires past { at.origin.0 ≤ at.now.0 }
         requires soon { at.now.0 + k ≤ 2 ^ 40 }
         requires fits { E.laid mem.old ≡ E.layout self.old.executor }
         requires idle { IsEmpty self.old.out }
-        requires empty { events.old.items ≡ [] }
+        requires empty { L.held log.old ≡ [] }
         requires runs { self.old.kernel.processes.running ≡ Some runner }
         requires choice { meaning.chooses_with_handler self.old.kernel ≡ nothing self.old.kernel }
         requires due { (i : ℕ) → i < k → HasNothingDue (tick_from at.origin.0 (at.now.0 + i)) self.old.kernel }
@@ -80,14 +80,14 @@ impl<E: Executor> Partition<E> {
         ensures idle { IsEmpty self.new.out }
         ensures within { result ≤ k }
         ensures some { 0 < result }
-        ensures gone { HasGone at (member_of E.Executor self.old mem.old) (member_of E.Executor self.new mem.new) events.new.items result }
+        ensures gone { TellsSome L.EventLog log.old log.new (λ told. HasGone at (member_of E.Executor self.old mem.old) (member_of E.Executor self.new mem.new) told result) }
     {
         let burst = self.run_for(mem, runner, k);
         let last = At {
             now: Ticks(at.now.0 + (u64::from(burst.ticks) - 1)),
             origin: at.origin,
         };
-        self.settle(mem, last, runner, burst.outcome, events);
+        self.settle(mem, last, runner, burst.outcome, log);
         burst.ticks
     }
 }
@@ -96,50 +96,50 @@ impl<E: Executor> Partition<E> {
     /// Ticks of the partition, at least one: how many they were. Where something is due or the choice may
     /// change it is one whole tick; else the one that runs goes on until it asks for something, and where
     /// nobody runs nothing happens.
-    fn phase(&mut self, mem: &mut E::Mem, at: At, k: u32, events: &mut Events) -> u32
+    fn phase<L: EventLog>(&mut self, mem: &mut E::Mem, at: At, k: u32, log: &mut L) -> u32
         requires some { 0 < k }
         requires past { at.origin.0 ≤ at.now.0 }
         requires soon { at.now.0 + k ≤ 2 ^ 40 }
         requires fits { E.laid mem.old ≡ E.layout self.old.executor }
         requires idle { IsEmpty self.old.out }
-        requires empty { events.old.items ≡ [] }
+        requires empty { L.held log.old ≡ [] }
         ensures fits { E.laid mem.new ≡ E.layout self.new.executor }
         ensures idle { IsEmpty self.new.out }
         ensures within { result ≤ k }
         ensures some { 0 < result }
-        ensures gone { HasGone at (member_of E.Executor self.old mem.old) (member_of E.Executor self.new mem.new) events.new.items result }
+        ensures gone { TellsSome L.EventLog log.old log.new (λ told. HasGone at (member_of E.Executor self.old mem.old) (member_of E.Executor self.new mem.new) told result) }
     {
         let quiet = self.kernel.quiet_ticks(at, k);
         if quiet == 0 {
-            self.tick(mem, at, events);
+            self.tick(mem, at, log);
             return 1;
         }
         match self.kernel.running() {
             None => quiet,
-            Some(runner) => self.burst(mem, at, runner, quiet, events),
+            Some(runner) => self.burst(mem, at, runner, quiet, log),
         }
     }
 
     /// `k` ticks of the partition, this one the first, or those up to the first with an event: how many
     /// they were. The partition is then as so many calls of [`Partition::tick`] leave it, and the events
     /// are those of the last one. Nothing from outside of the partition may happen in these ticks.
-    pub fn advance(&mut self, mem: &mut E::Mem, at: At, k: u32, events: &mut Events) -> u32
+    pub fn advance<L: EventLog>(&mut self, mem: &mut E::Mem, at: At, k: u32, log: &mut L) -> u32
         requires past { at.origin.0 ≤ at.now.0 }
         requires soon { at.now.0 + k ≤ 2 ^ 40 }
         requires fits { E.laid mem.old ≡ E.layout self.old.executor }
-        requires empty { events.old.items ≡ [] }
+        requires empty { L.held log.old ≡ [] }
         ensures fits { E.laid mem.new ≡ E.layout self.new.executor }
         ensures within { result ≤ k }
-        ensures advanced { HasAdvanced at k (member_of E.Executor self.old mem.old) (member_of E.Executor self.new mem.new) events.new.items result }
+        ensures advanced { TellsSome L.EventLog log.old log.new (λ told. HasAdvanced at k (member_of E.Executor self.old mem.old) (member_of E.Executor self.new mem.new) told result) }
     {
         self.out.clear();
         let mut left = k;
-        while left > 0 && events.is_empty() {
+        while left > 0 && log.is_empty() {
             let now = At {
                 now: Ticks(at.now.0 + u64::from(k - left)),
                 origin: at.origin,
             };
-            left -= self.phase(mem, now, left, events);
+            left -= self.phase(mem, now, left, log);
         }
         k - left
     }

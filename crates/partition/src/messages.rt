@@ -8,12 +8,12 @@ ghost use Rattle.apex_meaning.specs.Kernel.{of_ports, of_ports_alone, with_ports
 ghost use Rattle.apex_meaning.specs.Partition as meaning;
 ghost use Rattle.apex_meaning.specs.Ports.{port_at, is_source};
 ghost use Rattle.apex_meaning.specs.Step.{IsMade};
-ghost use Rattle.partition.specs.Members.{member_of, IsMoved};
+ghost use Rattle.partition.specs.Members.{member_of, IsMoved, IsTold};
 ghost use Rattle.ports.specs.Held.{message_behind};
 
 use crate::kernel::Kernel;
 use crate::partition::Partition;
-use apex_types::{At, Event, EventKind, Events, Name, Out, PortId, Words};
+use apex_types::{At, EventKind, EventLog, Name, Out, PortId, Words};
 use partition_base::Executor;
 use ports::{admit, arrive};
 
@@ -88,70 +88,74 @@ impl Kernel {
 
 impl<E: Executor> Partition<E> {
     /// A message arrives at a destination port (ARINC 653 Part 1, interpartition communication).
-    pub fn arrive(
+    pub fn arrive<L: EventLog>(
         &mut self,
         mem: &mut E::Mem,
         at: At,
         port: PortId,
         message: Words,
-        events: &mut Events,
+        log: &mut L,
     )
         requires fits { E.laid mem.old ≡ E.layout self.old.executor }
-        requires empty { events.old.items ≡ [] }
+        requires empty { L.held log.old ≡ [] }
         ensures fits { E.laid mem.new ≡ E.layout self.new.executor }
-        ensures moved { let x = member_of E.Executor self.old mem.old in IsMoved (meaning.arrives at port message x) x (member_of E.Executor self.new mem.new) events.old.items events.new.items }
+        ensures moved { let x = member_of E.Executor self.old mem.old in IsMoved (meaning.arrives at port message x) x (member_of E.Executor self.new mem.new) (IsTold L.EventLog log.old log.new) }
     {
         let name = self.kernel.name();
         self.out.clear();
         self.kernel.arrive(at, port, message, &mut self.out);
-        self.finish(mem, name, at, events);
+        self.finish(mem, name, at, log);
     }
 
     /// The first message of a source port leaves it, if it holds one (ARINC 653 Part 1, interpartition
     /// communication).
-    pub fn move_one(
+    pub fn move_one<L: EventLog>(
         &mut self,
         mem: &mut E::Mem,
         at: At,
         port: PortId,
-        events: &mut Events,
+        log: &mut L,
     ) -> Option<Words>
         requires fits { E.laid mem.old ≡ E.layout self.old.executor }
-        requires empty { events.old.items ≡ [] }
+        requires empty { L.held log.old ≡ [] }
         ensures fits { E.laid mem.new ≡ E.layout self.new.executor }
         ensures message { result ≡ meaning.leaving port (member_of E.Executor self.old mem.old) }
-        ensures moved { let x = member_of E.Executor self.old mem.old in IsMoved (meaning.leaves at port x) x (member_of E.Executor self.new mem.new) events.old.items events.new.items }
+        ensures moved { let x = member_of E.Executor self.old mem.old in IsMoved (meaning.leaves at port x) x (member_of E.Executor self.new mem.new) (IsTold L.EventLog log.old log.new) }
     {
         let name = self.kernel.name();
         self.out.clear();
         let message = self.kernel.move_one(port, &mut self.out);
-        self.finish(mem, name, at, events);
+        self.finish(mem, name, at, log);
         message
     }
 
     /// The senders that wait at a source port enter it in their order, as long as there is room
     /// (ARINC 653 Part 1, interpartition communication).
-    pub fn admit(&mut self, mem: &mut E::Mem, at: At, port: PortId, events: &mut Events)
+    pub fn admit<L: EventLog>(&mut self, mem: &mut E::Mem, at: At, port: PortId, log: &mut L)
         requires fits { E.laid mem.old ≡ E.layout self.old.executor }
-        requires empty { events.old.items ≡ [] }
+        requires empty { L.held log.old ≡ [] }
         ensures fits { E.laid mem.new ≡ E.layout self.new.executor }
-        ensures moved { let x = member_of E.Executor self.old mem.old in IsMoved (meaning.admits at port x) x (member_of E.Executor self.new mem.new) events.old.items events.new.items }
+        ensures moved { let x = member_of E.Executor self.old mem.old in IsMoved (meaning.admits at port x) x (member_of E.Executor self.new mem.new) (IsTold L.EventLog log.old log.new) }
     {
         let name = self.kernel.name();
         self.out.clear();
         self.kernel.admit(port, &mut self.out);
-        self.finish(mem, name, at, events);
+        self.finish(mem, name, at, log);
     }
 
     /// A message of the partition leaves the module by a channel: its line.
-    pub fn go_out(&self, mem: &E::Mem, at: At, channel: Name, message: Words, events: &mut Events)
-        requires empty { events.old.items ≡ [] }
-        ensures moved { let x = member_of E.Executor self.now mem.now in IsMoved (meaning.goes_out at channel message x) x x events.old.items events.new.items }
+    pub fn go_out<L: EventLog>(
+        &self,
+        mem: &E::Mem,
+        at: At,
+        channel: Name,
+        message: Words,
+        log: &mut L,
+    )
+        requires empty { L.held log.old ≡ [] }
+        ensures moved { let x = member_of E.Executor self.now mem.now in IsMoved (meaning.goes_out at channel message x) x x (IsTold L.EventLog log.old log.new) }
     {
-        events.push(Event {
-            tick: at.now,
-            partition: Some(self.kernel.name()),
-            kind: EventKind::Out(channel, message),
-        });
+        let name = Some(self.kernel.name());
+        log.tell(at.now, &name, &EventKind::Out(channel, message));
     }
 }

@@ -13,8 +13,8 @@ ghost use Rattle.ports.specs.Status.{placed_port, port_status};
 
 use crate::port::PortStatus;
 use crate::ports::Ports;
-use apex_types::{At, Entry, EventKind, ListKey, Out, ReturnCode, Words};
-use process_table_base::{ProcessTable, copied};
+use apex_types::{At, Entry, EventKind, ListKey, Out, ReturnCode, Words, copied};
+use process_table_base::ProcessTable;
 
 /// A sampling port has the message, with its tick, in place of the one before.
 fn arrive_sampling(

@@ -5,9 +5,8 @@ ghost use Rattle.apex_meaning.specs.Ports as meaning;
 ghost use Rattle.apex_meaning.specs.PortServices as services;
 ghost use Rattle.ports.specs.Status.{port_status, without_first};
 
-use apex_types::{At, Discipline, PortDirection, PortKind, PortRow, Ticks, Words};
+use apex_types::{At, Discipline, PortDirection, PortKind, PortRow, Ticks, Words, copied};
 use circular_buffer::HeapCircularBuffer;
-use process_table_base::copied;
 use std::alloc::{AllocError, Global};
 use std::marker::Model;
 

@@ -13,8 +13,7 @@ ghost use Rattle.ports.specs.Held.{message_behind};
 ghost use Rattle.ports.specs.Status.{placed_port, port_of_status, port_status, port_with_status, without_first};
 
 use crate::port::{Port, PortStatus};
-use apex_types::{At, EventKind, Out, PortRow, Ticks, Words};
-use process_table_base::copied;
+use apex_types::{At, EventKind, Out, PortRow, Ticks, Words, copied};
 use std::alloc::{AllocError, Global};
 use std::marker::Model;
 use sync_objects_base::place_of;

@@ -23,4 +23,4 @@ pub use find::is_dormant;
 pub use message::{first_words, is_large_enough, is_length};
 pub use start::Points;
 pub use table::{ProcessTable, is_same};
-pub use waiting::{copied, fill};
+pub use waiting::fill;

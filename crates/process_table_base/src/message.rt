@@ -4,8 +4,7 @@ ghost use Rattle.std.specs.Prelude.{◌≡◌, ◌≤ℤ◌, pos};
 ghost use Rattle.apex_meaning.specs.Sharing as meaning;
 ghost use Rattle.apex_meaning.specs.Step.{first_words, message};
 
-use crate::waiting::copied;
-use apex_types::{ArrayPlace, Words};
+use apex_types::{ArrayPlace, Words, copied};
 
 /// Whether a message of an array has a good length: 1 word at least, no more than the object takes,
 /// and no more than the array has.

@@ -17,20 +17,8 @@ ghost use Rattle.process_table_base.specs.LeastNumber.{IsLeast};
 use crate::change::zeros;
 use crate::duration::time_out;
 use crate::table::ProcessTable;
-use apex_types::{
-    Action, ArrayPlace, At, Entry, ListKey, MOST_PROCESSES, MOST_RUNNERS, Out, ProcessIndex,
-    ProcessStatus, ReturnCode, Runner, Wait, Waiting, Words,
-};
+use apex_types::{Action, ArrayPlace, At, Entry, ListKey, MOST_PROCESSES, MOST_RUNNERS, Out, ProcessIndex, ProcessStatus, ReturnCode, Runner, Wait, Waiting, Words, copied};
 use links::Entries;
-
-/// The same message once more.
-pub fn copied(message: &Words) -> Words
-    ensures { result ≡ message.now }
-{
-    let mut copy = Words::new();
-    copy.try_extend_from_slice(message.as_slice()).unwrap();
-    copy
-}
 
 /// Puts a message in the place of a process, where there is one.
 fn put_message(handed: &mut Vec<Words>, process: ProcessIndex, message: Words)

@@ -11,7 +11,7 @@ use Rattle.lone_partition.proofs.running.run_ticks.Given as goal
 abbrev pub invariant-loop-left : goal.invariant-loop-left
 invariant-loop-left g l = record {
   fits : g.E.Executor.laid l.mem ≡ g.E.Executor.layout l.partition.executor;
-  empty : l.trace.events.items ≡ [];
+  empty : l.trace.text.items ≡ [];
   limit : l.at.now.0 + l.left ≡ l.ticks;
   past : l.at.origin.0 ≤ l.at.now.0;
   order : AreFrom tick_of_input l.at.now.0 l.lines;

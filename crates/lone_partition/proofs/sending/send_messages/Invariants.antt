@@ -8,6 +8,6 @@ use Rattle.lone_partition.proofs.sending.send_messages.Given as goal
 abbrev pub invariant-loop : goal.invariant-loop
 invariant-loop g l = record {
   fits : g.E.Executor.laid l.mem ≡ g.E.Executor.layout l.partition.executor;
-  empty : l.trace.events.items ≡ [];
+  empty : l.trace.text.items ≡ [];
   under_way : IsUnderWay (sends_messages l.count (around l.surroundings) l.at l.port (member_of g.E.Executor l.fn.partition l.fn.mem)) (sends_messages (l.count - l.counter) (around l.surroundings) l.at l.port (member_of g.E.Executor l.partition l.mem)) (g.S.Sink.taken l.fn.sink) (g.S.Sink.taken l.sink) (g.S.Sink.failures l.fn.sink) (g.S.Sink.failures l.sink);
 }

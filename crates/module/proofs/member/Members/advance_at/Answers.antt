@@ -1,9 +1,10 @@
-use Rattle.std.proofs.Common.{◌≡◌, ◌≤◌, ◌<◌, length, Option, Some, None, slice_get, slice_set, refl, sym, subst, arith, rules}
+use Rattle.std.proofs.Common.{◌≡◌, ◌≤◌, ◌<◌, length, Option, Some, None, slice_get, slice_set, [], ◌++◌, refl, ap, sym, subst, ◌∙◌, arith, rules}
 use Rattle.std.proofs.lemmas.Option.{slice_get-get_or}
+use Rattle.apex_types.specs.Line.{text_of}
 use Rattle.apex_meaning.specs.Partition.{Member}
 use Rattle.partition.specs.Members.{member_of}
 use Rattle.module.specs.Members.{members_of}
-use Rattle.module.specs.Pieces.{HasMoved}
+use Rattle.module.specs.Pieces.{HasMovedTelling}
 use Rattle.module.proofs.Members.{few_set, fit_at, fit_set, get_member, set_member, no_member, same_length}
 use Rattle.module.proofs.Bursts.{has_moved}
 use Rattle.module.proofs.member.Members.advance_at.Goals as goal
@@ -41,9 +42,14 @@ returns-clause-moved g c =
     let here : slice_get ps place ≡ Some p = search (rules, slice_get-get_or) in
     let members = members_of e ps memory in
     let got : slice_get members place ≡ Some (member_of e p s) = get_member e ps memory place p s here (rw c.number_at.ensures.place at c.lend-mem.ensures.lent) in
-    rw c.number_at.ensures.place (subst (λ (o : Option (Member e.Control)). HasMoved c.args.at c.args.most place members o (members_of e (slice_set ps place c.advance.new.self) (slice_set memory place c.advance.new.mem)) c.advance.new.events.items c.advance.result) (sym got)
-    (has_moved c.args.at c.args.most place c.advance.result members (member_of e p s) (member_of e c.advance.new.self c.advance.new.mem) _ c.advance.new.events.items
-    (set_member e ps memory place c.advance.new.self c.advance.new.mem) c.advance.ensures.advanced))
+    let told = c.advance.ensures.advanced in
+    let text = told.1 ∙ ap (λ before. before ++ text_of told.0) c.requires.empty in
+    rw c.number_at.ensures.place (subst (λ (o : Option (Member e.Control)). HasMovedTelling c.args.at c.args.most place members o (members_of e (slice_set ps place c.advance.new.self) (slice_set memory place c.advance.new.mem)) c.advance.new.log.text.items c.advance.result) (sym got)
+    (
+      told.0,
+      has_moved c.args.at c.args.most place c.advance.result members (member_of e p s) (member_of e c.advance.new.self c.advance.new.mem) _ told.0 (set_member e ps memory place c.advance.new.self c.advance.new.mem) told.2,
+      text,
+    ))
 
 pub returns-then-place-len-clause-moved : goal.returns-then-place-len-clause-moved
 returns-then-place-len-clause-moved g c =
@@ -54,4 +60,4 @@ returns-then-place-len-clause-moved g c =
     let members = members_of e ps memory in
     let behind : length ps ≤ place = search rules in
     let none : slice_get members place ≡ None = no_member e ps memory place behind in
-    subst (λ (o : Option (Member e.Control)). HasMoved c.args.at c.args.most place members o members c.args.events.now.items 0) (sym none) (refl, c.requires.empty, refl)
+    subst (λ (o : Option (Member e.Control)). HasMovedTelling c.args.at c.args.most place members o members c.args.trace.now.text.items 0) (sym none) ([], (refl, refl, refl), c.requires.empty)

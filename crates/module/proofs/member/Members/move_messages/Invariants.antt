@@ -7,6 +7,6 @@ use Rattle.module.proofs.member.Members.move_messages.Given as goal
 
 abbrev pub invariant-loop : goal.invariant-loop
 invariant-loop g l = record {
-  empty : l.trace.events.items ≡ [];
+  empty : l.trace.text.items ≡ [];
   under_way : IsUnderWay (moves_messages l.count (channels_of l.channels) l.at l.partition l.port (members_in g.E.Executor l.fn.self)) (moves_messages (l.count - l.counter) (channels_of l.channels) l.at l.partition l.port (members_in g.E.Executor l.self)) (g.S.Sink.taken l.fn.sink) (g.S.Sink.taken l.sink) (g.S.Sink.failures l.fn.sink) (g.S.Sink.failures l.sink);
 }

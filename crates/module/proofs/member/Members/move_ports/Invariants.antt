@@ -7,6 +7,6 @@ use Rattle.module.proofs.member.Members.move_ports.Given as goal
 
 abbrev pub invariant-loop-place : goal.invariant-loop-place
 invariant-loop-place g l = record {
-  empty : l.trace.events.items ≡ [];
+  empty : l.trace.text.items ≡ [];
   under_way : IsUnderWay (moves_ports l.count 1 (channels_of l.channels) l.at l.partition (members_in g.E.Executor l.fn.self)) (moves_ports (l.count - l.place) (l.place + 1) (channels_of l.channels) l.at l.partition (members_in g.E.Executor l.self)) (g.S.Sink.taken l.fn.sink) (g.S.Sink.taken l.sink) (g.S.Sink.failures l.fn.sink) (g.S.Sink.failures l.sink);
 }

@@ -12,12 +12,12 @@ pub loop-place-preserved : goal.loop-place-preserved
 loop-place-preserved g c =
     let so_far = c.loop-place.invariant.members in
     let within = within_members c.args.at c.args.condition g.E.Executor c.loop-place.self.partitions.items c.loop-place.self.memory c.loop-place.place _ c.loop-place.self.fit so_far (search rules) in
-    let split = step_text c.args.at c.args.condition _ _ c.loop-place.place c.step_at.new.events.items so_far within c.step_at.ensures.lines in
+    let split = step_text c.args.at c.args.condition _ _ c.loop-place.place c.step_at.new.trace.text.items so_far within c.step_at.ensures.lines in
     let left = rw split at c.loop-place.invariant.under_way in
     record {
       empty = search rules;
       members = step_members c.args.at c.args.condition _ _ _ c.loop-place.place so_far within c.step_at.ensures.members;
-      under_way = under_way_more _ _ _ _ (text_of c.step_at.new.events.items) _ left c.in_ok-write_events.ensures.ok;
+      under_way = under_way_more _ _ _ _ c.step_at.new.trace.text.items _ left c.in_ok-write_events.ensures.ok;
       quiet = search rules;
     }
 
@@ -25,9 +25,9 @@ pub returns-in_err-write_events-clause-written : goal.returns-in_err-write_event
 returns-in_err-write_events-clause-written g c =
     let so_far = c.loop-place.invariant.members in
     let within = within_members c.args.at c.args.condition g.E.Executor c.loop-place.self.partitions.items c.loop-place.self.memory c.loop-place.place _ c.loop-place.self.fit so_far (search rules) in
-    let split = step_text c.args.at c.args.condition _ _ c.loop-place.place c.step_at.new.events.items so_far within c.step_at.ensures.lines in
+    let split = step_text c.args.at c.args.condition _ _ c.loop-place.place c.step_at.new.trace.text.items so_far within c.step_at.ensures.lines in
     let left = rw split at c.loop-place.invariant.under_way in
-    let out : TakesBeginning (g.S.Sink.taken c.args.sink.now) (g.S.Sink.taken c.write_events.new.sink) (text_of (meaning.starts_all c.args.at c.args.condition (members_in g.E.Executor c.args.self.now)).lines) = under_way_fails _ _ _ _ (text_of c.step_at.new.events.items) _ left c.in_err-write_events.ensures.beginning in
+    let out : TakesBeginning (g.S.Sink.taken c.args.sink.now) (g.S.Sink.taken c.write_events.new.sink) (text_of (meaning.starts_all c.args.at c.args.condition (members_in g.E.Executor c.args.self.now)).lines) = under_way_fails _ _ _ _ c.step_at.new.trace.text.items _ left c.in_err-write_events.ensures.beginning in
     written_err _ c.in_err-write_events.field-0.0 _ (search rules) (record { beginning = out; failed = search rules })
 
 pub returns-clause-written : goal.returns-clause-written

@@ -9,7 +9,7 @@ use Rattle.module.proofs.member.Members.start_all.Given as goal
 
 abbrev pub invariant-loop-place : goal.invariant-loop-place
 invariant-loop-place g l = record {
-  empty : l.trace.events.items ≡ [];
+  empty : l.trace.text.items ≡ [];
   members : members_in g.E.Executor l.self ≡ started_to l.at l.fn.condition l.place (members_in g.E.Executor l.fn.self);
   under_way : IsUnderWay (g.S.Sink.taken l.fn.sink) (g.S.Sink.taken l.sink) (text_of (flat_map (start_lines l.at l.fn.condition) (members_in g.E.Executor l.fn.self))) (text_of (flat_map (start_lines l.at l.fn.condition) (drop l.place (members_in g.E.Executor l.fn.self))));
   quiet : g.S.Sink.failures l.sink ≡ g.S.Sink.failures l.fn.sink;

@@ -1,5 +1,6 @@
 use Rattle.std.proofs.Common.{◌≡◌, ◌≤◌, ◌<◌, length, Option, Some, None, slice_get, slice_set, ap, sym, ◌∙◌, arith, rules}
 use Rattle.std.proofs.lemmas.Option.{slice_get-get_or}
+use Rattle.apex_types.specs.Line.{text_of}
 use Rattle.apex_meaning.specs.Partition.{Member}
 use Rattle.apex_meaning.specs.Module.{steps_member, of_member}
 use Rattle.partition.specs.Members.{member_of}
@@ -56,7 +57,7 @@ returns-clause-lines g c =
     let here : slice_get ps place ≡ Some p = search (rules, slice_get-get_or) in
     let members = members_of e ps memory in
     let got : slice_get members place ≡ Some (member_of e p s) = get_member e ps memory place p s here (rw c.number_at.ensures.place at c.lend-mem.ensures.lent) in
-    c.step_member.ensures.lines ∙ ap (λ (o : Option (Member e.Control)). (steps_member (step_of c.args.at c.args.step.now) members place o).lines) (sym got)
+    c.step_member.ensures.lines ∙ ap (λ (o : Option (Member e.Control)). text_of (steps_member (step_of c.args.at c.args.step.now) members place o).lines) (sym got)
 
 pub returns-then-place-len-clause-members : goal.returns-then-place-len-clause-members
 returns-then-place-len-clause-members g c =
@@ -78,7 +79,7 @@ returns-then-place-len-clause-lines g c =
     let members = members_of e ps memory in
     let behind : length ps ≤ place = search rules in
     let none : slice_get members place ≡ None = no_member e ps memory place behind in
-    c.requires.empty ∙ ap (λ (o : Option (Member e.Control)). (steps_member (step_of c.args.at c.args.step.now) members place o).lines) (sym none)
+    c.requires.empty ∙ ap (λ (o : Option (Member e.Control)). text_of (steps_member (step_of c.args.at c.args.step.now) members place o).lines) (sym none)
 
 pub returns-clause-message : goal.returns-clause-message
 returns-clause-message g c =

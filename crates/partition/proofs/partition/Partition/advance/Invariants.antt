@@ -2,7 +2,7 @@ use Rattle.std.proofs.Common.{◌≡◌, ◌≤◌, ◌-◌}
 use Rattle.apex_types.specs.Room.{IsEmpty}
 use Rattle.apex_meaning.specs.Partition.{with_world}
 use Rattle.bursts.specs.Running.{SoFar}
-use Rattle.partition.specs.Members.{member_of}
+use Rattle.partition.specs.Members.{member_of, TellsSome}
 use Rattle.partition.proofs.partition.Partition.advance.Given as goal
 
 -- the ticks so far, and where nothing is told yet those that are left
@@ -12,7 +12,7 @@ invariant-loop-left g l =
     let y = member_of g.E.Executor l.self l.mem in
     record {
       same : y ≡ with_world x y.world;
-      whole : SoFar x.engine l.at.origin.0 l.k (l.k - l.left) x.world l.at.now.0 y.world l.events.items;
+      told : TellsSome g.L.EventLog l.fn.log l.log (λ told. SoFar x.engine l.at.origin.0 l.k (l.k - l.left) x.world l.at.now.0 y.world told);
       within : l.left ≤ l.k;
       fits : g.E.Executor.laid l.mem ≡ g.E.Executor.layout l.self.executor;
       idle : IsEmpty l.self.out;

@@ -18,15 +18,17 @@ returns-clause-gone g c =
     let b = burst_of x.engine c.args.k p x.world in
     let ticks = c.run_for-burst.result.ticks in
     let asks = asks_of c.run_for-burst.result.outcome in
-    let lines = c.settle.new.events.items in
     let settled : ℕ → Member _ → Moved _ = λ k z. moved (tick_from o (t + (k - 1))) z.engine (treats_asked (tick_from o (t + (k - 1))) z.world.kernel p asks (given asks z.world.words)) z.world in
     let m = settled c.from.result r in
     let done = c.settle.ensures.moved in
     let world = c.run_for-burst.ensures.world in (
-      ap (λ e. record { engine = e; world = y.world }) (ap (λ (z : Member _). z.engine) done.0 ∙ ap (λ (z : Member _). z.engine) world),
-      goes_as x.engine o p c.args.k t x.world y.world lines asks ticks c.requires.runs c.requires.choice c.requires.due c.run_for-burst.ensures.ticks c.run_for-burst.ensures.told c.run_for-burst.ensures.some
-          (ap (λ (z : Member _). record { world = z.world; lines = lines }) done.0
-          ∙ ap (λ l. record { world = m.world; lines = l }) (done.1 ∙ ap (λ l. l ++ m.lines) c.requires.empty)
-          ∙ ap (settled c.from.result) world
-          ∙ ap (λ k. settled k (with_world x (with_control x.world p b.control b.words))) c.from.ensures),
+      m.lines,
+      done.1,
+      (
+        ap (λ e. record { engine = e; world = y.world }) (ap (λ (z : Member _). z.engine) done.0 ∙ ap (λ (z : Member _). z.engine) world),
+        goes_as x.engine o p c.args.k t x.world y.world m.lines asks ticks c.requires.runs c.requires.choice c.requires.due c.run_for-burst.ensures.ticks c.run_for-burst.ensures.told c.run_for-burst.ensures.some
+            (ap (λ (z : Member _). record { world = z.world; lines = m.lines }) done.0
+            ∙ ap (settled c.from.result) world
+            ∙ ap (λ k. settled k (with_world x (with_control x.world p b.control b.words))) c.from.ensures),
+      ),
     )

@@ -1,23 +1,23 @@
-use Rattle.std.proofs.Common.{◌≡◌, ◌+◌, ◌++◌, refl, ap, sym, ◌∙◌, rules, subst, arith}
-use Rattle.std.specs.Prelude.{List, None}
-use Rattle.apex_types.specs.declared.event.Event.{Event}
+use Rattle.std.proofs.Common.{◌≡◌, [], refl, ap, sym, rules, arith}
+use Rattle.std.specs.Prelude.{None}
 use Rattle.apex_meaning.specs.Partition.{Member, advances}
-use Rattle.bursts.specs.Running.{Goes}
 use Rattle.bursts.proofs.Running.{goes_idle, goes_once}
 use Rattle.partition.specs.Members.{member_of}
+use Rattle.partition.proofs.Told.{tells_none}
 use Rattle.partition.proofs.partition.Partition.phase.Goals as goal
 
 pub returns-then-quiet-eq0-clause-gone : goal.returns-then-quiet-eq0-clause-gone
 returns-then-quiet-eq0-clause-gone g c =
     let x = member_of g.E.Executor c.args.self.now c.args.mem.now in
     let y = member_of g.E.Executor c.tick.new.self c.tick.new.mem in
-    let lines = c.tick.new.events.items in
     let m = advances c.args.at x in
     let done = c.tick.ensures.moved in (
-      ap (λ e. record { engine = e; world = y.world }) (ap (λ (z : Member _). z.engine) done.0),
-      goes_once x.engine c.args.at.origin.0 c.args.at.now.0 x.world y.world lines
-          (sym (ap (λ (z : Member _). record { world = z.world; lines = lines }) done.0
-          ∙ ap (λ l. record { world = m.world; lines = l }) (done.1 ∙ ap (λ l. l ++ m.lines) c.requires.empty))),
+      m.lines,
+      done.1,
+      (
+        ap (λ e. record { engine = e; world = y.world }) (ap (λ (z : Member _). z.engine) done.0),
+        goes_once x.engine c.args.at.origin.0 c.args.at.now.0 x.world y.world m.lines (sym (ap (λ (z : Member _). record { world = z.world; lines = m.lines }) done.0)),
+      ),
     )
 
 pub returns-in-None-clause-gone : goal.returns-in-None-clause-gone
@@ -26,7 +26,10 @@ returns-in-None-clause-gone g c =
     let n = c.quiet_ticks-quiet.result in
     let t = c.args.at.now.0 in
     let nobody : x.world.kernel.processes.running ≡ None = search (rules, c.running.ensures, c.in-None.is) in (
-      refl,
-      subst (λ (l : List Event). Goes x.engine c.args.at.origin.0 x.world t (record { control = x.world; words = t + n; told = l; ticks = n })) (sym c.requires.empty)
-          (goes_idle x.engine c.args.at.origin.0 n t x.world nobody (c.quiet_ticks-quiet.ensures.choice (omega (arith, c.if-quiet-eq0.false))) c.quiet_ticks-quiet.ensures.due),
+      [],
+      tells_none g.L.EventLog c.args.log.now g.met.L.EventLog.none,
+      (
+        refl,
+        goes_idle x.engine c.args.at.origin.0 n t x.world nobody (c.quiet_ticks-quiet.ensures.choice (omega (arith, c.if-quiet-eq0.false))) c.quiet_ticks-quiet.ensures.due,
+      ),
     )

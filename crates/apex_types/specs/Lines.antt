@@ -1,0 +1,33 @@
+-- The lines of a step, as a buffer of a trace holds them: at most 256, of at most 512 bytes each.
+use Rattle.std.specs.Prelude.{◌≡◌, ℕ, ◌-◌, ◌/◌, ◌≤◌, Bool, true, false, List, [], ◌∷◌, ◌++◌, length}
+use Rattle.std.proofs.Common.{refl, ap, sym, subst}
+use Rattle.std.proofs.Math.Nat.{le_refl}
+use Rattle.std.proofs.lemmas.Bool.{true≢false}
+use Rattle.std.proofs.lemmas.List.Concat.{flat_map-append}
+use Rattle.apex_types.specs.Line.{line_of, text_of}
+use Rattle.apex_types.specs.declared.event.Event.{Event}
+
+-- for how many lines more there is room behind this text
+abbrev pub lines_left : List ℕ → ℕ
+lines_left text = (131072 - length text) / 512
+
+-- ---- what a log of events keeps to
+
+pub text_of_both : (before after : List Event) → text_of (before ++ after) ≡ text_of before ++ text_of after
+text_of_both before after = flat_map-append line_of before after
+
+abbrev is_some_text : List ℕ → Bool
+is_some_text [] = false
+is_some_text (byte ∷ bytes) = true
+
+-- each event has a line
+pub no_text : (events : List Event) → text_of events ≡ [] → events ≡ []
+no_text [] none = refl
+no_text (e ∷ es) none = absurd (true≢false (ap is_some_text none))
+
+-- without lines there is room for 256
+pub whole_room : (text : List ℕ) → text ≡ [] → 256 ≤ lines_left text
+whole_room text none = subst (λ t. 256 ≤ lines_left t) (sym none) (le_refl 256)
+
+pub room_of_none : (events : List Event) → events ≡ [] → 256 ≤ 256 - length events
+room_of_none events none = subst (λ l. 256 ≤ 256 - length l) (sym none) (le_refl 256)

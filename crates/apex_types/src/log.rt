@@ -1,0 +1,78 @@
+//! Where the events of a step are told.
+
+ghost use Rattle.std.specs.Prelude.{◌≡◌, ◌≤◌, ◌<◌, ◌+◌, ◌-◌, ◌++◌, ◌↔◌, ℕ, List, [], ◌∷◌, length, IsTrue};
+
+use crate::event::{Event, EventKind, Events};
+use crate::identity::Ticks;
+use crate::name::Name;
+
+/// A place for the events of a step, which are told one after another.
+///
+/// It holds a list of pieces: a list of events holds the events themselves, and a buffer of a trace the
+/// bytes of their lines. No call takes memory.
+pub trait EventLog {
+    ghost use Rattle.apex_types.specs.declared.event.Event.{Event};
+
+    ghost Piece: { Type 0 };
+
+    /// What it holds.
+    ghost held: { Self → List Piece };
+
+    /// What it holds of events that were told.
+    ghost pieces: { List Event → List Piece };
+
+    /// For how many more events there is room, whatever they are.
+    ghost room: { Self → ℕ };
+
+    /// Tells an event of a partition, or of the module itself.
+    fn tell(&mut self, tick: Ticks, partition: &Option<Name>, kind: &EventKind)
+        requires { 0 < room self.old }
+        ensures held { held self.new ≡ held self.old ++ pieces (record { tick = tick; partition = partition.now; kind = kind.now } ∷ []) }
+        ensures room { room self.old ≤ room self.new + 1 };
+
+    /// Whether it holds nothing.
+    fn is_empty(&self) -> bool
+        ensures { IsTrue result ↔ (held self.now ≡ []) };
+
+    ghost none: { pieces [] ≡ [] };
+
+    ghost more: { (before after : List Event) → pieces (before ++ after) ≡ pieces before ++ pieces after };
+
+    ghost silent: { (events : List Event) → pieces events ≡ [] → events ≡ [] };
+
+    ghost empty: { (log : Self) → held log ≡ [] → 256 ≤ room log };
+}
+
+impl EventLog for Events {
+    ghost use Rattle.std.proofs.Common.{refl};
+    ghost use Rattle.apex_types.specs.Lines.{room_of_none};
+    ghost use Rattle.apex_types.specs.declared.event.Event.{Event};
+
+    ghost Piece = { Event };
+
+    ghost held = { λ log. log.items };
+
+    ghost pieces = { λ events. events };
+
+    ghost room = { λ log. 256 - length log.items };
+
+    ghost none = { refl };
+
+    ghost more = { λ before after. refl };
+
+    ghost silent = { λ events h. h };
+
+    ghost empty = { λ log h. room_of_none log.items h };
+
+    fn tell(&mut self, tick: Ticks, partition: &Option<Name>, kind: &EventKind) {
+        self.push(Event {
+            tick,
+            partition: *partition,
+            kind: kind.copied(),
+        });
+    }
+
+    fn is_empty(&self) -> bool {
+        self.as_slice().is_empty()
+    }
+}
