@@ -8,7 +8,9 @@ ghost use Rattle.module.specs.Views.{plan_of};
 
 use crate::collected::Collected;
 use crate::inputs_fault::InputsFault;
-use apex_types::{ChannelEnd, DeviceInput, DeviceLine, ModuleAction, PartitionId, Ticks, Words, copied};
+use apex_types::{
+    ChannelEnd, DeviceInput, DeviceLine, ModuleAction, PartitionId, Ticks, Words, copied,
+};
 use image::Image;
 use isolation::Input;
 use window_table::ChannelRow;

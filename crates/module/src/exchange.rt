@@ -10,7 +10,9 @@ ghost use Rattle.module.specs.Written.{step_of, leaving_in, IsWritten};
 
 use crate::member::Members;
 use crate::step::Step;
-use apex_types::{At, ChannelEnd, PartitionId, PortId, Sink, SinkFault, TraceBuffer, Words, copied};
+use apex_types::{
+    At, ChannelEnd, PartitionId, PortId, Sink, SinkFault, TraceBuffer, Words, copied,
+};
 use partition::Kernel;
 use partition_base::Executor;
 use regions::PartitionMem;

@@ -53,7 +53,8 @@ impl<E: Executor> Partition<E> {
     {
         let name = self.kernel.name();
         let words = self.given(mem, &outcome);
-        self.kernel.treat(at, runner, outcome, words, &mut self.out);
+        let out = &mut self.out;
+        self.kernel.treat(at, runner, outcome, &words, out);
         self.finish(mem, name, at, log);
     }
 

@@ -26,12 +26,12 @@ pub(crate) fn serve_objects(
     at: At,
     caller: Runner,
     call: Call,
-    words: Words,
+    words: &Words,
     out: &mut Out,
 )
     requires now { at.now.0 ≤ 2 ^ 40 }
     requires room { HasRoom 94 out.old }
-    ensures step { IsMade (serves_objects mode at (both table.old objects.old) caller call words.items) (both table.new objects.new) out.old out.new }
+    ensures step { IsMade (serves_objects mode at (both table.old objects.old) caller call words.now.items) (both table.new objects.new) out.old out.new }
     ensures grows { Grows 94 out.old out.new }
 {
     match call {
@@ -42,7 +42,7 @@ pub(crate) fn serve_objects(
             length,
             timeout,
         } => send_buffer(
-            table, objects, at, caller, buffer, array, length, timeout, &words, out,
+            table, objects, at, caller, buffer, array, length, timeout, words, out,
         ),
         Call::ReceiveBuffer {
             buffer,
@@ -61,7 +61,7 @@ pub(crate) fn serve_objects(
             array,
             length,
         } => display_blackboard(
-            table, objects, caller, blackboard, array, length, &words, out,
+            table, objects, caller, blackboard, array, length, words, out,
         ),
         Call::ReadBlackboard {
             blackboard,

@@ -43,12 +43,12 @@ pub(crate) fn serve_ports(
     at: At,
     caller: Runner,
     call: Call,
-    words: Words,
+    words: &Words,
     out: &mut Out,
 )
     requires now { at.now.0 ≤ 2 ^ 40 }
     requires room { HasRoom 94 out.old }
-    ensures step { IsMade (meaning.serves_ports mode at (both table.old ports.old) caller call words.items) (both table.new ports.new) out.old out.new }
+    ensures step { IsMade (meaning.serves_ports mode at (both table.old ports.old) caller call words.now.items) (both table.new ports.new) out.old out.new }
     ensures grows { Grows 94 out.old out.new }
 {
     match call {
@@ -59,7 +59,7 @@ pub(crate) fn serve_ports(
             port,
             array,
             length,
-        } => write_sampling_message(table, ports, caller, port, array, length, &words, out),
+        } => write_sampling_message(table, ports, caller, port, array, length, words, out),
         Call::ReadSamplingMessage { port, array } => {
             read_sampling_message(table, ports, at, caller, port, array, out)
         }
@@ -76,7 +76,7 @@ pub(crate) fn serve_ports(
             length,
             timeout,
         } => send_queuing_message(
-            table, ports, at, caller, port, array, length, timeout, &words, out,
+            table, ports, at, caller, port, array, length, timeout, words, out,
         ),
         Call::ReceiveQueuingMessage {
             port,

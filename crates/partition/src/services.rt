@@ -9,7 +9,7 @@ ghost use Rattle.processor.specs.Views.{asks_of};
 use crate::kernel::Kernel;
 use crate::object_services::serve_objects;
 use crate::port_services::{is_on_ports, serve_ports};
-use apex_types::{At, Call, Out, Runner, Words};
+use apex_types::{At, Call, Out, Runner, Words, copied};
 use process_table::{
     create_process, delayed_start, get_my_id, get_process_id, get_process_status, get_time,
     lock_preemption, periodic_wait, replenish, resume, set_priority, start, stop, suspend,
@@ -24,13 +24,13 @@ impl Kernel {
         at: At,
         runner: Runner,
         outcome: Outcome,
-        words: Words,
+        words: &Words,
         out: &mut Out,
     )
         requires past { at.origin.0 ≤ at.now.0 }
         requires now { at.now.0 ≤ 2 ^ 40 }
         requires room { HasRoom 94 out.old }
-        ensures step { IsMade (meaning.treats_asked at self.old runner (asks_of outcome) words.items) self.new out.old out.new }
+        ensures step { IsMade (meaning.treats_asked at self.old runner (asks_of outcome) words.now.items) self.new out.old out.new }
         ensures grows { Grows 94 out.old out.new }
     {
         match outcome {
@@ -42,11 +42,11 @@ impl Kernel {
     }
 
     /// Serves a call; `words` are those that it hands in.
-    fn serve(&mut self, at: At, caller: Runner, call: Call, words: Words, out: &mut Out)
+    fn serve(&mut self, at: At, caller: Runner, call: Call, words: &Words, out: &mut Out)
         requires past { at.origin.0 ≤ at.now.0 }
         requires now { at.now.0 ≤ 2 ^ 40 }
         requires room { HasRoom 94 out.old }
-        ensures step { IsMade (meaning.serves at self.old caller call words.items) self.new out.old out.new }
+        ensures step { IsMade (meaning.serves at self.old caller call words.now.items) self.new out.old out.new }
         ensures grows { Grows 94 out.old out.new }
     {
         match call {
@@ -54,7 +54,7 @@ impl Kernel {
             Call::SetPartitionMode { mode } => self.set_partition_mode(at, caller, mode, out),
             Call::StopSelf => self.end_body(caller, out),
             Call::ReportApplicationMessage { array, length } => {
-                self.report(caller, array, length, words, out)
+                self.report(caller, array, length, copied(words), out)
             }
             Call::CreateErrorHandler => self.create_error_handler(caller, out),
             Call::GetErrorStatus { array } => self.get_error_status(caller, array, out),
@@ -62,17 +62,20 @@ impl Kernel {
                 error,
                 array,
                 length,
-            } => self.raise_application_error(caller, error, array, length, words, out),
+            } => {
+                let words = copied(words);
+                self.raise_application_error(caller, error, array, length, words, out)
+            }
             other => self.serve_processes(at, caller, other, words, out),
         }
     }
 
     /// Serves a call on processes or on time, and those on objects.
-    fn serve_processes(&mut self, at: At, caller: Runner, call: Call, words: Words, out: &mut Out)
+    fn serve_processes(&mut self, at: At, caller: Runner, call: Call, words: &Words, out: &mut Out)
         requires past { at.origin.0 ≤ at.now.0 }
         requires now { at.now.0 ≤ 2 ^ 40 }
         requires room { HasRoom 94 out.old }
-        ensures step { IsMade (meaning.serves_processes at self.old caller call words.items) self.new out.old out.new }
+        ensures step { IsMade (meaning.serves_processes at self.old caller call words.now.items) self.new out.old out.new }
         ensures grows { Grows 94 out.old out.new }
     {
         let mode = self.mode;
@@ -109,10 +112,10 @@ impl Kernel {
     }
 
     /// Serves a call on objects or ports.
-    fn serve_shared(&mut self, at: At, caller: Runner, call: Call, words: Words, out: &mut Out)
+    fn serve_shared(&mut self, at: At, caller: Runner, call: Call, words: &Words, out: &mut Out)
         requires now { at.now.0 ≤ 2 ^ 40 }
         requires room { HasRoom 94 out.old }
-        ensures step { IsMade (meaning.serves_shared at self.old caller call words.items) self.new out.old out.new }
+        ensures step { IsMade (meaning.serves_shared at self.old caller call words.now.items) self.new out.old out.new }
         ensures grows { Grows 94 out.old out.new }
     {
         if is_on_ports(call) {
@@ -123,10 +126,10 @@ impl Kernel {
     }
 
     /// Serves a call on semaphores, events, buffers or blackboards.
-    fn serve_objects(&mut self, at: At, caller: Runner, call: Call, words: Words, out: &mut Out)
+    fn serve_objects(&mut self, at: At, caller: Runner, call: Call, words: &Words, out: &mut Out)
         requires now { at.now.0 ≤ 2 ^ 40 }
         requires room { HasRoom 94 out.old }
-        ensures step { IsMade (meaning.serves_objects at self.old caller call words.items) self.new out.old out.new }
+        ensures step { IsMade (meaning.serves_objects at self.old caller call words.now.items) self.new out.old out.new }
         ensures grows { Grows 94 out.old out.new }
     {
         let mode = self.mode;
@@ -135,10 +138,10 @@ impl Kernel {
     }
 
     /// Serves a call on ports.
-    fn serve_ports(&mut self, at: At, caller: Runner, call: Call, words: Words, out: &mut Out)
+    fn serve_ports(&mut self, at: At, caller: Runner, call: Call, words: &Words, out: &mut Out)
         requires now { at.now.0 ≤ 2 ^ 40 }
         requires room { HasRoom 94 out.old }
-        ensures step { IsMade (meaning.serves_ports at self.old caller call words.items) self.new out.old out.new }
+        ensures step { IsMade (meaning.serves_ports at self.old caller call words.now.items) self.new out.old out.new }
         ensures grows { Grows 94 out.old out.new }
     {
         let mode = self.mode;

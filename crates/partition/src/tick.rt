@@ -171,7 +171,8 @@ impl<E: Executor> Partition<E> {
         let name = self.kernel.name();
         let outcome = self.executor.tick(mem, runner);
         let words = self.given(mem, &outcome);
-        self.kernel.treat(at, runner, outcome, words, &mut self.out);
+        let out = &mut self.out;
+        self.kernel.treat(at, runner, outcome, &words, out);
         self.finish(mem, name, at, log);
     }
 

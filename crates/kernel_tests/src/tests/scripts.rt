@@ -177,7 +177,7 @@ fn expect_tick(
         now: Ticks(u64::from(now)),
         origin: Ticks(0),
     };
-    partition.tick(mem, at, &mut trace.events);
+    partition.tick(mem, at, &mut trace);
     expect_lines(rt, alloc, &mut trace, lines);
 }
 

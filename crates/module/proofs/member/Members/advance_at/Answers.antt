@@ -44,8 +44,7 @@ returns-clause-moved g c =
     let got : slice_get members place ≡ Some (member_of e p s) = get_member e ps memory place p s here (rw c.number_at.ensures.place at c.lend-mem.ensures.lent) in
     let told = c.advance.ensures.advanced in
     let text = told.1 ∙ ap (λ before. before ++ text_of told.0) c.requires.empty in
-    rw c.number_at.ensures.place (subst (λ (o : Option (Member e.Control)). HasMovedTelling c.args.at c.args.most place members o (members_of e (slice_set ps place c.advance.new.self) (slice_set memory place c.advance.new.mem)) c.advance.new.log.text.items c.advance.result) (sym got)
-    (
+    rw c.number_at.ensures.place (subst (λ (o : Option (Member e.Control)). HasMovedTelling c.args.at c.args.most place members o (members_of e (slice_set ps place c.advance.new.self) (slice_set memory place c.advance.new.mem)) c.advance.new.log.text.items c.advance.result) (sym got) (
       told.0,
       has_moved c.args.at c.args.most place c.advance.result members (member_of e p s) (member_of e c.advance.new.self c.advance.new.mem) _ told.0 (set_member e ps memory place c.advance.new.self c.advance.new.mem) told.2,
       text,
