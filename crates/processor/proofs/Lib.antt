@@ -4,4 +4,5 @@ pub mod Bytes
 pub mod Entries
 pub mod Outcomes
 pub mod Spelling
+pub mod Spent
 pub mod Stack

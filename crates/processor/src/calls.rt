@@ -90,7 +90,6 @@ impl Registers {
         save(&mut reach.stack, frame, routine, self.pc + 1, self.fp);
         self.pc = routine.entry;
         self.fp = frame;
-        self.spent = 0;
         self.sp = frame + u32::from(routine.slots) + 2;
         Turn::Goes
     }
@@ -130,7 +129,6 @@ impl Registers {
                 let value = self.top(reach);
                 set(&mut reach.stack, self.fp, value);
                 self.pc = pc;
-                self.spent = 0;
                 self.sp = self.fp + 1;
                 self.fp = fp;
                 Turn::Goes

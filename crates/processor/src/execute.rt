@@ -66,7 +66,7 @@ pub(crate) fn cost_of(instruction: Instr) -> u32
 impl Registers {
     ghost use Rattle.std.specs.Prelude.{true, false, ◌≡◌, ◌+◌, ◌-◌, ◌<◌, ◌≤◌, ◌^◌, [], length, slice_get, Some};
     ghost use Rattle.apex_meaning.specs.MachineControl.{executes};
-    ghost use Rattle.processor.specs.Turns.{after, does, is_done};
+    ghost use Rattle.processor.specs.Turns.{control_in, after, does, is_done};
     ghost use Rattle.apex_types.specs.declared.instruction.Instr.{Instr};
 
     /// PUSH
@@ -121,7 +121,7 @@ impl Registers {
     pub(crate) fn execute(&mut self, reach: &mut Reach, code: &Code, instruction: Instr) -> Turn
         requires next { self.old.pc + 1 < 2 ^ 32 }
         ensures effect { after result self.new reach.new ≡ does (executes code.now.routines.items instruction) self.old reach.old }
-        ensures next { is_done result ≡ false → self.new.pc ≡ self.old.pc }
+        ensures same { is_done result ≡ false → control_in self.new reach.new ≡ control_in self.old reach.old }
     {
         match instruction {
             Instr::Push(v) => self.push(reach, v),
