@@ -165,7 +165,7 @@ impl Source {
         ensures exact { Gives (λ x. (expr_of (names_of self.now) x.0, seen self.now x.1.now)) result (reading.operated_at operator levels (seen self.now tokens.now)) }
     {
         if levels == 0 {
-            return Err(self.refused(opening));
+            return Err(self.too_deep(opening));
         }
         let (operand, rest) = self.unary(alloc, levels - 1, tokens)?;
         Ok((Expr::Unary(operator, Box::new(alloc, operand)?), rest))
@@ -185,7 +185,7 @@ impl Source {
         ensures exact { Gives (λ x. (expr_of (names_of self.now) x.0, seen self.now x.1.now)) result (reading.nested_at levels (seen self.now tokens.now)) }
     {
         if levels == 0 {
-            return Err(self.refused(opening));
+            return Err(self.too_deep(opening));
         }
         self.chain(alloc, Rank::Disjunction, levels - 1, tokens)
     }
@@ -229,7 +229,7 @@ impl Source {
         ensures exact { Gives (λ x. (exprs_of (names_of self.now) x.0.items, seen self.now x.1.now)) result (arguments_read levels (seen self.now tokens.now)) }
     {
         if levels == 0 {
-            return Err(self.refused(opening));
+            return Err(self.too_deep(opening));
         }
         if let Some(rest) = self.behind(tokens, Mark::ParenthesisCloses) {
             return Ok((Vec::new(alloc), rest));

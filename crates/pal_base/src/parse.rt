@@ -95,7 +95,7 @@ fn line_behind(text: &[u8]) -> u32 {
 
 /// The parts of a program that stand in its words.
 #[derive(Drop)]
-struct Parts {
+pub struct Parts {
     declarations: Vec<Declaration>,
     init: StackBody,
     handler: Option<StackBody>,
@@ -105,7 +105,7 @@ struct Parts {
 impl Source {
     #[tactic(auto, unfolding(apex_meaning::specs::GrammarReading::program_at))]
     /// The program that these words spell, all of them.
-    fn program(&self, alloc: Global, tokens: &[Token]) -> Result<Parts, ReadError>
+    pub fn program(&self, alloc: Global, tokens: &[Token]) -> Result<Parts, ReadError>
         ensures exact { Gives (parts_of (names_of self.now)) result (reading.program_at (seen self.now tokens.now)) }
     {
         let (declarations, rest) = self.declarations(alloc, tokens)?;

@@ -14,11 +14,22 @@ use apex_types::{BinaryOperator, Discipline, Service};
 use indexmap::IndexSet;
 use std::alloc::{AllocError, AllocFailed};
 
-/// Why nothing was read: memory ran out, or the grammar does not allow the word in this line.
+/// Where the words of a text leave the grammar.
+#[derive(Clone, Copy, Debug, PartialEq, Eq)]
+pub struct Misfit {
+    /// The line of the word there, or the last line of the text.
+    pub line: u32,
+    /// How many words stand there and behind.
+    pub left: usize,
+    /// The word there would open one level too many.
+    pub is_too_deep: bool,
+}
+
+/// Why nothing was read: memory ran out, or the grammar does not allow the word there.
 #[derive(Clone, Copy, Debug, PartialEq, Eq)]
 pub enum ReadError {
     Memory,
-    Refused(u32),
+    Refused(Misfit),
 }
 
 impl From<AllocError> for ReadError {
@@ -52,9 +63,9 @@ impl From<ReadError> for PalFault {
     fn from(error: ReadError) -> Self {
         match error {
             ReadError::Memory => PalFault::MEMORY,
-            ReadError::Refused(line) => PalFault {
+            ReadError::Refused(misfit) => PalFault {
                 refusal: Refusal::Grammar,
-                line,
+                line: misfit.line,
             },
         }
     }
@@ -146,7 +157,20 @@ impl Source {
 
     /// The error that the grammar does not allow the word at the front.
     pub fn refused(&self, tokens: &[Token]) -> ReadError {
-        ReadError::Refused(self.line_of(tokens))
+        ReadError::Refused(Misfit {
+            line: self.line_of(tokens),
+            left: tokens.len(),
+            is_too_deep: false,
+        })
+    }
+
+    /// The error that the word at the front opens one level too many.
+    pub fn too_deep(&self, tokens: &[Token]) -> ReadError {
+        ReadError::Refused(Misfit {
+            line: self.line_of(tokens),
+            left: tokens.len(),
+            is_too_deep: true,
+        })
     }
 
     #[tactic(auto, unfolding(apex_meaning::specs::GrammarReading::expect))]

@@ -7,7 +7,7 @@ ghost use Rattle.pal_base.specs.Seen.{seen, names_of, Gives};
 ghost use Rattle.pal_base.specs.View.{name_of, kind_of, stmt_of, block_of, body_of};
 
 use crate::mark::Mark;
-use crate::source::{Read, Source};
+use crate::source::{Read, ReadError, Source};
 use crate::syntax::{Body, Identifier, Stmt, StmtKind};
 use crate::word::Token;
 use apex_types::Service;
@@ -127,13 +127,23 @@ impl Source {
             return self.returned(alloc, levels, rest);
         }
         if levels == 0 {
-            return Err(self.refused(tokens));
+            return Err(self.no_statement(tokens));
         }
         if let Some(rest) = self.behind(tokens, Mark::If) {
             return self.branch(alloc, levels, rest);
         }
         let rest = self.expect(tokens, Mark::While)?;
         self.repetition(alloc, levels, rest)
+    }
+
+    /// The error that no statement of the last level begins with the word at the front: those that
+    /// have a block open one level more.
+    fn no_statement(&self, tokens: &[Token]) -> ReadError {
+        if self.stands(tokens, Mark::If) || self.stands(tokens, Mark::While) {
+            self.too_deep(tokens)
+        } else {
+            self.refused(tokens)
+        }
     }
 
     /// What follows the word `while`.
@@ -228,7 +238,7 @@ impl Source {
         ensures exact { Gives (λ x. (kind_of (names_of self.now) x.0, seen self.now x.1.now)) result (service_call_read levels service (seen self.now tokens.now)) }
     {
         if levels == 0 {
-            return Err(self.refused(opening));
+            return Err(self.too_deep(opening));
         }
         let rest = self.expect(tokens, Mark::ParenthesisOpens)?;
         let (arguments, rest) = self.arguments(alloc, levels, tokens, rest)?;

@@ -43,7 +43,7 @@ repetition-returns-clause-exact t c =
 pub statement_kind-returns-then-levels-eq0-clause-exact : goal.statement_kind-returns-then-levels-eq0-clause-exact
 statement_kind-returns-then-levels-eq0-clause-exact t c =
     let ws = seen c.args.self.now c.args.tokens.now in
-    refuses c.refused.result (stmt_read c.args.levels ws)
+    refuses c.no_statement.result (stmt_read c.args.levels ws)
     (stmt_is c.args.levels ws ∙ no_statement c.args.levels ws c.if-levels-eq0.true c.in_default.ensures.exact c.in_default-service_at.ensures.exact c.in_default-behind.ensures.exact c.in_default-behind-2.ensures.exact)
 
 pub statements-loop-alloc-preserved : goal.statements-loop-alloc-preserved

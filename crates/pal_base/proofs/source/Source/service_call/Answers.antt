@@ -7,4 +7,4 @@ use Rattle.pal_base.proofs.source.Source.service_call.Goals as goal
 pub returns-then-levels-eq0-clause-exact : goal.returns-then-levels-eq0-clause-exact
 returns-then-levels-eq0-clause-exact c =
     let ws = seen c.args.self.now c.args.tokens.now in
-    refuses c.refused.result (service_call_read c.args.levels c.args.service ws) (no_service_call c.args.levels c.args.service ws c.if-levels-eq0.true)
+    refuses c.too_deep.result (service_call_read c.args.levels c.args.service ws) (no_service_call c.args.levels c.args.service ws c.if-levels-eq0.true)
