@@ -1,4 +1,9 @@
-//! What the grammar looks for where a text leaves it.
+//! What the grammar looks for where a text leaves it: each kind of word is tried there.
+
+ghost use Rattle.std.specs.Prelude.{◌≡◌, ◌++◌, ◌∷◌, [], length, IfOk, OnOk};
+ghost use Rattle.pal_base.specs.Next.{IsLookedFor, IsMisfit, IsFit, IsWordFit, IsFitAt, IsNoted, AreNext, first_name};
+ghost use Rattle.pal_base.specs.Seen.{seen, names_of};
+ghost use Rattle.pal_base.specs.WordView.{word_of};
 
 use crate::mark::Mark;
 use crate::source::{Misfit, ReadError, Source};
@@ -74,6 +79,8 @@ static KINDS: [WordKind; 50] = [
 /// What the grammar looks for at the first word of a text that does not fit.
 #[derive(Drop)]
 pub struct LookedFor {
+    /// How many words stand before that word.
+    pub place: usize,
     /// The line of that word, or the last line of the text.
     pub line: u32,
     /// That word would open one level too many.
@@ -100,7 +107,9 @@ enum Fit {
 /// # Errors
 ///
 /// Only where memory ran out.
-pub fn looked_for(alloc: Global, text: &[u8]) -> Result<Option<LookedFor>, AllocError> {
+pub fn looked_for(alloc: Global, text: &[u8]) -> Result<Option<LookedFor>, AllocError>
+    ensures { IfOk result (λ found. IsLookedFor text.now found) }
+{
     let Ok(words) = words_of(alloc, text) else {
         return Err(AllocError);
     };
@@ -110,28 +119,19 @@ pub fn looked_for(alloc: Global, text: &[u8]) -> Result<Option<LookedFor>, Alloc
         last_line,
     } = words;
     let source = Source { names, last_line };
-    match source.misfit(alloc, tokens.as_slice())? {
-        Some(misfit) => Ok(Some(source.looked_for(alloc, tokens, misfit)?)),
-        None => Ok(None),
-    }
-}
-
-impl WordKind {
-    /// A word of this kind; the end of a text is none.
-    fn word(self) -> Option<Word> {
-        match self {
-            WordKind::Name => Some(Word::Name(NameId(0))),
-            WordKind::Number => Some(Word::Number(Natural::Within(0))),
-            WordKind::Service => Some(Word::Service(Service::GetTime)),
-            WordKind::Mark(mark) => Some(Word::Mark(mark)),
-            WordKind::End => None,
-        }
-    }
+    let Some(misfit) = source.misfit(alloc, tokens.as_slice())? else {
+        return Ok(None);
+    };
+    let count = tokens.len().saturating_sub(misfit.left);
+    let (before, _) = tokens.as_slice().split_at(count);
+    Ok(Some(source.looked_for(alloc, before, misfit)?))
 }
 
 impl Source {
     /// Where these words leave the grammar, if they do.
-    fn misfit(&self, alloc: Global, tokens: &[Token]) -> Result<Option<Misfit>, AllocError> {
+    fn misfit(&self, alloc: Global, tokens: &[Token]) -> Result<Option<Misfit>, AllocError>
+        ensures { IfOk result (λ found. IsMisfit (seen self.now tokens.now) found) }
+    {
         match self.program(alloc, tokens) {
             Ok(_) => Ok(None),
             Err(ReadError::Refused(misfit)) => Ok(Some(misfit)),
@@ -139,25 +139,26 @@ impl Source {
         }
     }
 
-    /// What can stand at that misfit.
+    /// What can stand behind these words, at that misfit.
     fn looked_for(
         &self,
         alloc: Global,
-        tokens: Vec<Token>,
+        before: &[Token],
         misfit: Misfit,
-    ) -> Result<LookedFor, AllocError> {
-        let mut before = tokens;
-        before.truncate(before.len().saturating_sub(misfit.left));
+    ) -> Result<LookedFor, AllocError>
+        ensures place { IfOk result (λ it. it.place ≡ length before.now) }
+        ensures next { IfOk result (λ it. AreNext (first_name (names_of self.now)) (seen self.now before.now) it.words.items) }
+    {
         let mut words = Vec::new(alloc);
         let mut deeper = Vec::new(alloc);
-        for kind in KINDS.iter() {
-            match self.fit(alloc, &mut before, *kind)? {
-                Fit::Fits => words.push(*kind)?,
-                Fit::TooDeep => deeper.push(*kind)?,
-                Fit::Misfit => {}
-            }
+        let mut kinds: &[WordKind] = &KINDS;
+        while let Some((kind, others)) = kinds.split_first() {
+            let fit = self.fit(alloc, before, *kind)?;
+            note(*kind, fit, &mut words, &mut deeper)?;
+            kinds = others;
         }
         Ok(LookedFor {
+            place: before.len(),
             line: misfit.line,
             is_too_deep: misfit.is_too_deep,
             words,
@@ -165,42 +166,61 @@ impl Source {
         })
     }
 
-    /// How a word of this kind fits behind those.
-    fn fit(
-        &self,
-        alloc: Global,
-        before: &mut Vec<Token>,
-        kind: WordKind,
-    ) -> Result<Fit, AllocError> {
-        let Some(word) = kind.word() else {
-            return self.fit_of_end(alloc, before.as_slice());
-        };
-        before.push(Token { word, line: 0 })?;
-        let fit = self.fit_of_last(alloc, before.as_slice());
-        before.pop();
-        fit
-    }
-
-    /// How the end of the text fits behind these words.
-    fn fit_of_end(&self, alloc: Global, tokens: &[Token]) -> Result<Fit, AllocError> {
-        match self.misfit(alloc, tokens)? {
-            Some(_) => Ok(Fit::Misfit),
-            None => Ok(Fit::Fits),
+    /// How a word of this kind fits behind those, or the end.
+    fn fit(&self, alloc: Global, before: &[Token], kind: WordKind) -> Result<Fit, AllocError>
+        ensures { IfOk result (λ fit. IsFit (first_name (names_of self.now)) (seen self.now before.now) kind fit) }
+    {
+        match kind {
+            WordKind::Name => self.fit_of_word(alloc, before, Word::Name(NameId(0))),
+            WordKind::Number => {
+                self.fit_of_word(alloc, before, Word::Number(Natural::Within(0)))
+            }
+            WordKind::Service => {
+                self.fit_of_word(alloc, before, Word::Service(Service::GetTime))
+            }
+            WordKind::Mark(mark) => self.fit_of_word(alloc, before, Word::Mark(mark)),
+            WordKind::End => match self.misfit(alloc, before)? {
+                Some(_) => Ok(Fit::Misfit),
+                None => Ok(Fit::Fits),
+            },
         }
     }
 
-    /// How the last of these words fits behind the others: it does not where they leave the grammar
-    /// before the end.
-    fn fit_of_last(&self, alloc: Global, tokens: &[Token]) -> Result<Fit, AllocError> {
-        match self.misfit(alloc, tokens)? {
+    /// How this word fits behind those: it does not where the words leave the grammar before their
+    /// end.
+    fn fit_of_word(&self, alloc: Global, before: &[Token], word: Word) -> Result<Fit, AllocError>
+        ensures { IfOk result (λ fit. IsWordFit (seen self.now before.now ++ word_of (names_of self.now) word ∷ []) fit) }
+    {
+        let mut tokens = Vec::from_slice(alloc, before)?;
+        tokens.push(Token { word, line: 0 })?;
+        match self.misfit(alloc, tokens.as_slice())? {
             Some(misfit) => Ok(fit_at(misfit)),
             None => Ok(Fit::Fits),
         }
     }
 }
 
+/// Puts a kind of word behind those that fit, or behind those that would at one level more.
+fn note(
+    kind: WordKind,
+    fit: Fit,
+    words: &mut Vec<WordKind>,
+    deeper: &mut Vec<WordKind>,
+) -> Result<(), AllocError>
+    ensures { OnOk result (IsNoted fit kind words.old.items words.new.items) }
+{
+    match fit {
+        Fit::Fits => words.push(kind)?,
+        Fit::TooDeep => deeper.push(kind)?,
+        Fit::Misfit => {}
+    }
+    Ok(())
+}
+
 /// How the last of some words fits that leave the grammar there.
-fn fit_at(misfit: Misfit) -> Fit {
+fn fit_at(misfit: Misfit) -> Fit
+    ensures { IsFitAt result misfit }
+{
     if misfit.left == 0 {
         Fit::Fits
     } else if misfit.is_too_deep {
