@@ -1,10 +1,10 @@
 -- Which kinds of words are listed while one after another is tried.
 use Rattle.std.proofs.Common.{◌≡◌, ℕ, List, [], ◌∷◌, ◌++◌, length, refl, sym, ap, subst, arith, append_assoc, append-nil, take-append-drop, length-append, ◌≤◌, map, take, drop, Option, Some, ◌∙◌, ◌⊎◌, inl, inr}
-use Rattle.std.proofs.lemmas.List.{map-append, length-map, take_at}
+use Rattle.std.proofs.lemmas.List.{map-append, length-map, take_at, drop_at}
 use Rattle.std.specs.List.{Contains}
 use Rattle.std.proofs.lemmas.List.Elements.{Contains-append_cases, Contains-append_left, Contains-append_right, Contains-push_cases}
 use Rattle.apex_meaning.specs.GrammarWords.{Word, words_of}
-use Rattle.pal_base.specs.Next.{IsWhole, IsMisfit, MayFollow, AreNext, IsLookedFor, IsFit, IsNoted}
+use Rattle.pal_base.specs.Next.{IsWhole, IsMisfit, MayFollow, AreNext, IsFirstFit, IsLookedFor, IsFit, IsNoted}
 use Rattle.pal_base.specs.declared.looking.Fit.{Fit}
 use Rattle.pal_base.specs.declared.looking.Fit.TheVariants as fit
 use Rattle.pal_base.specs.declared.looking.LookedFor.{LookedFor}
@@ -139,14 +139,21 @@ front_is place words xs ys whole at = sym (take_at xs ys place (sym at)) ∙ ap 
 within : (place : ℕ) (words xs ys : List Word) → words ≡ xs ++ ys → place ≡ length xs → place ≤ length words
 within place words xs ys whole at = omega (arith, at, ap length whole, length-append xs ys)
 
-pub looked_so : (text : List ℕ) (view : Token → Word) (all ts whole front back : List Token) (count : ℕ) (found : Option Misfit) (misfit : Misfit) (name : List ℕ) (looked_for : LookedFor) →
+behind_is : (place : ℕ) (words xs ys : List Word) → words ≡ xs ++ ys → place ≡ length xs → ys ≡ drop place words
+behind_is place words xs ys whole at = sym (drop_at xs ys place (sym at)) ∙ ap (λ (ws : List Word). drop place ws) (sym whole)
+
+pub looked_so : (text : List ℕ) (view : Token → Word) (all ts whole front back : List Token) (count : ℕ) (found : Option Misfit) (misfit : Misfit) (name : List ℕ) (fit : Fit) (looked_for : LookedFor) →
     map view all ≡ words_of text → ts ≡ all → found ≡ Some misfit → IsMisfit (map view ts) found → whole ≡ all → front ≡ take count whole → back ≡ drop count whole →
-    looked_for.place ≡ length front → AreNext name (map view front) looked_for.words.items → IsLookedFor text (Some looked_for)
-looked_so text view all ts whole front back count found misfit name looked_for words same is given again cut left at next =
+    IsFirstFit (map view front) (map view back) fit → looked_for.place ≡ length front → looked_for.found ≡ fit → AreNext name (map view front) looked_for.words.items → IsLookedFor text (Some looked_for)
+looked_so text view all ts whole front back count found misfit name fit looked_for words same is given again cut left fits at so next =
     let parts : all ≡ front ++ back = sym again ∙ sym (take-append-drop count whole) ∙ ap (λ (xs : List Token). xs ++ drop count whole) (sym cut) ∙ ap (λ (xs : List Token). front ++ xs) (sym left) in
     let all_words : words_of text ≡ map view front ++ map view back = sym words ∙ ap (map view) parts ∙ map-append view front back in
-    let here : looked_for.place ≡ length (map view front) = at ∙ sym (length-map front view) in (
+    let here : looked_for.place ≡ length (map view front) = at ∙ sym (length-map front view) in
+    let front_words : map view front ≡ take looked_for.place (words_of text) = front_is looked_for.place (words_of text) (map view front) (map view back) all_words here in
+    let back_words : map view back ≡ drop looked_for.place (words_of text) = behind_is looked_for.place (words_of text) (map view front) (map view back) all_words here in (
       λ program. (subst (λ o. IsMisfit (map view ts) o) is given).0 (subst IsWhole (sym words ∙ ap (map view) (sym same)) program),
       within looked_for.place (words_of text) (map view front) (map view back) all_words here,
-      (name, subst (λ (ws : List Word). AreNext name ws looked_for.words.items) (front_is looked_for.place (words_of text) (map view front) (map view back) all_words here) next),
+      subst (λ f. IsFirstFit (take looked_for.place (words_of text)) (drop looked_for.place (words_of text)) f) (sym so)
+          (subst (λ (ws : List Word). IsFirstFit (take looked_for.place (words_of text)) ws fit) back_words (subst (λ (ws : List Word). IsFirstFit ws (map view back) fit) front_words fits)),
+      (name, subst (λ (ws : List Word). AreNext name ws looked_for.words.items) front_words next),
     )

@@ -1,5 +1,5 @@
 -- What may come next behind some words.
-use Rattle.std.specs.Prelude.{◌≡◌, ℕ, ◌<◌, ◌≤◌, List, [], ◌∷◌, ◌++◌, Option, Some, None, slice_get, take, length}
+use Rattle.std.specs.Prelude.{◌≡◌, ℕ, ◌<◌, ◌≤◌, List, [], ◌∷◌, ◌++◌, Option, Some, None, slice_get, take, drop, length}
 use Rattle.std.specs.List.{Contains}
 use Rattle.apex_types.specs.declared.service.Service.TheVariants.{GetTime}
 use Rattle.apex_meaning.specs.GrammarWords.{Word, Name, Number, ServiceWord, Mark, words_of}
@@ -34,11 +34,23 @@ MayFollow name before kind.End = IsWhole before
 abbrev pub AreNext : List ℕ → List Word → List WordKind → Type 0
 AreNext name before kinds = ((k : WordKind) → MayFollow name before k → Contains kinds k) × (Contains kinds kind.End → IsWhole before)
 
--- What is looked for in a text that is not in the grammar: what may stand behind the words before a place.
+-- how the last of these words fits behind the others
+abbrev pub IsWordFit : List Word → Fit → Type 0
+IsWordFit words fit.Fits = Unit {0}
+IsWordFit words fit.TooDeep = IsBeginning words → ⊥
+IsWordFit words fit.Misfit = IsBeginning words → ⊥
+
+-- how the first of some words fits behind others; nothing is said of their end
+abbrev pub IsFirstFit : List Word → List Word → Fit → Type 0
+IsFirstFit before [] f = Unit {0}
+IsFirstFit before (word ∷ behind) f = IsWordFit (before ++ word ∷ []) f
+
+-- What is looked for in a text that is not in the grammar: how the word at a place fits there, and what may stand there.
 abbrev pub IsLookedFor : List ℕ → Option LookedFor → Type 0
 IsLookedFor text None = IsWhole (words_of text)
 IsLookedFor text (Some looked_for) =
     (IsWhole (words_of text) → ⊥) × (looked_for.place ≤ length (words_of text)) ×
+    IsFirstFit (take looked_for.place (words_of text)) (drop looked_for.place (words_of text)) looked_for.found ×
     ((name : List ℕ) × AreNext name (take looked_for.place (words_of text)) looked_for.words.items)
 
 -- where these words leave the grammar: at their end, or at one of them, and then whatever follows
@@ -55,11 +67,6 @@ abbrev pub IsFit : List ℕ → List Word → WordKind → Fit → Type 0
 IsFit name before k fit.Fits = k ≡ kind.End → IsWhole before
 IsFit name before k fit.TooDeep = MayFollow name before k → ⊥
 IsFit name before k fit.Misfit = MayFollow name before k → ⊥
-
-abbrev pub IsWordFit : List Word → Fit → Type 0
-IsWordFit words fit.Fits = Unit {0}
-IsWordFit words fit.TooDeep = IsBeginning words → ⊥
-IsWordFit words fit.Misfit = IsBeginning words → ⊥
 
 abbrev pub IsFitAt : Fit → Misfit → Type 0
 IsFitAt fit.Fits misfit = Unit {0}

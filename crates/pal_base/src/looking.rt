@@ -1,7 +1,7 @@
 //! What the grammar looks for where a text leaves it: each kind of word is tried there.
 
 ghost use Rattle.std.specs.Prelude.{◌≡◌, ◌++◌, ◌∷◌, [], length, IfOk, OnOk};
-ghost use Rattle.pal_base.specs.Next.{IsLookedFor, IsMisfit, IsFit, IsWordFit, IsFitAt, IsNoted, AreNext, first_name};
+ghost use Rattle.pal_base.specs.Next.{IsLookedFor, IsMisfit, IsFit, IsWordFit, IsFirstFit, IsFitAt, IsNoted, AreNext, first_name};
 ghost use Rattle.pal_base.specs.Seen.{seen, names_of};
 ghost use Rattle.pal_base.specs.WordView.{word_of};
 
@@ -83,8 +83,8 @@ pub struct LookedFor {
     pub place: usize,
     /// The line of that word, or the last line of the text.
     pub line: u32,
-    /// That word would open one level too many.
-    pub is_too_deep: bool,
+    /// How that word fits there.
+    pub found: Fit,
     /// The words that can stand there.
     pub words: Vec<WordKind>,
     /// The words that could stand there if one more level could be opened.
@@ -93,7 +93,7 @@ pub struct LookedFor {
 
 /// How a word fits behind others.
 #[derive(Clone, Copy, Debug, PartialEq, Eq)]
-enum Fit {
+pub enum Fit {
     /// Some program goes on with it.
     Fits,
     /// It opens one level too many.
@@ -123,8 +123,9 @@ pub fn looked_for(alloc: Global, text: &[u8]) -> Result<Option<LookedFor>, Alloc
         return Ok(None);
     };
     let count = tokens.len().saturating_sub(misfit.left);
-    let (before, _) = tokens.as_slice().split_at(count);
-    Ok(Some(source.looked_for(alloc, before, misfit)?))
+    let (before, behind) = tokens.as_slice().split_at(count);
+    let found = source.fit_of_first(alloc, before, behind)?;
+    Ok(Some(source.looked_for(alloc, before, misfit.line, found)?))
 }
 
 impl Source {
@@ -139,14 +140,16 @@ impl Source {
         }
     }
 
-    /// What can stand behind these words, at that misfit.
+    /// What can stand behind these words, where a word of that line fits so.
     fn looked_for(
         &self,
         alloc: Global,
         before: &[Token],
-        misfit: Misfit,
+        line: u32,
+        found: Fit,
     ) -> Result<LookedFor, AllocError>
         ensures place { IfOk result (λ it. it.place ≡ length before.now) }
+        ensures found { IfOk result (λ it. it.found ≡ found) }
         ensures next { IfOk result (λ it. AreNext (first_name (names_of self.now)) (seen self.now before.now) it.words.items) }
     {
         let mut words = Vec::new(alloc);
@@ -159,8 +162,8 @@ impl Source {
         }
         Ok(LookedFor {
             place: before.len(),
-            line: misfit.line,
-            is_too_deep: misfit.is_too_deep,
+            line,
+            found,
             words,
             deeper,
         })
@@ -183,6 +186,21 @@ impl Source {
                 Some(_) => Ok(Fit::Misfit),
                 None => Ok(Fit::Fits),
             },
+        }
+    }
+
+    /// How the first of some words fits behind others; their end does not.
+    fn fit_of_first(
+        &self,
+        alloc: Global,
+        before: &[Token],
+        behind: &[Token],
+    ) -> Result<Fit, AllocError>
+        ensures { IfOk result (λ fit. IsFirstFit (seen self.now before.now) (seen self.now behind.now) fit) }
+    {
+        match behind.split_first() {
+            Some((token, _)) => self.fit_of_word(alloc, before, token.word),
+            None => Ok(Fit::Misfit),
         }
     }
 
