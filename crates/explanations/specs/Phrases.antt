@@ -1,64 +1,24 @@
--- How symbols of the grammar, and what else is looked for, stand in an explanation.
-use Rattle.std.specs.Prelude.{ℕ, List, codes}
+-- How words of the grammar, and what else is looked for, stand in an explanation.
+use Rattle.std.specs.Prelude.{ℕ, List, ◌++◌, codes}
 use Rattle.explanations.specs.declared.sought.Choice.{Choice}
 use Rattle.explanations.specs.declared.sought.Choice.TheVariants as choice
 use Rattle.explanations.specs.declared.sought.Sought.{Sought}
 use Rattle.explanations.specs.declared.sought.Sought.TheVariants as sought
-use Rattle.explanations.specs.declared.symbols.Symbol.{Symbol}
-use Rattle.explanations.specs.declared.symbols.Symbol.TheVariants as symbol
+use Rattle.pal_base.specs.Marks.{mark_text}
+use Rattle.pal_base.specs.declared.looking.WordKind.{WordKind}
+use Rattle.pal_base.specs.declared.looking.WordKind.TheVariants as kind
+use Rattle.pal_base.specs.declared.mark.Mark.{Mark}
 
-abbrev pub symbol_phrase : Symbol → List ℕ
-symbol_phrase symbol.Name = codes "a name"
-symbol_phrase symbol.Number = codes "a number"
-symbol_phrase symbol.Service = codes "a service"
-symbol_phrase symbol.Var = codes "'var'"
-symbol_phrase symbol.Array = codes "'array'"
-symbol_phrase symbol.Semaphore = codes "'semaphore'"
-symbol_phrase symbol.Event = codes "'event'"
-symbol_phrase symbol.Buffer = codes "'buffer'"
-symbol_phrase symbol.Blackboard = codes "'blackboard'"
-symbol_phrase symbol.Port = codes "'port'"
-symbol_phrase symbol.Proc = codes "'proc'"
-symbol_phrase symbol.Fifo = codes "'fifo'"
-symbol_phrase symbol.Priority = codes "'priority'"
-symbol_phrase symbol.Init = codes "'init'"
-symbol_phrase symbol.Stack = codes "'stack'"
-symbol_phrase symbol.Handler = codes "'handler'"
-symbol_phrase symbol.Process = codes "'process'"
-symbol_phrase symbol.Period = codes "'period'"
-symbol_phrase symbol.Capacity = codes "'capacity'"
-symbol_phrase symbol.Local = codes "'local'"
-symbol_phrase symbol.If = codes "'if'"
-symbol_phrase symbol.Else = codes "'else'"
-symbol_phrase symbol.While = codes "'while'"
-symbol_phrase symbol.Work = codes "'work'"
-symbol_phrase symbol.Return = codes "'return'"
-symbol_phrase symbol.And = codes "'and'"
-symbol_phrase symbol.Or = codes "'or'"
-symbol_phrase symbol.Not = codes "'not'"
-symbol_phrase symbol.Becomes = codes "':='"
-symbol_phrase symbol.Arrow = codes "'->'"
-symbol_phrase symbol.NotEqual = codes "'<>'"
-symbol_phrase symbol.LessOrEqual = codes "'<='"
-symbol_phrase symbol.GreaterOrEqual = codes "'>='"
-symbol_phrase symbol.Plus = codes "'+'"
-symbol_phrase symbol.Minus = codes "'-'"
-symbol_phrase symbol.Times = codes "'*'"
-symbol_phrase symbol.Slash = codes "'/'"
-symbol_phrase symbol.Percent = codes "'%'"
-symbol_phrase symbol.Equal = codes "'='"
-symbol_phrase symbol.Less = codes "'<'"
-symbol_phrase symbol.Greater = codes "'>'"
-symbol_phrase symbol.Semicolon = codes "';'"
-symbol_phrase symbol.Comma = codes "','"
-symbol_phrase symbol.ParenthesisOpens = codes "'('"
-symbol_phrase symbol.ParenthesisCloses = codes "')'"
-symbol_phrase symbol.BraceOpens = codes "'{'"
-symbol_phrase symbol.BraceCloses = codes "'}'"
-symbol_phrase symbol.BracketOpens = codes "'['"
-symbol_phrase symbol.BracketCloses = codes "']'"
-symbol_phrase symbol.Stray = codes "a symbol of the grammar"
-symbol_phrase symbol.End = codes "the end of the text"
+-- how a mark is written, in quotation marks
+abbrev pub mark_phrase : Mark → List ℕ
+mark_phrase mark = codes "'" ++ mark_text mark ++ codes "'"
+
+abbrev pub word_phrase : WordKind → List ℕ
+word_phrase kind.Name = codes "a name"
+word_phrase kind.Number = codes "a number"
+word_phrase kind.Service = codes "a service"
+word_phrase (kind.Mark mark) = mark_phrase mark
+word_phrase kind.End = codes "the end of the text"
 
 abbrev pub choice_phrase : Choice → List ℕ
 choice_phrase choice.DeclarationOrInit = codes "a declaration or 'init'"
@@ -70,7 +30,6 @@ choice_phrase choice.NameOrParenthesis = codes "a name or ')'"
 choice_phrase choice.CommaOrParenthesis = codes "',' or ')'"
 choice_phrase choice.HandlerProcessOrEnd = codes "'handler', 'process' or the end of the text"
 choice_phrase choice.ProcessOrEnd = codes "'process' or the end of the text"
-choice_phrase choice.Brace = codes "'{'"
 choice_phrase choice.LocalStatementOrBrace = codes "'local', a statement or '}'"
 choice_phrase choice.StatementOrBrace = codes "a statement or '}'"
 choice_phrase choice.BecomesOrBracket = codes "':=' or '['"
@@ -93,5 +52,5 @@ choice_phrase choice.Limit = codes "names, numbers, counts and frames within the
 choice_phrase choice.Period = codes "a period of -1 or a multiple of the partition's period"
 
 abbrev pub phrase : Sought → List ℕ
-phrase (sought.Symbol symbol) = symbol_phrase symbol
+phrase (sought.Word kind) = word_phrase kind
 phrase (sought.Choice choice) = choice_phrase choice

@@ -2,16 +2,13 @@
 //! looked for there.
 #![tactic(auto)]
 
+mod choices;
 mod explanation;
-mod expressions;
-mod grammar;
 mod lines;
 mod looking;
-mod reading;
 mod sentences;
 mod sought;
-mod statements;
-mod symbols;
+mod words;
 
 pub use explanation::explain_source;
 pub use lines::{refused_line, shown};

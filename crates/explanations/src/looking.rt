@@ -4,10 +4,10 @@ ghost use Rattle.std.specs.Prelude.{◌≡◌, IfOk};
 ghost use Rattle.std.specs.List.{list_any};
 ghost use Rattle.explanations.specs.Looking.{IsLookedFor, is_above_127, text_choice};
 
-use crate::reading::Reading;
+use crate::choices::sought_of;
 use crate::sought::{Choice, Sought};
-use crate::symbols::{Symbol, behind_blanks, symbol_at};
 use pal_base::fault::{PalFault, Refusal};
+use pal_base::looking::looked_for as looked_for_by_grammar;
 use std::alloc::{AllocError, Global};
 
 /// What was looked for at the line of a refusal of that source.
@@ -47,26 +47,10 @@ fn has_byte_above_127(source: &[u8]) -> bool
     source.iter().any(|byte| 127 < *byte)
 }
 
-/// What the grammar looks for at the first symbol that does not fit, if it stands in that line.
+/// What the grammar looks for at the first word that does not fit, if that word stands in this line.
 fn sought_by_grammar(alloc: Global, source: &[u8], line: u32) -> Result<Sought, AllocError> {
-    match first_misfit(alloc, source)? {
-        Some((sought, found)) if found == line => Ok(sought),
+    match looked_for_by_grammar(alloc, source)? {
+        Some(looked_for) if looked_for.line == line => Ok(sought_of(&looked_for)),
         _ => Ok(Sought::Choice(Choice::Grammar)),
     }
-}
-
-/// What the grammar looks for at the first symbol that does not fit, and the line of that symbol.
-fn first_misfit(alloc: Global, source: &[u8]) -> Result<Option<(Sought, u32)>, AllocError> {
-    let mut reading = Reading::new(alloc)?;
-    let (mut rest, mut line) = behind_blanks(source, 1);
-    // There are at most as many symbols as bytes.
-    for _ in source {
-        let (symbol, others) = symbol_at(rest);
-        if let Some(sought) = reading.read(symbol)? {
-            return Ok(Some((sought, line)));
-        }
-        (rest, line) = behind_blanks(others, line);
-    }
-    let misfit = reading.read(Symbol::End)?;
-    Ok(misfit.map(|sought| (sought, line)))
 }

@@ -3,12 +3,13 @@
 ghost use Rattle.std.specs.Prelude.{◌≡◌};
 ghost use Rattle.explanations.specs.Phrases.{choice_phrase, phrase};
 
-use crate::symbols::Symbol;
+use crate::words::word_phrase;
+use pal_base::looking::WordKind;
 
 /// What was looked for.
 #[derive(Clone, Copy)]
 pub enum Sought {
-    Symbol(Symbol),
+    Word(WordKind),
     Choice(Choice),
 }
 
@@ -18,13 +19,13 @@ impl Sought {
         ensures { result.now ≡ phrase self }
     {
         match self {
-            Sought::Symbol(symbol) => symbol.phrase(),
+            Sought::Word(kind) => word_phrase(kind),
             Sought::Choice(choice) => choice.phrase(),
         }
     }
 }
 
-/// What was looked for, where it is not one symbol.
+/// What was looked for, where it is not one word.
 #[derive(Clone, Copy, Debug, PartialEq, Eq)]
 pub enum Choice {
     DeclarationOrInit,
@@ -36,7 +37,6 @@ pub enum Choice {
     CommaOrParenthesis,
     HandlerProcessOrEnd,
     ProcessOrEnd,
-    Brace,
     LocalStatementOrBrace,
     StatementOrBrace,
     BecomesOrBracket,
@@ -74,7 +74,6 @@ impl Choice {
             Choice::CommaOrParenthesis => "',' or ')'",
             Choice::HandlerProcessOrEnd => "'handler', 'process' or the end of the text",
             Choice::ProcessOrEnd => "'process' or the end of the text",
-            Choice::Brace => "'{'",
             Choice::LocalStatementOrBrace => "'local', a statement or '}'",
             Choice::StatementOrBrace => "a statement or '}'",
             Choice::BecomesOrBracket => "':=' or '['",

@@ -1,5 +1,5 @@
 -- Where the code is cut in another way than the definitions, both read the same.
-use Rattle.std.proofs.Common.{◌≡◌, ℕ, zero, suc, ◌-◌, Bool, true, false, cond, nat_eq, List, [], ◌∷◌, length, map, Option, Some, None, refl, sym, ◌∙◌, ap, arith}
+use Rattle.std.proofs.Common.{◌≡◌, ℕ, zero, suc, ◌-◌, Bool, true, false, cond, nat_eq, List, [], ◌∷◌, length, map, Option, Some, None, refl, sym, ◌∙◌, ap, arith, ◌++◌}
 use Rattle.std.specs.Prelude.{codes, if◌then◌else◌, ◌==◌}
 use Rattle.std.proofs.lemmas.Bool.{eqb-true}
 use Rattle.apex_meaning.specs.GrammarWords.{Word}
@@ -202,3 +202,7 @@ program_reads ws xs bs cs ds declarations init handler processes first second th
 pub words_left : {A X : Type 0} (x : X) (view : A → Word) (ts : List A) → (length ts ≡ 0 → ⊥) → all_read x (map view ts) ≡ None
 words_left x view [] h = absurd (h refl)
 words_left x view (t ∷ ts) h = refl
+
+pub words_left_with : {A X : Type 0} (x : X) (view : A → Word) (more : List Word) (ts : List A) → (length ts ≡ 0 → ⊥) → all_read x (map view ts ++ more) ≡ None
+words_left_with x view more [] h = absurd (h refl)
+words_left_with x view more (t ∷ ts) h = refl

@@ -6,3 +6,4 @@ pub mod Cuts
 pub mod Refusals
 pub mod ProgramRows
 pub mod Costs
+pub mod Nexts

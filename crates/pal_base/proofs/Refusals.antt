@@ -1,5 +1,6 @@
 -- What a refusal of the words says of the text.
-use Rattle.std.proofs.Common.{Some, None, ◌≡◌, ℕ, List, sym, ◌∙◌, subst}
+use Rattle.std.proofs.Common.{Some, None, Result, Ok, Err, ◌≡◌, ◌++◌, ℕ, List, sym, ◌∙◌, subst}
+use Rattle.std.specs.Prelude.{IfErr}
 use Rattle.std.proofs.lemmas.Option.{none-some}
 use Rattle.apex_meaning.specs.Grammar.{IsWritten}
 use Rattle.apex_meaning.specs.Syntax as tree
@@ -8,7 +9,9 @@ use Rattle.apex_meaning.proofs.Shaped.{program_is_written}
 use Rattle.apex_meaning.specs.GrammarWords as grammar
 use Rattle.apex_meaning.specs.GrammarReading.{program_at}
 use Rattle.pal_base.specs.Answers.{IsText, IsRefused}
-use Rattle.pal_base.specs.Seen.{Refuses, refusal_of}
+use Rattle.pal_base.specs.Seen.{Refuses, Gives, IsSettled, refusal_of}
+use Rattle.pal_base.specs.Next.{IsWhole, IsMisfit}
+use Rattle.pal_base.specs.declared.source.Misfit.{Misfit}
 use Rattle.pal_base.specs.declared.fault.Refusal.{Refusal}
 use Rattle.pal_base.specs.declared.source.ReadError.{ReadError}
 use Rattle.pal_base.specs.declared.source.ReadError.TheVariants.{Memory, Refused}
@@ -28,3 +31,14 @@ refused_words error refusal text ws is is_text words given = subst (λ r. IsRefu
 -- words that are read as a program are written so
 pub written_so : (text : List ℕ) (ws : List grammar.Word) (program : tree.Program) → ws ≡ grammar.words_of text → program_at ws ≡ Some program → IsWritten (grammar.words_of text) program
 written_so text ws program words read = subst (λ (vs : List grammar.Word). IsWritten vs program) words (program_is_written ws program read)
+
+-- whether words are a program's, by what the reader found
+pub whole_so : {X : Type 0} (view : X → tree.Program) (answer : Result X ReadError) (x : X) (ws : List grammar.Word) → answer ≡ Ok x → Gives view answer (program_at ws) → IsWhole ws
+whole_so {X} view answer x ws is given = (view x, program_is_written ws (view x) (subst (λ (a : Result X ReadError). Gives view a (program_at ws)) is given))
+
+pub misfit_so : {X : Type 0} (view : X → tree.Program) (answer : Result X ReadError) (misfit : Misfit) (ws : List grammar.Word) → answer ≡ Err (Refused misfit) → Gives view answer (program_at ws) →
+    ((more : List grammar.Word) → IfErr answer (λ e. IsSettled e → program_at (ws ++ more) ≡ None)) → IsMisfit ws (Some misfit)
+misfit_so {X} view answer misfit ws is given ahead = (
+  λ whole. not_written ws whole.0 (subst (λ (a : Result X ReadError). Gives view a (program_at ws)) is given) whole.1,
+  λ left begins. not_written (ws ++ begins.0) begins.1.0 (subst (λ (a : Result X ReadError). IfErr a (λ e. IsSettled e → program_at (ws ++ begins.0) ≡ None)) is (ahead begins.0) left) begins.1.1,
+)

@@ -1,12 +1,12 @@
 -- What a loop has found, followed by what the rest of the repetition finds, is the whole.
-use Rattle.std.proofs.Common.{◌≡◌, ℕ, ◌<◌, Bool, true, false, List, [], ◌∷◌, ◌++◌, length, map, Option, Some, None, Result, Ok, Err, refl, sym, ◌∙◌, ap, append_assoc, append-nil, arith, is_some, subst}
+use Rattle.std.proofs.Common.{◌≡◌, ℕ, ◌<◌, Bool, true, false, List, [], ◌∷◌, ◌++◌, length, map, Option, Some, None, Result, Ok, Err, refl, sym, ◌∙◌, ap, append_assoc, append-nil, length-append, arith, is_some, subst}
 use Rattle.std.proofs.lemmas.List.{length-map, map-append}
 use Rattle.apex_meaning.specs.GrammarWords.{Word}
 use Rattle.apex_meaning.specs.GrammarReading.{Reading, repeat, each, until, expect, ◌>>=◌}
 use Rattle.apex_meaning.proofs.Repeats.{repeat_ends, repeat_fails, repeat_goes_on, after}
 use Rattle.pal_base.specs.Reads.{listed, up_to}
 use Rattle.std.specs.Result.{IsErr, IsErrAnd}
-use Rattle.pal_base.specs.Seen.{Refuses, Gives}
+use Rattle.pal_base.specs.Seen.{Refuses, Gives, IsSettled, Ahead}
 use Rattle.pal_base.specs.declared.source.ReadError.{ReadError}
 use Rattle.pal_base.specs.declared.source.ReadError.TheVariants.{Memory, Refused}
 
@@ -123,3 +123,29 @@ up_to_fails view mark read whole found ws t error so_far stands not given =
 pub passed_refusal : {X Y : Type 0} (view : X → Y) (error : ReadError) (answer : Result X ReadError) (r : Option Y) → IsErr answer × IsErrAnd answer (λ e. e ≡ error) → Refuses error r → Gives view answer r
 passed_refusal view error (Ok x) r passed given = let unlike : false ≡ true = passed.0 in cc
 passed_refusal view error (Err e) r passed given = subst (λ f. Refuses f r) (sym passed.1) given
+
+-- the same where more words follow
+pub fewer_with : {A : Type 0} (view : A → Word) (more : List Word) (xs ys : List A) → length xs < length ys → length (map view xs ++ more) < length (map view ys ++ more)
+fewer_with view more xs ys h = omega (arith, length-map xs view, length-map ys view, length-append (map view xs) more, length-append (map view ys) more)
+
+pub listed_none : {A X : Type 0} (view : A → X) (mark : List ℕ) (read : Reading X) (whole : Option (List X × List Word)) (found : List A) (ws vs : List Word) →
+    whole ≡ after (map view found) (listed mark read ws) → expect mark ws ≡ Some vs → read vs ≡ None → whole ≡ None
+listed_none view mark read whole found ws vs so_far stands failed = turn_fails view (λ ws. each (expect mark ws) read) whole found ws so_far (each_fails (expect mark ws) vs read stands failed)
+
+pub up_to_none : {A X : Type 0} (view : A → X) (mark : List ℕ) (read : Reading X) (whole : Option (List X × List Word)) (found : List A) (ws : List Word) (t : Bool) →
+    whole ≡ after (map view found) (up_to mark read ws) → t ≡ is_some (expect mark ws) → t ≡ false → read ws ≡ None → whole ≡ None
+up_to_none view mark read whole found ws t so_far stands not failed =
+    turn_fails view (λ ws. until (expect mark ws) (read ws)) whole found ws so_far (until_fails (expect mark ws) (read ws) (is_nothing t (expect mark ws) stands not) failed)
+
+-- a refusal that is passed up, where more words follow
+pub passed_ahead : {X Y : Type 0} (view : X → Y) (left : X → ℕ) (error : ReadError) (answer : Result X ReadError) (r : Option Y) → IsErr answer × IsErrAnd answer (λ e. e ≡ error) → (IsSettled error → r ≡ None) → Ahead view left answer r
+passed_ahead view left error (Ok x) r passed given = let unlike : false ≡ true = passed.0 in cc
+passed_ahead view left error (Err e) r passed given = λ settled. given (subst (λ f. IsSettled f) passed.1 settled)
+
+-- what is found ahead is found by each way of reading that reads the same
+pub ahead_same : {A B : Type 0} (view : A → B) (left : A → ℕ) (answer : Result A ReadError) (r s : Option B) → r ≡ s → Ahead view left answer r → Ahead view left answer s
+ahead_same view left answer r s same = subst (λ t. Ahead view left answer t) same
+
+pub ahead_more : {A B D : Type 0} (view : A → B) (make : B → D) (whole : A → D) (left : A → ℕ) (answer : Result A ReadError) (r : Option B) → ((a : A) → make (view a) ≡ whole a) → Ahead view left answer r → Ahead whole left answer (r >>= λ b. Some (make b))
+ahead_more view make whole left (Ok a) r same given = λ enough. ap (λ t. t >>= λ b. Some (make b)) (given enough) ∙ ap Some (same a)
+ahead_more view make whole left (Err error) r same given = λ settled. ap (λ t. t >>= λ b. Some (make b)) (given settled)

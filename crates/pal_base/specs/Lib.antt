@@ -12,3 +12,4 @@ pub mod Accepted
 pub mod Numbers
 pub mod Parts
 pub mod Costs
+pub mod Next

@@ -1,5 +1,5 @@
 -- What the definitions see of the words and readers of the code.
-use Rattle.std.specs.Prelude.{◌≡◌, ℕ, List, map, Option, Some, None, Result, Ok, Err}
+use Rattle.std.specs.Prelude.{◌≡◌, ℕ, ◌<◌, List, map, Option, Some, None, Result, Ok, Err}
 use Rattle.pal_base.specs.declared.fault.Refusal.{Refusal}
 use Rattle.pal_base.specs.declared.fault.Refusal.TheVariants as refusal
 use Rattle.pal_base.specs.declared.source.Rank.{Rank}
@@ -53,3 +53,18 @@ Gives view (Err error) read = Refuses error read
 abbrev pub Finds : {X Y : Type 0} → (X → Y) → Option X → Option Y → Type 0
 Finds view (Some x) read = read ≡ Some (view x)
 Finds view None read = read ≡ None
+
+-- the misfit is one of the tokens, and not their end
+abbrev pub IsSettled : ReadError → Type 0
+IsSettled Memory = ⊥
+IsSettled (Refused misfit) = 0 < misfit.left
+
+-- What the code found, reading finds whatever words follow the tokens. Nothing is said where what follows
+-- them may matter: where none of them is left, or the misfit is their end.
+abbrev pub Ahead : {X Y : Type 0} → (X → Y) → (X → ℕ) → Result X ReadError → Option Y → Type 0
+Ahead view left (Ok x) read = 0 < left x → read ≡ Some (view x)
+Ahead view left (Err error) read = IsSettled error → read ≡ None
+
+abbrev pub FindsAhead : {X Y : Type 0} → (X → Y) → ℕ → Option X → Option Y → Type 0
+FindsAhead view left (Some x) read = read ≡ Some (view x)
+FindsAhead view left None read = 0 < left → read ≡ None

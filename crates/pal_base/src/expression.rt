@@ -1,10 +1,11 @@
 //! Reading of expressions. `levels` is how many levels may still be opened.
 
-ghost use Rattle.std.specs.Prelude.{◌<◌, ◌≤◌, length, map, codes, IfOk};
+ghost use Rattle.std.specs.Prelude.{◌<◌, ◌+◌, ◌≤◌, List, ◌++◌, length, map, codes, IfOk, IfErr};
+ghost use Rattle.apex_meaning.specs.GrammarWords as grammar;
 ghost use Rattle.apex_meaning.specs.GrammarReading as reading;
 ghost use Rattle.pal_base.specs.Reads.{and_more, listed, arguments_read};
 ghost use Rattle.pal_base.specs.Rows.{pair_of};
-ghost use Rattle.pal_base.specs.Seen.{seen, names_of, rank_of, Gives};
+ghost use Rattle.pal_base.specs.Seen.{seen, names_of, rank_of, Gives, Ahead, IsSettled};
 ghost use Rattle.pal_base.specs.View.{name_of, expr_of, exprs_of, links_of};
 
 use crate::mark::Mark;
@@ -20,6 +21,8 @@ impl Source {
     pub fn expression<'a>(&self, alloc: Global, levels: u32, tokens: &'a [Token]) -> Read<'a, Expr>
         ensures shorter { IfOk result (λ x. length x.1.now < length tokens.now) }
         ensures exact { Gives (λ x. (expr_of (names_of self.now) x.0, seen self.now x.1.now)) result (reading.expr_at levels (seen self.now tokens.now)) }
+        ensures ahead { (more : List grammar.Word) → Ahead (λ x. (expr_of (names_of self.now) x.0, seen self.now x.1.now ++ more)) (λ x. length x.1.now) result (reading.expr_at levels (seen self.now tokens.now ++ more)) }
+        ensures within { IfErr result (λ e. IsSettled e → 0 < length tokens.now) }
     {
         self.chain(alloc, Rank::Disjunction, levels, tokens)
     }
@@ -36,6 +39,8 @@ impl Source {
     ) -> Read<'a, Expr>
         ensures shorter { IfOk result (λ x. length x.1.now < length tokens.now) }
         ensures exact { Gives (λ x. (expr_of (names_of self.now) x.0, seen self.now x.1.now)) result (reading.ranked (reading.unary_at levels) (rank_of rank) (seen self.now tokens.now)) }
+        ensures ahead { (more : List grammar.Word) → Ahead (λ x. (expr_of (names_of self.now) x.0, seen self.now x.1.now ++ more)) (λ x. length x.1.now) result (reading.ranked (reading.unary_at levels) (rank_of rank) (seen self.now tokens.now ++ more)) }
+        ensures within { IfErr result (λ e. IsSettled e → 0 < length tokens.now) }
     {
         let (first, rest) = self.operand(alloc, rank, levels, tokens)?;
         let (links, rest) = self.links(alloc, rank, levels, rest)?;
@@ -57,6 +62,8 @@ impl Source {
     ) -> Read<'a, Expr>
         ensures shorter { IfOk result (λ x. length x.1.now < length tokens.now) }
         ensures exact { Gives (λ x. (expr_of (names_of self.now) x.0, seen self.now x.1.now)) result (reading.operand_with (reading.unary_at levels) (rank_of rank) (seen self.now tokens.now)) }
+        ensures ahead { (more : List grammar.Word) → Ahead (λ x. (expr_of (names_of self.now) x.0, seen self.now x.1.now ++ more)) (λ x. length x.1.now) result (reading.operand_with (reading.unary_at levels) (rank_of rank) (seen self.now tokens.now ++ more)) }
+        ensures within { IfErr result (λ e. IsSettled e → 0 < length tokens.now) }
     {
         match rank {
             Rank::Disjunction => self.chain(alloc, Rank::Conjunction, levels, tokens),
@@ -78,6 +85,8 @@ impl Source {
     ) -> Read<'a, Vec<Link>>
         ensures shorter { IfOk result (λ x. length x.1.now ≤ length tokens.now) }
         ensures exact { Gives (λ x. (links_of (names_of self.now) x.0.items, seen self.now x.1.now)) result (reading.links_at (reading.operand_with (reading.unary_at levels) (rank_of rank)) (rank_of rank) (seen self.now tokens.now)) }
+        ensures ahead { (more : List grammar.Word) → Ahead (λ x. (links_of (names_of self.now) x.0.items, seen self.now x.1.now ++ more)) (λ x. length x.1.now) result (reading.links_at (reading.operand_with (reading.unary_at levels) (rank_of rank)) (rank_of rank) (seen self.now tokens.now ++ more)) }
+        ensures within { IfErr result (λ e. IsSettled e → 0 < length tokens.now) }
     {
         match rank {
             Rank::Comparison => self.one_link(alloc, levels, tokens),
@@ -91,6 +100,8 @@ impl Source {
     fn one_link<'a>(&self, alloc: Global, levels: u32, tokens: &'a [Token]) -> Read<'a, Vec<Link>>
         ensures shorter { IfOk result (λ x. length x.1.now ≤ length tokens.now) }
         ensures exact { Gives (λ x. (links_of (names_of self.now) x.0.items, seen self.now x.1.now)) result (reading.links_at (reading.operand_with (reading.unary_at levels) reading.Comparison) reading.Comparison (seen self.now tokens.now)) }
+        ensures ahead { (more : List grammar.Word) → Ahead (λ x. (links_of (names_of self.now) x.0.items, seen self.now x.1.now ++ more)) (λ x. length x.1.now) result (reading.links_at (reading.operand_with (reading.unary_at levels) reading.Comparison) reading.Comparison (seen self.now tokens.now ++ more)) }
+        ensures within { IfErr result (λ e. IsSettled e → 0 < length tokens.now) }
     {
         let mut links = Vec::new(alloc);
         match self.operator_at(tokens, Rank::Comparison) {
@@ -114,6 +125,8 @@ impl Source {
     ) -> Read<'a, Vec<Link>>
         ensures shorter { IfOk result (λ x. length x.1.now ≤ length tokens.now) }
         ensures exact { Gives (λ x. (map (pair_of (names_of self.now)) x.0.items, seen self.now x.1.now)) result (reading.repeat (reading.link_at (reading.operand_with (reading.unary_at levels) (rank_of rank)) (rank_of rank)) (seen self.now tokens.now)) }
+        ensures ahead { (more : List grammar.Word) → Ahead (λ x. (map (pair_of (names_of self.now)) x.0.items, seen self.now x.1.now ++ more)) (λ x. length x.1.now) result (reading.repeat (reading.link_at (reading.operand_with (reading.unary_at levels) (rank_of rank)) (rank_of rank)) (seen self.now tokens.now ++ more)) }
+        ensures within { IfErr result (λ e. IsSettled e → 0 < length tokens.now) }
     {
         let mut links = Vec::new(alloc);
         let mut rest = tokens;
@@ -131,6 +144,8 @@ impl Source {
     fn unary<'a>(&self, alloc: Global, levels: u32, tokens: &'a [Token]) -> Read<'a, Expr>
         ensures shorter { IfOk result (λ x. length x.1.now < length tokens.now) }
         ensures exact { Gives (λ x. (expr_of (names_of self.now) x.0, seen self.now x.1.now)) result (reading.unary_read levels (seen self.now tokens.now)) }
+        ensures ahead { (more : List grammar.Word) → Ahead (λ x. (expr_of (names_of self.now) x.0, seen self.now x.1.now ++ more)) (λ x. length x.1.now) result (reading.unary_read levels (seen self.now tokens.now ++ more)) }
+        ensures within { IfErr result (λ e. IsSettled e → 0 < length tokens.now) }
     {
         if let Some(rest) = self.behind(tokens, Mark::Minus) {
             return self.operated(alloc, UnaryOperator::Negate, levels, tokens, rest);
@@ -163,9 +178,11 @@ impl Source {
     ) -> Read<'a, Expr>
         ensures shorter { IfOk result (λ x. length x.1.now < length tokens.now) }
         ensures exact { Gives (λ x. (expr_of (names_of self.now) x.0, seen self.now x.1.now)) result (reading.operated_at operator levels (seen self.now tokens.now)) }
+        ensures ahead { (more : List grammar.Word) → Ahead (λ x. (expr_of (names_of self.now) x.0, seen self.now x.1.now ++ more)) (λ x. length x.1.now) result (reading.operated_at operator levels (seen self.now tokens.now ++ more)) }
+        ensures within { IfErr result (λ e. IsSettled e → 0 < length opening.now + length tokens.now) }
     {
         if levels == 0 {
-            return Err(self.refused(opening));
+            return Err(self.too_deep(opening));
         }
         let (operand, rest) = self.unary(alloc, levels - 1, tokens)?;
         Ok((Expr::Unary(operator, Box::new(alloc, operand)?), rest))
@@ -183,9 +200,11 @@ impl Source {
     ) -> Read<'a, Expr>
         ensures shorter { IfOk result (λ x. length x.1.now < length tokens.now) }
         ensures exact { Gives (λ x. (expr_of (names_of self.now) x.0, seen self.now x.1.now)) result (reading.nested_at levels (seen self.now tokens.now)) }
+        ensures ahead { (more : List grammar.Word) → Ahead (λ x. (expr_of (names_of self.now) x.0, seen self.now x.1.now ++ more)) (λ x. length x.1.now) result (reading.nested_at levels (seen self.now tokens.now ++ more)) }
+        ensures within { IfErr result (λ e. IsSettled e → 0 < length opening.now + length tokens.now) }
     {
         if levels == 0 {
-            return Err(self.refused(opening));
+            return Err(self.too_deep(opening));
         }
         self.chain(alloc, Rank::Disjunction, levels - 1, tokens)
     }
@@ -202,6 +221,8 @@ impl Source {
     ) -> Read<'a, Expr>
         ensures shorter { IfOk result (λ x. length x.1.now ≤ length tokens.now) }
         ensures exact { Gives (λ x. (expr_of (names_of self.now) x.0, seen self.now x.1.now)) result (reading.named_with (reading.nested_at levels) (reading.arguments_at levels) (name_of (names_of self.now) name) (seen self.now tokens.now)) }
+        ensures ahead { (more : List grammar.Word) → Ahead (λ x. (expr_of (names_of self.now) x.0, seen self.now x.1.now ++ more)) (λ x. length x.1.now) result (reading.named_with (reading.nested_at levels) (reading.arguments_at levels) (name_of (names_of self.now) name) (seen self.now tokens.now ++ more)) }
+        ensures within { IfErr result (λ e. IsSettled e → 0 < length tokens.now) }
     {
         if let Some(rest) = self.behind(tokens, Mark::BracketOpens) {
             let (index, rest) = self.nested(alloc, levels, tokens, rest)?;
@@ -227,9 +248,11 @@ impl Source {
     ) -> Read<'a, Vec<Expr>>
         ensures shorter { IfOk result (λ x. length x.1.now < length tokens.now) }
         ensures exact { Gives (λ x. (exprs_of (names_of self.now) x.0.items, seen self.now x.1.now)) result (arguments_read levels (seen self.now tokens.now)) }
+        ensures ahead { (more : List grammar.Word) → Ahead (λ x. (exprs_of (names_of self.now) x.0.items, seen self.now x.1.now ++ more)) (λ x. length x.1.now) result (arguments_read levels (seen self.now tokens.now ++ more)) }
+        ensures within { IfErr result (λ e. IsSettled e → 0 < length opening.now + length tokens.now) }
     {
         if levels == 0 {
-            return Err(self.refused(opening));
+            return Err(self.too_deep(opening));
         }
         if let Some(rest) = self.behind(tokens, Mark::ParenthesisCloses) {
             return Ok((Vec::new(alloc), rest));
@@ -252,6 +275,8 @@ impl Source {
     ) -> Read<'a, Vec<Expr>>
         ensures shorter { IfOk result (λ x. length x.1.now ≤ length tokens.now) }
         ensures exact { Gives (λ x. (map (expr_of (names_of self.now)) x.0.items, seen self.now x.1.now)) result (and_more (expr_of (names_of self.now) first) (listed (codes ",") (reading.expr_at levels) (seen self.now tokens.now))) }
+        ensures ahead { (more : List grammar.Word) → Ahead (λ x. (map (expr_of (names_of self.now)) x.0.items, seen self.now x.1.now ++ more)) (λ x. length x.1.now) result (and_more (expr_of (names_of self.now) first) (listed (codes ",") (reading.expr_at levels) (seen self.now tokens.now ++ more))) }
+        ensures within { IfErr result (λ e. IsSettled e → 0 < length tokens.now) }
     {
         let mut arguments = Vec::new(alloc);
         arguments.push(first)?;

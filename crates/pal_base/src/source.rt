@@ -1,9 +1,10 @@
 //! Reading of single words.
 
-ghost use Rattle.std.specs.Prelude.{◌≡◌, ◌<◌, length, IfOk, IfSome, false, is_some};
+ghost use Rattle.std.specs.Prelude.{◌≡◌, ◌<◌, List, ◌++◌, length, IfOk, IfErr, IfSome, false, is_some};
+ghost use Rattle.apex_meaning.specs.GrammarWords as grammar;
 ghost use Rattle.apex_meaning.specs.GrammarReading as reading;
 ghost use Rattle.pal_base.specs.Marks.{mark_text};
-ghost use Rattle.pal_base.specs.Seen.{seen, names_of, rank_of, Gives, Finds};
+ghost use Rattle.pal_base.specs.Seen.{seen, names_of, rank_of, Gives, Finds, Ahead, FindsAhead, IsSettled};
 ghost use Rattle.pal_base.specs.View.{name_of, number_of, integer_of};
 
 use crate::fault::{PalFault, Refusal};
@@ -14,11 +15,22 @@ use apex_types::{BinaryOperator, Discipline, Service};
 use indexmap::IndexSet;
 use std::alloc::{AllocError, AllocFailed};
 
-/// Why nothing was read: memory ran out, or the grammar does not allow the word in this line.
+/// Where the words of a text leave the grammar.
+#[derive(Clone, Copy, Debug, PartialEq, Eq)]
+pub struct Misfit {
+    /// The line of the word there, or the last line of the text.
+    pub line: u32,
+    /// How many words stand there and behind.
+    pub left: usize,
+    /// The word there would open one level too many.
+    pub is_too_deep: bool,
+}
+
+/// Why nothing was read: memory ran out, or the grammar does not allow the word there.
 #[derive(Clone, Copy, Debug, PartialEq, Eq)]
 pub enum ReadError {
     Memory,
-    Refused(u32),
+    Refused(Misfit),
 }
 
 impl From<AllocError> for ReadError {
@@ -52,9 +64,9 @@ impl From<ReadError> for PalFault {
     fn from(error: ReadError) -> Self {
         match error {
             ReadError::Memory => PalFault::MEMORY,
-            ReadError::Refused(line) => PalFault {
+            ReadError::Refused(misfit) => PalFault {
                 refusal: Refusal::Grammar,
-                line,
+                line: misfit.line,
             },
         }
     }
@@ -145,8 +157,25 @@ impl Source {
     }
 
     /// The error that the grammar does not allow the word at the front.
-    pub fn refused(&self, tokens: &[Token]) -> ReadError {
-        ReadError::Refused(self.line_of(tokens))
+    pub fn refused(&self, tokens: &[Token]) -> ReadError
+        ensures within { IsSettled result → 0 < length tokens.now }
+    {
+        ReadError::Refused(Misfit {
+            line: self.line_of(tokens),
+            left: tokens.len(),
+            is_too_deep: false,
+        })
+    }
+
+    /// The error that the word at the front opens one level too many.
+    pub fn too_deep(&self, tokens: &[Token]) -> ReadError
+        ensures within { IsSettled result → 0 < length tokens.now }
+    {
+        ReadError::Refused(Misfit {
+            line: self.line_of(tokens),
+            left: tokens.len(),
+            is_too_deep: true,
+        })
     }
 
     #[tactic(auto, unfolding(apex_meaning::specs::GrammarReading::expect))]
@@ -154,6 +183,7 @@ impl Source {
     pub fn behind<'a>(&self, tokens: &'a [Token], mark: Mark) -> Option<&'a [Token]>
         ensures shorter { IfSome result (λ r. length r.now < length tokens.now) }
         ensures exact { Finds (λ r. seen self.now r.now) result (reading.expect (mark_text mark) (seen self.now tokens.now)) }
+        ensures ahead { (more : List grammar.Word) → FindsAhead (λ r. seen self.now r.now ++ more) (length tokens.now) result (reading.expect (mark_text mark) (seen self.now tokens.now ++ more)) }
     {
         let (token, rest) = tokens.split_first()?;
         match token.word {
@@ -170,7 +200,8 @@ impl Source {
 
     /// Whether this mark stands at the front.
     pub fn stands(&self, tokens: &[Token], mark: Mark) -> bool
-        ensures { result ≡ is_some (reading.expect (mark_text mark) (seen self.now tokens.now)) }
+        ensures exact { result ≡ is_some (reading.expect (mark_text mark) (seen self.now tokens.now)) }
+        ensures ahead { (more : List grammar.Word) → 0 < length tokens.now → result ≡ is_some (reading.expect (mark_text mark) (seen self.now tokens.now ++ more)) }
     {
         match self.behind(tokens, mark) {
             Some(_) => true,
@@ -182,6 +213,8 @@ impl Source {
     pub fn expect<'a>(&self, tokens: &'a [Token], mark: Mark) -> Result<&'a [Token], ReadError>
         ensures shorter { IfOk result (λ r. length r.now < length tokens.now) }
         ensures exact { Gives (λ r. seen self.now r.now) result (reading.expect (mark_text mark) (seen self.now tokens.now)) }
+        ensures ahead { (more : List grammar.Word) → Ahead (λ r. seen self.now r.now ++ more) (λ _. 1) result (reading.expect (mark_text mark) (seen self.now tokens.now ++ more)) }
+        ensures within { IfErr result (λ e. IsSettled e → 0 < length tokens.now) }
     {
         match self.behind(tokens, mark) {
             Some(rest) => Ok(rest),
@@ -194,6 +227,7 @@ impl Source {
     pub fn name_at<'a>(&self, tokens: &'a [Token]) -> Option<(Identifier, &'a [Token])>
         ensures shorter { IfSome result (λ x. length x.1.now < length tokens.now) }
         ensures exact { Finds (λ x. (name_of (names_of self.now) x.0, seen self.now x.1.now)) result (reading.name_at (seen self.now tokens.now)) }
+        ensures ahead { (more : List grammar.Word) → FindsAhead (λ x. (name_of (names_of self.now) x.0, seen self.now x.1.now ++ more)) (length tokens.now) result (reading.name_at (seen self.now tokens.now ++ more)) }
     {
         let (token, rest) = tokens.split_first()?;
         match token.word {
@@ -212,6 +246,8 @@ impl Source {
     pub fn name<'a>(&self, tokens: &'a [Token]) -> Read<'a, Identifier>
         ensures shorter { IfOk result (λ x. length x.1.now < length tokens.now) }
         ensures exact { Gives (λ x. (name_of (names_of self.now) x.0, seen self.now x.1.now)) result (reading.name_at (seen self.now tokens.now)) }
+        ensures ahead { (more : List grammar.Word) → Ahead (λ x. (name_of (names_of self.now) x.0, seen self.now x.1.now ++ more)) (λ _. 1) result (reading.name_at (seen self.now tokens.now ++ more)) }
+        ensures within { IfErr result (λ e. IsSettled e → 0 < length tokens.now) }
     {
         match self.name_at(tokens) {
             Some(found) => Ok(found),
@@ -225,6 +261,7 @@ impl Source {
         ensures shorter { IfSome result (λ x. length x.1.now < length tokens.now) }
         ensures plain { IfSome result (λ x. x.0.negative ≡ false) }
         ensures exact { Finds (λ x. (number_of x.0, seen self.now x.1.now)) result (reading.number_at (seen self.now tokens.now)) }
+        ensures ahead { (more : List grammar.Word) → FindsAhead (λ x. (number_of x.0, seen self.now x.1.now ++ more)) (length tokens.now) result (reading.number_at (seen self.now tokens.now ++ more)) }
     {
         let (token, rest) = tokens.split_first()?;
         match token.word {
@@ -245,6 +282,8 @@ impl Source {
         ensures shorter { IfOk result (λ x. length x.1.now < length tokens.now) }
         ensures plain { IfOk result (λ x. x.0.negative ≡ false) }
         ensures exact { Gives (λ x. (number_of x.0, seen self.now x.1.now)) result (reading.number_at (seen self.now tokens.now)) }
+        ensures ahead { (more : List grammar.Word) → Ahead (λ x. (number_of x.0, seen self.now x.1.now ++ more)) (λ _. 1) result (reading.number_at (seen self.now tokens.now ++ more)) }
+        ensures within { IfErr result (λ e. IsSettled e → 0 < length tokens.now) }
     {
         match self.number_at(tokens) {
             Some(found) => Ok(found),
@@ -257,6 +296,8 @@ impl Source {
     pub fn integer<'a>(&self, tokens: &'a [Token]) -> Read<'a, Numeral>
         ensures shorter { IfOk result (λ x. length x.1.now < length tokens.now) }
         ensures exact { Gives (λ x. (integer_of x.0, seen self.now x.1.now)) result (reading.integer_at (seen self.now tokens.now)) }
+        ensures ahead { (more : List grammar.Word) → Ahead (λ x. (integer_of x.0, seen self.now x.1.now ++ more)) (λ x. length x.1.now) result (reading.integer_at (seen self.now tokens.now ++ more)) }
+        ensures within { IfErr result (λ e. IsSettled e → 0 < length tokens.now) }
     {
         match self.behind(tokens, Mark::Minus) {
             Some(rest) => {
@@ -279,6 +320,8 @@ impl Source {
     pub fn discipline<'a>(&self, tokens: &'a [Token]) -> Read<'a, Discipline>
         ensures shorter { IfOk result (λ x. length x.1.now < length tokens.now) }
         ensures exact { Gives (λ x. (x.0, seen self.now x.1.now)) result (reading.discipline_at (seen self.now tokens.now)) }
+        ensures ahead { (more : List grammar.Word) → Ahead (λ x. (x.0, seen self.now x.1.now ++ more)) (λ x. length x.1.now) result (reading.discipline_at (seen self.now tokens.now ++ more)) }
+        ensures within { IfErr result (λ e. IsSettled e → 0 < length tokens.now) }
     {
         if let Some(rest) = self.behind(tokens, Mark::Fifo) {
             return Ok((Discipline::Fifo, rest));
@@ -292,6 +335,7 @@ impl Source {
     pub fn service_at<'a>(&self, tokens: &'a [Token]) -> Option<(Service, &'a [Token])>
         ensures shorter { IfSome result (λ x. length x.1.now < length tokens.now) }
         ensures exact { Finds (λ x. (x.0, seen self.now x.1.now)) result (reading.service_at (seen self.now tokens.now)) }
+        ensures ahead { (more : List grammar.Word) → FindsAhead (λ x. (x.0, seen self.now x.1.now ++ more)) (length tokens.now) result (reading.service_at (seen self.now tokens.now ++ more)) }
     {
         let (token, rest) = tokens.split_first()?;
         match token.word {
@@ -309,6 +353,7 @@ impl Source {
     ) -> Option<(BinaryOperator, &'a [Token])>
         ensures shorter { IfSome result (λ x. length x.1.now < length tokens.now) }
         ensures exact { Finds (λ x. (x.0, seen self.now x.1.now)) result (reading.operator_at (rank_of rank) (seen self.now tokens.now)) }
+        ensures ahead { (more : List grammar.Word) → FindsAhead (λ x. (x.0, seen self.now x.1.now ++ more)) (length tokens.now) result (reading.operator_at (rank_of rank) (seen self.now tokens.now ++ more)) }
     {
         let mut operators = operators_of(rank);
         while let Some((operator, others)) = operators.split_first() {

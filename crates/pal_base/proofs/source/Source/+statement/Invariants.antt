@@ -1,6 +1,7 @@
-use Rattle.std.proofs.Common.{◌≤◌, length, map, ◌≡◌, ◌+◌, ◌*◌}
+use Rattle.std.proofs.Common.{◌≤◌, length, map, ◌≡◌, ◌+◌, ◌*◌, ◌++◌, ◌<◌, List}
 use Rattle.std.specs.Prelude.{codes}
 use Rattle.apex_meaning.specs.GrammarReading as reading
+use Rattle.apex_meaning.specs.GrammarWords.{Word}
 use Rattle.apex_meaning.proofs.Repeats.{after}
 use Rattle.pal_base.specs.Reads.{up_to}
 use Rattle.pal_base.specs.Seen.{seen, names_of}
@@ -29,6 +30,7 @@ abbrev pub invariant-statements-loop-alloc : goal.invariant-statements-loop-allo
 invariant-statements-loop-alloc l =
     (length l.rest ≤ length l.fn.tokens)
     × (up_to (codes "}") (reading.stmt_at l.levels) (seen l.self l.fn.tokens) ≡ after (map (stmt_of (names_of l.self)) l.statements.items) (up_to (codes "}") (reading.stmt_at l.levels) (seen l.self l.rest)))
+    × ((more : List Word) → 0 < length l.rest → up_to (codes "}") (reading.stmt_at l.levels) (seen l.self l.fn.tokens ++ more) ≡ after (map (stmt_of (names_of l.self)) l.statements.items) (up_to (codes "}") (reading.stmt_at l.levels) (seen l.self l.rest ++ more)))
 
 abbrev pub decreases-statements-loop-alloc : goal.decreases-statements-loop-alloc
 decreases-statements-loop-alloc l = length l.rest

@@ -1,6 +1,7 @@
-use Rattle.std.proofs.Common.{◌≡◌, ◌≤◌, length, map}
+use Rattle.std.proofs.Common.{◌≡◌, ◌≤◌, length, map, List, ◌++◌, ◌<◌}
 use Rattle.std.specs.Prelude.{codes}
 use Rattle.apex_meaning.specs.GrammarReading as reading
+use Rattle.apex_meaning.specs.GrammarWords.{Word}
 use Rattle.apex_meaning.proofs.Repeats.{after}
 use Rattle.pal_base.specs.Reads.{listed}
 use Rattle.pal_base.specs.Seen.{seen, names_of}
@@ -8,7 +9,7 @@ use Rattle.pal_base.specs.View.{name_of}
 use Rattle.pal_base.proofs.source.Source.locals.Given as goal
 
 abbrev pub invariant-loop-behind : goal.invariant-loop-behind
-invariant-loop-behind l = (length l.rest ≤ length l.fn.tokens) × (listed (codes "local") reading.local_at (seen l.self l.fn.tokens) ≡ after (map (name_of (names_of l.self)) l.locals.items) (listed (codes "local") reading.local_at (seen l.self l.rest)))
+invariant-loop-behind l = (length l.rest ≤ length l.fn.tokens) × (listed (codes "local") reading.local_at (seen l.self l.fn.tokens) ≡ after (map (name_of (names_of l.self)) l.locals.items) (listed (codes "local") reading.local_at (seen l.self l.rest))) × ((more : List Word) → 0 < length l.rest → listed (codes "local") reading.local_at (seen l.self l.fn.tokens ++ more) ≡ after (map (name_of (names_of l.self)) l.locals.items) (listed (codes "local") reading.local_at (seen l.self l.rest ++ more)))
 
 abbrev pub decreases-loop-behind : goal.decreases-loop-behind
 decreases-loop-behind l = length l.rest

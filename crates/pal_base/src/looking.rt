@@ -1,0 +1,249 @@
+//! What the grammar looks for where a text leaves it: each kind of word is tried there.
+
+ghost use Rattle.std.specs.Prelude.{◌≡◌, ◌++◌, ◌∷◌, [], length, IfOk, OnOk};
+ghost use Rattle.pal_base.specs.Next.{IsLookedFor, IsMisfit, IsFit, IsWordFit, IsFirstFit, IsFitAt, IsNoted, AreNext, first_name};
+ghost use Rattle.pal_base.specs.Seen.{seen, names_of};
+ghost use Rattle.pal_base.specs.WordView.{word_of};
+
+use crate::mark::Mark;
+use crate::source::{Misfit, ReadError, Source};
+use crate::syntax::{NameId, Natural};
+use crate::word::{Token, Word, Words, words_of};
+use apex_types::Service;
+use std::alloc::{AllocError, Global};
+
+/// A kind of word: a name, a number, the name of a service, a mark, or the end of the text.
+#[derive(Clone, Copy, Debug, PartialEq, Eq)]
+pub enum WordKind {
+    Name,
+    Number,
+    Service,
+    Mark(Mark),
+    End,
+}
+
+/// Each kind of word once.
+static KINDS: [WordKind; 50] = [
+    WordKind::Name,
+    WordKind::Number,
+    WordKind::Service,
+    WordKind::Mark(Mark::Var),
+    WordKind::Mark(Mark::Array),
+    WordKind::Mark(Mark::Semaphore),
+    WordKind::Mark(Mark::Event),
+    WordKind::Mark(Mark::Buffer),
+    WordKind::Mark(Mark::Blackboard),
+    WordKind::Mark(Mark::Port),
+    WordKind::Mark(Mark::Proc),
+    WordKind::Mark(Mark::Fifo),
+    WordKind::Mark(Mark::Priority),
+    WordKind::Mark(Mark::Init),
+    WordKind::Mark(Mark::Stack),
+    WordKind::Mark(Mark::Handler),
+    WordKind::Mark(Mark::Process),
+    WordKind::Mark(Mark::Period),
+    WordKind::Mark(Mark::Capacity),
+    WordKind::Mark(Mark::Local),
+    WordKind::Mark(Mark::If),
+    WordKind::Mark(Mark::Else),
+    WordKind::Mark(Mark::While),
+    WordKind::Mark(Mark::Work),
+    WordKind::Mark(Mark::Return),
+    WordKind::Mark(Mark::And),
+    WordKind::Mark(Mark::Or),
+    WordKind::Mark(Mark::Not),
+    WordKind::Mark(Mark::Becomes),
+    WordKind::Mark(Mark::Arrow),
+    WordKind::Mark(Mark::NotEqual),
+    WordKind::Mark(Mark::LessOrEqual),
+    WordKind::Mark(Mark::GreaterOrEqual),
+    WordKind::Mark(Mark::Plus),
+    WordKind::Mark(Mark::Minus),
+    WordKind::Mark(Mark::Times),
+    WordKind::Mark(Mark::Slash),
+    WordKind::Mark(Mark::Percent),
+    WordKind::Mark(Mark::Equal),
+    WordKind::Mark(Mark::Less),
+    WordKind::Mark(Mark::Greater),
+    WordKind::Mark(Mark::Semicolon),
+    WordKind::Mark(Mark::Comma),
+    WordKind::Mark(Mark::ParenthesisOpens),
+    WordKind::Mark(Mark::ParenthesisCloses),
+    WordKind::Mark(Mark::BraceOpens),
+    WordKind::Mark(Mark::BraceCloses),
+    WordKind::Mark(Mark::BracketOpens),
+    WordKind::Mark(Mark::BracketCloses),
+    WordKind::End,
+];
+
+/// What the grammar looks for at the first word of a text that does not fit.
+#[derive(Drop)]
+pub struct LookedFor {
+    /// How many words stand before that word.
+    pub place: usize,
+    /// The line of that word, or the last line of the text.
+    pub line: u32,
+    /// How that word fits there.
+    pub found: Fit,
+    /// The words that can stand there.
+    pub words: Vec<WordKind>,
+    /// The words that could stand there if one more level could be opened.
+    pub deeper: Vec<WordKind>,
+}
+
+/// How a word fits behind others.
+#[derive(Clone, Copy, Debug, PartialEq, Eq)]
+pub enum Fit {
+    /// Some program goes on with it.
+    Fits,
+    /// It opens one level too many.
+    TooDeep,
+    Misfit,
+}
+
+/// What the grammar looks for at the first word of a text that does not fit; nothing where the text
+/// is in the grammar.
+///
+/// # Errors
+///
+/// Only where memory ran out.
+pub fn looked_for(alloc: Global, text: &[u8]) -> Result<Option<LookedFor>, AllocError>
+    ensures { IfOk result (λ found. IsLookedFor text.now found) }
+{
+    let Ok(words) = words_of(alloc, text) else {
+        return Err(AllocError);
+    };
+    let Words {
+        names,
+        tokens,
+        last_line,
+    } = words;
+    let source = Source { names, last_line };
+    let Some(misfit) = source.misfit(alloc, tokens.as_slice())? else {
+        return Ok(None);
+    };
+    let count = tokens.len().saturating_sub(misfit.left);
+    let (before, behind) = tokens.as_slice().split_at(count);
+    let found = source.fit_of_first(alloc, before, behind)?;
+    Ok(Some(source.looked_for(alloc, before, misfit.line, found)?))
+}
+
+impl Source {
+    /// Where these words leave the grammar, if they do.
+    fn misfit(&self, alloc: Global, tokens: &[Token]) -> Result<Option<Misfit>, AllocError>
+        ensures { IfOk result (λ found. IsMisfit (seen self.now tokens.now) found) }
+    {
+        match self.program(alloc, tokens) {
+            Ok(_) => Ok(None),
+            Err(ReadError::Refused(misfit)) => Ok(Some(misfit)),
+            Err(ReadError::Memory) => Err(AllocError),
+        }
+    }
+
+    /// What can stand behind these words, where a word of that line fits so.
+    fn looked_for(
+        &self,
+        alloc: Global,
+        before: &[Token],
+        line: u32,
+        found: Fit,
+    ) -> Result<LookedFor, AllocError>
+        ensures place { IfOk result (λ it. it.place ≡ length before.now) }
+        ensures found { IfOk result (λ it. it.found ≡ found) }
+        ensures next { IfOk result (λ it. AreNext (first_name (names_of self.now)) (seen self.now before.now) it.words.items) }
+    {
+        let mut words = Vec::new(alloc);
+        let mut deeper = Vec::new(alloc);
+        let mut kinds: &[WordKind] = &KINDS;
+        while let Some((kind, others)) = kinds.split_first() {
+            let fit = self.fit(alloc, before, *kind)?;
+            note(*kind, fit, &mut words, &mut deeper)?;
+            kinds = others;
+        }
+        Ok(LookedFor {
+            place: before.len(),
+            line,
+            found,
+            words,
+            deeper,
+        })
+    }
+
+    /// How a word of this kind fits behind those, or the end.
+    fn fit(&self, alloc: Global, before: &[Token], kind: WordKind) -> Result<Fit, AllocError>
+        ensures { IfOk result (λ fit. IsFit (first_name (names_of self.now)) (seen self.now before.now) kind fit) }
+    {
+        match kind {
+            WordKind::Name => self.fit_of_word(alloc, before, Word::Name(NameId(0))),
+            WordKind::Number => {
+                self.fit_of_word(alloc, before, Word::Number(Natural::Within(0)))
+            }
+            WordKind::Service => {
+                self.fit_of_word(alloc, before, Word::Service(Service::GetTime))
+            }
+            WordKind::Mark(mark) => self.fit_of_word(alloc, before, Word::Mark(mark)),
+            WordKind::End => match self.misfit(alloc, before)? {
+                Some(_) => Ok(Fit::Misfit),
+                None => Ok(Fit::Fits),
+            },
+        }
+    }
+
+    /// How the first of some words fits behind others; their end does not.
+    fn fit_of_first(
+        &self,
+        alloc: Global,
+        before: &[Token],
+        behind: &[Token],
+    ) -> Result<Fit, AllocError>
+        ensures { IfOk result (λ fit. IsFirstFit (seen self.now before.now) (seen self.now behind.now) fit) }
+    {
+        match behind.split_first() {
+            Some((token, _)) => self.fit_of_word(alloc, before, token.word),
+            None => Ok(Fit::Misfit),
+        }
+    }
+
+    /// How this word fits behind those: it does not where the words leave the grammar before their
+    /// end.
+    fn fit_of_word(&self, alloc: Global, before: &[Token], word: Word) -> Result<Fit, AllocError>
+        ensures { IfOk result (λ fit. IsWordFit (seen self.now before.now ++ word_of (names_of self.now) word ∷ []) fit) }
+    {
+        let mut tokens = Vec::from_slice(alloc, before)?;
+        tokens.push(Token { word, line: 0 })?;
+        match self.misfit(alloc, tokens.as_slice())? {
+            Some(misfit) => Ok(fit_at(misfit)),
+            None => Ok(Fit::Fits),
+        }
+    }
+}
+
+/// Puts a kind of word behind those that fit, or behind those that would at one level more.
+fn note(
+    kind: WordKind,
+    fit: Fit,
+    words: &mut Vec<WordKind>,
+    deeper: &mut Vec<WordKind>,
+) -> Result<(), AllocError>
+    ensures { OnOk result (IsNoted fit kind words.old.items words.new.items) }
+{
+    match fit {
+        Fit::Fits => words.push(kind)?,
+        Fit::TooDeep => deeper.push(kind)?,
+        Fit::Misfit => {}
+    }
+    Ok(())
+}
+
+/// How the last of some words fits that leave the grammar there.
+fn fit_at(misfit: Misfit) -> Fit
+    ensures { IsFitAt result misfit }
+{
+    if misfit.left == 0 {
+        Fit::Fits
+    } else if misfit.is_too_deep {
+        Fit::TooDeep
+    } else {
+        Fit::Misfit
+    }
+}
