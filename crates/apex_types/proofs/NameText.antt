@@ -8,7 +8,8 @@ use Rattle.std.proofs.lemmas.Str.{IsUtf8-from_ascii}
 use Rattle.std.proofs.lemmas.Str.Ascii.{IsAscii-nil, IsAscii-cons}
 use Rattle.std.specs.List.{list_all}
 use Rattle.std.specs.Str.{IsAscii, IsUtf8}
-use Rattle.apex_types.specs.NameText.{is_lower_case, is_name, is_name_byte, IsStored}
+use Rattle.apex_types.specs.NameText.{is_lower_case, is_name, is_name_byte}
+use Rattle.apex_types.specs.StoredName.{IsStored}
 
 lower_case_below : (c : ℕ) → is_lower_case c ≡ true → c < 128
 lower_case_below c h = grind (arith, nat_tests)

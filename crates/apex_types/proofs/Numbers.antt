@@ -5,7 +5,7 @@ use Rattle.std.proofs.lemmas.Bool.Decides.{nat_tests}
 use Rattle.std.proofs.lemmas.Option.{slice_get_past, slice_get_cases}
 use Rattle.apex_types.specs.declared.service.Service.{Service}
 use Rattle.apex_types.specs.declared.service.Service.TheVariants as service
-use Rattle.apex_types.specs.ServiceNumbers.{services, service_of, number_of}
+use Rattle.apex_types.specs.ServiceShape.{services, service_of, number_of}
 
 pub service_of_number : (s : Service) → service_of (number_of s) ≡ Some s
 service_of_number service.GetPartitionStatus = refl

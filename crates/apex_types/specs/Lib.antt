@@ -2,10 +2,10 @@ pub mod CodeWords
 pub mod Line
 pub mod Lines
 pub mod NameText
+pub mod StoredName
 pub mod OperatorCosts
 pub mod Room
 pub mod Runners
 pub mod ServiceCalls
-pub mod ServiceNumbers
 pub mod ServiceShape
 pub mod Sink

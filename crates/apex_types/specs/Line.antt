@@ -1,5 +1,5 @@
--- The text of a trace: the exact bytes of each event's line.
-use Rattle.std.specs.Prelude.{ℕ, ◌+◌, ◌/◌, ◌%◌, ℤ, List, [], ◌∷◌, ◌++◌, map, flat_map, codes, Option, Some, None}
+-- The text of a trace: the exact bytes of each event's line; and when a sink takes a beginning of a text.
+use Rattle.std.specs.Prelude.{ℕ, ◌+◌, ◌/◌, ◌%◌, ℤ, List, [], ◌∷◌, ◌++◌, map, flat_map, codes, Option, Some, None, ◌≤◌, length, take}
 use Rattle.std.specs.Fmt.{decimal, signed_decimal}
 use Rattle.apex_types.specs.CodeWords.{return_code_number, mode_word, state_word, error_word, level_word, level_of_response, action_word}
 use Rattle.apex_types.specs.ServiceShape.{service_word}
@@ -8,6 +8,7 @@ use Rattle.apex_types.specs.declared.event.EventKind.{EventKind}
 use Rattle.apex_types.specs.declared.event.EventKind.TheVariants as event
 use Rattle.apex_types.specs.declared.event.Subject.{Subject}
 use Rattle.apex_types.specs.declared.event.Subject.TheVariants as subject
+use Rattle.std.specs.Io.KnownBytes.{Appends}
 
 -- a number in 13 digits, with zeros in front
 abbrev pub thirteen_digits : ℕ → List ℕ
@@ -52,3 +53,7 @@ line_of event = thirteen_digits event.tick.0 ++ codes " " ++ partition_text even
 -- the text of a trace: the lines of its events
 abbrev pub text_of : List Event → List ℕ
 text_of events = flat_map line_of events
+
+-- the bytes taken grew by a beginning of the text
+abbrev pub TakesBeginning : Option (List ℕ) → Option (List ℕ) → List ℕ → Type 0
+TakesBeginning old new text = (k : ℕ) × (k ≤ length text) × Appends old new (take k text)

@@ -1,7 +1,7 @@
 -- The shape of each service, a row a service: its number in this profile, its name in the standard,
 -- what its arguments have to be, how many outputs it has beside its code, and whether it creates.
 -- What a service takes, answers and costs follows from its row.
-use Rattle.std.specs.Prelude.{ℕ, ◌+◌, Bool, true, false, List, [], ◌∷◌, codes, if◌then◌else◌}
+use Rattle.std.specs.Prelude.{ℕ, ◌+◌, Bool, true, false, List, [], ◌∷◌, codes, if◌then◌else◌, ◌-◌, nat_eq, Option, None, slice_get}
 use Rattle.std.specs.List.{sum_by, list_any}
 use Rattle.apex_types.specs.declared.cost.TheConstants.{CREATION_COST, ARRAY_SERVICE_COST, SERVICE_COST}
 use Rattle.apex_types.specs.declared.denotation.ObjectKind.TheVariants as object
@@ -122,3 +122,70 @@ cost_of_class Other = SERVICE_COST
 
 abbrev pub cost_of_service : Service → ℕ
 cost_of_service s = cost_of_class (class_of s)
+
+-- The services in the order of their numbers, and the service of a number.
+
+-- all services, in the order of their numbers
+abbrev pub services : List Service
+services =
+    service.GetPartitionStatus ∷
+    service.SetPartitionMode ∷
+    service.GetProcessId ∷
+    service.GetProcessStatus ∷
+    service.CreateProcess ∷
+    service.SetPriority ∷
+    service.SuspendSelf ∷
+    service.Suspend ∷
+    service.Resume ∷
+    service.StopSelf ∷
+    service.Stop ∷
+    service.Start ∷
+    service.DelayedStart ∷
+    service.LockPreemption ∷
+    service.UnlockPreemption ∷
+    service.GetMyId ∷
+    service.TimedWait ∷
+    service.PeriodicWait ∷
+    service.GetTime ∷
+    service.Replenish ∷
+    service.CreateBuffer ∷
+    service.SendBuffer ∷
+    service.ReceiveBuffer ∷
+    service.GetBufferId ∷
+    service.GetBufferStatus ∷
+    service.CreateBlackboard ∷
+    service.DisplayBlackboard ∷
+    service.ReadBlackboard ∷
+    service.ClearBlackboard ∷
+    service.GetBlackboardId ∷
+    service.GetBlackboardStatus ∷
+    service.CreateSemaphore ∷
+    service.WaitSemaphore ∷
+    service.SignalSemaphore ∷
+    service.GetSemaphoreId ∷
+    service.GetSemaphoreStatus ∷
+    service.CreateEvent ∷
+    service.SetEvent ∷
+    service.ResetEvent ∷
+    service.WaitEvent ∷
+    service.GetEventId ∷
+    service.GetEventStatus ∷
+    service.CreateSamplingPort ∷
+    service.WriteSamplingMessage ∷
+    service.ReadSamplingMessage ∷
+    service.GetSamplingPortId ∷
+    service.GetSamplingPortStatus ∷
+    service.CreateQueuingPort ∷
+    service.SendQueuingMessage ∷
+    service.ReceiveQueuingMessage ∷
+    service.GetQueuingPortId ∷
+    service.GetQueuingPortStatus ∷
+    service.ClearQueuingPort ∷
+    service.ReportApplicationMessage ∷
+    service.CreateErrorHandler ∷
+    service.GetErrorStatus ∷
+    service.RaiseApplicationError ∷ []
+
+-- the service of a number: they are numbered from 1
+abbrev pub service_of : ℕ → Option Service
+service_of number = if nat_eq number 0 then None else slice_get services (number - 1)

@@ -2,7 +2,7 @@
 
 ghost use Rattle.std.specs.Prelude.{◌≡◌, ◌<◌, None, Some, ℕ};
 ghost use Rattle.apex_types.specs.declared.service.Service.{Service};
-ghost use Rattle.apex_types.specs.ServiceNumbers.{number_of, service_of};
+ghost use Rattle.apex_types.specs.ServiceShape.{number_of, service_of};
 ghost use Rattle.apex_types.specs.ServiceCalls.{argument, array_argument, call_of, array_of};
 
 use crate::service::{ArrayPlace, Call, Service};

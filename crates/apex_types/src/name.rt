@@ -17,7 +17,7 @@ pub struct Name {
 
 impl Model for Name {
     ghost use Rattle.std.specs.Prelude.{ℕ, List, take, length};
-    ghost use Rattle.apex_types.specs.NameText.{IsStored, stored};
+    ghost use Rattle.apex_types.specs.StoredName.{IsStored, stored};
 
     ghost Value = { List ℕ };
 

@@ -133,7 +133,7 @@ fn service_at(services: &[Service], index: usize) -> Option<Service>
 }
 
 impl Service {
-    ghost use Rattle.apex_types.specs.ServiceNumbers.{number_of, service_of};
+    ghost use Rattle.apex_types.specs.ServiceShape.{number_of, service_of};
 
     /// The number of this service, 1 to 57.
     pub fn number(self) -> u32

@@ -3,7 +3,8 @@
 ghost use Rattle.std.specs.Prelude.{◌≡◌, ℕ, ◌+◌, ◌-◌, ◌^◌, ◌<◌, List, Option, OnErr, OnOk};
 ghost use Rattle.std.specs.Io.{WritesAtMost};
 ghost use Rattle.std.specs.Io.KnownBytes.{Appends, WriteAppends};
-ghost use Rattle.apex_types.specs.Sink.{TakesBeginning, failures_of};
+ghost use Rattle.apex_types.specs.Line.{TakesBeginning};
+ghost use Rattle.apex_types.specs.Sink.{failures_of};
 
 use std::io::Write;
 

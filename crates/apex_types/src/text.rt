@@ -5,7 +5,7 @@ ghost use Rattle.std.specs.Fmt.{signed_decimal};
 ghost use Rattle.std.specs.Io.KnownBytes.{Appends};
 ghost use Rattle.arrayvec.specs.ArrayVec.{array_vec_len};
 ghost use Rattle.apex_types.specs.Line.{culprit_text, kind_text, line_of, partition_text, subject_text, text_of, thirteen_digits, words_text};
-ghost use Rattle.apex_types.specs.Sink.{TakesBeginning};
+ghost use Rattle.apex_types.specs.Line.{TakesBeginning};
 
 use crate::codes::{ErrorKind, Response, ReturnCode};
 use crate::event::{Event, EventKind, Subject};

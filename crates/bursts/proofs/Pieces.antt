@@ -4,11 +4,11 @@ use Rattle.std.specs.Prelude.{Option, Some, None, slice_get, slice_set, option_m
 use Rattle.std.proofs.lemmas.Option.{none-some}
 use Rattle.apex_types.specs.declared.device.DeviceLine.{DeviceLine}
 use Rattle.apex_types.specs.declared.event.Event.{Event}
-use Rattle.apex_meaning.specs.Engine.{Engine}
-use Rattle.apex_meaning.specs.Module as meaning
-use Rattle.apex_meaning.specs.Module.{Plan, of_tick, Advanced, Course, still, trace_from, module_tick, next_tick, moves_ended, ticks_owner, moves_and_ticks, then_goes, then_runs, inputs_all, steps_member}
-use Rattle.apex_meaning.specs.Partition.{Member, World, Moved, advances, with_world, tick}
-use Rattle.apex_meaning.specs.Windows.{tick_from, owner, ended}
+use Rattle.engine_meaning.specs.Engine.{Engine}
+use Rattle.module_meaning.specs.Module as meaning
+use Rattle.module_meaning.specs.Module.{Plan, of_tick, Advanced, Course, still, trace_from, module_tick, next_tick, moves_ended, ticks_owner, moves_and_ticks, then_goes, then_runs, inputs_all, steps_member}
+use Rattle.kernel_meaning.specs.Partition.{Member, World, Moved, advances, with_world, tick}
+use Rattle.kernel_meaning.specs.Windows.{tick_from, owner, ended}
 use Rattle.bursts.specs.Bursts.{Burst, later, alone}
 use Rattle.bursts.specs.Running.{is_silent, advances_by, partition_tick}
 

@@ -6,15 +6,15 @@ use Rattle.apex_types.specs.declared.device.DeviceLine.{DeviceLine}
 use Rattle.apex_types.specs.declared.identity.At.{At}
 use Rattle.apex_types.specs.declared.identity.PartitionId.{PartitionId}
 use Rattle.apex_types.specs.declared.identity.PortId.{PortId}
-use Rattle.apex_meaning.specs.Engine.{Engine}
-use Rattle.apex_meaning.specs.Arrival as arrival
-use Rattle.apex_meaning.specs.Image.{Channel, at_number}
-use Rattle.apex_meaning.specs.Kernel.{with_ports, of_ports, of_processes}
-use Rattle.apex_meaning.specs.Module as meaning
-use Rattle.apex_meaning.specs.Module.{Plan, of_tick, Advanced, Course, still, ports_from, ports_of, of_member, trace_from, module_tick, next_tick, moves_port, moves_ports, moves_ended, moves_so_many, steps, steps_member, ticks_owner, moves_and_ticks, then_goes, then_runs, inputs_all}
-use Rattle.apex_meaning.specs.Partition.{Member, World, Moved, advances, admits, moved, followed_by, with_world, tick, clearing_phase, treats_due, choice_phase, spending_phase, spends_chosen, messages_to_move, place_of_port, chooses_with_handler}
-use Rattle.apex_meaning.specs.Step.{nothing}
-use Rattle.apex_meaning.specs.Windows.{tick_from, owner, ended}
+use Rattle.engine_meaning.specs.Engine.{Engine}
+use Rattle.kernel_meaning.specs.PortServices as arrival
+use Rattle.module_meaning.specs.Table.{Channel, at_number}
+use Rattle.kernel_meaning.specs.Kernel.{with_ports, of_ports, of_processes}
+use Rattle.module_meaning.specs.Module as meaning
+use Rattle.module_meaning.specs.Module.{Plan, of_tick, Advanced, Course, still, ports_from, ports_of, of_member, trace_from, module_tick, next_tick, moves_port, moves_ports, moves_ended, moves_so_many, steps, steps_member, ticks_owner, moves_and_ticks, then_goes, then_runs, inputs_all}
+use Rattle.kernel_meaning.specs.Partition.{Member, World, Moved, advances, admits, moved, followed_by, with_world, tick, clearing_phase, treats_due, choice_phase, spending_phase, spends_chosen, messages_to_move, place_of_port, chooses_with_handler}
+use Rattle.kernel_meaning.specs.Step.{nothing}
+use Rattle.kernel_meaning.specs.Windows.{tick_from, owner, ended}
 use Rattle.bursts.specs.Quiet.{IsIdle, HasNothingDue, IsAtRest, IsStill, AreStill, HaveNoLines}
 
 -- ---- a partition

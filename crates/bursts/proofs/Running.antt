@@ -4,10 +4,10 @@ use Rattle.std.specs.Prelude.{None, Option, Some, slice_set}
 use Rattle.apex_types.specs.Runners.{place_of}
 use Rattle.apex_types.specs.declared.event.Event.{Event}
 use Rattle.apex_types.specs.declared.identity.Runner.{Runner}
-use Rattle.apex_meaning.specs.Engine.{Ticked, Engine, Asks, Nothing, Calls, Faults, Ends}
-use Rattle.apex_meaning.specs.Partition.{World, Moved, tick, moved, spends, spends_chosen, treats_asked, given, ticked, control_at, chooses_with_handler}
-use Rattle.apex_meaning.specs.Step.{nothing}
-use Rattle.apex_meaning.specs.Windows.{tick_from}
+use Rattle.engine_meaning.specs.Engine.{Ticked, Engine, Asks, Nothing, Calls, Faults, Ends}
+use Rattle.kernel_meaning.specs.Partition.{World, Moved, tick, moved, spends, spends_chosen, treats_asked, given, ticked, control_at, chooses_with_handler}
+use Rattle.kernel_meaning.specs.Step.{nothing}
+use Rattle.kernel_meaning.specs.Windows.{tick_from}
 use Rattle.bursts.specs.Bursts.{Burst, later, alone, burst, is_nothing, told_of}
 use Rattle.bursts.proofs.Until.{ticked_once}
 use Rattle.bursts.specs.Quiet.{HasNothingDue}

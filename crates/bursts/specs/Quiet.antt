@@ -3,13 +3,13 @@ use Rattle.std.specs.Prelude.{◌≡◌, ◌⊎◌, ℕ, ◌<◌, ◌≤◌, Lis
 use Rattle.apex_types.specs.declared.device.DeviceLine.{DeviceLine}
 use Rattle.apex_types.specs.declared.identity.At.{At}
 use Rattle.apex_types.specs.declared.identity.PortId.{PortId}
-use Rattle.apex_meaning.specs.Arrival as arrival
-use Rattle.apex_meaning.specs.Image.{at_number}
-use Rattle.apex_meaning.specs.Kernel.{Kernel, with_ports}
-use Rattle.apex_meaning.specs.Module.{of_tick}
-use Rattle.apex_meaning.specs.Partition.{Member, chooses_with_handler, treats_due, messages_to_move, place_of_port}
-use Rattle.apex_meaning.specs.Step.{nothing}
-use Rattle.apex_meaning.specs.Windows.{tick_from}
+use Rattle.kernel_meaning.specs.PortServices as arrival
+use Rattle.module_meaning.specs.Table.{at_number}
+use Rattle.kernel_meaning.specs.Kernel.{Kernel, with_ports}
+use Rattle.module_meaning.specs.Module.{of_tick}
+use Rattle.kernel_meaning.specs.Partition.{Member, chooses_with_handler, treats_due, messages_to_move, place_of_port}
+use Rattle.kernel_meaning.specs.Step.{nothing}
+use Rattle.kernel_meaning.specs.Windows.{tick_from}
 
 -- Nobody runs, nobody is chosen, and the handler does not start.
 pub record IsIdle (k : Kernel) : Type 0 where

@@ -3,9 +3,9 @@ use Rattle.std.specs.Prelude.{◌≡◌, ℕ, ◌+◌, ◌-◌, ℤ, Bool, true,
 use Rattle.apex_types.specs.Runners.{place_of}
 use Rattle.apex_types.specs.declared.event.Event.{Event}
 use Rattle.apex_types.specs.declared.identity.Runner.{Runner}
-use Rattle.apex_meaning.specs.Engine.{Engine, Asks}
-use Rattle.apex_meaning.specs.Partition.{World, Moved, tick, moved, treats_asked, given, ticked, control_at}
-use Rattle.apex_meaning.specs.Windows.{tick_from}
+use Rattle.engine_meaning.specs.Engine.{Engine, Asks}
+use Rattle.kernel_meaning.specs.Partition.{World, Moved, tick, moved, treats_asked, given, ticked, control_at}
+use Rattle.kernel_meaning.specs.Windows.{tick_from}
 use Rattle.bursts.specs.Bursts.{Told, Burst, later, until, burst}
 
 abbrev pub is_silent : List Event → Bool

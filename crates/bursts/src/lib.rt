@@ -4,12 +4,12 @@
 ghost use Rattle.std.specs.Prelude.{◌≡◌, ℕ, ◌+◌, ◌<◌, ◌≤◌, Some, List, if◌then◌else◌};
 ghost use Rattle.apex_types.specs.declared.device.DeviceLine.{DeviceLine};
 ghost use Rattle.apex_types.specs.declared.identity.Runner.{Runner};
-ghost use Rattle.apex_meaning.specs.Engine.{Engine};
-ghost use Rattle.apex_meaning.specs.MachineControl.{MachineControl};
-ghost use Rattle.apex_meaning.specs.Module.{Plan, trace_from};
-ghost use Rattle.apex_meaning.specs.Partition.{Member, World, chooses_with_handler};
-ghost use Rattle.apex_meaning.specs.Step.{nothing};
-ghost use Rattle.apex_meaning.specs.Windows.{tick_from};
+ghost use Rattle.engine_meaning.specs.Engine.{Engine};
+ghost use Rattle.machine_meaning.specs.MachineControl.{MachineControl};
+ghost use Rattle.module_meaning.specs.Module.{Plan, trace_from};
+ghost use Rattle.kernel_meaning.specs.Partition.{Member, World, chooses_with_handler};
+ghost use Rattle.kernel_meaning.specs.Step.{nothing};
+ghost use Rattle.kernel_meaning.specs.Windows.{tick_from};
 ghost use Rattle.bursts.specs.Bursts.{later};
 ghost use Rattle.bursts.specs.Quiet.{AreStill, HaveNoLines, HasNothingDue};
 ghost use Rattle.bursts.specs.Running.{is_silent, advances_by, burst_of, lifted};

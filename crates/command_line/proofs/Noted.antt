@@ -1,7 +1,7 @@
 -- What is noted of a refused source.
 use Rattle.std.proofs.Common.{ℕ, List, Option, Some, None, IfSome}
-use Rattle.apex_meaning.specs.Image.{Table}
-use Rattle.module.specs.Accepted.{IsTable}
+use Rattle.module_meaning.specs.Table.{Table}
+use Rattle.module_meaning.specs.Accepted.{IsTable}
 use Rattle.pal_base.specs.declared.fault.PalFault.{PalFault}
 use Rattle.command_line.specs.Explained.{IsExplained, IsExplainedWith}
 

@@ -3,14 +3,16 @@ use Rattle.std.proofs.Common.{◌≡◌, ◌≢◌, ℕ, ◌≤◌, ◌<◌, ◌
 use Rattle.std.specs.Io.KnownBytes.{Keeps}
 use Rattle.std.proofs.KnownBytes.{Appends-kept}
 use Rattle.apex_types.specs.Line.{text_of}
-use Rattle.apex_meaning.specs.Image.{Image}
-use Rattle.apex_meaning.specs.ImageReading.{Fault}
-use Rattle.apex_meaning.specs.TwoMeanings.{source_trace, machine_trace}
-use Rattle.module.specs.Promises.{Means, Runs}
+use Rattle.machine_meaning.specs.Image.{Image}
+use Rattle.machine_meaning.specs.ImageReading.{Fault}
+use Rattle.module_meaning.specs.SourceMeaning.{source_trace}
+use Rattle.machine_meaning.specs.MachineMeaning.{machine_trace}
+use Rattle.module.specs.Promises.{Means}
+use Rattle.module.specs.Runs.{Runs}
 use Rattle.module.specs.declared.fault.RunFault.{RunFault}
 use Rattle.module.specs.declared.fault.RunFault.TheVariants.{Ticks, Image as NoImage, Partition, Device, Memory, Write, Failed}
 use Rattle.std.specs.Prelude.{IsErr, IsErrAnd, IsErrOf, IfErr}
-use Rattle.apex_meaning.specs.ImageReading.{image_at}
+use Rattle.machine_meaning.specs.ImageReading.{image_at}
 use Rattle.command_line.specs.Contents.{Contents, Holds}
 use Rattle.command_line.specs.Done.{ImageAndText, IsRunDone, IsFirstRun, is_ok}
 use Rattle.streams.specs.States.{Seen}

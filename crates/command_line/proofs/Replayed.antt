@@ -3,9 +3,9 @@ use Rattle.std.proofs.Common.{◌≡◌, ◌≢◌, ℕ, ◌+◌, ◌-◌, ◌^�
 use Rattle.std.specs.Prelude.{IsErrOf, IfErr}
 use Rattle.std.specs.Io.KnownBytes.{Keeps}
 use Rattle.std.proofs.KnownBytes.{Appends-kept}
-use Rattle.apex_meaning.specs.Image.{Image}
-use Rattle.apex_meaning.specs.ImageReading.{Fault, image_at}
-use Rattle.module.specs.Promises.{Replays}
+use Rattle.machine_meaning.specs.Image.{Image}
+use Rattle.machine_meaning.specs.ImageReading.{Fault, image_at}
+use Rattle.module.specs.Replays.{Replays}
 use Rattle.module.specs.Telling.{Tells}
 use Rattle.module.specs.declared.inputs_fault.InputsFault.{InputsFault}
 use Rattle.module.specs.declared.inputs_fault.InputsFault.TheVariants as inputs

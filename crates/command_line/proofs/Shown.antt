@@ -4,7 +4,7 @@ use Rattle.std.proofs.Math.Seq.{take-length}
 use Rattle.std.specs.Prelude.{OnErr}
 use Rattle.std.specs.Io.KnownBytes.{Appends, Keeps}
 use Rattle.std.proofs.KnownBytes.{Appends-kept}
-use Rattle.apex_types.specs.Sink.{TakesBeginning}
+use Rattle.apex_types.specs.Line.{TakesBeginning}
 
 -- the whole of a text is a beginning of it, and a flush keeps it
 pub whole_is_begun : {A E : Type 0} (old mid new : Option (List ℕ)) (text : List ℕ) (answer : Result A E) → Appends old mid text → Keeps mid new → OnErr answer (TakesBeginning old new text)

@@ -3,13 +3,15 @@ use Rattle.std.specs.Prelude.{◌≡◌, ℕ, List, [], ◌∷◌, ◌++◌, len
 use Rattle.std.specs.Fmt.{decimal}
 use Rattle.std.specs.Io.KnownBytes.{Appends}
 use Rattle.std.specs.Str.Parse.{IsNumeral, digits_value}
-use Rattle.apex_meaning.specs.Image.{Image}
-use Rattle.apex_meaning.specs.ImageReading.{image_at}
+use Rattle.machine_meaning.specs.Image.{Image}
+use Rattle.machine_meaning.specs.ImageReading.{image_at}
 use Rattle.listing.specs.Code.{code_text}
 use Rattle.listing.specs.Costs.{costs_text}
 use Rattle.module.specs.Building.{IsImageOf}
 use Rattle.module.specs.Costs.{AreCosts}
-use Rattle.module.specs.Promises.{Means, Replays, Runs}
+use Rattle.module.specs.Promises.{Means}
+use Rattle.module.specs.Replays.{Replays}
+use Rattle.module.specs.Runs.{Runs}
 use Rattle.module.specs.Telling.{Tells}
 use Rattle.module.specs.declared.costing.PartitionCosts.{PartitionCosts}
 use Rattle.module.specs.declared.fault.BuildAndRunFault.{BuildAndRunFault}

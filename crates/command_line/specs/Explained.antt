@@ -1,11 +1,11 @@
 -- What is told of a refusal: its line and, where that is asked for, an explanation behind it.
 use Rattle.std.specs.Prelude.{◌≡◌, ℕ, Bool, true, false, List, [], ◌∷◌, ◌++◌, if◌then◌else◌, Option, Some, None, string_bytes}
 use Rattle.std.specs.Str.{bytes_eq}
-use Rattle.apex_meaning.specs.Image.{Partition, Table}
+use Rattle.module_meaning.specs.Table.{Partition, Table}
 use Rattle.explanations.specs.Explanation.{IsExplanationOf}
 use Rattle.explanations.specs.Sentences.{command_sentence, device_sentence, image_sentence, replay_sentence, source_sentence, table_sentence}
 use Rattle.explanations.specs.declared.sentences.CommandFault.TheVariants as command
-use Rattle.module.specs.Accepted.{IsTable}
+use Rattle.module_meaning.specs.Accepted.{IsTable}
 use Rattle.module.specs.declared.fault.BuildFault.{BuildFault}
 use Rattle.module.specs.declared.fault.BuildFault.TheVariants as build
 use Rattle.module.specs.declared.inputs_fault.InputsFault.{InputsFault}

@@ -1,6 +1,6 @@
 -- The steps of reading and building what the words name.
 use Rattle.std.specs.Prelude.{◌≡◌, ℕ, List, map, Option, string_bytes}
-use Rattle.module.specs.Building.{IsRefusal}
+use Rattle.module.specs.Refusals.{IsRefusal}
 use Rattle.module.specs.Costs.{IsCostRefusal}
 use Rattle.command_line.specs.Contents.{Contents}
 use Rattle.command_line.specs.Refusals.{IsFirstUnread}

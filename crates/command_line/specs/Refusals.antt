@@ -5,14 +5,14 @@ use Rattle.clap.specs.Kinds.{Kinds, IsAmong}
 use Rattle.clap.specs.Values.{kind_of}
 use Rattle.clap.specs.declared.error.kind.ErrorKind.TheVariants.{ValueValidation}
 use Rattle.streams.specs.States.{HasFailed, Seen}
-use Rattle.apex_types.specs.Sink.{TakesBeginning}
-use Rattle.apex_meaning.specs.Image.{Image}
-use Rattle.apex_meaning.specs.ImageReading.{image_at}
+use Rattle.apex_types.specs.Line.{TakesBeginning}
+use Rattle.machine_meaning.specs.Image.{Image}
+use Rattle.machine_meaning.specs.ImageReading.{image_at}
 use Rattle.listing.specs.Code.{code_text}
 use Rattle.listing.specs.Costs.{costs_text}
-use Rattle.module.specs.Building.{IsRefusal}
+use Rattle.module.specs.Refusals.{IsRefusal}
 use Rattle.module.specs.Costs.{IsCostRefusal}
-use Rattle.module.specs.Promises as promises
+use Rattle.module.specs.Running as promises
 use Rattle.module.specs.declared.costing.PartitionCosts.{PartitionCosts}
 use Rattle.module.specs.declared.fault.BuildAndRunFault.{BuildAndRunFault}
 use Rattle.module.specs.declared.fault.BuildAndRunFault.TheVariants as both

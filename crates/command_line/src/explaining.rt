@@ -1,7 +1,7 @@
 //! Explanations of refusals.
 
 ghost use Rattle.std.specs.Prelude.{◌≡◌, Some, map, option_map, string_bytes, IfSome};
-ghost use Rattle.module.specs.Accepted.{IsTable};
+ghost use Rattle.module_meaning.specs.Accepted.{IsTable};
 ghost use Rattle.window_table.specs.Views.{partition_view, table_of};
 ghost use Rattle.command_line.specs.Explained.{IsExplained, IsExplainedWith, IsNoteOf, build_sentence, inputs_sentence, run_sentence, sentence_of, sentence_of_replay, source_of, told_text};
 

@@ -1,14 +1,14 @@
 //! The texts of the files that the words name.
 
 ghost use Rattle.std.specs.Prelude.{◌≡◌, map, Ok, IfOk, IfErr, OnOk};
-ghost use Rattle.apex_meaning.specs.ImageReading.{image_at};
+ghost use Rattle.machine_meaning.specs.ImageReading.{image_at};
 ghost use Rattle.image.specs.Views.{image_of};
 ghost use Rattle.command_line.specs.Contents.{HoldAll, Holds};
 ghost use Rattle.command_line.specs.Done.{AreCosted, IsBuilt, IsImageIn};
 ghost use Rattle.command_line.specs.Reading.{IsRefusedText, IsUncostedText, IsUnread, IsUnreadAmong, texts_of};
 ghost use Rattle.module.specs.Building.{IsImageOf};
 ghost use Rattle.module.specs.Costs.{AreCosts};
-ghost use Rattle.module.specs.Promises.{IsRefused};
+ghost use Rattle.module.specs.Running.{IsRefused};
 ghost use Rattle.command_line.specs.Refusals.{IsNotBuilt, IsNotCosted, IsNotLoaded};
 ghost use Rattle.command_line.specs.Told.{IsOfFailed};
 

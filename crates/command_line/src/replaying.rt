@@ -1,8 +1,8 @@
 //! One partition of an image: its replay, and the inputs that a run brings it.
 
 ghost use Rattle.std.specs.Prelude.{◌≡◌, ◌-◌, ◌^◌, ◌<◌, IfErr, OnOk};
-ghost use Rattle.apex_meaning.specs.ImageReading.{image_at};
-ghost use Rattle.module.specs.Promises.{Replays};
+ghost use Rattle.machine_meaning.specs.ImageReading.{image_at};
+ghost use Rattle.module.specs.Replays.{Replays};
 ghost use Rattle.module.specs.Telling.{Tells};
 ghost use Rattle.command_line.specs.Done.{AreInputsDone, IsDone, IsReplayDone};
 ghost use Rattle.command_line.specs.Orders.{Inputs, Replay};

@@ -1,8 +1,8 @@
 //! Runs, of an image and of the stored module.
 
 ghost use Rattle.std.specs.Prelude.{◌≡◌, ◌-◌, ◌^◌, ◌<◌, IfErr, OnOk};
-ghost use Rattle.apex_meaning.specs.ImageReading.{image_at};
-ghost use Rattle.module.specs.Promises.{Runs};
+ghost use Rattle.machine_meaning.specs.ImageReading.{image_at};
+ghost use Rattle.module.specs.Runs.{Runs};
 ghost use Rattle.command_line.specs.Done.{IsDone, IsFirstRun, IsRunDone, is_ok};
 ghost use Rattle.command_line.specs.Orders.{Run};
 ghost use Rattle.command_line.specs.Refusals.{HasFailedBy, HasFailedByBoth, IsFailure, IsRunRefused, IsStoredRefused};

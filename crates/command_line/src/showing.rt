@@ -2,7 +2,7 @@
 
 ghost use Rattle.std.specs.Prelude.{◌≡◌, ◌-◌, ◌^◌, ◌<◌, map, IfErr, OnErr, OnOk};
 ghost use Rattle.std.specs.Io.KnownBytes.{Appends};
-ghost use Rattle.apex_types.specs.Sink.{TakesBeginning};
+ghost use Rattle.apex_types.specs.Line.{TakesBeginning};
 ghost use Rattle.image.specs.Views.{image_of};
 ghost use Rattle.listing.specs.Code.{code_text};
 ghost use Rattle.listing.specs.Costs.{costs_text};

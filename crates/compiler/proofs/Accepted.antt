@@ -2,11 +2,11 @@
 use Rattle.std.proofs.Common.{◌≡◌, ℕ, ◌≤◌, min, arith}
 use Rattle.std.proofs.Math.Logic.{∥∥₁_elim}
 use Rattle.std.specs.Coded.{le_prop}
-use Rattle.apex_meaning.specs.Cost.{size_of}
-use Rattle.apex_meaning.specs.Fits.{Fits}
-use Rattle.apex_meaning.proofs.FitsFact.{fits_prop}
-use Rattle.apex_meaning.proofs.ProgramCosts.{accepted_size}
-use Rattle.apex_meaning.proofs.WellFormedFits.{well_formed_fits}
+use Rattle.pal_meaning.specs.Program.{size_of}
+use Rattle.compiling_laws.specs.Fits.{Fits}
+use Rattle.compiling_laws.proofs.FitsFact.{fits_prop}
+use Rattle.compiling_laws.proofs.ProgramCosts.{accepted_size}
+use Rattle.compiling_laws.proofs.WellFormedFits.{well_formed_fits}
 use Rattle.pal_base.specs.Accepted.{IsAccepted}
 use Rattle.pal_base.specs.ProgramView.{program_of}
 use Rattle.pal_base.specs.declared.program.Program.{Program}

@@ -2,17 +2,17 @@
 use Rattle.std.proofs.Common.{◌≡◌, ℕ, suc, ◌+◌, ◌≤◌, ◌<◌, get_or, drop-cons, List, [], ◌∷◌, ◌++◌, length, map, drop, sym, ap, ◌∙◌, arith, append_assoc, length-append}
 use Rattle.apex_types.specs.declared.instruction.Instr.{Instr}
 use Rattle.apex_types.specs.declared.instruction.Instr.TheVariants.{Jump, JumpIfZero}
-use Rattle.apex_meaning.specs.Program.{Expr, Stmt, Block, If, IfElse, While, MoreStmts, NoStmt}
-use Rattle.apex_meaning.proofs.Counts.{more_stmts_size}
-use Rattle.apex_meaning.specs.Cost.{size_of_expr, size_of_stmt, size_of_block, size_of_procedure, size_of_process}
-use Rattle.apex_meaning.specs.CompiledCode.{expr_code, stmt_code, block_code, body_code, procedure_code, processes_code, procedures_code, routine_row, routine_rows, process_row, process_rows}
-use Rattle.apex_meaning.proofs.Sizes.{stmt_size, block_size, body_size, procedure_size}
+use Rattle.pal_meaning.specs.Program.{Expr, Stmt, Block, If, IfElse, While, MoreStmts, NoStmt}
+use Rattle.compiling_laws.proofs.Counts.{more_stmts_size}
+use Rattle.pal_meaning.specs.Program.{size_of_expr, size_of_stmt, size_of_block, size_of_procedure, size_of_process}
+use Rattle.compiling_laws.specs.CompiledCode.{expr_code, stmt_code, block_code, body_code, procedure_code, processes_code, procedures_code, routine_row, routine_rows, process_row, process_rows}
+use Rattle.compiling_laws.proofs.Sizes.{stmt_size, block_size, body_size, procedure_size}
 use Rattle.std.proofs.lemmas.List.Sums.{sum_by-cons}
 use Rattle.std.specs.List.{sum_by}
-use Rattle.apex_meaning.specs.Instructions.{bytes_of, reading}
+use Rattle.machine_meaning.specs.Instructions.{bytes_of, reading}
 use Rattle.apex_types.specs.declared.row.RoutineRow.{RoutineRow}
 use Rattle.apex_types.specs.declared.row.ProcessRow.{ProcessRow}
-use Rattle.apex_meaning.specs.Program.{Procedure, Process}
+use Rattle.pal_meaning.specs.Program.{Procedure, Process}
 use Rattle.std.specs.Prelude.{Option, Some, Result, Ok, Err, OnOk}
 use Rattle.std.proofs.lemmas.List.{drop_all, map-append}
 

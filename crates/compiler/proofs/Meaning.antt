@@ -1,11 +1,11 @@
 -- A section that is its program's, and whose bytes are read as its instructions, is faithful.
 use Rattle.std.proofs.Common.{◌≡◌, map, Some, subst, sym, ap, ◌∙◌}
-use Rattle.apex_meaning.specs.CompiledCode.{section_of, code_of}
-use Rattle.apex_meaning.specs.Fits.{Fits}
-use Rattle.apex_meaning.specs.Image.{Section}
-use Rattle.apex_meaning.specs.Instructions.{reading}
-use Rattle.apex_meaning.specs.Program.{Program}
-use Rattle.apex_meaning.proofs.Starts.{compiled_correctly}
+use Rattle.compiling_laws.specs.CompiledCode.{section_of, code_of}
+use Rattle.compiling_laws.specs.Fits.{Fits}
+use Rattle.machine_meaning.specs.Section.{Section}
+use Rattle.machine_meaning.specs.Instructions.{reading}
+use Rattle.pal_meaning.specs.Program.{Program}
+use Rattle.compiling_laws.proofs.Starts.{compiled_correctly}
 use Rattle.compiler.specs.Faithful.{IsFaithful}
 
 pub faithful : (program : Program) (section : Section) → section ≡ section_of program → map reading section.code ≡ map Some (code_of program) → Fits program → IsFaithful section program

@@ -2,8 +2,8 @@
 use Rattle.std.proofs.Common.{ℕ, zero, suc, ◌<◌, ◌≤◌, arith, get_or, length, List, [], ◌∷◌}
 use Rattle.pal_base.specs.declared.program.Stmt.{Stmt}
 use Rattle.pal_base.specs.ProgramView.{stmt_of, block_of}
-use Rattle.apex_meaning.specs.Cost.{size_of_stmt, size_of_block}
-use Rattle.apex_meaning.proofs.Counts.{more_stmts_size}
+use Rattle.pal_meaning.specs.Program.{size_of_stmt, size_of_block}
+use Rattle.compiling_laws.proofs.Counts.{more_stmts_size}
 
 -- a statement of a block is no longer than the block
 pub item_size : (xs : List Stmt) (i : ℕ) (d : Stmt) → i < length xs → size_of_stmt (stmt_of (get_or xs i d)) ≤ size_of_block (block_of xs)

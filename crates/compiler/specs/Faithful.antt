@@ -1,12 +1,12 @@
 -- What a section has in common with the program that it is compiled from.
 use Rattle.std.specs.Prelude.{map}
-use Rattle.apex_meaning.specs.Engine.{Simulates}
-use Rattle.apex_meaning.specs.Image.{Section}
-use Rattle.apex_meaning.specs.Instructions.{reading}
-use Rattle.apex_meaning.specs.Program.{Program}
-use Rattle.apex_meaning.specs.Related.{Keeps}
-use Rattle.apex_meaning.specs.SourceControl.{source_engine}
-use Rattle.apex_meaning.specs.TwoMeanings.{section_engine}
+use Rattle.engine_meaning.specs.Simulates.{Simulates}
+use Rattle.machine_meaning.specs.Section.{Section}
+use Rattle.machine_meaning.specs.Instructions.{reading}
+use Rattle.pal_meaning.specs.Program.{Program}
+use Rattle.compiling_laws.specs.Related.{Keeps}
+use Rattle.pal_meaning.specs.SourceControl.{source_engine}
+use Rattle.machine_meaning.specs.MachineMeaning.{section_engine}
 
 -- The processor over a section cannot be told apart from a program's source: at each start of a
 -- body, by each tick over any data, and by each answer.

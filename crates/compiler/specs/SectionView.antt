@@ -1,6 +1,6 @@
 -- What the definitions see of a section.
 use Rattle.apex_types.specs.declared.row.Section as code_section
-use Rattle.apex_meaning.specs.Image.{Section}
+use Rattle.machine_meaning.specs.Section.{Section}
 
 abbrev pub section_view : code_section.Section → Section
 section_view s = record {

@@ -2,8 +2,8 @@
 
 ghost use Rattle.std.specs.Prelude.{◌≡◌, ◌+◌, ◌≤◌, [], ◌∷◌, ◌++◌, length, map, option_map, OnOk, IfOk};
 ghost use Rattle.std.specs.List.{sum_by};
-ghost use Rattle.apex_meaning.specs.Cost as cost;
-ghost use Rattle.apex_meaning.specs.CompiledCode as code_of;
+ghost use Rattle.pal_meaning.specs.Program as cost;
+ghost use Rattle.compiling_laws.specs.CompiledCode as code_of;
 ghost use Rattle.pal_base.specs.ProgramView.{body_of, procedure_of, process_of};
 
 use crate::emit::{emit_block, put};

@@ -1,9 +1,9 @@
 //! The instructions of expressions and statements, one for each construct.
 
 ghost use Rattle.std.specs.Prelude.{◌≡◌, ◌+◌, ◌≤◌, [], ◌∷◌, ◌++◌, length, map, OnOk, IfOk};
-ghost use Rattle.apex_meaning.specs.Cost.{size_of_expr, size_of_stmt, size_of_block};
-ghost use Rattle.apex_meaning.specs.ServiceTable.{number_of};
-ghost use Rattle.apex_meaning.specs.CompiledCode as code_of;
+ghost use Rattle.pal_meaning.specs.Program.{size_of_expr, size_of_stmt, size_of_block};
+ghost use Rattle.apex_types.specs.ServiceShape.{number_of};
+ghost use Rattle.compiling_laws.specs.CompiledCode as code_of;
 ghost use Rattle.pal_base.specs.ProgramView.{expr_of, exprs_of, links_of, stmt_of, block_of};
 
 use crate::size::size_of_block;

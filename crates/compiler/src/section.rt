@@ -2,11 +2,11 @@
 
 ghost use Rattle.std.specs.Prelude.{◌≡◌, ◌≤◌, ◌<◌, ◌↔◌, ◌++◌, length, map, All, FitsSigned, IfOk, Err, Some};
 ghost use Rattle.std.specs.Int.{w64};
-ghost use Rattle.apex_meaning.specs.Cost as cost;
-ghost use Rattle.apex_meaning.specs.CompiledCode as code_of;
-ghost use Rattle.apex_meaning.specs.Instructions.{bytes_of, reading};
+ghost use Rattle.pal_meaning.specs.Program as cost;
+ghost use Rattle.compiling_laws.specs.CompiledCode as code_of;
+ghost use Rattle.machine_meaning.specs.Instructions.{bytes_of, reading};
 ghost use Rattle.pal_base.specs.ProgramView.{program_of};
-ghost use Rattle.apex_meaning.specs.Fits.{Fits};
+ghost use Rattle.compiling_laws.specs.Fits.{Fits};
 ghost use Rattle.compiler.specs.Faithful.{IsFaithful};
 ghost use Rattle.compiler.specs.SectionView.{section_view};
 

@@ -4,7 +4,7 @@
 ghost use Rattle.std.specs.Prelude.{◌≡◌, ◌+◌, min, map};
 ghost use Rattle.std.specs.List.{sum_by};
 ghost use Rattle.std.specs.Option.{option_map};
-ghost use Rattle.apex_meaning.specs.Cost as cost;
+ghost use Rattle.pal_meaning.specs.Program as cost;
 ghost use Rattle.pal_base.specs.ProgramView.{block_of, body_of, procedure_of, process_of, program_of};
 
 use pal_base::checked::Checked;

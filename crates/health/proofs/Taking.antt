@@ -6,11 +6,11 @@ use Rattle.apex_types.specs.declared.identity.Runner.{Runner}
 use Rattle.apex_types.specs.declared.process.WaitingError.{WaitingError}
 use Rattle.apex_types.specs.declared.service.ArrayPlace.{ArrayPlace}
 use Rattle.apex_types.specs.declared.service.Service.TheVariants as service
-use Rattle.apex_meaning.specs.Errors.{Errors}
-use Rattle.apex_meaning.specs.HealthServices.{takes_error, error_status}
-use Rattle.apex_meaning.specs.Sharing.{Sharing, answers, becomes, refuses}
-use Rattle.apex_meaning.specs.Step.{after}
-use Rattle.apex_meaning.specs.Waiting.{fills}
+use Rattle.kernel_meaning.specs.Kernel.{Errors}
+use Rattle.kernel_meaning.specs.HealthServices.{takes_error, error_status}
+use Rattle.kernel_meaning.specs.Sharing.{Sharing, answers, becomes, refuses}
+use Rattle.kernel_meaning.specs.Step.{after}
+use Rattle.kernel_meaning.specs.Sharing.{fills}
 
 -- none waits
 pub takes_none : (b : Sharing Errors) (p : Runner) (array : ArrayPlace) (es : List WaitingError) → slice_get es 0 ≡ None → takes_error b p array es ≡ refuses b p service.GetErrorStatus code.NoAction

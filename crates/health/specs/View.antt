@@ -1,7 +1,7 @@
 -- How the fields of the errors are seen, and what always holds of them.
 use Rattle.std.specs.Prelude.{◌≤◌, length}
 use Rattle.apex_types.specs.declared.identity.TheConstants.{MOST_ERRORS}
-use Rattle.apex_meaning.specs.Errors as meaning
+use Rattle.kernel_meaning.specs.Kernel as meaning
 use Rattle.health.specs.declared.errors.Errors.TheInside as errors
 
 abbrev pub errors_of : errors.Inside → meaning.Errors

@@ -1,8 +1,8 @@
 //! The errors that wait for the error handler of a partition.
 
 ghost use Rattle.std.specs.Prelude.{◌≡◌, ◌-◌, drop, length, slice_get, IfOk, IsNone};
-ghost use Rattle.apex_meaning.specs.Errors as meaning;
-ghost use Rattle.apex_meaning.specs.HealthServices.{is_waiting};
+ghost use Rattle.kernel_meaning.specs.Kernel as meaning;
+ghost use Rattle.kernel_meaning.specs.HealthServices.{is_waiting};
 
 use apex_types::{MOST_ERRORS, WaitingError, copied};
 use circular_buffer::HeapCircularBuffer;
@@ -21,7 +21,7 @@ pub struct Errors {
 }
 
 impl Model for Errors {
-    ghost use Rattle.apex_meaning.specs.Errors as meaning;
+    ghost use Rattle.kernel_meaning.specs.Kernel as meaning;
 
     ghost Value = { meaning.Errors };
 

@@ -2,10 +2,11 @@
 
 ghost use Rattle.std.specs.Prelude.{◌≡◌, pos, true};
 ghost use Rattle.apex_types.specs.Room.{HasRoom, Grows};
-ghost use Rattle.apex_meaning.specs.HealthServices as meaning;
-ghost use Rattle.apex_meaning.specs.Processes.{row_of};
-ghost use Rattle.apex_meaning.specs.Sharing.{both};
-ghost use Rattle.apex_meaning.specs.Step.{IsMade, nothing};
+ghost use Rattle.kernel_meaning.specs.HealthServices as meaning;
+ghost use Rattle.kernel_meaning.specs.Processes.{row_of};
+ghost use Rattle.kernel_meaning.specs.Sharing.{both};
+ghost use Rattle.kernel_meaning.specs.Made.{IsMade};
+ghost use Rattle.kernel_meaning.specs.Step.{nothing};
 
 use crate::errors::Errors;
 use crate::respond::is_handler_created;

@@ -3,11 +3,12 @@
 ghost use Rattle.std.specs.Prelude.{◌≡◌, ◌+◌, ◌∷◌, [], not, pos};
 ghost use Rattle.std.specs.Ordering.{int_eq};
 ghost use Rattle.apex_types.specs.Room.{HasRoom, Grows};
-ghost use Rattle.apex_meaning.specs.HealthServices as meaning;
-ghost use Rattle.apex_meaning.specs.HealthServices.{leaves_none};
-ghost use Rattle.apex_meaning.specs.Processes.{answers, refuses};
-ghost use Rattle.apex_meaning.specs.Sharing.{both};
-ghost use Rattle.apex_meaning.specs.Step.{IsMade, after, first_words, row};
+ghost use Rattle.kernel_meaning.specs.HealthServices as meaning;
+ghost use Rattle.kernel_meaning.specs.HealthServices.{leaves_none};
+ghost use Rattle.kernel_meaning.specs.Processes.{answers, refuses};
+ghost use Rattle.kernel_meaning.specs.Sharing.{both};
+ghost use Rattle.kernel_meaning.specs.Made.{IsMade};
+ghost use Rattle.kernel_meaning.specs.Step.{after, first_words, row};
 
 use crate::errors::Errors;
 use crate::respond::raise_error;

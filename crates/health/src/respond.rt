@@ -2,9 +2,9 @@
 
 ghost use Rattle.std.specs.Prelude.{◌≡◌};
 ghost use Rattle.apex_types.specs.Room.{HasRoom, Grows};
-ghost use Rattle.apex_meaning.specs.HealthServices as meaning;
-ghost use Rattle.apex_meaning.specs.Sharing.{both};
-ghost use Rattle.apex_meaning.specs.Step.{IsMade, IsTold};
+ghost use Rattle.kernel_meaning.specs.HealthServices as meaning;
+ghost use Rattle.kernel_meaning.specs.Sharing.{both};
+ghost use Rattle.kernel_meaning.specs.Made.{IsMade, IsTold};
 
 use crate::errors::Errors;
 use apex_types::{

@@ -2,8 +2,8 @@
 
 ghost use Rattle.std.specs.Prelude.{◌≡◌};
 ghost use Rattle.apex_types.specs.Room.{HasRoom, Grows};
-ghost use Rattle.apex_meaning.specs.HealthServices as meaning;
-ghost use Rattle.apex_meaning.specs.Step.{IsTold};
+ghost use Rattle.kernel_meaning.specs.HealthServices as meaning;
+ghost use Rattle.kernel_meaning.specs.Made.{IsTold};
 
 use apex_types::{ArrayPlace, EventKind, Out, ReturnCode, Runner, Service, Words};
 use process_table_base::ProcessTable;
@@ -18,7 +18,7 @@ pub fn is_message_length(size: i64, length: i64) -> bool
 /// REPORT_APPLICATION_MESSAGE (ARINC 653 Part 1, health monitoring): the first words of those that the
 /// call hands in go into the trace. INVALID_PARAM: a length below 1, above 16, or above the array's
 /// size.
-#[tactic(auto, using(apex_meaning::proofs::Numbers::handed_words))]
+#[tactic(auto, using(kernel_laws::proofs::Numbers::handed_words))]
 pub fn report_application_message(
     table: &ProcessTable,
     caller: Runner,

@@ -5,13 +5,15 @@ use Rattle.std.specs.List.{list_any}
 use Rattle.std.proofs.lemmas.Bool.{or_from, ne_eqb}
 use Rattle.std.proofs.lemmas.List.{length-map}
 use Rattle.apex_types.specs.declared.row.WindowRow.{WindowRow}
-use Rattle.apex_meaning.specs.Image.{Partition, Item, Image}
-use Rattle.apex_meaning.specs.ImageReading.{Fault, Limit, fields_at, keeps_table_rules}
-use Rattle.apex_meaning.specs.TableRules.{has_wrong_window, keeps_rules}
-use Rattle.apex_meaning.specs.Windows.{Schedule, BeginWithin}
-use Rattle.apex_meaning.specs.ImageLimits.{EachBeside, IsItem, IsWithinLimits}
-use Rattle.apex_meaning.proofs.ImageLaws.{fields_reads}
-use Rattle.apex_meaning.proofs.Releases.{windows_begin_within}
+use Rattle.module_meaning.specs.Table.{Partition}
+use Rattle.machine_meaning.specs.Image.{Item, Image}
+use Rattle.machine_meaning.specs.ImageReading.{Fault, Limit, fields_at, keeps_table_rules}
+use Rattle.module_meaning.specs.Table.{has_wrong_window, keeps_rules}
+use Rattle.kernel_meaning.specs.Windows.{Schedule}
+use Rattle.kernel_meaning.specs.WindowFacts.{BeginWithin}
+use Rattle.machine_meaning.specs.ImageLimits.{EachBeside, IsItem, IsWithinLimits}
+use Rattle.machine_laws.proofs.ImageLaws.{fields_reads}
+use Rattle.machine_laws.proofs.Releases.{windows_begin_within}
 use Rattle.window_table.specs.declared.table.ChannelRow.{ChannelRow}
 use Rattle.window_table.specs.Views.{partition_view}
 use Rattle.image.specs.declared.item.PartitionItem.{PartitionItem}

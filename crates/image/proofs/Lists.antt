@@ -4,7 +4,7 @@ use Rattle.std.proofs.lemmas.List.{length-map}
 use Rattle.std.proofs.lemmas.List.Folds.{flat_map-map}
 use Rattle.window_table.specs.declared.table.ChannelRow.{ChannelRow}
 use Rattle.image.specs.declared.item.PartitionItem.{PartitionItem}
-use Rattle.apex_meaning.specs.ImageSpelling.{list, item, channel}
+use Rattle.machine_meaning.specs.ImageSpelling.{list, item, channel}
 use Rattle.image.specs.Items.{item_of, items_of, channel_of, channels_of}
 
 pub items_spelled : (its : List PartitionItem) → list item (items_of its) ≡ list (λ it. item (item_of it)) its

@@ -1,7 +1,7 @@
 -- Reading items one after the other, as a loop does.
 use Rattle.std.proofs.Common.{◌≡◌, ℕ, suc, ◌-◌, ◌+◌, ◌≤◌, ◌<◌, List, [], ◌∷◌, ◌++◌, Option, Some, None, Ok, Err, refl, sym, ◌∙◌, arith}
 use Rattle.std.specs.Prelude.{IfSome}
-use Rattle.apex_meaning.specs.ImageReading.{Fault, Read, items_at}
+use Rattle.machine_meaning.specs.ImageReading.{Fault, Read, items_at}
 
 pub goes_on : {A : Type 0} (item : List A → List ℕ → Read A) (count i : ℕ) (before : List A) (bytes : List ℕ) (a : A) (after : List ℕ) (total : Read (List A))
     → i < count → item before bytes ≡ Ok (a, after) → items_at item (count - i) before bytes ≡ total → items_at item (count - (i + 1)) (before ++ a ∷ []) after ≡ total

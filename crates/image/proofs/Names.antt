@@ -5,7 +5,7 @@ use Rattle.std.specs.List.{list_any}
 use Rattle.std.specs.Str.{bytes_eq}
 use Rattle.window_table.specs.declared.table.ChannelRow.{ChannelRow}
 use Rattle.image.specs.declared.item.PartitionItem.{PartitionItem}
-use Rattle.apex_meaning.specs.ImageReading.{Order, name_at, fresh_name_at, is_partition, is_channel}
+use Rattle.machine_meaning.specs.ImageReading.{Order, name_at, fresh_name_at, is_partition, is_channel}
 use Rattle.image.specs.Items.{items_of, channels_of}
 
 pub partition_names : (items : List PartitionItem) (name : List ℕ) → is_partition (items_of items) name ≡ list_any (λ it. bytes_eq it.row.name name) items

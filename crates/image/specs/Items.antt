@@ -2,7 +2,9 @@
 use Rattle.std.specs.Prelude.{List, map}
 use Rattle.apex_types.specs.declared.codes.ModuleAction.{ModuleAction}
 use Rattle.apex_types.specs.declared.row.Section as code_section
-use Rattle.apex_meaning.specs.Image.{Section, Partition, Channel, Item, Image}
+use Rattle.machine_meaning.specs.Section.{Section}
+use Rattle.module_meaning.specs.Table.{Partition, Channel}
+use Rattle.machine_meaning.specs.Image.{Item, Image}
 use Rattle.window_table.specs.Schedules.{schedule_of}
 use Rattle.window_table.specs.Views.{partition_view, channel_view}
 use Rattle.window_table.specs.declared.schedule.Schedule as code_schedule

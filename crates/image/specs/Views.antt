@@ -1,16 +1,16 @@
 -- What contracts see of the code's values: they are those of the definitions, apart from where they
 -- lie in memory.
-use Rattle.std.specs.Prelude.{◌≡◌, ℕ, Option, Some, None, Result, Ok, Err, IfSome}
+use Rattle.std.specs.Prelude.{◌≡◌, ℕ, Result, Ok, Err, IfSome}
 use Rattle.image.specs.declared.value.Image as code_image
 use Rattle.image.specs.declared.reading.image.Fields as code_fields
 use Rattle.image.specs.declared.reading.objects.Objects as code_objects
 use Rattle.image.specs.declared.reading.bodies.Bodies as code_bodies
 use Rattle.image.specs.declared.fault.ImageFault.{ImageFault}
 use Rattle.image.specs.declared.fault.ImageFault.TheVariants as fault
-use Rattle.apex_meaning.specs.Image.{Image}
+use Rattle.machine_meaning.specs.Image.{Image, Objects, Bodies}
 use Rattle.image.specs.Items.{items_of, channels_of, image_from}
-use Rattle.apex_meaning.specs.ImageSpelling.{Objects, Bodies}
-use Rattle.apex_meaning.specs.ImageReading.{Fault, Truncated, Foreign, Limit, Order, Trailing}
+use Rattle.machine_meaning.specs.ImageReading.{Fault}
+use Rattle.image.specs.Named.{named}
 
 abbrev pub number_of : ImageFault → ℕ
 number_of fault.Truncated = 1
@@ -19,15 +19,6 @@ number_of fault.Limit = 3
 number_of fault.Order = 4
 number_of fault.Trailing = 5
 number_of fault.Memory = 6
-
--- the fault of the bytes that is named, none for want of memory
-abbrev pub named : ImageFault → Option Fault
-named fault.Truncated = Some Truncated
-named fault.Foreign = Some Foreign
-named fault.Limit = Some Limit
-named fault.Order = Some Order
-named fault.Trailing = Some Trailing
-named fault.Memory = None
 
 -- what a function answered, seen by a view, is what reading gives, unless memory ran out
 abbrev pub Gives : {X Y : Type 0} → (X → Y) → Result X ImageFault → Result Y Fault → Type 0

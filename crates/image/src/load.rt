@@ -1,8 +1,8 @@
 //! Reading an image from its bytes.
 
 ghost use Rattle.std.specs.Prelude.{◌≡◌, Ok, Err, if◌then◌else◌};
-ghost use Rattle.apex_meaning.specs.ImageLimits.{IsWithinLimits};
-ghost use Rattle.apex_meaning.specs.ImageReading.{Limit, image_at, keeps_table_rules};
+ghost use Rattle.machine_meaning.specs.ImageLimits.{IsWithinLimits};
+ghost use Rattle.machine_meaning.specs.ImageReading.{Limit, image_at, keeps_table_rules};
 ghost use Rattle.image.specs.Views.{Gives, fields_of, image_of};
 
 use crate::fault::ImageFault;
@@ -41,7 +41,7 @@ fn judge(alloc: Global, fields: Fields) -> Result<Image, ImageFault>
 
 /// The image that the bytes spell, or the first fault that is met in reading them from left to
 /// right, or the want of memory.
-#[tactic(auto, unfolding(apex_meaning::specs::ImageReading::image_at))]
+#[tactic(auto, unfolding(machine_meaning::specs::ImageReading::image_at))]
 pub fn load_image(alloc: Global, bytes: &[u8]) -> Result<Image, ImageFault>
     ensures { Gives image_of result (image_at bytes.now) }
 {

@@ -1,7 +1,7 @@
 //! The values that an image spells.
 
-ghost use Rattle.apex_meaning.specs.ImageLimits.{IsLawful};
-ghost use Rattle.apex_meaning.specs.LawfulFact.{lawful_prop};
+ghost use Rattle.machine_meaning.specs.ImageLimits.{IsLawful};
+ghost use Rattle.machine_laws.specs.LawfulFact.{lawful_prop};
 ghost use Rattle.image.specs.Items.{image_from};
 
 use crate::item::PartitionItem;

@@ -1,7 +1,7 @@
 //! Writing an image as bytes.
 
 ghost use Rattle.std.specs.Prelude.{◌≡◌, ◌++◌, IfOk, IfErr, OnOk};
-ghost use Rattle.apex_meaning.specs.ImageSpelling.{list, item, channel, head, spelling};
+ghost use Rattle.machine_meaning.specs.ImageSpelling.{list, item, channel, head, spelling};
 ghost use Rattle.image.specs.Items.{items_of, channels_of};
 ghost use Rattle.image.specs.Views.{image_of};
 ghost use Rattle.image.specs.declared.fault.ImageFault.TheVariants.{Memory};
@@ -14,7 +14,7 @@ use crate::writing::rows::put_list;
 use std::alloc::{AllocError, Global};
 use window_table::ChannelRow;
 
-#[tactic(auto, unfolding(apex_meaning::specs::ImageSpelling::head))]
+#[tactic(auto, unfolding(machine_meaning::specs::ImageSpelling::head))]
 fn put_head(out: &mut Vec<u8>, image: &Image) -> Result<(), AllocError>
     ensures { OnOk result (out.new.items ≡ out.old.items ++ head (image_of image.now)) }
 {
@@ -39,7 +39,7 @@ fn put_channels(out: &mut Vec<u8>, rows: &[ChannelRow]) -> Result<(), AllocError
     put_list(out, rows)
 }
 
-#[tactic(auto, unfolding(apex_meaning::specs::ImageSpelling::spelling))]
+#[tactic(auto, unfolding(machine_meaning::specs::ImageSpelling::spelling))]
 fn put_image(out: &mut Vec<u8>, image: &Image) -> Result<(), AllocError>
     ensures { OnOk result (out.new.items ≡ out.old.items ++ spelling (image_of image.now)) }
 {

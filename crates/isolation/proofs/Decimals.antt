@@ -7,8 +7,8 @@ use Rattle.std.specs.List.{list_all}
 use Rattle.std.proofs.lemmas.Bool.{and_parts, and_from, leb-true, le-leb, lt-ltb, ne_eqb, not_from_false, cond-true, cond-false}
 use Rattle.std.proofs.lemmas.Fmt.{digits_decimal, digits_value-decimal, decimal_nonempty, first_decimal, decimal_digit}
 use Rattle.std.proofs.lemmas.Str.Parse.{IsNumeralModel, numerals_by_fold}
-use Rattle.apex_meaning.specs.DeviceText.{is_plain, if_at_most, plain_number, positive, negative, word}
-use Rattle.apex_meaning.specs.GrammarWords.{is_digit, decimal_value}
+use Rattle.module_meaning.specs.DeviceText.{is_plain, if_at_most, plain_number, positive, negative, word}
+use Rattle.engine_meaning.specs.Digits.{is_digit, decimal_value}
 use Rattle.isolation.proofs.Pieces.{is_ink}
 
 abbrev AreDigits : List ℕ → Type 0

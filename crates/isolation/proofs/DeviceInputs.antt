@@ -10,14 +10,14 @@ use Rattle.apex_types.specs.declared.device.DeviceLine.{DeviceLine}
 use Rattle.apex_types.specs.declared.row.ChannelEnd.{ChannelEnd}
 use Rattle.apex_types.specs.declared.row.ChannelEnd.TheVariants as ends
 use Rattle.apex_types.specs.declared.row.PortRow.{PortRow}
-use Rattle.apex_meaning.specs.DeviceText.{words_of_port, words_of_partition, words_of_ends, verdict}
-use Rattle.apex_meaning.specs.GrammarWords.{same}
-use Rattle.apex_meaning.specs.Image.{Partition, Channel, at_number}
-use Rattle.apex_meaning.specs.Module.{Plan}
-use Rattle.apex_meaning.specs.Step.{message}
-use Rattle.apex_meaning.specs.TableRules.{port_at, differ, is_unknown_port, has_unknown_port, is_source_port, has_twice, is_same_port, ends_of, is_wrong, has_wrong_ends}
-use Rattle.apex_meaning.specs.TableText.{◌>>=◌}
-use Rattle.apex_meaning.specs.Windows.{Schedule}
+use Rattle.module_meaning.specs.DeviceText.{words_of_port, words_of_partition, words_of_ends, verdict}
+use Rattle.engine_meaning.specs.Digits.{same}
+use Rattle.module_meaning.specs.Table.{Partition, Channel, at_number}
+use Rattle.module_meaning.specs.Module.{Plan}
+use Rattle.kernel_meaning.specs.Step.{message}
+use Rattle.module_meaning.specs.Table.{port_at, differ, is_unknown_port, has_unknown_port, is_source_port, has_twice, is_same_port, ends_of, is_wrong, has_wrong_ends}
+use Rattle.module_meaning.specs.Table.{◌>>=◌}
+use Rattle.kernel_meaning.specs.Windows.{Schedule}
 use Rattle.isolation.specs.Alone as alone
 use Rattle.isolation.specs.Brought.{brought_to, brought_by, brought_in}
 use Rattle.isolation.proofs.Arrivals.{ends_arrive, right_of}

@@ -15,14 +15,14 @@ use Rattle.apex_types.specs.declared.process.ProcessStatus.{ProcessStatus}
 use Rattle.apex_types.specs.declared.process.WaitingError.{WaitingError}
 use Rattle.apex_types.specs.declared.row.PortRow.{PortRow}
 use Rattle.apex_types.specs.declared.service.ArrayPlace.{ArrayPlace}
-use Rattle.apex_meaning.specs.Due.{mode_of_action}
-use Rattle.apex_meaning.specs.Errors.{Errors}
-use Rattle.apex_meaning.specs.HealthServices.{create_error_handler, creates_found, get_error_status, takes_error, goes_on, is_fault, enters_mode as enters_mode_of_action, acts_on_error, raise_application_error, raises_application_error, raises, faults}
-use Rattle.apex_meaning.specs.Kernel.{Kernel, of_processes, with_errors}
-use Rattle.apex_meaning.specs.PartitionServices.{enters_mode, mode_of, wants, is_warm, is_cold, next_release_of, set_partition_mode, ends_body, starts_normally}
-use Rattle.apex_meaning.specs.Processes.{row_of, rests_found, is_normal}
-use Rattle.apex_meaning.specs.Sharing.{Sharing}
-use Rattle.apex_meaning.specs.Step.{Step}
+use Rattle.kernel_meaning.specs.Times.{mode_of_action}
+use Rattle.kernel_meaning.specs.Kernel.{Errors}
+use Rattle.kernel_meaning.specs.HealthServices.{create_error_handler, creates_found, get_error_status, takes_error, goes_on, is_fault, enters_mode as enters_mode_of_action, acts_on_error, raise_application_error, raises_application_error, raises, faults}
+use Rattle.kernel_meaning.specs.Kernel.{Kernel, of_processes, with_errors}
+use Rattle.kernel_meaning.specs.PartitionServices.{enters_mode, mode_of, wants, is_warm, is_cold, next_release_of, set_partition_mode, ends_body, starts_normally}
+use Rattle.kernel_meaning.specs.Processes.{row_of, rests_found, is_normal}
+use Rattle.kernel_meaning.specs.Sharing.{Sharing}
+use Rattle.kernel_meaning.specs.Step.{Step}
 use Rattle.isolation.proofs.Handed.{IsSoundProcesses, either_so, row_sound, rests_found_sound}
 use Rattle.isolation.proofs.ObjectRows.{either as either_shared}
 use Rattle.isolation.proofs.ProcessRows.{stop_self_sound, all_start_sound}

@@ -26,12 +26,12 @@ use Rattle.apex_types.specs.declared.process.Wait.TheVariants as wait
 use Rattle.apex_types.specs.declared.process.Waiting.{Waiting}
 use Rattle.apex_types.specs.declared.row.PortDirection.TheVariants as direction
 use Rattle.apex_types.specs.declared.row.PortRow.{PortRow}
-use Rattle.apex_meaning.specs.Entries.{entry, is_entry_of, without, behind_equals}
-use Rattle.apex_meaning.specs.Operators.{is_zero}
-use Rattle.apex_meaning.specs.Processes.{Processes, row_of, numbered, is_busy, on, put_row, put_ready, put_unready, put_dormant, leaves, goes_last, not_running, without_holder, no_longer_waits, wakes, waits, rests, rests_found, released, released_with, zeros_of_wait}
-use Rattle.apex_meaning.specs.Queues.{joined, joins, list_in, no_entries, without_in_all}
-use Rattle.apex_meaning.specs.Step.{Step, message}
-use Rattle.apex_meaning.specs.Waiting.{enters, waits_at, blocks, gives_all, gives_found, releases_all, releases_found}
+use Rattle.kernel_meaning.specs.Queues.{entry, is_entry_of, without, behind_equals}
+use Rattle.engine_meaning.specs.Operators.{is_zero}
+use Rattle.kernel_meaning.specs.Processes.{Processes, row_of, numbered, is_busy, on, put_row, put_ready, put_unready, put_dormant, leaves, goes_last, not_running, without_holder, no_longer_waits, wakes, waits, rests, rests_found, released, released_with, zeros_of_wait}
+use Rattle.kernel_meaning.specs.Queues.{joined, joins, list_in, no_entries, without_in_all}
+use Rattle.kernel_meaning.specs.Step.{Step, message}
+use Rattle.kernel_meaning.specs.Sharing.{enters, waits_at, blocks, gives_all, gives_found, releases_all, releases_found}
 use Rattle.isolation.proofs.Holding.{HasLength}
 
 -- ---- the invariant of the processes

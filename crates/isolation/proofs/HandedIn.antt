@@ -13,15 +13,17 @@ use Rattle.apex_types.specs.declared.row.BodyRow.{BodyRow}
 use Rattle.apex_types.specs.declared.row.RoutineRow.{RoutineRow}
 use Rattle.apex_types.specs.declared.service.ArrayPlace.{ArrayPlace}
 use Rattle.apex_types.specs.declared.service.Service.{Service}
-use Rattle.apex_meaning.specs.Engine.{Engine, Ticked, Asks, Nothing, Calls, Faults, Ends}
-use Rattle.apex_meaning.specs.Instructions.{cost_of, is_work}
-use Rattle.apex_meaning.specs.MachineControl as machine
-use Rattle.apex_meaning.specs.MachineControl.{MachineControl, Effect, machine_engine, machine_tick}
-use Rattle.apex_meaning.specs.Operators.{apply_binary, apply_unary, element_at}
-use Rattle.apex_meaning.specs.Partition.{message_from, most_words, handed}
-use Rattle.apex_meaning.specs.ServiceTable.{service_of, argument_words, answer_words, call_of, array_of, is_range_within, has_array_within}
-use Rattle.apex_meaning.specs.Sharing.{is_length}
-use Rattle.apex_meaning.specs.Step.{first_words}
+use Rattle.engine_meaning.specs.Engine.{Engine, Ticked, Asks, Nothing, Calls, Faults, Ends}
+use Rattle.machine_meaning.specs.Instructions.{cost_of, is_work}
+use Rattle.machine_meaning.specs.MachineControl as machine
+use Rattle.machine_meaning.specs.MachineControl.{MachineControl, Effect, machine_engine, machine_tick}
+use Rattle.engine_meaning.specs.Operators.{apply_binary, apply_unary, element_at}
+use Rattle.kernel_meaning.specs.Partition.{message_from, most_words, handed}
+use Rattle.apex_types.specs.ServiceShape.{service_of, argument_words, answer_words}
+use Rattle.apex_types.specs.ServiceCalls.{call_of, array_of}
+use Rattle.engine_meaning.specs.Operators.{is_range_within, has_array_within}
+use Rattle.kernel_meaning.specs.Sharing.{is_length}
+use Rattle.kernel_meaning.specs.Step.{first_words}
 use Rattle.isolation.proofs.Holding.{HasLength}
 
 -- ---- what a call hands in

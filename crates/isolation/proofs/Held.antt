@@ -12,17 +12,17 @@ use Rattle.apex_types.specs.declared.process.Action.{Action}
 use Rattle.apex_types.specs.declared.process.Action.TheVariants as action
 use Rattle.apex_types.specs.declared.process.Entry.{Entry}
 use Rattle.apex_types.specs.declared.process.ProcessStatus.{ProcessStatus}
-use Rattle.apex_meaning.specs.Arrival as arrival
-use Rattle.apex_meaning.specs.Engine.{Engine}
-use Rattle.apex_meaning.specs.Image.{Channel, at_number}
-use Rattle.apex_meaning.specs.Kernel.{of_ports, of_ports_alone, with_ports}
-use Rattle.apex_meaning.specs.Module.{of_member, ports_of, ports_from, channel_from, moves_message, moves_port}
-use Rattle.apex_meaning.specs.Partition.{World, Member, act, act_all, leaves, leaving, admits, place_of_port, messages_to_move}
-use Rattle.apex_meaning.specs.Ports.{Port, Ports, port_at, is_source, is_full}
-use Rattle.apex_meaning.specs.PortServices.{list}
-use Rattle.apex_meaning.specs.Processes.{numbered, row_of}
-use Rattle.apex_meaning.specs.Waiting.{waiting}
-use Rattle.apex_meaning.specs.Sharing.{Sharing}
+use Rattle.kernel_meaning.specs.PortServices as arrival
+use Rattle.engine_meaning.specs.Engine.{Engine}
+use Rattle.module_meaning.specs.Table.{Channel, at_number}
+use Rattle.kernel_meaning.specs.Kernel.{of_ports, of_ports_alone, with_ports}
+use Rattle.module_meaning.specs.Module.{of_member, ports_of, ports_from, channel_from, moves_message, moves_port}
+use Rattle.kernel_meaning.specs.Partition.{World, Member, act, act_all, leaves, leaving, admits, place_of_port, messages_to_move}
+use Rattle.kernel_meaning.specs.Objects.{Port, Ports, port_at, is_source, is_full}
+use Rattle.kernel_meaning.specs.PortServices.{list}
+use Rattle.kernel_meaning.specs.Processes.{numbered, row_of}
+use Rattle.kernel_meaning.specs.Sharing.{waiting}
+use Rattle.kernel_meaning.specs.Sharing.{Sharing}
 use Rattle.isolation.specs.Alone.{Input, Surroundings, goes, goes_by_way, sends_found, sends_message, sends_messages, sends_so_many, sends_port, way_out}
 use Rattle.isolation.specs.Brought.{brought_by, held_port, held_ports, held_ended}
 use Rattle.isolation.proofs.Twins.{brought_ended, brought_found, brought_message, brought_messages, brought_so_many, brought_port, brought_ports}

@@ -8,10 +8,10 @@ use Rattle.apex_types.specs.declared.identity.At.{At}
 use Rattle.apex_types.specs.declared.identity.PortId.{PortId}
 use Rattle.apex_types.specs.declared.row.PortDirection.TheVariants as direction
 use Rattle.apex_types.specs.declared.row.PortRow.{PortRow}
-use Rattle.apex_meaning.specs.Image.{Partition, at_number}
-use Rattle.apex_meaning.specs.Module.{ports_of}
-use Rattle.apex_meaning.specs.Partition.{Member, cold_start, breaks_down, advances, arrives, leaves, admits}
-use Rattle.apex_meaning.specs.Ports.{Port, is_source}
+use Rattle.module_meaning.specs.Table.{Partition, at_number}
+use Rattle.module_meaning.specs.Module.{ports_of}
+use Rattle.kernel_meaning.specs.Partition.{Member, cold_start, breaks_down, advances, arrives, leaves, admits}
+use Rattle.kernel_meaning.specs.Objects.{Port, is_source}
 use Rattle.isolation.specs.Alone.{Input, InputLine, Arrive, ModuleFault, PartitionFault, goes}
 use Rattle.isolation.specs.InputText.{AreInputs, AreWritable, IsInput, IsWritable}
 

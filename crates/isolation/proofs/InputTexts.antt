@@ -11,10 +11,10 @@ use Rattle.apex_types.specs.declared.device.DeviceFault.{DeviceFault}
 use Rattle.apex_types.specs.declared.device.DeviceFault.TheVariants as fault
 use Rattle.apex_types.specs.declared.row.PortDirection.{PortDirection}
 use Rattle.apex_types.specs.declared.row.PortRow.{PortRow}
-use Rattle.apex_meaning.specs.DeviceText.{Written, Message, ModuleFault as DeviceModuleFault, PartitionFault as DevicePartitionFault, message_of, message_with, line_with, pieces, pieces_behind_marks, first_from, is_room, words, put_word}
-use Rattle.apex_meaning.specs.GrammarWords.{same}
-use Rattle.apex_meaning.specs.Image.{Partition, at_number}
-use Rattle.apex_meaning.specs.ImageLimits.{EachBeside, IsPort}
+use Rattle.module_meaning.specs.DeviceText.{Written, Message, ModuleFault as DeviceModuleFault, PartitionFault as DevicePartitionFault, message_of, message_with, line_with, pieces, pieces_behind_marks, first_from, is_room, words, put_word}
+use Rattle.engine_meaning.specs.Digits.{same}
+use Rattle.module_meaning.specs.Table.{Partition, at_number}
+use Rattle.machine_meaning.specs.ImageLimits.{EachBeside, IsPort}
 use Rattle.isolation.specs.Alone.{Input, InputLine, Arrive, ModuleFault, PartitionFault}
 use Rattle.isolation.specs.InputText.{name_of_port, input_parts, input_body, replay_text, AreWords, IsInput, AreInputs, HasNames}
 use Rattle.isolation.specs.ReplayText.{written_of, line_of_pieces, line_of, is_destination, within, taken_message, named, taken, put_line, and_then, lines_from, replay_verdict}

@@ -5,17 +5,19 @@ use Rattle.std.proofs.lemmas.Option.{slice_get-map}
 use Rattle.apex_types.specs.declared.codes.StartCondition.TheVariants as condition
 use Rattle.apex_types.specs.declared.device.DeviceLine.{DeviceLine}
 use Rattle.apex_types.specs.declared.row.PortRow.{PortRow}
-use Rattle.apex_meaning.specs.DeviceText.{verdict_for}
-use Rattle.apex_meaning.specs.Image.{Partition, Item, Image, at_number}
-use Rattle.apex_meaning.specs.ImageLimits.{EachBeside, IsItem, IsLawful, IsPort}
-use Rattle.apex_meaning.specs.ImageReading.{partitions_in}
-use Rattle.apex_meaning.specs.Instructions.{reading}
-use Rattle.apex_meaning.specs.MachineControl.{MachineControl}
-use Rattle.apex_meaning.specs.Module.{first_tick}
-use Rattle.apex_meaning.specs.Partition.{Member}
-use Rattle.apex_meaning.specs.TwoMeanings.{fixed_of, machine_body, machine_members, machine_row, section_objects}
-use Rattle.apex_meaning.specs.Windows.{Schedule}
-use Rattle.apex_meaning.proofs.Releases.{lawful_owner, lawful_end}
+use Rattle.machine_meaning.specs.MachineMeaning.{verdict_for}
+use Rattle.module_meaning.specs.Table.{Partition, at_number}
+use Rattle.machine_meaning.specs.Image.{Item, Image}
+use Rattle.machine_meaning.specs.ImageLimits.{EachBeside, IsItem, IsLawful, IsPort}
+use Rattle.machine_meaning.specs.ImageReading.{partitions_in}
+use Rattle.machine_meaning.specs.Instructions.{reading}
+use Rattle.machine_meaning.specs.MachineControl.{MachineControl}
+use Rattle.module_meaning.specs.Module.{first_tick}
+use Rattle.kernel_meaning.specs.Partition.{Member}
+use Rattle.module_meaning.specs.Table.{fixed_of}
+use Rattle.machine_meaning.specs.MachineMeaning.{machine_body, machine_members, machine_row, section_objects}
+use Rattle.kernel_meaning.specs.Windows.{Schedule}
+use Rattle.machine_laws.proofs.Releases.{lawful_owner, lawful_end}
 use Rattle.isolation.specs.InputText.{HasNames, AreInputs, AreWritable, replay_text}
 use Rattle.isolation.specs.ReplayText.{replay_verdict}
 use Rattle.isolation.specs.Slices.{Slice, slice, machine_inputs}

@@ -10,14 +10,15 @@ use Rattle.apex_types.specs.declared.codes.StartCondition.TheVariants as conditi
 use Rattle.apex_types.specs.declared.device.DeviceLine.{DeviceLine}
 use Rattle.apex_types.specs.declared.identity.At.{At}
 use Rattle.apex_types.specs.declared.identity.PortId.{PortId}
-use Rattle.apex_meaning.specs.Image.{Channel, Partition, at_number}
-use Rattle.apex_meaning.specs.Module.{Plan, as_origin, first_tick, next_tick, ports_of, of_member, inputs_all, of_tick, is_of_tick, module_tick, starts, started_member}
-use Rattle.apex_meaning.specs.Partition.{Member, leaving, messages_to_move}
-use Rattle.apex_meaning.specs.TableRules.{has_unknown_port, has_wrong_ends}
-use Rattle.apex_meaning.specs.Windows.{Schedule, HasOneOwner, HasOneEnd, ended}
+use Rattle.module_meaning.specs.Table.{Channel, Partition, at_number}
+use Rattle.module_meaning.specs.Module.{Plan, as_origin, first_tick, next_tick, ports_of, of_member, inputs_all, of_tick, is_of_tick, module_tick, starts, started_member}
+use Rattle.kernel_meaning.specs.Partition.{Member, leaving, messages_to_move}
+use Rattle.module_meaning.specs.Table.{has_unknown_port, has_wrong_ends}
+use Rattle.kernel_meaning.specs.Windows.{Schedule, ended}
+use Rattle.kernel_meaning.specs.WindowFacts.{HasOneOwner, HasOneEnd}
 use Rattle.isolation.specs.Alone.{Input, InputLine, Arrive, ModuleFault, PartitionFault, Path, Surroundings, goes_by_way, takes, meets_fault, takes_all, unless_over, sends_found, sends_message, sends_messages, sends_so_many, sends_port, sends_ports, sends_ended, ticks_own, sends_and_ticks, tick_alone, way_out}
 use Rattle.isolation.specs.Brought.{brought_in, brought_in_all, shuts_down, held_ports, held_ended, brought_moved, brought_tick, line_in, inputs_from, inputs_of}
-use Rattle.isolation.specs.Slices.{surroundings_of}
+use Rattle.isolation.specs.Surrounded.{surroundings_of}
 use Rattle.isolation.proofs.Arrivals.{all_brought}
 use Rattle.isolation.proofs.Holding.{IsDelivered, AreDelivered, IsKept, all_append}
 use Rattle.isolation.proofs.Isolated.{tick_in, next_in}

@@ -10,11 +10,11 @@ use Rattle.apex_types.specs.declared.device.DeviceInput.TheVariants as device
 use Rattle.apex_types.specs.declared.device.DeviceLine.{DeviceLine}
 use Rattle.apex_types.specs.declared.identity.At.{At}
 use Rattle.apex_types.specs.declared.row.PortRow.{PortRow}
-use Rattle.apex_meaning.specs.Module.{Plan, Course, unless_down, breaks_module, inputs, inputs_all, of_tick, moves_and_ticks, module_tick, first_tick, next_tick, starts, trace_from, trace}
-use Rattle.apex_meaning.specs.Partition.{Member, cold_start}
+use Rattle.module_meaning.specs.Module.{Plan, Course, unless_down, breaks_module, inputs, inputs_all, of_tick, moves_and_ticks, module_tick, first_tick, next_tick, starts, trace_from, trace}
+use Rattle.kernel_meaning.specs.Partition.{Member, cold_start}
 use Rattle.isolation.specs.Alone.{Input, InputLine, Path, goes, is_in_tick, inputs_in, tick_alone, alone_from, trace_alone}
 use Rattle.isolation.specs.Brought.{part, brought_tick, line_in, inputs_from, inputs_of}
-use Rattle.isolation.specs.Slices.{surroundings_of}
+use Rattle.isolation.specs.Surrounded.{surroundings_of}
 use Rattle.isolation.proofs.Lines.{AreFromDevice}
 use Rattle.isolation.proofs.Steps.{IsApart, AreApart, Holds, SamePath, same_some, joined, starts_same}
 use Rattle.isolation.proofs.Tick.{IsIsolating, tick_same}

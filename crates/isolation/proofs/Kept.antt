@@ -6,7 +6,7 @@ use Rattle.apex_types.specs.declared.codes.ErrorKind.{ErrorKind}
 use Rattle.apex_types.specs.declared.codes.ErrorKind.TheVariants as error
 use Rattle.apex_types.specs.declared.codes.Mode.{Mode}
 use Rattle.apex_types.specs.declared.codes.PartitionAction.{PartitionAction}
-use Rattle.apex_meaning.specs.Due.{mode_of_action}
+use Rattle.kernel_meaning.specs.Times.{mode_of_action}
 use Rattle.apex_types.specs.declared.codes.Mode.TheVariants as mode
 use Rattle.apex_types.specs.declared.codes.ReturnCode.{ReturnCode}
 use Rattle.apex_types.specs.declared.codes.ReturnCode.TheVariants as code
@@ -23,14 +23,14 @@ use Rattle.apex_types.specs.declared.process.Action.TheVariants as action
 use Rattle.apex_types.specs.declared.service.ArrayPlace.{ArrayPlace}
 use Rattle.apex_types.specs.declared.service.Call.{Call}
 use Rattle.apex_types.specs.declared.service.Call.TheVariants as call
-use Rattle.apex_meaning.specs.Engine.{Engine, Asks, Nothing, Calls, Faults, Ends}
-use Rattle.apex_meaning.specs.HealthServices.{acts_on_error, breaks, enters_mode as enters_mode_of_action, goes_on, handles, faults, is_fault, raise_application_error, raises, raises_application_error, then_clears}
-use Rattle.apex_meaning.specs.Arrival as arrival
-use Rattle.apex_meaning.specs.Kernel.{Fixed, Kernel, of_processes, of_ports, of_ports_alone, with_errors, with_ports}
-use Rattle.apex_meaning.specs.Processes.{row_of, rests_found, refuses, answers, is_normal}
-use Rattle.apex_meaning.specs.Partition.{World, Member, Moved, act, act_all, moved, followed_by, ticked, given, treats_asked, treats_due, chooses_with_handler, serves, spends, spends_chosen, spending_phase, treating_phase, clearing_phase, due_phase, choice_phase, prepares, tick, cold_start, breaks_down, advances, arrives, leaves, admits, goes_out, place_of_port, control_at}
-use Rattle.apex_meaning.specs.PartitionServices.{clears, ends_body, enters_mode, set_partition_mode, mode_of, wants, is_warm, is_cold}
-use Rattle.apex_meaning.specs.Step.{Step, row, after}
+use Rattle.engine_meaning.specs.Engine.{Engine, Asks, Nothing, Calls, Faults, Ends}
+use Rattle.kernel_meaning.specs.HealthServices.{acts_on_error, breaks, enters_mode as enters_mode_of_action, goes_on, handles, faults, is_fault, raise_application_error, raises, raises_application_error, then_clears}
+use Rattle.kernel_meaning.specs.PortServices as arrival
+use Rattle.kernel_meaning.specs.Kernel.{Fixed, Kernel, of_processes, of_ports, of_ports_alone, with_errors, with_ports}
+use Rattle.kernel_meaning.specs.Processes.{row_of, rests_found, refuses, answers, is_normal}
+use Rattle.kernel_meaning.specs.Partition.{World, Member, Moved, act, act_all, moved, followed_by, ticked, given, treats_asked, treats_due, chooses_with_handler, serves, spends, spends_chosen, spending_phase, treating_phase, clearing_phase, due_phase, choice_phase, prepares, tick, cold_start, breaks_down, advances, arrives, leaves, admits, goes_out, place_of_port, control_at}
+use Rattle.kernel_meaning.specs.PartitionServices.{clears, ends_body, enters_mode, set_partition_mode, mode_of, wants, is_warm, is_cold}
+use Rattle.kernel_meaning.specs.Step.{Step, row, after}
 use Rattle.isolation.proofs.Seen.{AreOf, told_own, nothing_own, both_own}
 
 -- ---- a step of the kernel

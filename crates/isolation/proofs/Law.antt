@@ -3,16 +3,18 @@ use Rattle.std.proofs.Common.{◌≡◌, ℕ, zero, suc, ◌+◌, Bool, true, fa
 use Rattle.std.specs.Prelude.{slice_get, filter, option_map, ◌==◌}
 use Rattle.apex_types.specs.declared.device.DeviceLine.{DeviceLine}
 use Rattle.apex_types.specs.declared.row.WindowRow.{WindowRow}
-use Rattle.apex_meaning.specs.DeviceText.{verdict_for}
-use Rattle.apex_meaning.specs.Image.{Item, Image, at_number}
-use Rattle.apex_meaning.specs.ImageLimits.{IsLawful}
-use Rattle.apex_meaning.specs.ImageReading.{partitions_in}
+use Rattle.machine_meaning.specs.MachineMeaning.{verdict_for}
+use Rattle.machine_meaning.specs.Image.{Item, Image}
+use Rattle.module_meaning.specs.Table.{at_number}
+use Rattle.machine_meaning.specs.ImageLimits.{IsLawful}
+use Rattle.machine_meaning.specs.ImageReading.{partitions_in}
 use Rattle.std.proofs.lemmas.Option.{slice_get-map}
-use Rattle.apex_meaning.specs.MachineControl.{MachineControl}
-use Rattle.apex_meaning.specs.Partition.{Member}
-use Rattle.apex_meaning.specs.TwoMeanings.{fixed_of, machine_member, machine_members, machine_module, machine_trace}
-use Rattle.apex_meaning.specs.Windows.{Schedule, schedule_of_partition}
-use Rattle.apex_meaning.proofs.Releases.{lawful_owner, lawful_end}
+use Rattle.machine_meaning.specs.MachineControl.{MachineControl}
+use Rattle.kernel_meaning.specs.Partition.{Member}
+use Rattle.module_meaning.specs.Table.{fixed_of}
+use Rattle.machine_meaning.specs.MachineMeaning.{machine_member, machine_members, machine_module, machine_trace}
+use Rattle.kernel_meaning.specs.Windows.{Schedule, schedule_of_partition}
+use Rattle.machine_laws.proofs.Releases.{lawful_owner, lawful_end}
 use Rattle.isolation.specs.Alone.{InputLine}
 use Rattle.isolation.specs.Brought.{part}
 use Rattle.isolation.specs.Slices.{Slice, slice, slice_of, slice_trace, machine_inputs}

@@ -12,9 +12,9 @@ use Rattle.apex_types.specs.declared.identity.At.{At}
 use Rattle.apex_types.specs.declared.identity.PartitionId.{PartitionId}
 use Rattle.apex_types.specs.declared.row.ChannelEnd.{ChannelEnd}
 use Rattle.apex_types.specs.declared.row.ChannelEnd.TheVariants as ends
-use Rattle.apex_meaning.specs.Image.{Channel}
-use Rattle.apex_meaning.specs.Module.{Plan, Course, goes_on, still, steps, tells_fault, as_origin, breaks_module, starts_all, inputs, inputs_all, is_of_tick, of_tick}
-use Rattle.apex_meaning.specs.Partition.{Member, breaks_down, cold_start}
+use Rattle.module_meaning.specs.Table.{Channel}
+use Rattle.module_meaning.specs.Module.{Plan, Course, goes_on, still, steps, tells_fault, as_origin, breaks_module, starts_all, inputs, inputs_all, is_of_tick, of_tick}
+use Rattle.kernel_meaning.specs.Partition.{Member, breaks_down, cold_start}
 use Rattle.isolation.specs.Alone.{Path, PartitionFault, ModuleFault, stays, goes, meets_fault, takes_all}
 use Rattle.isolation.specs.Brought.{brought_in, brought_in_all, is_shutdown, shuts_down}
 use Rattle.isolation.proofs.Kept.{breaks_down_keeps}

@@ -9,9 +9,9 @@ use Rattle.apex_types.specs.declared.identity.PartitionId.{PartitionId}
 use Rattle.apex_types.specs.declared.identity.PortId.{PortId}
 use Rattle.apex_types.specs.declared.row.ChannelEnd.{ChannelEnd}
 use Rattle.apex_types.specs.declared.row.ChannelEnd.TheVariants as ends
-use Rattle.apex_meaning.specs.Image.{Channel, at_number}
-use Rattle.apex_meaning.specs.Module.{Advanced, Course, goes_on, still, then_goes, steps, of_member, ports_from, delivers, delivers_all, goes_by, is_port, channel_from, moves_found, moves_message, moves_messages, moves_so_many, moves_port, moves_ports}
-use Rattle.apex_meaning.specs.Partition.{Member, arrives, leaves, leaving, admits, goes_out, messages_to_move}
+use Rattle.module_meaning.specs.Table.{Channel, at_number}
+use Rattle.module_meaning.specs.Module.{Advanced, Course, goes_on, still, then_goes, steps, of_member, ports_from, delivers, delivers_all, goes_by, is_port, channel_from, moves_found, moves_message, moves_messages, moves_so_many, moves_port, moves_ports}
+use Rattle.kernel_meaning.specs.Partition.{Member, arrives, leaves, leaving, admits, goes_out, messages_to_move}
 use Rattle.isolation.specs.Alone.{Path, Input, Arrive, stays, goes, keeps_on, takes_all}
 use Rattle.isolation.specs.Brought.{brought_to, brought_by}
 use Rattle.isolation.proofs.Twins.{brought_found, brought_message, brought_messages, brought_so_many, brought_port, brought_ports}

@@ -5,7 +5,8 @@ use Rattle.std.specs.List.{list_any}
 use Rattle.std.proofs.lemmas.Bool.{or_parts, or_from, ltb-true}
 use Rattle.apex_types.specs.declared.identity.At.{At}
 use Rattle.apex_types.specs.declared.row.WindowRow.{WindowRow}
-use Rattle.apex_meaning.specs.Windows.{Schedule, schedule_of_partition, phase, is_within, ends_at, owner, ended, AtMostOne, HasOneOwner, HasOneEnd}
+use Rattle.kernel_meaning.specs.Windows.{Schedule, schedule_of_partition, phase, is_within, ends_at, owner, ended}
+use Rattle.kernel_meaning.specs.WindowFacts.{AtMostOne, HasOneOwner, HasOneEnd}
 
 abbrev pub is_number : ℕ → Option ℕ → Bool
 is_number p None = false

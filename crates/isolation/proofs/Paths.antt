@@ -3,7 +3,7 @@ use Rattle.std.proofs.Common.{◌≡◌, List, [], ◌∷◌, ◌++◌, Option, 
 use Rattle.apex_types.specs.declared.codes.ModuleAction.{ModuleAction}
 use Rattle.apex_types.specs.declared.event.Event.{Event}
 use Rattle.apex_types.specs.declared.identity.At.{At}
-use Rattle.apex_meaning.specs.Partition.{Member}
+use Rattle.kernel_meaning.specs.Partition.{Member}
 use Rattle.isolation.specs.Alone.{Path, Input, stays, keeps_on, unless_over, and_runs, takes, takes_all}
 
 module _ {C : Type 0} where

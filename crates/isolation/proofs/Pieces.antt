@@ -3,7 +3,7 @@ use Rattle.std.proofs.Common.{◌≡◌, ℕ, ◌+◌, ◌≤◌, Bool, true, fa
 use Rattle.std.specs.Prelude.{not, ◌==◌, nat_lt}
 use Rattle.std.specs.List.{prefix_len, join_with_byte, list_all}
 use Rattle.std.proofs.lemmas.Bool.{and_parts, and_from, eq-eqb, not_from_false, ne_eqb, ltb-true}
-use Rattle.apex_meaning.specs.DeviceText.{pieces, pieces_behind_marks}
+use Rattle.module_meaning.specs.DeviceText.{pieces, pieces_behind_marks}
 
 -- no byte is the mark
 abbrev pub is_free : ℕ → List ℕ → Bool

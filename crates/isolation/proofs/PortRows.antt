@@ -13,16 +13,16 @@ use Rattle.apex_types.specs.declared.service.Call.{Call}
 use Rattle.apex_types.specs.declared.service.Call.TheVariants as call
 use Rattle.apex_types.specs.declared.service.Service.{Service}
 use Rattle.apex_types.specs.declared.service.Service.TheVariants as service
-use Rattle.apex_meaning.specs.Durations.{is_duration}
-use Rattle.apex_meaning.specs.Engine.{Calls}
-use Rattle.apex_meaning.specs.Objects.{numbered_in, placed}
-use Rattle.apex_meaning.specs.Partition.{given}
-use Rattle.apex_meaning.specs.Ports.{Port, Ports, sampling, queuing, is_sampling, is_source, is_source_direction, is_full, with_sample, with_message, those_sampling, those_queuing, if_sampling, unless_sampling}
-use Rattle.apex_meaning.specs.PortServices.{sender, sends, send_queuing_message, receiver, receives, receive_queuing_message, is_valid, becomes_port, writes_sample, write_sampling_message, is_created, creates, reads_sample, read_sampling_message, clear_queuing_port, clears_port, serves_ports}
-use Rattle.apex_meaning.specs.Processes.{is_normal}
-use Rattle.apex_meaning.specs.Sharing.{Sharing, answers, has, on, create, get_id, get_status, is_length, is_large_enough, of_processes}
-use Rattle.apex_meaning.specs.Step.{Step, after, message, first_words}
-use Rattle.apex_meaning.specs.Waiting.{blocks}
+use Rattle.kernel_meaning.specs.Times.{is_duration}
+use Rattle.engine_meaning.specs.Engine.{Calls}
+use Rattle.kernel_meaning.specs.Objects.{numbered_in, placed}
+use Rattle.kernel_meaning.specs.Partition.{given}
+use Rattle.kernel_meaning.specs.Objects.{Port, Ports, sampling, queuing, is_sampling, is_source, is_source_direction, is_full, with_sample, with_message, those_sampling, those_queuing, if_sampling, unless_sampling}
+use Rattle.kernel_meaning.specs.PortServices.{sender, sends, send_queuing_message, receiver, receives, receive_queuing_message, is_valid, becomes_port, writes_sample, write_sampling_message, is_created, creates, reads_sample, read_sampling_message, clear_queuing_port, clears_port, serves_ports}
+use Rattle.kernel_meaning.specs.Processes.{is_normal}
+use Rattle.kernel_meaning.specs.Sharing.{Sharing, answers, has, on, create, get_id, get_status, is_length, is_large_enough, of_processes}
+use Rattle.kernel_meaning.specs.Step.{Step, after, message, first_words}
+use Rattle.kernel_meaning.specs.Sharing.{blocks}
 use Rattle.isolation.proofs.Handed.{Asks, blocks_sound}
 use Rattle.isolation.proofs.HandedIn.{AsksWithin, handed_length}
 use Rattle.isolation.proofs.Holding.{HasLength, IsHolding}

@@ -13,12 +13,12 @@ use Rattle.apex_types.specs.declared.process.Wait.{Wait}
 use Rattle.apex_types.specs.declared.process.Wait.TheVariants as wait
 use Rattle.apex_types.specs.declared.row.PortRow.{PortRow}
 use Rattle.apex_types.specs.declared.service.Service.TheVariants as service
-use Rattle.apex_meaning.specs.Durations.{is_delay, is_duration}
-use Rattle.apex_meaning.specs.Operators.{is_zero}
-use Rattle.apex_meaning.specs.Processes.{Processes, row_of, index, is_busy, is_periodic}
-use Rattle.apex_meaning.specs.ProcessServices.{get_process_id, get_process_status, create_process, set_priority, takes_priority, is_ready_state, suspend_self, suspends_self, of_row, may_not_lock, time_out, suspend, resume, resumes, resumes_from, stop, stop_self, start, delayed_start, lock_preemption, unlock_preemption, get_my_id}
-use Rattle.apex_meaning.specs.Starts.{starts, starts_in_normal, starts_if_waiting, starts_waiting, start_from, start_all_waiting}
-use Rattle.apex_meaning.specs.TimeServices.{timed_wait, delays, yields, waits_until, periodic_wait, waits_periodically, waits_for_period, replenish, replenishes, deadline_in, has_no_deadline, reaches_past}
+use Rattle.kernel_meaning.specs.Times.{is_delay, is_duration}
+use Rattle.engine_meaning.specs.Operators.{is_zero}
+use Rattle.kernel_meaning.specs.Processes.{Processes, row_of, index, is_busy, is_periodic}
+use Rattle.kernel_meaning.specs.ProcessServices.{get_process_id, get_process_status, create_process, set_priority, takes_priority, is_ready_state, suspend_self, suspends_self, of_row, may_not_lock, time_out, suspend, resume, resumes, resumes_from, stop, stop_self, start, delayed_start, lock_preemption, unlock_preemption, get_my_id}
+use Rattle.kernel_meaning.specs.Times.{starts, starts_in_normal, starts_if_waiting, starts_waiting, start_from, start_all_waiting}
+use Rattle.kernel_meaning.specs.ProcessServices.{timed_wait, delays, yields, waits_until, periodic_wait, waits_periodically, waits_for_period, replenish, replenishes, deadline_in, has_no_deadline, reaches_past}
 use Rattle.isolation.proofs.Handed.{IsSoundProcesses, either, row_sound, ready_sound, lock_sound, wakes_sound, waits_sound, rests_sound, rests_found_sound, released_sound, on_sound}
 
 module _ (rows : List PortRow) where

@@ -6,8 +6,8 @@ use Rattle.std.proofs.lemmas.List.Elements.{filter-append}
 use Rattle.apex_types.specs.declared.event.Event.{Event}
 use Rattle.apex_types.specs.declared.event.EventKind.{EventKind}
 use Rattle.apex_types.specs.declared.identity.At.{At}
-use Rattle.apex_meaning.specs.GrammarWords.{same}
-use Rattle.apex_meaning.specs.Partition.{line, told}
+use Rattle.engine_meaning.specs.Digits.{same}
+use Rattle.kernel_meaning.specs.Partition.{line, told}
 use Rattle.isolation.specs.Brought.{is_of, part}
 
 pub same_itself : (name : List ℕ) → same name name ≡ true

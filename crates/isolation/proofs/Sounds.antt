@@ -23,22 +23,22 @@ use Rattle.apex_types.specs.declared.process.ProcessStatus.{ProcessStatus}
 use Rattle.apex_types.specs.declared.row.PortDirection.{PortDirection}
 use Rattle.apex_types.specs.declared.row.PortDirection.TheVariants as direction
 use Rattle.apex_types.specs.declared.row.PortRow.{PortRow}
-use Rattle.apex_meaning.specs.Arrival as arrival
-use Rattle.apex_meaning.specs.Due.{mode_of_action}
-use Rattle.apex_meaning.specs.Engine.{Engine}
-use Rattle.apex_meaning.specs.HealthServices.{action_of, breaks, then_clears}
-use Rattle.apex_meaning.specs.Image.{at_number}
-use Rattle.apex_meaning.specs.Kernel.{Fixed, Kernel, with_ports, of_ports, of_ports_alone}
-use Rattle.apex_meaning.specs.Objects.{Objects}
-use Rattle.apex_meaning.specs.Partition.{World, Member, act, act_all, moved, place_of_port}
-use Rattle.apex_meaning.specs.PartitionServices.{clears, forgotten, ready_init, started_rows}
-use Rattle.apex_meaning.specs.Ports.{Port, Ports, is_source, is_source_direction, is_sampling, is_full, with_sample, with_message, cleared_port, fresh_port, fresh_ports, port_at}
-use Rattle.apex_meaning.specs.PortServices.{list, becomes_port}
-use Rattle.apex_meaning.specs.Processes.{Processes, row_of, numbered, no_longer_waits, wakes}
-use Rattle.apex_meaning.specs.Sharing.{Sharing}
-use Rattle.apex_meaning.specs.Step.{Step, nothing, after}
-use Rattle.apex_meaning.specs.TwoMeanings.{fresh_kernel, no_message}
-use Rattle.apex_meaning.specs.Waiting.{waiting, first_waiting, handed_by}
+use Rattle.kernel_meaning.specs.PortServices as arrival
+use Rattle.kernel_meaning.specs.Times.{mode_of_action}
+use Rattle.engine_meaning.specs.Engine.{Engine}
+use Rattle.kernel_meaning.specs.HealthServices.{action_of, breaks, then_clears}
+use Rattle.module_meaning.specs.Table.{at_number}
+use Rattle.kernel_meaning.specs.Kernel.{Fixed, Kernel, with_ports, of_ports, of_ports_alone}
+use Rattle.kernel_meaning.specs.Objects.{Objects}
+use Rattle.kernel_meaning.specs.Partition.{World, Member, act, act_all, moved, place_of_port}
+use Rattle.kernel_meaning.specs.PartitionServices.{clears, forgotten, ready_init, started_rows}
+use Rattle.kernel_meaning.specs.Objects.{Port, Ports, is_source, is_source_direction, is_sampling, is_full, with_sample, with_message, cleared_port, fresh_port, fresh_ports, port_at}
+use Rattle.kernel_meaning.specs.PortServices.{list, becomes_port}
+use Rattle.kernel_meaning.specs.Processes.{Processes, row_of, numbered, no_longer_waits, wakes}
+use Rattle.kernel_meaning.specs.Sharing.{Sharing}
+use Rattle.kernel_meaning.specs.Step.{Step, nothing, after}
+use Rattle.kernel_meaning.specs.Fresh.{fresh_kernel, no_message}
+use Rattle.kernel_meaning.specs.Sharing.{waiting, first_waiting, handed_by}
 use Rattle.isolation.proofs.Handed.{AllIn, Asks, HasHanded, IsSoundProcesses, emptied_in, at_place, released_sound, released_with_sound}
 use Rattle.isolation.proofs.HandedIn.{KeepsWithin}
 use Rattle.isolation.proofs.Holding.{HasLength, IsHolding, AreHolding}

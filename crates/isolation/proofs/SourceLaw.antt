@@ -7,19 +7,23 @@ use Rattle.std.proofs.lemmas.Option.{slice_get-map}
 use Rattle.toml.specs.Data.{Members}
 use Rattle.apex_types.specs.declared.device.DeviceLine.{DeviceLine}
 use Rattle.apex_types.specs.declared.row.WindowRow.{WindowRow}
-use Rattle.apex_meaning.specs.DeviceText.{verdict as device_verdict}
-use Rattle.apex_meaning.specs.GrammarWords.{same}
-use Rattle.apex_meaning.specs.Image.{Item, Image, Partition, Section, Table, at_number}
-use Rattle.apex_meaning.specs.ImageLimits.{IsSection, IsLawful}
-use Rattle.apex_meaning.specs.Partition.{Member}
-use Rattle.apex_meaning.specs.Program.{Program}
-use Rattle.apex_meaning.specs.SourceControl.{SourceControl}
-use Rattle.apex_meaning.specs.TableRules.{verdict, has_unknown_port, has_wrong_ends}
-use Rattle.apex_meaning.specs.TwoMeanings.{fixed_of, source_member, source_members, source_module, source_trace}
-use Rattle.apex_meaning.specs.Windows.{Schedule, schedule_of_partition}
-use Rattle.apex_meaning.proofs.AcceptedImage.{accepted_image}
-use Rattle.apex_meaning.proofs.AcceptedTable.{image_of}
-use Rattle.apex_meaning.proofs.Releases.{accepted_owner, accepted_end}
+use Rattle.module_meaning.specs.DeviceText.{verdict as device_verdict}
+use Rattle.engine_meaning.specs.Digits.{same}
+use Rattle.machine_meaning.specs.Image.{Item, Image}
+use Rattle.module_meaning.specs.Table.{Partition, Table, at_number}
+use Rattle.machine_meaning.specs.Section.{Section}
+use Rattle.machine_meaning.specs.ImageLimits.{IsSection, IsLawful}
+use Rattle.kernel_meaning.specs.Partition.{Member}
+use Rattle.pal_meaning.specs.Program.{Program}
+use Rattle.pal_meaning.specs.SourceControl.{SourceControl}
+use Rattle.module_meaning.specs.TableRules.{verdict}
+use Rattle.module_meaning.specs.Table.{has_unknown_port, has_wrong_ends}
+use Rattle.module_meaning.specs.Table.{fixed_of}
+use Rattle.module_meaning.specs.SourceMeaning.{source_member, source_members, source_module, source_trace}
+use Rattle.kernel_meaning.specs.Windows.{Schedule, schedule_of_partition}
+use Rattle.machine_laws.proofs.AcceptedImage.{accepted_image}
+use Rattle.machine_laws.proofs.AcceptedTable.{image_of}
+use Rattle.machine_laws.proofs.Releases.{accepted_owner, accepted_end}
 use Rattle.isolation.specs.Brought.{part}
 use Rattle.isolation.specs.SourceSlices.{source_slice, source_slice_trace, source_inputs}
 use Rattle.isolation.proofs.Isolated.{isolated}

@@ -5,9 +5,9 @@ use Rattle.std.proofs.lemmas.Option.{slice_get-map}
 use Rattle.apex_types.specs.declared.codes.StartCondition.{StartCondition}
 use Rattle.apex_types.specs.declared.event.Event.{Event}
 use Rattle.apex_types.specs.declared.identity.At.{At}
-use Rattle.apex_meaning.specs.GrammarWords.{same}
-use Rattle.apex_meaning.specs.Module.{Advanced, Course, still, then_goes, steps, steps_member, goes_on, unless_down, then_runs, starts_all, started_member, start_lines}
-use Rattle.apex_meaning.specs.Partition.{Member, Moved, with_world, cold_start}
+use Rattle.engine_meaning.specs.Digits.{same}
+use Rattle.module_meaning.specs.Module.{Advanced, Course, still, then_goes, steps, steps_member, goes_on, unless_down, then_runs, starts_all, started_member, start_lines}
+use Rattle.kernel_meaning.specs.Partition.{Member, Moved, with_world, cold_start}
 use Rattle.isolation.specs.Alone.{Gone, Path, stays, goes, and_then, keeps_on, unless_over, and_runs}
 use Rattle.isolation.specs.Brought.{part}
 use Rattle.isolation.proofs.Seen.{part-append}

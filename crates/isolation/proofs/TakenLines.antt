@@ -12,10 +12,12 @@ use Rattle.apex_types.specs.declared.device.DeviceInput.TheVariants as device
 use Rattle.apex_types.specs.declared.device.DeviceLine.{DeviceLine}
 use Rattle.apex_types.specs.declared.row.ChannelEnd.{ChannelEnd}
 use Rattle.apex_types.specs.declared.row.ChannelEnd.TheVariants as ends
-use Rattle.apex_meaning.specs.DeviceText.{Written, WrittenLine, Message, ModuleFault, PartitionFault, plain_number, word, words, put_word, message_with, message_of, fault_of, written_of, line_with, line_of_pieces, first_from, is_device, within, is_room, words_of_ends, taken_message, taken_fault, named, taken, ends_with, put_line, and_then, lines_from, line_of, pieces, verdict, verdict_for, row_of_item}
-use Rattle.apex_meaning.specs.GrammarWords.{same}
-use Rattle.apex_meaning.specs.Image.{Partition, Channel, Image}
-use Rattle.apex_meaning.specs.Step.{message}
+use Rattle.module_meaning.specs.DeviceText.{Written, WrittenLine, Message, ModuleFault, PartitionFault, plain_number, word, words, put_word, message_with, message_of, fault_of, written_of, line_with, line_of_pieces, first_from, is_device, within, is_room, words_of_ends, taken_message, taken_fault, named, taken, ends_with, put_line, and_then, lines_from, line_of, pieces, verdict}
+use Rattle.machine_meaning.specs.MachineMeaning.{verdict_for, row_of_item}
+use Rattle.engine_meaning.specs.Digits.{same}
+use Rattle.module_meaning.specs.Table.{Partition, Channel}
+use Rattle.machine_meaning.specs.Image.{Image}
+use Rattle.kernel_meaning.specs.Step.{message}
 use Rattle.isolation.proofs.Holding.{HasLength}
 use Rattle.isolation.proofs.Lines.{IsFromDevice, AreFromDevice}
 use Rattle.isolation.proofs.Steps.{same_some}

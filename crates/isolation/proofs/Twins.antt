@@ -4,9 +4,9 @@ use Rattle.arrayvec.specs.ArrayVec.{ArrayVec}
 use Rattle.apex_types.specs.declared.identity.At.{At}
 use Rattle.apex_types.specs.declared.identity.PartitionId.{PartitionId}
 use Rattle.apex_types.specs.declared.identity.PortId.{PortId}
-use Rattle.apex_meaning.specs.Image.{Channel, at_number}
-use Rattle.apex_meaning.specs.Module.{of_member, channel_from, moves_message, moves_port, ports_from}
-use Rattle.apex_meaning.specs.Partition.{Member, leaving, messages_to_move}
+use Rattle.module_meaning.specs.Table.{Channel, at_number}
+use Rattle.module_meaning.specs.Module.{of_member, channel_from, moves_message, moves_port, ports_from}
+use Rattle.kernel_meaning.specs.Partition.{Member, leaving, messages_to_move}
 use Rattle.isolation.specs.Alone.{Input}
 use Rattle.isolation.specs.Brought.{brought_by}
 

@@ -9,13 +9,14 @@ use Rattle.apex_types.specs.declared.identity.PortId.{PortId}
 use Rattle.apex_types.specs.declared.row.ChannelEnd.{ChannelEnd}
 use Rattle.apex_types.specs.declared.row.ChannelEnd.TheVariants as ends
 use Rattle.apex_types.specs.declared.row.PortRow.{PortRow}
-use Rattle.apex_meaning.specs.Image.{Channel, Partition, at_number}
-use Rattle.apex_meaning.specs.Module.{Plan, is_port, channel_from}
-use Rattle.apex_meaning.specs.TableRules.{ends_of, is_unknown_port, has_unknown_port, has_wrong_ends}
-use Rattle.apex_meaning.specs.TableText.{◌>>=◌}
-use Rattle.apex_meaning.specs.Windows.{Schedule, HasOneOwner, HasOneEnd}
+use Rattle.module_meaning.specs.Table.{Channel, Partition, at_number}
+use Rattle.module_meaning.specs.Module.{Plan, is_port, channel_from}
+use Rattle.module_meaning.specs.Table.{ends_of, is_unknown_port, has_unknown_port, has_wrong_ends}
+use Rattle.module_meaning.specs.Table.{◌>>=◌}
+use Rattle.kernel_meaning.specs.Windows.{Schedule}
+use Rattle.kernel_meaning.specs.WindowFacts.{HasOneOwner, HasOneEnd}
 use Rattle.isolation.specs.Alone.{way_of}
-use Rattle.isolation.specs.Slices.{name_to_device, ways_from, surroundings_of}
+use Rattle.isolation.specs.Surrounded.{name_to_device, ways_from, surroundings_of}
 use Rattle.isolation.proofs.Messages.{found_passes}
 use Rattle.isolation.proofs.OfImage.{found_is, channels_lawful}
 use Rattle.isolation.proofs.OwnMessages.{AreWays, with_number}

@@ -7,10 +7,10 @@ use Rattle.apex_types.specs.declared.codes.StartCondition.TheVariants as conditi
 use Rattle.apex_types.specs.declared.event.Event.{Event}
 use Rattle.apex_types.specs.declared.identity.At.{At}
 use Rattle.apex_types.specs.declared.identity.PortId.{PortId}
-use Rattle.apex_meaning.specs.Image.{at_number}
-use Rattle.apex_meaning.specs.Module.{as_origin, first_tick, next_tick, ports_of}
-use Rattle.apex_meaning.specs.Partition.{Member, Moved, with_world, cold_start, breaks_down, advances, arrives, leaves, leaving, admits, goes_out, messages_to_move}
-use Rattle.apex_meaning.specs.Windows.{Schedule, owner, ended}
+use Rattle.module_meaning.specs.Table.{at_number}
+use Rattle.module_meaning.specs.Module.{as_origin, first_tick, next_tick, ports_of}
+use Rattle.kernel_meaning.specs.Partition.{Member, Moved, with_world, cold_start, breaks_down, advances, arrives, leaves, leaving, admits, goes_out, messages_to_move}
+use Rattle.kernel_meaning.specs.Windows.{Schedule, owner, ended}
 pub use Rattle.isolation.specs.declared.input.Input.{Input}
 pub use Rattle.isolation.specs.declared.input.Input.TheVariants.{Arrive, ModuleFault, PartitionFault}
 pub use Rattle.isolation.specs.declared.input.InputLine.{InputLine}

@@ -11,12 +11,12 @@ use Rattle.apex_types.specs.declared.identity.At.{At}
 use Rattle.apex_types.specs.declared.identity.PartitionId.{PartitionId}
 use Rattle.apex_types.specs.declared.row.ChannelEnd.{ChannelEnd}
 use Rattle.apex_types.specs.declared.row.ChannelEnd.TheVariants as ends
-use Rattle.apex_meaning.specs.GrammarWords.{same}
-use Rattle.apex_meaning.specs.Image.{Channel}
-use Rattle.apex_meaning.specs.Module.{Plan, Module, of_tick, inputs_all, channel_from, ports_from, module_tick, first_tick, next_tick, starts}
-use Rattle.apex_meaning.specs.Partition.{Member}
-use Rattle.apex_meaning.specs.Ports.{Port, is_source}
-use Rattle.apex_meaning.specs.Windows.{ended}
+use Rattle.engine_meaning.specs.Digits.{same}
+use Rattle.module_meaning.specs.Table.{Channel}
+use Rattle.module_meaning.specs.Module.{Plan, Module, of_tick, inputs_all, channel_from, ports_from, module_tick, first_tick, next_tick, starts}
+use Rattle.kernel_meaning.specs.Partition.{Member}
+use Rattle.kernel_meaning.specs.Objects.{Port, is_source}
+use Rattle.kernel_meaning.specs.Windows.{ended}
 use Rattle.isolation.specs.Alone.{Input, InputLine, Arrive, ModuleFault, PartitionFault}
 
 -- ---- what is shown

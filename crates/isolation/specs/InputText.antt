@@ -7,8 +7,8 @@ use Rattle.arrayvec.specs.ArrayVec.{ArrayVec}
 use Rattle.apex_types.specs.NameText.{is_name}
 use Rattle.apex_types.specs.declared.row.PortDirection.TheVariants as direction
 use Rattle.apex_types.specs.declared.row.PortRow.{PortRow}
-use Rattle.apex_meaning.specs.Image.{Partition, at_number}
-use Rattle.apex_meaning.specs.ImageLimits.{EachBeside, IsPort}
+use Rattle.module_meaning.specs.Table.{Partition, at_number}
+use Rattle.machine_meaning.specs.ImageLimits.{EachBeside, IsPort}
 use Rattle.isolation.specs.Alone.{Input, InputLine, Arrive, ModuleFault, PartitionFault}
 
 -- ---- the text

@@ -1,5 +1,6 @@
 pub mod Alone
 pub mod Brought
+pub mod Surrounded
 pub mod Slices
 pub mod SourceSlices
 pub mod ReplayText

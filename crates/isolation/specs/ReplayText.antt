@@ -5,10 +5,10 @@ use Rattle.apex_types.specs.declared.device.DeviceFault.TheVariants as fault
 use Rattle.apex_types.specs.declared.row.PortDirection.{PortDirection}
 use Rattle.apex_types.specs.declared.row.PortDirection.TheVariants as direction
 use Rattle.apex_types.specs.declared.row.PortRow.{PortRow}
-use Rattle.apex_meaning.specs.DeviceText.{Written, WrittenLine, Message, ModuleFault as DeviceModuleFault, PartitionFault as DevicePartitionFault, message_of, fault_of, line_with, plain_number, pieces, first_from, is_room}
-use Rattle.apex_meaning.specs.GrammarWords.{same}
-use Rattle.apex_meaning.specs.Image.{Partition}
-use Rattle.apex_meaning.specs.Step.{message}
+use Rattle.module_meaning.specs.DeviceText.{Written, WrittenLine, Message, ModuleFault as DeviceModuleFault, PartitionFault as DevicePartitionFault, message_of, fault_of, line_with, plain_number, pieces, first_from, is_room}
+use Rattle.engine_meaning.specs.Digits.{same}
+use Rattle.module_meaning.specs.Table.{Partition}
+use Rattle.kernel_meaning.specs.Step.{message}
 use Rattle.isolation.specs.Alone.{Input, InputLine, Arrive, ModuleFault, PartitionFault}
 
 -- ---- the forms of a line

@@ -1,9 +1,9 @@
 -- What a replay of one partition of an image is of.
 use Rattle.std.specs.Prelude.{◌≡◌, ℕ, ◌^◌, ◌≤◌, List, Option, Some, Result, Ok}
-use Rattle.apex_meaning.specs.DeviceText.{first_from}
-use Rattle.apex_meaning.specs.GrammarWords.{same}
-use Rattle.apex_meaning.specs.Image.{Item, Image}
-use Rattle.apex_meaning.specs.ImageReading.{Fault}
+use Rattle.module_meaning.specs.DeviceText.{first_from}
+use Rattle.engine_meaning.specs.Digits.{same}
+use Rattle.machine_meaning.specs.Image.{Item, Image}
+use Rattle.machine_meaning.specs.ImageReading.{Fault}
 use Rattle.isolation.specs.Alone.{InputLine}
 use Rattle.isolation.specs.ReplayText.{replay_verdict}
 use Rattle.isolation.specs.Slices.{Slice, slice_of}

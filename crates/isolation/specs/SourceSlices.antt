@@ -2,13 +2,14 @@
 use Rattle.std.specs.Prelude.{ℕ, List}
 use Rattle.apex_types.specs.declared.device.DeviceLine.{DeviceLine}
 use Rattle.apex_types.specs.declared.event.Event.{Event}
-use Rattle.apex_meaning.specs.Image.{Partition, Table}
-use Rattle.apex_meaning.specs.Program.{Program}
-use Rattle.apex_meaning.specs.SourceControl.{SourceControl}
-use Rattle.apex_meaning.specs.TwoMeanings.{fixed_of, source_member, source_module}
+use Rattle.module_meaning.specs.Table.{Partition, Table}
+use Rattle.pal_meaning.specs.Program.{Program}
+use Rattle.pal_meaning.specs.SourceControl.{SourceControl}
+use Rattle.module_meaning.specs.Table.{fixed_of}
+use Rattle.module_meaning.specs.SourceMeaning.{source_member, source_module}
 use Rattle.isolation.specs.Alone.{Alone, InputLine, Surroundings, trace_alone}
 use Rattle.isolation.specs.Brought.{inputs_of}
-use Rattle.isolation.specs.Slices.{surroundings_of}
+use Rattle.isolation.specs.Surrounded.{surroundings_of}
 
 -- The partition's number, its row, its program, and what surrounds it.
 pub record SourceSlice : Type 0 where

@@ -6,10 +6,10 @@ use Rattle.std.proofs.lemmas.Bool.Decides.{nat_tests}
 use Rattle.std.proofs.lemmas.List.{get_or-set_same, get_or-set_other}
 use Rattle.std.proofs.lemmas.Nat.Bits.{bit_at-zero}
 use Rattle.apex_types.specs.declared.process.Entry.{Entry}
-use Rattle.apex_meaning.specs.Entries.{without}
-use Rattle.apex_meaning.specs.Queues.{list_in}
+use Rattle.kernel_meaning.specs.Queues.{without}
+use Rattle.kernel_meaning.specs.Queues.{list_in}
 use Rattle.links.specs.Lists.{put_in, without_in_each}
-use Rattle.apex_meaning.specs.Ready.{times_listed}
+use Rattle.kernel_laws.specs.Ready.{times_listed}
 use Rattle.links.specs.Levels.{AreMarked, IsFirstMark, IsLowest, in_order, one_if_any}
 use Rattle.links.proofs.Levels.{at_put_other, at_put_same, at_without, in_order_first, in_order_none, times_append, without_absent}
 

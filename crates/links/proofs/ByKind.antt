@@ -9,8 +9,8 @@ use Rattle.apex_types.specs.declared.codes.Discipline.{Discipline}
 use Rattle.apex_types.specs.declared.identity.ListKey.{ListKey}
 use Rattle.apex_types.specs.declared.identity.ListKey.TheVariants as key
 use Rattle.apex_types.specs.declared.process.Entry.{Entry}
-use Rattle.apex_meaning.specs.Entries.{without}
-use Rattle.apex_meaning.specs.Queues.{Queues, list_in, list_at, put_list, each_list, without_in_all, joined, joins}
+use Rattle.kernel_meaning.specs.Queues.{without}
+use Rattle.kernel_meaning.specs.Queues.{Queues, list_in, list_at, put_list, each_list, without_in_all, joined, joins}
 use Rattle.links.specs.ByKind.{lists_from, by_kind, number_from, number_of}
 use Rattle.links.specs.Lists.{put_in, without_in_each, joins_in}
 

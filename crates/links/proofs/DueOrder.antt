@@ -7,9 +7,9 @@ use Rattle.std.proofs.lemmas.List.{take-append-drop}
 use Rattle.std.proofs.lemmas.Option.{get_or_from_slice_get, slice_get_read}
 use Rattle.std.proofs.Math.Seq.{drop-cons}
 use Rattle.apex_types.specs.declared.process.Entry.{Entry}
-use Rattle.apex_meaning.specs.Entries as entries
-use Rattle.apex_meaning.specs.Ready.{times_listed, AreBelow, IsListed}
-use Rattle.apex_meaning.proofs.ReadyLists.{length-without}
+use Rattle.kernel_meaning.specs.Queues as entries
+use Rattle.kernel_laws.specs.Ready.{times_listed, AreBelow, IsListed}
+use Rattle.kernel_laws.proofs.ReadyLists.{length-without}
 use Rattle.links.specs.declared.dues.DueEntry.{DueEntry}
 use Rattle.links.specs.DueOrder.{without, behind_earlier, AreFrom, AreInOrder, times_due, AreDueBelow}
 

@@ -7,9 +7,9 @@ use Rattle.std.proofs.lemmas.Option.{get_or_from_slice_get, slice_get_read}
 use Rattle.std.proofs.Math.Seq.{drop-cons}
 use Rattle.arrayvec.specs.ArrayVec.{ArrayVec}
 use Rattle.apex_types.specs.declared.process.Entry.{Entry}
-use Rattle.apex_meaning.specs.Entries.{without}
-use Rattle.apex_meaning.specs.Queues.{list_in}
-use Rattle.apex_meaning.specs.Ready.{times_listed}
+use Rattle.kernel_meaning.specs.Queues.{without}
+use Rattle.kernel_meaning.specs.Queues.{list_in}
+use Rattle.kernel_laws.specs.Ready.{times_listed}
 use Rattle.links.specs.OneHome.{entries_of, once_at, IsHomed}
 use Rattle.links.specs.declared.lists.ListId.{ListId}
 use Rattle.links.proofs.Levels.{times_append, without_absent}

@@ -11,11 +11,11 @@ use Rattle.apex_types.specs.declared.codes.Discipline.{Discipline}
 use Rattle.apex_types.specs.declared.codes.Discipline.TheVariants as discipline
 use Rattle.links.specs.declared.lists.ListId.{ListId}
 use Rattle.apex_types.specs.declared.process.Entry.{Entry}
-use Rattle.apex_meaning.specs.Entries.{without, behind_equals}
-use Rattle.apex_meaning.specs.Queues.{list_in, joined, no_entries}
+use Rattle.kernel_meaning.specs.Queues.{without, behind_equals}
+use Rattle.kernel_meaning.specs.Queues.{list_in, joined, no_entries}
 use Rattle.links.specs.Lists.{without_in_each, put_in, emptied_each}
-use Rattle.apex_meaning.specs.Ready.{times_listed, AreBelow, IsListed}
-use Rattle.apex_meaning.proofs.ReadyLists.{length-without}
+use Rattle.kernel_laws.specs.Ready.{times_listed, AreBelow, IsListed}
+use Rattle.kernel_laws.proofs.ReadyLists.{length-without}
 use Rattle.links.specs.OneHome.{entries_of, once_at, IsHomed}
 
 abbrev one_if : Bool → ℕ

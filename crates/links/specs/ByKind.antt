@@ -5,7 +5,7 @@ use Rattle.apex_types.specs.declared.identity.ListKey.{ListKey}
 use Rattle.apex_types.specs.declared.identity.ListKey.TheVariants as key
 use Rattle.apex_types.specs.declared.identity.TheConstants.{MOST_OBJECTS}
 use Rattle.apex_types.specs.declared.process.Entry.{Entry}
-use Rattle.apex_meaning.specs.Queues.{Queues}
+use Rattle.kernel_meaning.specs.Queues.{Queues}
 use Rattle.links.specs.declared.waiting_lists.TheConstants.{ALL_LISTS}
 use Rattle.links.specs.declared.waiting_lists.WaitingLists.TheInside.{Inside}
 

@@ -2,7 +2,7 @@
 use Rattle.std.specs.Prelude.{◌≡◌, ◌<◌, ℕ, suc, ◌+◌, ◌*◌, List, [], ◌∷◌, ◌++◌, Option, Some, None, slice_index}
 use Rattle.std.specs.Int.{bit_at}
 use Rattle.apex_types.specs.declared.process.Entry.{Entry}
-use Rattle.apex_meaning.specs.Queues.{list_in}
+use Rattle.kernel_meaning.specs.Queues.{list_in}
 
 -- all lists, one behind another
 abbrev pub in_order : List (List Entry) → List Entry

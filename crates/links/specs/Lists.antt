@@ -2,8 +2,8 @@
 use Rattle.std.specs.Prelude.{ℕ, List, map, slice_set}
 use Rattle.apex_types.specs.declared.codes.Discipline.{Discipline}
 use Rattle.apex_types.specs.declared.process.Entry.{Entry}
-use Rattle.apex_meaning.specs.Entries.{without}
-use Rattle.apex_meaning.specs.Queues.{list_in, joined, no_entries}
+use Rattle.kernel_meaning.specs.Queues.{without}
+use Rattle.kernel_meaning.specs.Queues.{list_in, joined, no_entries}
 
 abbrev pub put_in : List (List Entry) → ℕ → List Entry → List (List Entry)
 put_in lists number entries = slice_set lists number entries

@@ -3,8 +3,8 @@ use Rattle.std.specs.Prelude.{ℕ, ◌≡◌, ◌==◌, List, Option, Some, None
 use Rattle.arrayvec.specs.ArrayVec.{ArrayVec}
 use Rattle.links.specs.declared.lists.ListId.{ListId}
 use Rattle.apex_types.specs.declared.process.Entry.{Entry}
-use Rattle.apex_meaning.specs.Queues.{list_in}
-use Rattle.apex_meaning.specs.Ready.{times_listed}
+use Rattle.kernel_meaning.specs.Queues.{list_in}
+use Rattle.kernel_laws.specs.Ready.{times_listed}
 
 abbrev pub entries_of : ArrayVec Entry → List Entry
 entries_of v = v.items

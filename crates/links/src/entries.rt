@@ -1,9 +1,9 @@
 //! One list.
 
 ghost use Rattle.std.specs.Prelude.{◌≡◌, ◌<◌, ◌≤◌, length, slice_get};
-ghost use Rattle.apex_meaning.specs.Entries.{behind_equals, without};
-ghost use Rattle.apex_meaning.specs.Queues.{joined};
-ghost use Rattle.apex_meaning.specs.Ready.{times_listed};
+ghost use Rattle.kernel_meaning.specs.Queues.{behind_equals, without};
+ghost use Rattle.kernel_meaning.specs.Queues.{joined};
+ghost use Rattle.kernel_laws.specs.Ready.{times_listed};
 
 use apex_types::{Discipline, Entry, MOST_PROCESSES, ProcessIndex};
 use arrayvec::ArrayVec;

@@ -2,9 +2,9 @@
 
 ghost use Rattle.std.specs.Prelude.{◌≡◌, ℕ, ◌<◌, ◌≤◌, [], drop, length, replicate, slice_get, IfOk, IfSome};
 ghost use Rattle.apex_types.specs.declared.codes.Discipline.TheVariants as discipline;
-ghost use Rattle.apex_meaning.specs.Queues.{list_in};
+ghost use Rattle.kernel_meaning.specs.Queues.{list_in};
 ghost use Rattle.links.specs.Lists.{emptied_each, joins_in, put_in, without_in_each};
-ghost use Rattle.apex_meaning.specs.Ready.{times_listed};
+ghost use Rattle.kernel_laws.specs.Ready.{times_listed};
 ghost use Rattle.links.specs.OneHome.{once_at};
 
 use crate::entries::{Entries, MOST_WAITING};

@@ -1,9 +1,9 @@
 //! All lists, each with its number.
 
 ghost use Rattle.std.specs.Prelude.{◌≡◌, ◌<◌, ◌≤◌, [], length, map, replicate, slice_get, IfOk};
-ghost use Rattle.apex_meaning.specs.Entries.{without};
-ghost use Rattle.apex_meaning.specs.Queues.{joined, list_in};
-ghost use Rattle.apex_meaning.specs.Ready.{times_listed};
+ghost use Rattle.kernel_meaning.specs.Queues.{without};
+ghost use Rattle.kernel_meaning.specs.Queues.{joined, list_in};
+ghost use Rattle.kernel_laws.specs.Ready.{times_listed};
 ghost use Rattle.links.specs.Lists.{emptied_each, put_in};
 ghost use Rattle.links.specs.OneHome.{entries_of};
 

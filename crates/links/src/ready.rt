@@ -1,7 +1,7 @@
 //! Those that are ready.
 
 ghost use Rattle.std.specs.Prelude.{◌≡◌, ◌<◌, ◌≤◌, [], slice_get, IfOk, IfSome};
-ghost use Rattle.apex_meaning.specs.Entries.{behind_equals, without};
+ghost use Rattle.kernel_meaning.specs.Queues.{behind_equals, without};
 
 use crate::links::Links;
 use crate::lists::ListId;

@@ -1,8 +1,8 @@
 //! The waiting lists of a partition, each by its key.
 
 ghost use Rattle.std.specs.Prelude.{◌≡◌, ◌<◌, ◌≤◌, length, slice_get, IfOk, IfSome};
-ghost use Rattle.apex_meaning.specs.Queues.{emptied, joins, list_at, without_in_all};
-ghost use Rattle.apex_meaning.specs.TwoMeanings.{fresh_queues};
+ghost use Rattle.kernel_meaning.specs.Queues.{emptied, joins, list_at, without_in_all};
+ghost use Rattle.kernel_meaning.specs.Fresh.{fresh_queues};
 ghost use Rattle.links.specs.ByKind as by_kind;
 
 use crate::entries::Entries;
@@ -23,7 +23,7 @@ pub struct WaitingLists {
 }
 
 impl Model for WaitingLists {
-    ghost use Rattle.apex_meaning.specs.Queues.{Queues};
+    ghost use Rattle.kernel_meaning.specs.Queues.{Queues};
 
     ghost Value = { Queues };
 

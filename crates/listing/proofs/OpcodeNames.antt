@@ -2,7 +2,7 @@
 use Rattle.std.proofs.Common.{◌≡◌, ℕ, zero, suc, ◌-◌, ◌≤◌, List, [], ◌∷◌, length, Option, Some, None, Bool, true, false, subst, rules, arith}
 use Rattle.std.specs.Prelude.{if◌then◌else◌, nat_eq, slice_get}
 use Rattle.std.proofs.lemmas.Option.{none-some, same_Some}
-use Rattle.apex_meaning.specs.Instructions.{instruction_names, name_of_opcode}
+use Rattle.machine_meaning.specs.Instructions.{instruction_names, name_of_opcode}
 
 -- each has at most four letters
 abbrev AreShort : List (List ℕ) → Type 0

@@ -1,8 +1,8 @@
 -- The text of an image's instructions: the exact bytes of each line.
 use Rattle.std.specs.Prelude.{ℕ, ◌+◌, ◌/◌, ◌%◌, List, [], ◌∷◌, ◌++◌, map, flat_map, codes, Option, Some, None}
 use Rattle.std.specs.Fmt.{decimal, signed_decimal}
-use Rattle.apex_meaning.specs.Image.{Image, Item}
-use Rattle.apex_meaning.specs.Instructions.{opcode_in, x_in, v_in, name_of_opcode}
+use Rattle.machine_meaning.specs.Image.{Image, Item}
+use Rattle.machine_meaning.specs.Instructions.{opcode_in, x_in, v_in, name_of_opcode}
 
 -- a number below 100,000 in 5 digits, with zeros in front
 abbrev pub five_digits : ℕ → List ℕ

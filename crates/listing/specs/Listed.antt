@@ -1,7 +1,7 @@
 -- When a text was written into a sink.
 use Rattle.std.specs.Prelude.{◌≡◌, ℕ, ◌+◌, List, Option, Result, Ok, Err}
 use Rattle.std.specs.Io.KnownBytes.{Appends}
-use Rattle.apex_types.specs.Sink.{TakesBeginning}
+use Rattle.apex_types.specs.Line.{TakesBeginning}
 use Rattle.apex_types.specs.declared.sink.SinkFault.{SinkFault}
 
 -- Between two states of a sink this text was written. Where the sink failed, a beginning of it was.

@@ -4,15 +4,15 @@ use Rattle.std.specs.Prelude.{option_map, is_some}
 use Rattle.std.proofs.KnownBytes.{Appends-nil}
 use Rattle.apex_types.proofs.Writing.{IsUnderWay, under_way_more, under_way_fails}
 use Rattle.apex_types.specs.Line.{text_of}
-use Rattle.apex_types.specs.Sink.{TakesBeginning}
+use Rattle.apex_types.specs.Line.{TakesBeginning}
 use Rattle.apex_types.specs.declared.event.Event.{Event}
 use Rattle.apex_types.specs.declared.identity.At.{At}
 use Rattle.apex_types.specs.declared.identity.PortId.{PortId}
 use Rattle.apex_types.specs.declared.sink.SinkFault.{SinkFault}
-use Rattle.apex_meaning.specs.Kernel.{of_ports}
-use Rattle.apex_meaning.specs.Module.{next_tick, ports_of}
-use Rattle.apex_meaning.specs.Partition.{Member, Moved, World, moved, with_world, tick}
-use Rattle.apex_meaning.specs.Windows.{at_tick, tick_from, owner, ended}
+use Rattle.kernel_meaning.specs.Kernel.{of_ports}
+use Rattle.module_meaning.specs.Module.{next_tick, ports_of}
+use Rattle.kernel_meaning.specs.Partition.{Member, Moved, World, moved, with_world, tick}
+use Rattle.kernel_meaning.specs.Windows.{at_tick, tick_from, owner, ended}
 use Rattle.isolation.specs.Alone.{Gone, Path, Surroundings, and_then, alone_from, goes, inputs_in, keeps_on, sends_ended, sends_port, sends_ports, sends_so_many, stays, tick_alone, ticks_own}
 use Rattle.isolation.specs.declared.input.InputLine.{InputLine}
 use Rattle.partition.specs.Members.{HasAdvanced}

@@ -11,15 +11,17 @@ use Rattle.apex_types.specs.declared.row.PortRow.{PortRow}
 use Rattle.apex_types.specs.declared.row.ProcessRow.{ProcessRow}
 use Rattle.apex_types.specs.declared.row.RoutineRow.{RoutineRow}
 use Rattle.apex_types.specs.declared.row.Section.{Section}
-use Rattle.apex_meaning.specs.Engine.{Engine}
-use Rattle.apex_meaning.specs.Image.{Item}
-use Rattle.apex_meaning.specs.Kernel.{Fixed, Kernel}
-use Rattle.apex_meaning.specs.Partition.{Member}
-use Rattle.apex_meaning.specs.Ports.{refresh_of}
-use Rattle.apex_meaning.specs.SourceControl.{or_init}
-use Rattle.apex_meaning.specs.ImageLimits.{IsPortKind, IsPort, IsPartition, EachBeside, IsRoutine, IsBody, IsHandler, IsDuration, IsProcess, IsSection, IsItem}
-use Rattle.apex_meaning.specs.MachineControl.{MachineControl}
-use Rattle.apex_meaning.specs.TwoMeanings.{ticks, body_of_row, init_row, handler_row, machine_row, no_control_for, section_engine, machine_member}
+use Rattle.engine_meaning.specs.Engine.{Engine}
+use Rattle.machine_meaning.specs.Image.{Item}
+use Rattle.kernel_meaning.specs.Kernel.{Fixed, Kernel}
+use Rattle.kernel_meaning.specs.Partition.{Member}
+use Rattle.kernel_meaning.specs.Objects.{refresh_of}
+use Rattle.engine_meaning.specs.Engine.{or_init}
+use Rattle.machine_meaning.specs.ImageLimits.{IsPortKind, IsPort, IsPartition, EachBeside, IsRoutine, IsBody, IsHandler, IsDuration, IsProcess, IsSection, IsItem}
+use Rattle.machine_meaning.specs.MachineControl.{MachineControl}
+use Rattle.kernel_meaning.specs.Times.{ticks}
+use Rattle.machine_meaning.specs.MachineMeaning.{body_of_row, machine_row, section_engine, machine_member}
+use Rattle.kernel_meaning.specs.Fresh.{init_row, handler_row, no_control_for}
 use Rattle.image.specs.declared.value.Image.{Image}
 use Rattle.image.specs.declared.item.PartitionItem.{PartitionItem}
 use Rattle.image.specs.Items.{item_of, items_of, partition_of, section_of}

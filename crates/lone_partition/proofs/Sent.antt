@@ -5,11 +5,11 @@ use Rattle.arrayvec.specs.ArrayVec.{ArrayVec}
 use Rattle.apex_types.specs.declared.identity.At.{At}
 use Rattle.apex_types.specs.declared.identity.PortId.{PortId}
 use Rattle.apex_types.specs.declared.sink.SinkFault.{SinkFault}
-use Rattle.apex_meaning.specs.Arrival.{first_message, leaves_first, leaves_of}
-use Rattle.apex_meaning.specs.Kernel.{of_ports_alone}
-use Rattle.apex_meaning.specs.Partition.{Member, leaves, leaving, moved, place_of_port}
-use Rattle.apex_meaning.specs.Ports.{Port, Ports, port_at}
-use Rattle.apex_meaning.specs.Step.{Step, nothing}
+use Rattle.kernel_meaning.specs.PortServices.{first_message, leaves_first, leaves_of}
+use Rattle.kernel_meaning.specs.Kernel.{of_ports_alone}
+use Rattle.kernel_meaning.specs.Partition.{Member, leaves, leaving, moved, place_of_port}
+use Rattle.kernel_meaning.specs.Objects.{Port, Ports, port_at}
+use Rattle.kernel_meaning.specs.Step.{Step, nothing}
 use Rattle.isolation.specs.Alone.{Gone, Surroundings, stays, goes, goes_by_way, sends_found, way_out}
 use Rattle.lone_partition.proofs.Written.{then_written, first_cut_off}
 use Rattle.lone_partition.specs.Written.{IsMade, IsCutOff, IsWritten}

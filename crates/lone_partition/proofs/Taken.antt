@@ -3,7 +3,7 @@ use Rattle.std.proofs.Common.{◌≡◌, ℕ, ◌+◌, ◌<◌, ◌≤◌, List,
 use Rattle.std.proofs.lemmas.List.{drop_more, drop_all}
 use Rattle.apex_types.specs.declared.codes.ModuleAction.{ModuleAction}
 use Rattle.apex_types.specs.declared.identity.At.{At}
-use Rattle.apex_meaning.specs.Partition.{Member}
+use Rattle.kernel_meaning.specs.Partition.{Member}
 use Rattle.isolation.specs.Alone.{Path, takes, takes_all}
 use Rattle.isolation.specs.declared.input.InputLine.{InputLine}
 use Rattle.lone_partition.proofs.Written.{IsPathUnderWay, path_is_over, shuts_down}

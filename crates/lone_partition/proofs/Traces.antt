@@ -5,15 +5,15 @@ use Rattle.std.specs.Prelude.{option_map}
 use Rattle.std.specs.Io.KnownBytes.{Appends}
 use Rattle.apex_types.proofs.Writing.{IsUnderWay, under_way_more, under_way_end, under_way_fails}
 use Rattle.apex_types.specs.Line.{text_of}
-use Rattle.apex_types.specs.Sink.{TakesBeginning}
+use Rattle.apex_types.specs.Line.{TakesBeginning}
 use Rattle.apex_types.specs.declared.codes.ModuleAction.{ModuleAction}
 use Rattle.apex_types.specs.declared.codes.ModuleAction.TheVariants as reaction
 use Rattle.apex_types.specs.declared.codes.StartCondition.TheVariants as condition
 use Rattle.apex_types.specs.declared.event.Event.{Event}
 use Rattle.apex_types.specs.declared.identity.At.{At}
 use Rattle.apex_types.specs.declared.sink.SinkFault.{SinkFault}
-use Rattle.apex_meaning.specs.Module.{first_tick, next_tick}
-use Rattle.apex_meaning.specs.Partition.{Member, cold_start}
+use Rattle.module_meaning.specs.Module.{first_tick, next_tick}
+use Rattle.kernel_meaning.specs.Partition.{Member, cold_start}
 use Rattle.isolation.proofs.Isolated.{IsIn, next_in}
 use Rattle.isolation.specs.Alone.{Alone, Path, Surroundings, goes, inputs_in, unless_over, meets_fault, takes, takes_all, sends_and_ticks, tick_alone, alone_from, trace_alone}
 use Rattle.isolation.specs.declared.input.Input.{Input}

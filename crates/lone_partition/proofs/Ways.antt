@@ -3,9 +3,9 @@ use Rattle.std.proofs.Common.{◌≡◌, ℕ, ◌+◌, ◌<◌, ◌≤◌, List,
 use Rattle.std.proofs.lemmas.List.{drop_more, drop_all}
 use Rattle.apex_types.specs.declared.identity.PartitionId.{PartitionId}
 use Rattle.apex_types.specs.declared.row.PortRow.{PortRow}
-use Rattle.apex_meaning.specs.Image.{Channel}
-use Rattle.apex_meaning.specs.Module.{channel_from}
-use Rattle.isolation.specs.Slices.{name_to_device, ways_from}
+use Rattle.module_meaning.specs.Table.{Channel}
+use Rattle.module_meaning.specs.Module.{channel_from}
+use Rattle.isolation.specs.Surrounded.{name_to_device, ways_from}
 
 module _ (channels : List Channel) (p : PartitionId) where
   -- one port more

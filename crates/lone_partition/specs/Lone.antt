@@ -1,5 +1,5 @@
 -- A lone partition, as the definitions see it.
-use Rattle.apex_meaning.specs.MachineControl.{MachineControl}
+use Rattle.machine_meaning.specs.MachineControl.{MachineControl}
 use Rattle.isolation.specs.Alone.{Alone}
 use Rattle.partition.specs.Members.{member_of}
 use Rattle.partition_base.specs.contracts.machine.MachineExecutor.TheImpl.{ghosts as machine}

@@ -2,7 +2,7 @@
 use Rattle.std.specs.Prelude.{ℤ, Option, None}
 use Rattle.arrayvec.specs.ArrayVec.{ArrayVec}
 use Rattle.apex_types.specs.declared.identity.At.{At}
-use Rattle.apex_meaning.specs.Partition.{Member, Moved, cold_start, breaks_down, advances, arrives, leaves, leaving, admits, goes_out}
+use Rattle.kernel_meaning.specs.Partition.{Member, Moved, cold_start, breaks_down, advances, arrives, leaves, leaving, admits, goes_out}
 use Rattle.lone_partition.specs.declared.step.Step.{Step}
 use Rattle.lone_partition.specs.declared.step.Step.TheVariants as step
 

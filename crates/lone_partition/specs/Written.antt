@@ -2,7 +2,7 @@
 use Rattle.std.specs.Prelude.{◌≡◌, ◌≤◌, ℕ, ◌+◌, List, Option, Some, None, Result, Ok, Err}
 use Rattle.std.specs.Io.KnownBytes.{Appends}
 use Rattle.apex_types.specs.Line.{text_of}
-use Rattle.apex_types.specs.Sink.{TakesBeginning}
+use Rattle.apex_types.specs.Line.{TakesBeginning}
 use Rattle.apex_types.specs.declared.event.Event.{Event}
 use Rattle.apex_types.specs.declared.identity.At.{At}
 use Rattle.apex_types.specs.declared.sink.SinkFault.{SinkFault}

@@ -2,10 +2,10 @@
 
 ghost use Rattle.std.specs.Prelude.{◌≡◌, ◌≤◌, length, option_map, IfOk};
 ghost use Rattle.std.specs.List.{list_any};
-ghost use Rattle.apex_meaning.specs.Module as meaning;
-ghost use Rattle.apex_meaning.specs.TableRules as rules_of_tables;
+ghost use Rattle.module_meaning.specs.Module as meaning;
+ghost use Rattle.module_meaning.specs.Table as rules_of_tables;
 ghost use Rattle.image.specs.Items.{channel_of, channels_of};
-ghost use Rattle.isolation.specs.Slices as slices;
+ghost use Rattle.isolation.specs.Surrounded as slices;
 
 use apex_types::{ChannelEnd, Name, PartitionId, PortId, PortRow};
 use std::alloc::{AllocError, Global};

@@ -1,7 +1,8 @@
 //! From an image to one of its partitions, ready to start.
 
 ghost use Rattle.std.specs.Prelude.{◌≡◌, ◌∷◌, [], IfOk};
-ghost use Rattle.apex_meaning.specs.TwoMeanings.{fixed_of, machine_member};
+ghost use Rattle.module_meaning.specs.Table.{fixed_of};
+ghost use Rattle.machine_meaning.specs.MachineMeaning.{machine_member};
 ghost use Rattle.image.specs.Items.{partition_of, section_of};
 ghost use Rattle.partition.specs.Members.{member_of};
 ghost use Rattle.partition.specs.View.{fixed_of as view};

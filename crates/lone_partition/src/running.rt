@@ -1,8 +1,8 @@
 //! A partition that runs alone, tick by tick.
 
 ghost use Rattle.std.specs.Prelude.{◌≡◌, ◌≤◌, ◌<◌, ◌+◌, ◌-◌, ◌^◌, [], Some};
-ghost use Rattle.apex_meaning.specs.Module.{first_tick};
-ghost use Rattle.apex_meaning.specs.Windows.{at_tick};
+ghost use Rattle.module_meaning.specs.Module.{first_tick};
+ghost use Rattle.kernel_meaning.specs.Windows.{at_tick};
 ghost use Rattle.isolation.specs.Alone.{alone_from, trace_alone};
 ghost use Rattle.partition.specs.Members.{member_of};
 ghost use Rattle.lone_partition.specs.Around.{around};

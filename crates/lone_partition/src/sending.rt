@@ -1,8 +1,8 @@
 //! The messages that leave a partition, written line by line.
 
 ghost use Rattle.std.specs.Prelude.{◌≡◌, ◌≤◌, ◌<◌, ◌-◌, ◌^◌, [], OnOk};
-ghost use Rattle.apex_meaning.specs.Image.{at_number};
-ghost use Rattle.apex_meaning.specs.Partition.{messages_to_move};
+ghost use Rattle.module_meaning.specs.Table.{at_number};
+ghost use Rattle.kernel_meaning.specs.Partition.{messages_to_move};
 ghost use Rattle.isolation.specs.Alone.{goes_by_way, sends_message, sends_messages, sends_port, sends_ports};
 ghost use Rattle.partition.specs.Members.{member_of};
 ghost use Rattle.lone_partition.specs.Around.{around};

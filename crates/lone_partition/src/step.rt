@@ -1,7 +1,7 @@
 //! A step of a partition.
 
 ghost use Rattle.std.specs.Prelude.{◌≡◌, ◌≤◌, ◌<◌, ◌-◌, ◌^◌, [], IfOk, OnOk};
-ghost use Rattle.apex_meaning.specs.Partition.{with_world};
+ghost use Rattle.kernel_meaning.specs.Partition.{with_world};
 ghost use Rattle.apex_types.specs.Line.{text_of};
 ghost use Rattle.isolation.specs.Alone.{goes};
 ghost use Rattle.partition.specs.Members.{member_of};

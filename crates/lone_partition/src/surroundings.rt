@@ -1,10 +1,10 @@
 //! What surrounds a partition.
 
 ghost use Rattle.std.specs.Prelude.{◌≡◌, ◌≤◌, length, IfOk};
-ghost use Rattle.apex_meaning.specs.TwoMeanings.{machine_module};
+ghost use Rattle.machine_meaning.specs.MachineMeaning.{machine_module};
 ghost use Rattle.image.specs.Views.{image_of};
 ghost use Rattle.isolation.specs.Alone.{way_out};
-ghost use Rattle.isolation.specs.Slices.{surroundings_of};
+ghost use Rattle.isolation.specs.Surrounded.{surroundings_of};
 ghost use Rattle.lone_partition.specs.Around.{around};
 
 use crate::channels::ways_out;

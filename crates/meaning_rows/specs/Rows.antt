@@ -13,19 +13,21 @@ use Rattle.apex_types.specs.declared.identity.At.{At}
 use Rattle.apex_types.specs.declared.row.HealthTable.{HealthTable}
 use Rattle.apex_types.specs.declared.row.RoutineRow.{RoutineRow}
 use Rattle.apex_types.specs.declared.row.WindowRow.{WindowRow}
-use Rattle.apex_meaning.specs.CompiledCode.{section_of}
-use Rattle.apex_meaning.specs.Cost.{size_of_body, size_of_procedure, frame_of_body, frame_of_procedure, cost_of_body, cost_of_procedure}
-use Rattle.apex_meaning.specs.GrammarWords.{words_of}
-use Rattle.apex_meaning.specs.GrammarReading.{program_at, ◌>>=◌}
-use Rattle.apex_meaning.specs.Image.{Partition, Table, Item, Image}
-use Rattle.apex_meaning.specs.ImageReading.{Fault, image_at}
-use Rattle.apex_meaning.specs.ImageSpelling.{u32, i64, spelling}
-use Rattle.apex_meaning.specs.Program.{Program, Body, Procedure}
-use Rattle.apex_meaning.specs.TableRules.{Refusal}
-use Rattle.apex_meaning.specs.TableRules as table_rules
-use Rattle.apex_meaning.specs.TwoMeanings.{source_trace, machine_trace}
-use Rattle.apex_meaning.specs.Windows.{Schedule, tick_from}
-use Rattle.apex_meaning.specs.WellFormed.{Refused, ByName, ByKind, ByLimit, ByPeriod, verdict}
+use Rattle.compiling_laws.specs.CompiledCode.{section_of}
+use Rattle.pal_meaning.specs.Program.{size_of_body, size_of_procedure, frame_of_body, frame_of_procedure, cost_of_body, cost_of_procedure}
+use Rattle.pal_meaning.specs.Grammar.{words_of}
+use Rattle.pal_laws.specs.GrammarReading.{program_at, ◌>>=◌}
+use Rattle.module_meaning.specs.Table.{Partition, Table}
+use Rattle.machine_meaning.specs.Image.{Item, Image}
+use Rattle.machine_meaning.specs.ImageReading.{Fault, image_at}
+use Rattle.machine_meaning.specs.ImageSpelling.{u32, i64, spelling}
+use Rattle.pal_meaning.specs.Program.{Program, Body, Procedure}
+use Rattle.module_meaning.specs.TableRules.{Refusal}
+use Rattle.module_meaning.specs.TableRules as table_rules
+use Rattle.module_meaning.specs.SourceMeaning.{source_trace}
+use Rattle.machine_meaning.specs.MachineMeaning.{machine_trace}
+use Rattle.kernel_meaning.specs.Windows.{Schedule, tick_from}
+use Rattle.pal_meaning.specs.WellFormed.{Refused, ByName, ByKind, ByLimit, ByPeriod, verdict}
 
 -- every error is ignored
 abbrev pub ignoring : HealthTable

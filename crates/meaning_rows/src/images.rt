@@ -2,7 +2,7 @@
 
 ghost use Rattle.std.specs.Prelude.{◌≡◌, ◌∷◌, ◌++◌, [], Some, None, Ok, Err, codes};
 ghost use Rattle.apex_types.specs.declared.codes.ModuleAction.TheVariants as of_module;
-ghost use Rattle.apex_meaning.specs.ImageReading.{Truncated, Trailing, image_at};
+ghost use Rattle.machine_meaning.specs.ImageReading.{Truncated, Trailing, image_at};
 ghost use Rattle.meaning_rows.specs.Rows.{image_of_sources, lines, plain_partition, recursive_image, release_window, reporting_image, single_table, smallest_image, text_of_image};
 
 /// A source becomes an image, byte by byte.

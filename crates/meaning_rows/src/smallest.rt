@@ -3,11 +3,11 @@
 ghost use Rattle.std.specs.Prelude.{◌≡◌, ◌∷◌, [], Some, None, codes, pos};
 ghost use Rattle.apex_types.specs.declared.place.Place.TheVariants.{Slot};
 ghost use Rattle.apex_types.specs.declared.service.Service.TheVariants.{GetTime, SetPartitionMode};
-ghost use Rattle.apex_meaning.specs.GrammarReading.{program_at};
-ghost use Rattle.apex_meaning.specs.GrammarWords.{Mark, Name, Number, ServiceWord, Stray, words_of};
-ghost use Rattle.apex_meaning.specs.Program as program;
+ghost use Rattle.pal_laws.specs.GrammarReading.{program_at};
+ghost use Rattle.pal_meaning.specs.Grammar.{Mark, Name, Number, ServiceWord, Stray, words_of};
+ghost use Rattle.pal_meaning.specs.Program as program;
 ghost use Rattle.meaning_rows.specs.Rows.{plain_partition, program_of};
-ghost use Rattle.apex_meaning.specs.Syntax as written;
+ghost use Rattle.pal_meaning.specs.Syntax as written;
 
 /// From bytes to words, from words to a tree, and from that to a program.
 fn a_source_is_read()

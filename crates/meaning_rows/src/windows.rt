@@ -2,7 +2,7 @@
 
 ghost use Rattle.std.specs.Prelude.{◌≡◌, ◌∷◌, [], Some, None, map};
 ghost use Rattle.meaning_rows.specs.Rows.{at_ticks, sparse_schedule, split_schedule};
-ghost use Rattle.apex_meaning.specs.Windows.{ended, next_release, owner};
+ghost use Rattle.kernel_meaning.specs.Windows.{ended, next_release, owner};
 
 /// A partition with two windows in a frame of 16 ticks: what it sends moves at 4, 16, 20 and 32.
 fn split()

@@ -4,9 +4,9 @@ use Rattle.std.proofs.lemmas.List.{length-map}
 use Rattle.apex_types.specs.declared.device.DeviceLine.{DeviceLine}
 use Rattle.apex_types.specs.declared.identity.At.{At}
 use Rattle.apex_types.specs.declared.identity.Ticks.{Ticks}
-use Rattle.apex_meaning.specs.Module.{Advanced, Course, Plan, first_tick, next_tick, inputs_all, module_tick, moves_and_ticks, of_tick, starts, then_runs, unless_down}
-use Rattle.apex_meaning.specs.Partition.{Member}
-use Rattle.apex_meaning.specs.Windows.{tick_from}
+use Rattle.module_meaning.specs.Module.{Advanced, Course, Plan, first_tick, next_tick, inputs_all, module_tick, moves_and_ticks, of_tick, starts, then_runs, unless_down}
+use Rattle.kernel_meaning.specs.Partition.{Member}
+use Rattle.kernel_meaning.specs.Windows.{tick_from}
 use Rattle.isolation.specs.declared.input.Input.{Input}
 use Rattle.isolation.specs.declared.input.InputLine.{InputLine}
 use Rattle.isolation.specs.Brought.{brought_in_all, brought_moved, brought_tick, inputs_from, inputs_of, line_in}

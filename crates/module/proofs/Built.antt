@@ -6,17 +6,19 @@ use Rattle.std.proofs.lemmas.Bool.{ltb-true, ltb-false, lt-ltb, le-ltb}
 use Rattle.std.proofs.lemmas.List.{map-append}
 use Rattle.std.proofs.lemmas.Option.{none-some, same_Some}
 use Rattle.apex_types.specs.declared.row.Section as code
-use Rattle.apex_meaning.specs.Cost.{size_of}
-use Rattle.apex_meaning.specs.Instructions.{reading}
-use Rattle.apex_meaning.proofs.WellFormedFits.{well_formed_fits}
+use Rattle.pal_meaning.specs.Program.{size_of}
+use Rattle.machine_meaning.specs.Instructions.{reading}
+use Rattle.compiling_laws.proofs.WellFormedFits.{well_formed_fits}
 use Rattle.image.specs.declared.item.PartitionItem.{PartitionItem}
 use Rattle.image.specs.Items.{item_of, items_of, partition_of, section_of as view}
 use Rattle.window_table.specs.declared.table.PartitionRow.{PartitionRow}
-use Rattle.apex_meaning.specs.CompiledCode.{code_of, section_of}
-use Rattle.apex_meaning.specs.Image.{Partition, Section, Item}
-use Rattle.apex_meaning.specs.Program.{Program}
-use Rattle.module.specs.Accepted.{AreAccepted}
-use Rattle.module.specs.Building.{is_too_long, first_too_long}
+use Rattle.compiling_laws.specs.CompiledCode.{code_of, section_of}
+use Rattle.module_meaning.specs.Table.{Partition}
+use Rattle.machine_meaning.specs.Section.{Section}
+use Rattle.machine_meaning.specs.Image.{Item}
+use Rattle.pal_meaning.specs.Program.{Program}
+use Rattle.module_meaning.specs.Accepted.{AreAccepted}
+use Rattle.module.specs.Refusals.{is_too_long, first_too_long}
 use Rattle.module.specs.Built.{built_item, built_items, IsCoded, AreCoded, AreCompiled}
 
 -- ---- lengths

@@ -5,15 +5,15 @@ use Rattle.std.proofs.lemmas.Option.{none-some, same_Some}
 use Rattle.std.proofs.KnownBytes.{Appends-nil}
 use Rattle.apex_types.specs.declared.sink.SinkFault.{SinkFault}
 use Rattle.apex_types.specs.Line.{text_of}
-use Rattle.apex_types.specs.Sink.{TakesBeginning}
+use Rattle.apex_types.specs.Line.{TakesBeginning}
 use Rattle.apex_types.proofs.Writing.{IsUnderWay, under_way_more, under_way_fails}
 use Rattle.apex_types.specs.declared.device.DeviceLine.{DeviceLine}
 use Rattle.apex_types.specs.declared.event.Event.{Event}
 use Rattle.apex_types.specs.declared.identity.At.{At}
-use Rattle.apex_meaning.specs.Kernel.{Kernel}
-use Rattle.apex_meaning.specs.Module.{Plan, trace_from}
-use Rattle.apex_meaning.specs.Partition.{Member, World, with_world}
-use Rattle.apex_meaning.specs.Windows.{Schedule, at_tick, tick_from, owner, ended}
+use Rattle.kernel_meaning.specs.Kernel.{Kernel}
+use Rattle.module_meaning.specs.Module.{Plan, trace_from}
+use Rattle.kernel_meaning.specs.Partition.{Member, World, with_world}
+use Rattle.kernel_meaning.specs.Windows.{Schedule, at_tick, tick_from, owner, ended}
 use Rattle.bursts.specs.Bursts.{Burst}
 use Rattle.partition.specs.Members.{HasAdvanced}
 use Rattle.bursts.specs.Quiet.{IsStill, AreStill, HaveNoLines}

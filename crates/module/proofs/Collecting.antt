@@ -7,10 +7,10 @@ use Rattle.apex_types.specs.declared.device.DeviceLine.{DeviceLine}
 use Rattle.apex_types.specs.declared.identity.PartitionId.{PartitionId}
 use Rattle.apex_types.specs.declared.row.ChannelEnd.{ChannelEnd}
 use Rattle.apex_types.specs.declared.row.ChannelEnd.TheVariants as ends
-use Rattle.apex_meaning.specs.Image.{Channel, at_number}
-use Rattle.apex_meaning.specs.Module.{Plan, channel_from}
-use Rattle.apex_meaning.specs.Partition.{messages_to_move}
-use Rattle.apex_meaning.specs.Ports.{Port, is_source}
+use Rattle.module_meaning.specs.Table.{Channel, at_number}
+use Rattle.module_meaning.specs.Module.{Plan, channel_from}
+use Rattle.kernel_meaning.specs.Partition.{messages_to_move}
+use Rattle.kernel_meaning.specs.Objects.{Port, is_source}
 use Rattle.isolation.specs.declared.input.Input.{Input}
 use Rattle.isolation.specs.declared.input.Input.TheVariants.{Arrive}
 use Rattle.isolation.specs.declared.input.InputLine.{InputLine}

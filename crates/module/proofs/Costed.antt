@@ -2,7 +2,7 @@
 use Rattle.std.proofs.Common.{◌≡◌, ℕ, ◌+◌, ◌<◌, List, [], ◌∷◌, ◌++◌, length, map, take, get_or, Option, Some, None, Result, Ok, Err, IfOk, refl, sym, ap, ◌∙◌, arith}
 use Rattle.std.specs.Option.{option_map}
 use Rattle.std.proofs.lemmas.List.{map-append, take_more}
-use Rattle.apex_meaning.specs.Image.{Partition, Table}
+use Rattle.module_meaning.specs.Table.{Partition, Table}
 use Rattle.image.specs.Items.{partition_of}
 use Rattle.pal_base.specs.ProgramView.{body_of, procedure_of, process_of, program_of}
 use Rattle.pal_base.specs.declared.program.Body as code_body
@@ -13,7 +13,7 @@ use Rattle.pal.specs.Costs as report
 use Rattle.pal.specs.ProcedureNames.{names_of_procedures}
 use Rattle.pal.specs.declared.report.BodyCost.{BodyCost}
 use Rattle.window_table.specs.declared.table.PartitionRow.{PartitionRow}
-use Rattle.module.specs.Accepted.{IsTable}
+use Rattle.module_meaning.specs.Accepted.{IsTable}
 use Rattle.module.specs.Building.{AreSourceRefusals, IsTableRefusal}
 use Rattle.module.specs.Costs.{AreCosted, AreCosts, AreCostsOf, IsCosted, IsCostOf, IsCostRefusal, IsCostRefusedWith, cost_of_process, costs_of_handler, costs_of_procedures, costs_of_program}
 use Rattle.module.specs.Sources.{AreSources, IsSource}

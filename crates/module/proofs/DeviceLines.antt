@@ -8,8 +8,8 @@ use Rattle.apex_types.specs.declared.device.DeviceInput.{DeviceInput}
 use Rattle.apex_types.specs.declared.device.DeviceInput.TheVariants as input
 use Rattle.apex_types.specs.declared.device.DeviceLine.{DeviceLine}
 use Rattle.apex_types.specs.declared.identity.At.{At}
-use Rattle.apex_meaning.specs.Module.{Plan, Course, unless_down, then_runs, breaks_module, of_tick, inputs, inputs_all, moves_and_ticks, module_tick, trace_from}
-use Rattle.apex_meaning.specs.Partition.{Member}
+use Rattle.module_meaning.specs.Module.{Plan, Course, unless_down, then_runs, breaks_module, of_tick, inputs, inputs_all, moves_and_ticks, module_tick, trace_from}
+use Rattle.kernel_meaning.specs.Partition.{Member}
 use Rattle.module.specs.Written.{AreFrom}
 
 pub not_true : (b : Bool) → (b ≡ true → ⊥) → b ≡ false

@@ -6,9 +6,9 @@ use Rattle.apex_types.specs.declared.device.DeviceFault.{DeviceFault}
 use Rattle.apex_types.specs.declared.device.DeviceFault.TheVariants as fault
 use Rattle.apex_types.specs.declared.device.DeviceInput.{DeviceInput}
 use Rattle.apex_types.specs.declared.device.DeviceLine.{DeviceLine}
-use Rattle.apex_meaning.specs.DeviceText as text
-use Rattle.apex_meaning.specs.DeviceText.{WrittenLine}
-use Rattle.apex_meaning.specs.Image.{Partition, Channel}
+use Rattle.module_meaning.specs.DeviceText as text
+use Rattle.module_meaning.specs.DeviceText.{WrittenLine}
+use Rattle.module_meaning.specs.Table.{Partition, Channel}
 use Rattle.module.specs.Written.{AreFrom}
 
 abbrev ok_line : DeviceLine → Result DeviceLine DeviceFault

@@ -4,24 +4,30 @@ use Rattle.std.specs.List.{All}
 use Rattle.std.specs.Io.KnownBytes.{Appends}
 use Rattle.std.proofs.lemmas.List.Elements.{All-nil, All-cons}
 use Rattle.apex_types.specs.Line.{text_of}
-use Rattle.apex_types.specs.Sink.{TakesBeginning}
-use Rattle.apex_meaning.specs.CompiledCode.{section_of}
+use Rattle.apex_types.specs.Line.{TakesBeginning}
+use Rattle.compiling_laws.specs.CompiledCode.{section_of}
 use Rattle.apex_types.specs.declared.device.DeviceFault.{DeviceFault}
 use Rattle.apex_types.specs.declared.device.DeviceLine.{DeviceLine}
-use Rattle.apex_meaning.specs.DeviceText.{verdict, verdict_for}
-use Rattle.apex_meaning.specs.Image.{Partition, Channel, Table, Item, Image}
-use Rattle.apex_meaning.specs.ImageLimits.{IsSection}
-use Rattle.apex_meaning.specs.ImageReading.{Fault, image_at}
-use Rattle.apex_meaning.specs.Program.{Program}
-use Rattle.apex_meaning.specs.TwoMeanings.{source_trace, machine_trace}
-use Rattle.apex_meaning.proofs.AcceptedImage.{accepted_image}
-use Rattle.apex_meaning.proofs.ImageLaws.{spelled_is_read}
-use Rattle.apex_meaning.proofs.WellFormedSection.{accepted_section}
-use Rattle.module.specs.Accepted.{IsAccepted, AreAccepted, IsJudged, IsTable}
+use Rattle.module_meaning.specs.DeviceText.{verdict}
+use Rattle.machine_meaning.specs.MachineMeaning.{verdict_for}
+use Rattle.module_meaning.specs.Table.{Partition, Channel, Table}
+use Rattle.machine_meaning.specs.Image.{Item, Image}
+use Rattle.machine_meaning.specs.ImageLimits.{IsSection}
+use Rattle.machine_meaning.specs.ImageReading.{Fault, image_at}
+use Rattle.pal_meaning.specs.Program.{Program}
+use Rattle.module_meaning.specs.SourceMeaning.{source_trace}
+use Rattle.machine_meaning.specs.MachineMeaning.{machine_trace}
+use Rattle.machine_laws.proofs.AcceptedImage.{accepted_image}
+use Rattle.machine_laws.proofs.ImageLaws.{spelled_is_read}
+use Rattle.compiling_laws.proofs.WellFormedSection.{accepted_section}
+use Rattle.module_meaning.specs.Accepted.{IsAccepted, AreAccepted, IsJudged, IsTable}
 use Rattle.module.specs.Built.{built_item, built_items, built_image, IsCoded, AreCoded, BecomesLawful, IsBuiltFrom}
 use Rattle.module.specs.Building.{IsImageOf}
-use Rattle.module.specs.Promises.{IsRun, IsDeviceRefusal, IsNamed, Runs, IsAcceptedRun, IsDeviceRefused, Means, ran}
-use Rattle.image.specs.Views.{named}
+use Rattle.module.specs.Runs.{IsRun, IsDeviceRefusal, IsNamed, Runs}
+use Rattle.module_meaning.specs.SourceMeaning.{IsAcceptedRun}
+use Rattle.module.specs.Promises.{IsDeviceRefused, Means}
+use Rattle.module.specs.Running.{ran}
+use Rattle.image.specs.Named.{named}
 use Rattle.module.specs.declared.fault.RunFault.{RunFault}
 use Rattle.module.specs.declared.fault.RunFault.TheVariants.{Ticks, Image as NoImage, Partition as NoPartition, Device, Memory, Write, Failed}
 use Rattle.module.proofs.Built.{are_compiled}

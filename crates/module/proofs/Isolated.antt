@@ -1,15 +1,17 @@
 -- What a run writes shows of each partition what the partition shows alone.
 use Rattle.std.proofs.Common.{◌≡◌, ◌≤◌, ◌^◌, ℕ, List, Option, Result, Ok, Err, OnOk, sym, subst, ◌∙◌}
 use Rattle.apex_types.specs.declared.device.DeviceLine.{DeviceLine}
-use Rattle.apex_meaning.specs.DeviceText.{verdict_for}
-use Rattle.apex_meaning.specs.Image.{Image}
-use Rattle.apex_meaning.specs.ImageLimits.{IsLawful}
-use Rattle.apex_meaning.specs.ImageReading.{Fault}
+use Rattle.machine_meaning.specs.MachineMeaning.{verdict_for}
+use Rattle.machine_meaning.specs.Image.{Image}
+use Rattle.machine_meaning.specs.ImageLimits.{IsLawful}
+use Rattle.machine_meaning.specs.ImageReading.{Fault}
 use Rattle.isolation.proofs.Law.{part_of_slice}
 use Rattle.isolation.proofs.SourceLaw.{source_isolation}
-use Rattle.module.specs.Isolated.{AreAlone, IsIsolated, IsSourceIsolated, WritesAlone}
+use Rattle.module.specs.Isolated.{AreAlone, IsIsolated, WritesAlone}
+use Rattle.module.specs.SourcesIsolated.{IsSourceIsolated}
 use Rattle.module.specs.Machines.{Machine, HaveTicked, fresh_machine}
-use Rattle.module.specs.Promises.{Means, Runs}
+use Rattle.module.specs.Promises.{Means}
+use Rattle.module.specs.Runs.{Runs}
 use Rattle.module.specs.declared.fault.BuildAndRunFault.{BuildAndRunFault}
 use Rattle.module.specs.declared.fault.RunFault.{RunFault}
 use Rattle.module.proofs.Headline.{ok_image, image_is}

@@ -4,17 +4,17 @@ use Rattle.std.proofs.KnownBytes.{Appends-nil}
 use Rattle.std.specs.Io.KnownBytes.{Appends}
 use Rattle.std.specs.Prelude.{is_none}
 use Rattle.apex_types.specs.Line.{text_of}
-use Rattle.apex_types.specs.Sink.{TakesBeginning}
+use Rattle.apex_types.specs.Line.{TakesBeginning}
 use Rattle.apex_types.specs.declared.device.DeviceLine.{DeviceLine}
 use Rattle.apex_types.specs.declared.event.Event.{Event}
 use Rattle.apex_types.proofs.Writing.{IsUnderWay, under_way_more, under_way_end, under_way_fails, under_way_start}
-use Rattle.apex_meaning.specs.Image.{Image}
-use Rattle.apex_meaning.specs.Module.{of_tick}
-use Rattle.apex_meaning.specs.MachineControl.{MachineControl}
-use Rattle.apex_meaning.specs.Partition.{Member}
-use Rattle.apex_meaning.specs.TwoMeanings.{machine_module, machine_trace}
+use Rattle.machine_meaning.specs.Image.{Image}
+use Rattle.module_meaning.specs.Module.{of_tick}
+use Rattle.machine_meaning.specs.MachineControl.{MachineControl}
+use Rattle.kernel_meaning.specs.Partition.{Member}
+use Rattle.machine_meaning.specs.MachineMeaning.{machine_module, machine_trace}
 use Rattle.module.specs.Machines.{Machine, HasGoneOn, HasFailed, HasTicked, HaveTicked, fresh_machine}
-use Rattle.module.specs.Promises.{RunsImage}
+use Rattle.module.specs.Running.{RunsImage}
 use Rattle.module.specs.Standing.{Standing, after, lines_of, ticks}
 use Rattle.module.specs.declared.fault.RunFault.{RunFault}
 use Rattle.module.specs.declared.fault.RunFault.TheVariants as fault

@@ -3,9 +3,9 @@ use Rattle.std.proofs.Common.{◌≡◌, ◌≢◌, ◌≤◌, ◌<◌, ℕ, zer
 use Rattle.std.specs.Prelude.{slice_get, slice_set, option_map}
 use Rattle.std.proofs.lemmas.List.{length-map, length-set, map-append, map-set}
 use Rattle.std.proofs.lemmas.Option.{none-some, same_Some}
-use Rattle.apex_meaning.specs.Kernel.{Kernel}
-use Rattle.apex_meaning.specs.Module.{of_member, ports_of}
-use Rattle.apex_meaning.specs.Partition.{Member}
+use Rattle.kernel_meaning.specs.Kernel.{Kernel}
+use Rattle.module_meaning.specs.Module.{of_member, ports_of}
+use Rattle.kernel_meaning.specs.Partition.{Member}
 use Rattle.partition.specs.Members.{member_of}
 use Rattle.partition.specs.declared.partition.Partition.{Partition}
 use Rattle.partition_base.specs.declared.executor.Executor.{Ghosts}

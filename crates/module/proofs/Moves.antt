@@ -7,13 +7,13 @@ use Rattle.apex_types.specs.declared.identity.At.{At}
 use Rattle.apex_types.specs.declared.identity.PartitionId.{PartitionId}
 use Rattle.apex_types.specs.declared.identity.PortId.{PortId}
 use Rattle.apex_types.specs.declared.sink.SinkFault.{SinkFault}
-use Rattle.apex_meaning.specs.Arrival.{first_message, leaves_first, leaves_of}
-use Rattle.apex_meaning.specs.Image.{Channel, at_number}
-use Rattle.apex_meaning.specs.Kernel.{of_ports_alone}
-use Rattle.apex_meaning.specs.Module.{Advanced, still, steps, steps_member, of_member, goes_by, channel_from, moves_found}
-use Rattle.apex_meaning.specs.Partition.{Member, Moved, with_world, leaves, leaving, moved, place_of_port}
-use Rattle.apex_meaning.specs.Ports.{Port, Ports, port_at}
-use Rattle.apex_meaning.specs.Step.{Step, nothing}
+use Rattle.kernel_meaning.specs.PortServices.{first_message, leaves_first, leaves_of}
+use Rattle.module_meaning.specs.Table.{Channel, at_number}
+use Rattle.kernel_meaning.specs.Kernel.{of_ports_alone}
+use Rattle.module_meaning.specs.Module.{Advanced, still, steps, steps_member, of_member, goes_by, channel_from, moves_found}
+use Rattle.kernel_meaning.specs.Partition.{Member, Moved, with_world, leaves, leaving, moved, place_of_port}
+use Rattle.kernel_meaning.specs.Objects.{Port, Ports, port_at}
+use Rattle.kernel_meaning.specs.Step.{Step, nothing}
 use Rattle.module.proofs.Written.{then_written, first_cut_off}
 use Rattle.module.specs.Written.{IsMade, IsCutOff, IsWritten}
 

@@ -4,10 +4,11 @@ use Rattle.std.proofs.lemmas.Bool.{and_parts, eqb-true}
 use Rattle.std.proofs.lemmas.List.Elements.{All-nil, All-cons}
 use Rattle.std.proofs.lemmas.Option.{none-some, same_Some, slice_get-map}
 use Rattle.apex_types.specs.declared.row.PortRow.{PortRow}
-use Rattle.apex_meaning.specs.DeviceText.{first_from}
-use Rattle.apex_meaning.specs.GrammarWords.{same}
-use Rattle.apex_meaning.specs.Image.{Item, Image, at_number}
-use Rattle.apex_meaning.specs.ImageLimits.{EachBeside, IsItem, IsPort}
+use Rattle.module_meaning.specs.DeviceText.{first_from}
+use Rattle.engine_meaning.specs.Digits.{same}
+use Rattle.machine_meaning.specs.Image.{Item, Image}
+use Rattle.module_meaning.specs.Table.{at_number}
+use Rattle.machine_meaning.specs.ImageLimits.{EachBeside, IsItem, IsPort}
 use Rattle.image.specs.Items.{item_of, items_of, partition_of}
 use Rattle.image.specs.Views.{image_of}
 use Rattle.image.specs.declared.item.PartitionItem.{PartitionItem}

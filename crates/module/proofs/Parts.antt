@@ -6,7 +6,7 @@ use Rattle.apex_types.specs.Line.{text_of}
 use Rattle.apex_types.specs.declared.device.DeviceLine.{DeviceLine}
 use Rattle.apex_types.specs.declared.event.Event.{Event}
 use Rattle.apex_types.specs.declared.sink.SinkFault.{SinkFault}
-use Rattle.apex_meaning.specs.Module.{Plan}
+use Rattle.module_meaning.specs.Module.{Plan}
 use Rattle.module.specs.Pieces.{LeadsTo, HasRun, HasRunSome, IsBrokenOff}
 use Rattle.module.specs.Standing.{Standing, lines_of}
 use Rattle.module.proofs.Bursts.{leads_nowhere}

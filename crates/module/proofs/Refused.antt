@@ -3,16 +3,17 @@ use Rattle.std.proofs.Common.{◌≡◌, inl, inr, ℕ, zero, suc, ◌+◌, fals
 use Rattle.std.specs.Prelude.{IsErr, IsErrAnd, slice_get}
 use Rattle.std.specs.List.{list_any}
 use Rattle.std.proofs.lemmas.Option.{none-some, same_Some}
-use Rattle.apex_meaning.specs.Image.{Partition, Table}
+use Rattle.module_meaning.specs.Table.{Partition, Table}
 use Rattle.pal_base.specs.ProgramView.{program_of}
 use Rattle.pal_base.specs.declared.fault.PalFault.{PalFault}
 use Rattle.pal_base.specs.declared.fault.Refusal.{Refusal}
 use Rattle.pal_base.specs.declared.fault.Refusal.TheVariants as refusal
-use Rattle.module.specs.Accepted.{IsAccepted, AreAccepted, IsTable}
-use Rattle.apex_meaning.specs.ImageSpelling.{spelling}
+use Rattle.module_meaning.specs.Accepted.{IsAccepted, AreAccepted, IsTable}
+use Rattle.machine_meaning.specs.ImageSpelling.{spelling}
 use Rattle.module.specs.Built.{built_image, AreCoded, IsBuiltFrom}
 use Rattle.module.proofs.Built.{none_too_long}
-use Rattle.module.specs.Building.{IsNotAccepted, IsFirstRefused, IsRefusedWith, IsRefusal, IsTableRefusal, IsSourceRefusal, AreSourceRefusals, IsLengthRefusal, is_too_long, first_too_long, unless_memory, refusal_of}
+use Rattle.module.specs.Refusals.{IsNotAccepted, IsFirstRefused, IsRefusedWith, IsRefusal, is_too_long, first_too_long}
+use Rattle.module.specs.Building.{IsTableRefusal, IsSourceRefusal, AreSourceRefusals, IsLengthRefusal, unless_memory, refusal_of}
 use Rattle.module.specs.Sources.{programs_of, IsSource, AreSources}
 use Rattle.std.proofs.lemmas.List.{append_assoc, length-map}
 use Rattle.image.specs.Items.{partition_of}

@@ -3,15 +3,15 @@ use Rattle.std.proofs.Common.{◌≡◌, ◌≤◌, ◌^◌, ℕ, List, [], ◌�
 use Rattle.std.proofs.lemmas.Option.{same_Some}
 use Rattle.std.specs.Io.KnownBytes.{Appends}
 use Rattle.apex_types.specs.Line.{text_of}
-use Rattle.apex_types.specs.Sink.{TakesBeginning}
+use Rattle.apex_types.specs.Line.{TakesBeginning}
 use Rattle.apex_types.specs.declared.device.DeviceFault.{DeviceFault}
 use Rattle.apex_types.specs.declared.device.DeviceLine.{DeviceLine}
 use Rattle.apex_types.specs.declared.sink.SinkFault.{SinkFault}
-use Rattle.apex_meaning.specs.Image.{Image, Item}
-use Rattle.apex_meaning.specs.ImageLimits.{IsLawful}
-use Rattle.apex_meaning.specs.ImageReading.{Fault}
-use Rattle.apex_meaning.specs.MachineControl.{MachineControl}
-use Rattle.apex_meaning.specs.TwoMeanings.{machine_trace}
+use Rattle.machine_meaning.specs.Image.{Image, Item}
+use Rattle.machine_meaning.specs.ImageLimits.{IsLawful}
+use Rattle.machine_meaning.specs.ImageReading.{Fault}
+use Rattle.machine_meaning.specs.MachineControl.{MachineControl}
+use Rattle.machine_meaning.specs.MachineMeaning.{machine_trace}
 use Rattle.isolation.specs.Alone.{Alone, trace_alone}
 use Rattle.isolation.specs.declared.input.InputLine.{InputLine}
 use Rattle.isolation.specs.Brought.{part}
@@ -25,7 +25,9 @@ use Rattle.module_base.specs.Refusals.{IsRefusal}
 use Rattle.module_base.specs.declared.fault.DeviceTextFault.{DeviceTextFault}
 use Rattle.module_base.specs.declared.fault.DeviceTextFault.TheVariants as text_fault
 use Rattle.module.specs.Isolated.{ReplaysPart}
-use Rattle.module.specs.Promises.{IsInputRefusal, IsRun, LacksPartition, Replays, ReplaysSlice, fault_of_text}
+use Rattle.module.specs.Replays.{IsInputRefusal, LacksPartition, Replays}
+use Rattle.module.specs.Runs.{IsRun}
+use Rattle.module.specs.Running.{ReplaysSlice, fault_of_text}
 use Rattle.module.specs.declared.fault.RunFault.{RunFault}
 use Rattle.module.specs.declared.fault.RunFault.TheVariants.{Ticks, Image as NoImage, Partition as NoPartition, Device, Memory, Write, Failed}
 use Rattle.module.proofs.Headline.{ok_image, image_is}

@@ -1,11 +1,11 @@
 -- Many ticks of a machine within a run.
 use Rattle.std.proofs.Common.{◌≡◌, ◌≤◌, ◌+◌, ℕ, List, Option, Err, refl, subst}
 use Rattle.apex_types.specs.Line.{text_of}
-use Rattle.apex_types.specs.Sink.{TakesBeginning}
+use Rattle.apex_types.specs.Line.{TakesBeginning}
 use Rattle.apex_types.proofs.Writing.{IsUnderWay}
 use Rattle.apex_types.specs.declared.device.DeviceLine.{DeviceLine}
-use Rattle.apex_meaning.specs.Image.{Image}
-use Rattle.apex_meaning.specs.TwoMeanings.{machine_module}
+use Rattle.machine_meaning.specs.Image.{Image}
+use Rattle.machine_meaning.specs.MachineMeaning.{machine_module}
 use Rattle.module.specs.Machines.{Machine, HasRunOn}
 use Rattle.module.specs.Pieces.{HasRun, IsBrokenOff}
 use Rattle.module.specs.Standing.{lines_of}

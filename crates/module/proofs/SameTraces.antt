@@ -4,21 +4,24 @@ use Rattle.std.specs.Prelude.{is_some, option_map}
 use Rattle.apex_types.specs.declared.device.DeviceLine.{DeviceLine}
 use Rattle.apex_types.specs.declared.process.ProcessStatus.{ProcessStatus}
 use Rattle.apex_types.specs.declared.row.PortRow.{PortRow}
-use Rattle.apex_meaning.specs.Ports.{fresh_ports}
-use Rattle.apex_meaning.specs.CompiledCode.{section_of, body_row, handler_place, process_rows, processes_place}
-use Rattle.apex_meaning.specs.Cost.{size_of_process}
-use Rattle.apex_meaning.specs.Image.{Partition, Table}
-use Rattle.apex_meaning.specs.Instructions.{reading}
-use Rattle.apex_meaning.specs.Kernel.{Fixed, Kernel}
-use Rattle.apex_meaning.specs.Lifting.{SameControls, SameMember, SameMembers, SameWorld}
-use Rattle.apex_meaning.specs.MachineControl.{MachineControl}
-use Rattle.apex_meaning.specs.Program.{Program, Process}
-use Rattle.apex_meaning.specs.Related.{Keeps}
-use Rattle.apex_meaning.specs.SourceControl.{SourceControl}
-use Rattle.apex_meaning.specs.TwoMeanings.{fresh_kernel, fresh_world, no_control_for, source_row, machine_row, fixed_of, source_objects, source_member, source_members, machine_member, machine_members, source_trace, machine_trace}
-use Rattle.apex_meaning.specs.Windows.{Schedule}
-use Rattle.apex_meaning.proofs.Lifting.{trace_same}
-use Rattle.apex_meaning.proofs.Starts.{compiled_correctly}
+use Rattle.kernel_meaning.specs.Objects.{fresh_ports}
+use Rattle.compiling_laws.specs.CompiledCode.{section_of, body_row, handler_place, process_rows, processes_place}
+use Rattle.pal_meaning.specs.Program.{size_of_process}
+use Rattle.module_meaning.specs.Table.{Partition, Table}
+use Rattle.machine_meaning.specs.Instructions.{reading}
+use Rattle.kernel_meaning.specs.Kernel.{Fixed, Kernel}
+use Rattle.compiling_laws.specs.Lifting.{SameControls, SameMember, SameMembers, SameWorld}
+use Rattle.machine_meaning.specs.MachineControl.{MachineControl}
+use Rattle.pal_meaning.specs.Program.{Program, Process}
+use Rattle.compiling_laws.specs.Related.{Keeps}
+use Rattle.pal_meaning.specs.SourceControl.{SourceControl}
+use Rattle.kernel_meaning.specs.Fresh.{fresh_kernel, fresh_world, no_control_for}
+use Rattle.module_meaning.specs.SourceMeaning.{source_row, source_objects, source_member, source_members, source_trace}
+use Rattle.machine_meaning.specs.MachineMeaning.{machine_row, machine_member, machine_members, machine_trace}
+use Rattle.module_meaning.specs.Table.{fixed_of}
+use Rattle.kernel_meaning.specs.Windows.{Schedule}
+use Rattle.compiling_laws.proofs.Lifting.{trace_same}
+use Rattle.compiling_laws.proofs.Starts.{compiled_correctly}
 use Rattle.module.specs.Built.{built_items, built_image, IsCompiled, AreCompiled}
 
 rows_same : (at : ℕ) (ps : List Process) → map source_row ps ≡ map machine_row (process_rows at ps)

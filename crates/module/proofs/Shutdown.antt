@@ -6,8 +6,8 @@ use Rattle.apex_types.specs.declared.codes.ModuleAction.TheVariants as reaction
 use Rattle.apex_types.specs.declared.codes.StartCondition.TheVariants as condition
 use Rattle.apex_types.specs.declared.device.DeviceLine.{DeviceLine}
 use Rattle.apex_types.specs.declared.identity.At.{At}
-use Rattle.apex_meaning.specs.Module.{Plan, Course, as_origin, breaks_module, of_tick, starts_all, tells_fault, then_goes, then_runs, inputs, inputs_all, moves_and_ticks, module_tick}
-use Rattle.apex_meaning.specs.Partition.{Member}
+use Rattle.module_meaning.specs.Module.{Plan, Course, as_origin, breaks_module, of_tick, starts_all, tells_fault, then_goes, then_runs, inputs, inputs_all, moves_and_ticks, module_tick}
+use Rattle.kernel_meaning.specs.Partition.{Member}
 use Rattle.module.proofs.Written.{IsCourseUnderWay, course_starts_out, course_is_over, shuts_down}
 use Rattle.module.specs.Written.{IsMade, IsCourse}
 

@@ -6,9 +6,9 @@ use Rattle.apex_types.specs.Line.{text_of}
 use Rattle.apex_types.specs.declared.device.DeviceLine.{DeviceLine}
 use Rattle.apex_types.specs.declared.event.Event.{Event}
 use Rattle.apex_types.specs.declared.identity.At.{At}
-use Rattle.apex_meaning.specs.Module.{Plan, Advanced, Course, of_tick, first_tick, next_tick, still, starts, module_tick, trace_from, trace}
-use Rattle.apex_meaning.specs.Partition.{Member}
-use Rattle.apex_meaning.specs.Windows.{tick_from}
+use Rattle.module_meaning.specs.Module.{Plan, Advanced, Course, of_tick, first_tick, next_tick, still, starts, module_tick, trace_from, trace}
+use Rattle.kernel_meaning.specs.Partition.{Member}
+use Rattle.kernel_meaning.specs.Windows.{tick_from}
 use Rattle.module.specs.Standing.{Standing, at_first, begins, ticks_from, ticks, origin_of, after, lines_of}
 use Rattle.module.proofs.DeviceLines.{IsNow, not_true, of_tick_again, same_tick, tick_now}
 use Rattle.module.proofs.Texts.{text_append}

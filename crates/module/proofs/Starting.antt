@@ -6,8 +6,8 @@ use Rattle.apex_types.specs.declared.event.Event.{Event}
 use Rattle.apex_types.specs.Line.{text_of}
 use Rattle.apex_types.specs.declared.codes.StartCondition.{StartCondition}
 use Rattle.apex_types.specs.declared.identity.At.{At}
-use Rattle.apex_meaning.specs.Module.{Advanced, steps_member, started_member, start_lines}
-use Rattle.apex_meaning.specs.Partition.{Member, cold_start}
+use Rattle.module_meaning.specs.Module.{Advanced, steps_member, started_member, start_lines}
+use Rattle.kernel_meaning.specs.Partition.{Member, cold_start}
 use Rattle.module.proofs.Texts.{text_append}
 use Rattle.module.specs.Members.{members_of, AreFitting}
 use Rattle.module.proofs.Members.{members_count}

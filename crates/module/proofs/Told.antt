@@ -1,13 +1,13 @@
 -- From the parts of telling a partition's inputs to what it promises.
 use Rattle.std.proofs.Common.{◌≡◌, ◌<◌, ◌≤◌, ◌^◌, ℕ, List, length, Option, Some, None, Result, Ok, Err, option_map, refl, sym, ap, subst, ◌∙◌}
 use Rattle.std.specs.Io.KnownBytes.{Appends}
-use Rattle.apex_types.specs.Sink.{TakesBeginning}
+use Rattle.apex_types.specs.Line.{TakesBeginning}
 use Rattle.apex_types.specs.declared.device.DeviceFault.{DeviceFault}
 use Rattle.apex_types.specs.declared.device.DeviceLine.{DeviceLine}
-use Rattle.apex_meaning.specs.DeviceText.{verdict_for}
-use Rattle.apex_meaning.specs.Image.{Image, Item}
-use Rattle.apex_meaning.specs.ImageLimits.{IsLawful}
-use Rattle.apex_meaning.specs.ImageReading.{Fault}
+use Rattle.machine_meaning.specs.MachineMeaning.{verdict_for}
+use Rattle.machine_meaning.specs.Image.{Image, Item}
+use Rattle.machine_meaning.specs.ImageLimits.{IsLawful}
+use Rattle.machine_meaning.specs.ImageReading.{Fault}
 use Rattle.isolation.specs.declared.input.InputLine.{InputLine}
 use Rattle.isolation.specs.InputText.{AreWritable, replay_text}
 use Rattle.isolation.specs.ReplayText.{replay_verdict}

@@ -1,9 +1,9 @@
 -- Ticks that are not shown: what was made, and what was collected.
 use Rattle.std.proofs.Common.{◌≡◌, ℕ, ◌+◌, ◌==◌, ◌&&◌, Bool, true, false, not, if◌then◌else◌, List, [], ◌++◌, length, map, option_map, Option, Some, None, Result, Ok, Err, IfOk, refl, sym, ap, subst, ◌∙◌}
 use Rattle.apex_types.specs.declared.identity.At.{At}
-use Rattle.apex_meaning.specs.Module as meaning
-use Rattle.apex_meaning.specs.Module.{Advanced, Course, Plan, then_runs, unless_down}
-use Rattle.apex_meaning.specs.Partition.{Member}
+use Rattle.module_meaning.specs.Module as meaning
+use Rattle.module_meaning.specs.Module.{Advanced, Course, Plan, then_runs, unless_down}
+use Rattle.kernel_meaning.specs.Partition.{Member}
 use Rattle.isolation.specs.declared.input.Input.{Input}
 use Rattle.isolation.specs.declared.input.InputLine.{InputLine}
 use Rattle.isolation.specs.Brought.{brought_moved, line_in}

@@ -7,9 +7,9 @@ use Rattle.apex_types.specs.Line.{text_of}
 use Rattle.apex_types.specs.declared.event.Event.{Event}
 use Rattle.apex_types.specs.declared.sink.SinkFault.{SinkFault}
 use Rattle.apex_types.specs.declared.identity.At.{At}
-use Rattle.apex_meaning.specs.Module as meaning
-use Rattle.apex_meaning.specs.Module.{Advanced, Course, still, then_goes, unless_down, then_runs}
-use Rattle.apex_meaning.specs.Partition.{Member}
+use Rattle.module_meaning.specs.Module as meaning
+use Rattle.module_meaning.specs.Module.{Advanced, Course, still, then_goes, unless_down, then_runs}
+use Rattle.kernel_meaning.specs.Partition.{Member}
 use Rattle.module.proofs.Texts.{text_append, first_fails, second_fails}
 use Rattle.module.specs.Written.{IsMade, IsCutOff, IsWritten, done_in, IsCourse, IsCourseWritten}
 

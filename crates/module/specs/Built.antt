@@ -2,16 +2,17 @@
 use Rattle.std.specs.Prelude.{◌≡◌, ◌≤◌, ℕ, false, List, [], ◌∷◌, map, Some, All, FitsSigned}
 use Rattle.std.specs.Int.{w64}
 use Rattle.std.specs.List.{list_any}
-use Rattle.apex_meaning.specs.Cost.{size_of}
-use Rattle.apex_meaning.specs.Program.{Program}
-use Rattle.apex_meaning.specs.CompiledCode.{code_of, section_of}
-use Rattle.apex_meaning.specs.Fits.{Fits}
-use Rattle.apex_meaning.specs.Image.{Partition, Table, Item, Image}
-use Rattle.apex_meaning.specs.ImageLimits.{IsLawful}
-use Rattle.apex_meaning.specs.ImageSpelling.{spelling}
-use Rattle.apex_meaning.specs.Instructions.{reading}
-use Rattle.module.specs.Accepted.{AreAccepted}
-use Rattle.module.specs.Building.{is_too_long}
+use Rattle.pal_meaning.specs.Program.{size_of}
+use Rattle.pal_meaning.specs.Program.{Program}
+use Rattle.compiling_laws.specs.CompiledCode.{code_of, section_of}
+use Rattle.compiling_laws.specs.Fits.{Fits}
+use Rattle.module_meaning.specs.Table.{Partition, Table}
+use Rattle.machine_meaning.specs.Image.{Item, Image}
+use Rattle.machine_meaning.specs.ImageLimits.{IsLawful}
+use Rattle.machine_meaning.specs.ImageSpelling.{spelling}
+use Rattle.machine_meaning.specs.Instructions.{reading}
+use Rattle.module_meaning.specs.Accepted.{AreAccepted}
+use Rattle.module.specs.Refusals.{is_too_long}
 
 -- a partition with what its program is compiled to
 abbrev pub built_item : Partition → Program → Item

@@ -4,11 +4,11 @@ use Rattle.arrayvec.specs.ArrayVec.{ArrayVec}
 use Rattle.apex_types.specs.declared.device.DeviceLine.{DeviceLine}
 use Rattle.apex_types.specs.declared.identity.At.{At}
 use Rattle.apex_types.specs.declared.identity.PartitionId.{PartitionId}
-use Rattle.apex_meaning.specs.Image.{Channel}
-use Rattle.apex_meaning.specs.Module.{Course, Plan, of_tick}
-use Rattle.apex_meaning.specs.Partition.{Member}
-use Rattle.apex_meaning.specs.Ports.{Port}
-use Rattle.apex_meaning.specs.Windows.{tick_from}
+use Rattle.module_meaning.specs.Table.{Channel}
+use Rattle.module_meaning.specs.Module.{Course, Plan, of_tick}
+use Rattle.kernel_meaning.specs.Partition.{Member}
+use Rattle.kernel_meaning.specs.Objects.{Port}
+use Rattle.kernel_meaning.specs.Windows.{tick_from}
 use Rattle.isolation.specs.declared.input.Input.{Input}
 use Rattle.isolation.specs.declared.input.InputLine.{InputLine}
 use Rattle.isolation.specs.Brought.{brought_by, brought_tick, held_port, line_in}

@@ -1,18 +1,18 @@
 -- What the bodies of the partitions of a module cost.
 use Rattle.std.specs.Prelude.{◌≡◌, ℕ, List, [], ◌∷◌, ◌++◌, map, Option, Some, None, Ok}
-use Rattle.apex_meaning.specs.Cost as cost
-use Rattle.apex_meaning.specs.Image.{Partition, Table}
-use Rattle.apex_meaning.specs.Program.{Program, Procedure, Body, Process}
-use Rattle.apex_meaning.specs.Syntax as written
-use Rattle.apex_meaning.specs.WellFormed.{verdict}
+use Rattle.pal_meaning.specs.Program as cost
+use Rattle.module_meaning.specs.Table.{Partition, Table}
+use Rattle.pal_meaning.specs.Program.{Program, Procedure, Body, Process}
+use Rattle.pal_meaning.specs.Syntax as written
+use Rattle.pal_meaning.specs.WellFormed.{verdict}
 use Rattle.pal.specs.Costs.{costs_of}
 use Rattle.pal.specs.ProcedureNames.{procedure_names}
 use Rattle.pal.specs.declared.report.BodyCost.{BodyCost}
 use Rattle.pal.specs.declared.report.BodyName.{BodyName}
 use Rattle.pal.specs.declared.report.BodyName.TheVariants as body
-use Rattle.pal_base.specs.Answers.{IsProgramOf}
-use Rattle.module.specs.Accepted.{IsTable}
-use Rattle.module.specs.Building.{IsRefusal, IsRefusedWith}
+use Rattle.pal_meaning.specs.Grammar.{IsProgramOf}
+use Rattle.module_meaning.specs.Accepted.{IsTable}
+use Rattle.module.specs.Refusals.{IsRefusal, IsRefusedWith}
 use Rattle.pal_base.specs.declared.checked.Checked.{Checked}
 use Rattle.module.specs.declared.costing.PartitionCosts.{PartitionCosts}
 use Rattle.module.specs.declared.fault.BuildFault.{BuildFault}

@@ -3,18 +3,14 @@ use Rattle.std.specs.Prelude.{◌≡◌, ℕ, List, Option, Some, Result, Ok}
 use Rattle.std.specs.Io.KnownBytes.{Appends}
 use Rattle.apex_types.specs.Line.{text_of}
 use Rattle.apex_types.specs.declared.device.DeviceLine.{DeviceLine}
-use Rattle.apex_meaning.specs.Image.{Image, Item, Partition, Table, at_number}
-use Rattle.apex_meaning.specs.ImageReading.{Fault}
-use Rattle.apex_meaning.specs.Program.{Program}
-use Rattle.apex_meaning.specs.TwoMeanings.{machine_trace, source_trace}
+use Rattle.machine_meaning.specs.Image.{Image, Item}
+use Rattle.machine_meaning.specs.ImageReading.{Fault}
+use Rattle.machine_meaning.specs.MachineMeaning.{machine_trace}
 use Rattle.isolation.specs.Brought.{part}
 use Rattle.isolation.specs.ReplayText.{replay_verdict}
 use Rattle.isolation.specs.Replays.{numbered}
 use Rattle.isolation.specs.Slices.{Slice, machine_inputs, slice, slice_trace}
-use Rattle.isolation.specs.SourceSlices.{source_inputs, source_slice, source_slice_trace}
-use Rattle.module.specs.Promises.{IsRun, IsAcceptedRun}
-
--- ---- of an image
+use Rattle.module.specs.Runs.{IsRun}
 
 -- Of each partition of an image the trace shows what the partition shows alone: from its slice of the image, and
 -- from what these lines of the devices bring it.
@@ -37,20 +33,3 @@ abbrev pub ReplaysPart : Result Image Fault → List ℕ → List ℕ → ℕ �
 ReplaysPart read name inputs n old new =
     (image : Image) (found : ℕ × Item) (devices : List ℕ) (lines : List DeviceLine) → IsRun read devices n image lines → numbered image name ≡ Some found
     → replay_verdict found.1.partition inputs ≡ Ok (machine_inputs image found.0 lines n) → Appends old new (text_of (part name (machine_trace image lines n)))
-
--- ---- of sources
-
--- The same of each partition of a table: from its own row and program, from what surrounds it, and from what comes to it.
-abbrev pub AreSourcesAlone : Table → List Program → List DeviceLine → ℕ → Type 0
-AreSourcesAlone t programs lines n =
-    (p : ℕ) (row : Partition) (program : Program) → at_number t.partitions p ≡ Some row → at_number programs p ≡ Some program
-    → part row.name (source_trace t programs lines n) ≡ source_slice_trace (source_slice t programs p row program) (source_inputs t programs p lines n) n
-
-pub record WritesSourcesAlone (t : Table) (programs : List Program) (lines : List DeviceLine) (n : ℕ) (old new : Option (List ℕ)) : Type 0 where
-  pub written : Appends old new (text_of (source_trace t programs lines n))
-  pub alone : AreSourcesAlone t programs lines n
-
--- Table and sources were accepted and a device text was taken, and what was written shows each partition alone.
-abbrev pub IsSourceIsolated : List ℕ → List (List ℕ) → List ℕ → ℕ → Option (List ℕ) → Option (List ℕ) → Type 0
-IsSourceIsolated table sources devices n old new =
-    (t : Table) × (programs : List Program) × (lines : List DeviceLine) × IsAcceptedRun table sources devices n t programs lines × WritesSourcesAlone t programs lines n old new

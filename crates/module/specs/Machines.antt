@@ -2,12 +2,12 @@
 use Rattle.std.specs.Prelude.{◌≡◌, ◌≤◌, ◌<◌, ◌^◌, ℕ, zero, suc, ◌+◌, Bool, true, false, List, Option, Result, Ok, Err, ◌⊎◌}
 use Rattle.std.specs.Io.KnownBytes.{Appends}
 use Rattle.apex_types.specs.Line.{text_of}
-use Rattle.apex_types.specs.Sink.{TakesBeginning}
+use Rattle.apex_types.specs.Line.{TakesBeginning}
 use Rattle.apex_types.specs.declared.device.DeviceLine.{DeviceLine}
-use Rattle.apex_meaning.specs.Image.{Image}
-use Rattle.apex_meaning.specs.MachineControl.{MachineControl}
-use Rattle.apex_meaning.specs.Module.{Course, of_tick}
-use Rattle.apex_meaning.specs.TwoMeanings.{machine_module}
+use Rattle.machine_meaning.specs.Image.{Image}
+use Rattle.machine_meaning.specs.MachineControl.{MachineControl}
+use Rattle.module_meaning.specs.Module.{Course, of_tick}
+use Rattle.machine_meaning.specs.MachineMeaning.{machine_module}
 use Rattle.image.specs.Views.{image_of}
 use Rattle.partition_base.specs.contracts.machine.MachineExecutor.TheImpl.{ghosts as executor}
 use Rattle.module.specs.Pieces.{HasRun, IsBrokenOff}

@@ -1,7 +1,7 @@
 -- The partitions of a running module with their memory as the definitions see them, over any
 -- executor.
 use Rattle.std.specs.Prelude.{◌≡◌, ℕ, List, [], ◌∷◌, map}
-use Rattle.apex_meaning.specs.Partition.{Member}
+use Rattle.kernel_meaning.specs.Partition.{Member}
 use Rattle.partition.specs.Members.{member_of}
 use Rattle.partition.specs.declared.partition.Partition.{Partition}
 use Rattle.partition_base.specs.declared.executor.Executor.{Ghosts}

@@ -2,13 +2,13 @@
 use Rattle.std.specs.Prelude.{◌≡◌, ◌≤◌, ℕ, ◌+◌, List, [], ◌++◌, Option, Some, None, Result, Ok, Err, slice_set}
 use Rattle.std.specs.Io.KnownBytes.{Appends}
 use Rattle.apex_types.specs.Line.{text_of}
-use Rattle.apex_types.specs.Sink.{TakesBeginning}
+use Rattle.apex_types.specs.Line.{TakesBeginning}
 use Rattle.apex_types.specs.declared.device.DeviceLine.{DeviceLine}
 use Rattle.apex_types.specs.declared.event.Event.{Event}
 use Rattle.apex_types.specs.declared.identity.At.{At}
 use Rattle.apex_types.specs.declared.sink.SinkFault.{SinkFault}
-use Rattle.apex_meaning.specs.Module.{Plan}
-use Rattle.apex_meaning.specs.Partition.{Member, with_world}
+use Rattle.module_meaning.specs.Module.{Plan}
+use Rattle.kernel_meaning.specs.Partition.{Member, with_world}
 use Rattle.bursts.specs.Running.{advances_by}
 use Rattle.module.specs.Standing.{Standing, lines_of}
 

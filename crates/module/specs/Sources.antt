@@ -1,10 +1,10 @@
 -- Accepted sources as the code holds them.
 use Rattle.std.specs.Prelude.{◌≡◌, ℕ, List, [], ◌∷◌, map, Ok}
-use Rattle.apex_meaning.specs.Image.{Partition}
-use Rattle.apex_meaning.specs.Program.{Program}
-use Rattle.apex_meaning.specs.Syntax as written
-use Rattle.apex_meaning.specs.WellFormed.{verdict}
-use Rattle.pal_base.specs.Answers.{IsProgramOf}
+use Rattle.module_meaning.specs.Table.{Partition}
+use Rattle.pal_meaning.specs.Program.{Program}
+use Rattle.pal_meaning.specs.Syntax as written
+use Rattle.pal_meaning.specs.WellFormed.{verdict}
+use Rattle.pal_meaning.specs.Grammar.{IsProgramOf}
 use Rattle.pal_base.specs.ProgramView.{program_of}
 use Rattle.pal.specs.ProcedureNames.{names_of_procedures, procedure_names}
 use Rattle.pal_base.specs.declared.checked.Checked.{Checked}

@@ -4,9 +4,9 @@ use Rattle.apex_types.specs.declared.device.DeviceLine.{DeviceLine}
 use Rattle.apex_types.specs.declared.event.Event.{Event}
 use Rattle.apex_types.specs.declared.identity.At.{At}
 use Rattle.apex_types.specs.declared.identity.Ticks.{Ticks}
-use Rattle.apex_meaning.specs.Module.{Plan, Advanced, Course, still, starts, goes_on, then_runs, of_tick, module_tick}
-use Rattle.apex_meaning.specs.Partition.{Member}
-use Rattle.apex_meaning.specs.Windows.{tick_from}
+use Rattle.module_meaning.specs.Module.{Plan, Advanced, Course, still, starts, goes_on, then_runs, of_tick, module_tick}
+use Rattle.kernel_meaning.specs.Partition.{Member}
+use Rattle.kernel_meaning.specs.Windows.{tick_from}
 
 -- The partitions, the tick that comes next, and the origin that counts. There is none after a shutdown.
 pub record Standing (Control : Type 0) : Type 0 where

@@ -1,12 +1,13 @@
 -- What telling the inputs of a partition promises.
 use Rattle.std.specs.Prelude.{◌≡◌, ◌<◌, ◌≤◌, ◌^◌, ℕ, List, length, Option, Some, Result, Ok, Err}
 use Rattle.std.specs.Io.KnownBytes.{Appends}
-use Rattle.apex_types.specs.Sink.{TakesBeginning}
+use Rattle.apex_types.specs.Line.{TakesBeginning}
 use Rattle.apex_types.specs.declared.device.DeviceFault.{DeviceFault}
 use Rattle.apex_types.specs.declared.device.DeviceLine.{DeviceLine}
-use Rattle.apex_meaning.specs.DeviceText.{verdict_for}
-use Rattle.apex_meaning.specs.Image.{Image, Item, Partition}
-use Rattle.apex_meaning.specs.ImageReading.{Fault}
+use Rattle.machine_meaning.specs.MachineMeaning.{verdict_for}
+use Rattle.machine_meaning.specs.Image.{Image, Item}
+use Rattle.module_meaning.specs.Table.{Partition}
+use Rattle.machine_meaning.specs.ImageReading.{Fault}
 use Rattle.image.specs.declared.fault.ImageFault.{ImageFault}
 use Rattle.image.specs.declared.fault.ImageFault.TheVariants as image_fault
 use Rattle.isolation.specs.declared.input.InputLine.{InputLine}
@@ -16,7 +17,8 @@ use Rattle.isolation.specs.Replays.{numbered}
 use Rattle.isolation.specs.Slices.{Slice, machine_inputs}
 use Rattle.module_base.specs.declared.fault.DeviceTextFault.{DeviceTextFault}
 use Rattle.module_base.specs.declared.fault.DeviceTextFault.TheVariants as text_fault
-use Rattle.module.specs.Promises.{IsImageRefusal, IsRun, LacksPartition}
+use Rattle.module.specs.Runs.{IsImageRefusal, IsRun}
+use Rattle.module.specs.Replays.{LacksPartition}
 use Rattle.module.specs.declared.inputs_fault.InputsFault.{InputsFault}
 use Rattle.module.specs.declared.inputs_fault.InputsFault.TheVariants.{Ticks, Image as NoImage, Partition as NoPartition, Device, Memory, TooMany, Write}
 

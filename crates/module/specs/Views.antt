@@ -1,7 +1,7 @@
 -- A running module as the definitions see it, over any executor.
 use Rattle.std.specs.Prelude.{List}
-use Rattle.apex_meaning.specs.Module as meaning
-use Rattle.apex_meaning.specs.Partition.{Member}
+use Rattle.module_meaning.specs.Module as meaning
+use Rattle.kernel_meaning.specs.Partition.{Member}
 use Rattle.image.specs.Items.{channels_of}
 use Rattle.partition_base.specs.declared.executor.Executor.{Ghosts}
 use Rattle.regions.specs.Space.{Space}

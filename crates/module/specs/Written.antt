@@ -3,13 +3,13 @@ use Rattle.std.specs.Prelude.{◌≡◌, ◌≤◌, ℕ, ◌+◌, ℤ, List, [],
 use Rattle.std.specs.Io.KnownBytes.{Appends}
 use Rattle.arrayvec.specs.ArrayVec.{ArrayVec}
 use Rattle.apex_types.specs.Line.{text_of}
-use Rattle.apex_types.specs.Sink.{TakesBeginning}
+use Rattle.apex_types.specs.Line.{TakesBeginning}
 use Rattle.apex_types.specs.declared.device.DeviceLine.{DeviceLine}
 use Rattle.apex_types.specs.declared.event.Event.{Event}
 use Rattle.apex_types.specs.declared.identity.At.{At}
 use Rattle.apex_types.specs.declared.sink.SinkFault.{SinkFault}
-use Rattle.apex_meaning.specs.Module.{Advanced, Course}
-use Rattle.apex_meaning.specs.Partition.{Member, Moved, cold_start, breaks_down, advances, arrives, leaves, leaving, admits, goes_out}
+use Rattle.module_meaning.specs.Module.{Advanced, Course}
+use Rattle.kernel_meaning.specs.Partition.{Member, Moved, cold_start, breaks_down, advances, arrives, leaves, leaving, admits, goes_out}
 use Rattle.module.specs.Standing.{Standing, after}
 use Rattle.module.specs.declared.step.Step.{Step}
 use Rattle.module.specs.declared.step.Step.TheVariants as step

@@ -3,7 +3,8 @@
 ghost use Rattle.std.specs.Prelude.{◌≡◌, length, map, None, IfOk, IfErr};
 ghost use Rattle.image.specs.Items.{partition_of};
 ghost use Rattle.pal_base.specs.ProgramView.{program_of};
-ghost use Rattle.module.specs.Building.{IsNotAccepted, IsSourceRefusal, AreSourceRefusals, IsLengthRefusal, first_too_long, is_too_long, refusal_of};
+ghost use Rattle.module.specs.Refusals.{IsNotAccepted, first_too_long, is_too_long};
+ghost use Rattle.module.specs.Building.{IsSourceRefusal, AreSourceRefusals, IsLengthRefusal, refusal_of};
 ghost use Rattle.module.specs.Sources.{IsSource, AreSources, programs_of};
 
 use crate::fault::BuildFault;

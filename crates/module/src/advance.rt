@@ -1,7 +1,7 @@
 //! A tick of the module.
 
 ghost use Rattle.std.specs.Prelude.{◌≡◌, ◌≤◌, ◌<◌, ◌-◌, ◌^◌, [], option_map, IfOk, OnOk};
-ghost use Rattle.apex_meaning.specs.Module as meaning;
+ghost use Rattle.module_meaning.specs.Module as meaning;
 ghost use Rattle.module.specs.Standing.{begins, begins_and_ticks};
 ghost use Rattle.module.specs.Views.{members_in, plan_of};
 ghost use Rattle.module.specs.Written.{done_in, IsOfTick, IsCourseWritten, IsWritten};

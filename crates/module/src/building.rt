@@ -2,14 +2,15 @@
 
 ghost use Rattle.std.specs.Prelude.{◌≡◌, length, map, IfOk, IfErr, false};
 ghost use Rattle.std.specs.List.{list_any};
-ghost use Rattle.apex_meaning.specs.CompiledCode as code_of;
-ghost use Rattle.apex_meaning.specs.ImageSpelling.{spelling};
+ghost use Rattle.compiling_laws.specs.CompiledCode as code_of;
+ghost use Rattle.machine_meaning.specs.ImageSpelling.{spelling};
 ghost use Rattle.image.specs.Items.{item_of, items_of, partition_of, section_of};
 ghost use Rattle.image.specs.Views.{image_of};
 ghost use Rattle.pal_base.specs.ProgramView.{program_of};
 ghost use Rattle.window_table.specs.Views.{table_of};
-ghost use Rattle.module.specs.Accepted.{IsJudged, IsTable};
-ghost use Rattle.module.specs.Building.{IsImageOf, IsRefusal, IsRefusedWith, IsTableRefusal, is_too_long};
+ghost use Rattle.module_meaning.specs.Accepted.{IsJudged, IsTable};
+ghost use Rattle.module.specs.Building.{IsImageOf, IsTableRefusal};
+ghost use Rattle.module.specs.Refusals.{IsRefusal, IsRefusedWith, is_too_long};
 ghost use Rattle.module.specs.Built.{BecomesLawful, IsBuiltFrom, IsCoded, AreCoded, built_image, built_item, built_items};
 ghost use Rattle.module.specs.Sources.{programs_of};
 

@@ -1,9 +1,9 @@
 //! The messages between the partitions and with the devices, written line by line.
 
 ghost use Rattle.std.specs.Prelude.{◌≡◌, ◌≤◌, ◌<◌, ◌-◌, ◌^◌, None, [], length, map, option_map, slice_get, IfOk, OnOk};
-ghost use Rattle.apex_meaning.specs.Image.{at_number};
-ghost use Rattle.apex_meaning.specs.Module as meaning;
-ghost use Rattle.apex_meaning.specs.Partition.{messages_to_move};
+ghost use Rattle.module_meaning.specs.Table.{at_number};
+ghost use Rattle.module_meaning.specs.Module as meaning;
+ghost use Rattle.kernel_meaning.specs.Partition.{messages_to_move};
 ghost use Rattle.image.specs.Items.{channel_of, channels_of};
 ghost use Rattle.module.specs.Views.{members_in};
 ghost use Rattle.module.specs.Written.{step_of, leaving_in, IsWritten};

@@ -1,7 +1,7 @@
 //! Refusals of building and running.
 
 ghost use Rattle.std.specs.Prelude.{◌≡◌, Some};
-ghost use Rattle.module.specs.Promises.{fault_of_image, fault_of_text};
+ghost use Rattle.module.specs.Running.{fault_of_image, fault_of_text};
 ghost use Rattle.module.specs.declared.fault.BuildFault.TheVariants as build;
 ghost use Rattle.module.specs.declared.fault.BuildAndRunFault.TheVariants as both;
 ghost use Rattle.module.specs.declared.fault.RunFault.TheVariants as run;

@@ -1,8 +1,8 @@
 //! What the source ports of the partitions hold for one of them, before it moves.
 
 ghost use Rattle.std.specs.Prelude.{◌≡◌, ◌≤◌, length, option_map};
-ghost use Rattle.apex_meaning.specs.Image.{at_number};
-ghost use Rattle.apex_meaning.specs.Module as meaning;
+ghost use Rattle.module_meaning.specs.Table.{at_number};
+ghost use Rattle.module_meaning.specs.Module as meaning;
 ghost use Rattle.image.specs.Items.{channel_of, channels_of};
 ghost use Rattle.isolation.specs.Brought.{held_ended, held_ports};
 ghost use Rattle.ports.specs.Held.{message_behind};

@@ -1,7 +1,7 @@
 //! What the devices do to the module.
 
 ghost use Rattle.std.specs.Prelude.{◌≡◌, ◌≤◌, ◌<◌, ◌-◌, ◌^◌, [], IfOk, OnOk};
-ghost use Rattle.apex_meaning.specs.Module as meaning;
+ghost use Rattle.module_meaning.specs.Module as meaning;
 ghost use Rattle.module.specs.Views.{members_in, plan_of};
 ghost use Rattle.module.specs.Written.{IsOfTick, IsCourseWritten};
 

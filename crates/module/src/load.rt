@@ -1,7 +1,8 @@
 //! From an image to its partitions, ready to start.
 
 ghost use Rattle.std.specs.Prelude.{◌≡◌, ◌≤◌, length, map, IfOk};
-ghost use Rattle.apex_meaning.specs.TwoMeanings.{fixed_of, machine_member, machine_members, machine_module};
+ghost use Rattle.module_meaning.specs.Table.{fixed_of};
+ghost use Rattle.machine_meaning.specs.MachineMeaning.{machine_member, machine_members, machine_module};
 ghost use Rattle.image.specs.Items.{items_of, partition_of, section_of};
 ghost use Rattle.image.specs.Views.{image_of};
 ghost use Rattle.partition.specs.View.{fixed_of as view};

@@ -1,17 +1,17 @@
 //! An image that runs tick by tick.
 
 ghost use Rattle.std.specs.Prelude.{◌≡◌, ◌<◌, ◌≤◌, ◌+◌, ◌-◌, ◌^◌, ℕ, List, Option, Result, Ok, false, is_none, IfOk, IfErr, OnOk};
-ghost use Rattle.apex_meaning.specs.DeviceText.{verdict_for};
-ghost use Rattle.apex_meaning.specs.Module.{of_tick};
+ghost use Rattle.machine_meaning.specs.MachineMeaning.{verdict_for};
+ghost use Rattle.module_meaning.specs.Module.{of_tick};
 ghost use Rattle.image.specs.Views.{image_of};
-ghost use Rattle.apex_meaning.specs.Image as meant;
-ghost use Rattle.apex_meaning.specs.ImageLimits.{IsLawful};
-ghost use Rattle.apex_meaning.specs.TwoMeanings.{machine_module, machine_trace};
+ghost use Rattle.machine_meaning.specs.Image as meant;
+ghost use Rattle.machine_meaning.specs.ImageLimits.{IsLawful};
+ghost use Rattle.machine_meaning.specs.MachineMeaning.{machine_module, machine_trace};
 ghost use Rattle.module.specs.Isolated.{WritesAlone};
 ghost use Rattle.module.specs.Machines as machines;
 ghost use Rattle.module.specs.Machines.{HasRunOn, HasTicked, HaveTicked, fresh_machine, machine_of};
 ghost use Rattle.module.specs.Standing.{lines_of};
-ghost use Rattle.module.specs.Promises.{AreRefused, RunsImage};
+ghost use Rattle.module.specs.Running.{AreRefused, RunsImage};
 ghost use Rattle.module.specs.Written.{AreFrom};
 
 use crate::fault::RunFault;

@@ -2,7 +2,7 @@
 
 ghost use Rattle.std.specs.Prelude.{◌≡◌, ◌≢◌, ◌≤◌, ◌<◌, ◌+◌, ◌-◌, ◌^◌, ℕ, suc, List, [], Some, None, slice_get, OnOk};
 ghost use Rattle.apex_types.specs.declared.device.DeviceLine.{DeviceLine};
-ghost use Rattle.apex_meaning.specs.Windows.{tick_from, owner, ended};
+ghost use Rattle.kernel_meaning.specs.Windows.{tick_from, owner, ended};
 ghost use Rattle.bursts.specs.Quiet.{AreStill};
 ghost use Rattle.module.specs.Pieces.{HasMovedTelling, HasMovedWritten, HasRunSome};
 ghost use Rattle.module.specs.Standing.{ticks_in};

@@ -1,11 +1,12 @@
 //! Replaying one partition of an image from what comes to it.
 
 ghost use Rattle.std.specs.Prelude.{◌≡◌, ◌≢◌, ◌≤◌, ◌<◌, ◌+◌, ◌-◌, ◌^◌, Some, length, IfErr, OnOk, IsErrOf};
-ghost use Rattle.apex_meaning.specs.ImageReading.{image_at};
+ghost use Rattle.machine_meaning.specs.ImageReading.{image_at};
 ghost use Rattle.image.specs.Views.{image_of};
 ghost use Rattle.isolation.specs.Slices.{Slice, slice};
 ghost use Rattle.module.specs.Isolated.{ReplaysPart};
-ghost use Rattle.module.specs.Promises.{Replays, ReplaysSlice};
+ghost use Rattle.module.specs.Replays.{Replays};
+ghost use Rattle.module.specs.Running.{ReplaysSlice};
 
 use crate::fault::RunFault;
 use crate::machine::MOST_TICKS;

@@ -1,7 +1,7 @@
 //! The start of all partitions, and faults of the module.
 
 ghost use Rattle.std.specs.Prelude.{◌≡◌, ◌≤◌, ◌<◌, ◌-◌, ◌^◌, [], IfOk, OnOk};
-ghost use Rattle.apex_meaning.specs.Module as meaning;
+ghost use Rattle.module_meaning.specs.Module as meaning;
 ghost use Rattle.module.specs.Views.{members_in};
 ghost use Rattle.module.specs.Written.{IsOfTick, IsCourseWritten, IsWritten};
 

@@ -1,13 +1,16 @@
 //! Running an image: its partitions in their windows, tick by tick, and the text of their trace.
 
 ghost use Rattle.std.specs.Prelude.{◌≡◌, ◌≢◌, ◌≤◌, ◌<◌, ◌+◌, ◌-◌, ◌^◌, Ok, map, IfOk, IfErr, OnOk, IsErrOf};
-ghost use Rattle.apex_meaning.specs.DeviceText.{verdict_for};
-ghost use Rattle.apex_meaning.specs.ImageReading.{image_at};
-ghost use Rattle.apex_meaning.specs.TwoMeanings.{machine_trace};
+ghost use Rattle.machine_meaning.specs.MachineMeaning.{verdict_for};
+ghost use Rattle.machine_meaning.specs.ImageReading.{image_at};
+ghost use Rattle.machine_meaning.specs.MachineMeaning.{machine_trace};
 ghost use Rattle.image.specs.Views.{image_of};
-ghost use Rattle.module.specs.Isolated.{IsIsolated, IsSourceIsolated};
+ghost use Rattle.module.specs.Isolated.{IsIsolated};
+ghost use Rattle.module.specs.SourcesIsolated.{IsSourceIsolated};
 ghost use Rattle.module.specs.Machines.{fresh_machine, machine_of};
-ghost use Rattle.module.specs.Promises.{Means, Runs, RunsImage};
+ghost use Rattle.module.specs.Promises.{Means};
+ghost use Rattle.module.specs.Runs.{Runs};
+ghost use Rattle.module.specs.Running.{RunsImage};
 ghost use Rattle.module.specs.Written.{AreFrom};
 
 use crate::building::build;

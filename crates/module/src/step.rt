@@ -1,9 +1,9 @@
 //! A step of one partition, the others stay as they are.
 
 ghost use Rattle.std.specs.Prelude.{◌≡◌, ◌≢◌, ◌<◌, ◌≤◌, ◌+◌, ◌^◌, ℕ, None, [], length, slice_get};
-ghost use Rattle.apex_meaning.specs.Image.{at_number};
-ghost use Rattle.apex_meaning.specs.Module as meaning;
-ghost use Rattle.apex_meaning.specs.Partition.{with_world};
+ghost use Rattle.module_meaning.specs.Table.{at_number};
+ghost use Rattle.module_meaning.specs.Module as meaning;
+ghost use Rattle.kernel_meaning.specs.Partition.{with_world};
 ghost use Rattle.apex_types.specs.Line.{text_of};
 ghost use Rattle.partition.specs.Members.{member_of};
 ghost use Rattle.module.specs.Views.{members_in};

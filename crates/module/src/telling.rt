@@ -1,8 +1,8 @@
 //! What a run of an image brings one of its partitions.
 
 ghost use Rattle.std.specs.Prelude.{◌≡◌, ◌≢◌, ◌≤◌, ◌<◌, ◌+◌, ◌-◌, ◌^◌, Some, length, IfErr, IfOk, OnOk, IsErrOf};
-ghost use Rattle.apex_meaning.specs.ImageReading.{image_at};
-ghost use Rattle.apex_meaning.specs.TwoMeanings.{machine_module};
+ghost use Rattle.machine_meaning.specs.ImageReading.{image_at};
+ghost use Rattle.machine_meaning.specs.MachineMeaning.{machine_module};
 ghost use Rattle.image.specs.Views.{image_of};
 ghost use Rattle.isolation.specs.Slices.{Slice, machine_inputs, slice};
 ghost use Rattle.partition_base.specs.contracts.machine.MachineExecutor.TheImpl.{ghosts as machine};

@@ -1,8 +1,8 @@
 //! The ticks of a module, one after another.
 
 ghost use Rattle.std.specs.Prelude.{◌≡◌, ◌≤◌, ◌<◌, ◌+◌, ◌-◌, ◌^◌, ℕ, length, drop, take, IfOk, option_map};
-ghost use Rattle.apex_meaning.specs.Module as meaning;
-ghost use Rattle.apex_meaning.specs.Windows.{tick_from};
+ghost use Rattle.module_meaning.specs.Module as meaning;
+ghost use Rattle.kernel_meaning.specs.Windows.{tick_from};
 ghost use Rattle.module.specs.Standing.{origin_of, ticks};
 ghost use Rattle.module.specs.Views.{members_in, plan_of, standing_of};
 ghost use Rattle.module.specs.Written.{AreFrom, HasGone, IsCourseWritten, IsOfTick};

@@ -1,8 +1,8 @@
 //! Ticks of a module that are not shown, and what they bring one partition.
 
 ghost use Rattle.std.specs.Prelude.{◌≡◌, ◌≤◌, ◌<◌, ◌+◌, ◌-◌, ◌^◌, ℕ, None, [], IfOk, OnOk};
-ghost use Rattle.apex_meaning.specs.Module as meaning;
-ghost use Rattle.apex_meaning.specs.Windows.{tick_from};
+ghost use Rattle.module_meaning.specs.Module as meaning;
+ghost use Rattle.kernel_meaning.specs.Windows.{tick_from};
 ghost use Rattle.isolation.specs.Brought.{brought_moved, brought_tick};
 ghost use Rattle.module.specs.Collecting.{AreCollected, IsMadeUnseen, brought_next};
 ghost use Rattle.module.specs.Standing.{after, begins, begins_and_ticks, ticks};

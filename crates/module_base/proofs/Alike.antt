@@ -3,9 +3,9 @@ use Rattle.std.proofs.Common.{◌≡◌, ℕ, ◌+◌, codes, List, [], ◌∷�
 use Rattle.std.specs.Prelude.{◌^◌}
 use Rattle.apex_types.specs.declared.device.DeviceFault.{DeviceFault}
 use Rattle.apex_types.specs.declared.device.DeviceLine.{DeviceLine}
-use Rattle.apex_meaning.specs.DeviceText as device
-use Rattle.apex_meaning.specs.DeviceText.{Written, WrittenLine, line_with, plain_number, piece, pieces, pieces_behind_marks}
-use Rattle.apex_meaning.specs.Image.{Partition, Channel}
+use Rattle.module_meaning.specs.DeviceText as device
+use Rattle.module_meaning.specs.DeviceText.{Written, WrittenLine, line_with, plain_number, piece, pieces, pieces_behind_marks}
+use Rattle.module_meaning.specs.Table.{Partition, Channel}
 use Rattle.isolation.specs.declared.input.InputLine.{InputLine}
 use Rattle.isolation.specs.ReplayText as replay
 use Rattle.module_base.specs.TextLines.{line_by, written_by, taken_by, ends_with, put_line, and_then, lines_by, verdict_by}

@@ -5,9 +5,9 @@ use Rattle.std.proofs.lemmas.Bool.{ltb-false}
 use Rattle.apex_types.specs.declared.device.DeviceFault.{DeviceFault}
 use Rattle.apex_types.specs.declared.device.DeviceFault.TheVariants as fault
 use Rattle.apex_types.specs.declared.row.PortRow.{PortRow}
-use Rattle.apex_meaning.specs.DeviceText.{Written, WrittenLine, Message, ModuleFault as DeviceModuleFault, PartitionFault as DevicePartitionFault, is_room, pieces}
-use Rattle.apex_meaning.specs.GrammarWords.{same}
-use Rattle.apex_meaning.specs.Image.{Partition}
+use Rattle.module_meaning.specs.DeviceText.{Written, WrittenLine, Message, ModuleFault as DeviceModuleFault, PartitionFault as DevicePartitionFault, is_room, pieces}
+use Rattle.engine_meaning.specs.Digits.{same}
+use Rattle.module_meaning.specs.Table.{Partition}
 use Rattle.isolation.specs.declared.input.Input.{Input}
 use Rattle.isolation.specs.declared.input.InputLine.{InputLine}
 use Rattle.isolation.specs.InputText.{AreInOrder}

@@ -12,11 +12,13 @@ use Rattle.apex_types.specs.declared.identity.PortId.{PortId}
 use Rattle.apex_types.specs.declared.row.ChannelEnd.{ChannelEnd}
 use Rattle.apex_types.specs.declared.row.ChannelEnd.TheVariants.{Device, Port}
 use Rattle.apex_types.specs.declared.row.PortRow.{PortRow}
-use Rattle.apex_meaning.specs.DeviceText.{row_of_item, words_of_port, words_of_partition, words_of_end, words_of_ends}
-use Rattle.apex_meaning.specs.Image as meant
-use Rattle.apex_meaning.specs.Image.{Partition, Item, at_number}
-use Rattle.apex_meaning.specs.ImageLimits.{EachBeside, IsPort, IsItem, IsLawful}
-use Rattle.apex_meaning.specs.Step.{message}
+use Rattle.machine_meaning.specs.MachineMeaning.{row_of_item}
+use Rattle.module_meaning.specs.DeviceText.{words_of_port, words_of_partition, words_of_end, words_of_ends}
+use Rattle.machine_meaning.specs.Image as meant
+use Rattle.module_meaning.specs.Table.{Partition, at_number}
+use Rattle.machine_meaning.specs.Image.{Item}
+use Rattle.machine_meaning.specs.ImageLimits.{EachBeside, IsPort, IsItem, IsLawful}
+use Rattle.kernel_meaning.specs.Step.{message}
 use Rattle.image.specs.Items.{item_of, items_of, partition_of, channel_of}
 use Rattle.image.specs.Views.{image_of}
 use Rattle.image.specs.declared.item.PartitionItem.{PartitionItem}

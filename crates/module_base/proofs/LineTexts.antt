@@ -4,7 +4,7 @@ use Rattle.std.specs.Prelude.{flat_map}
 use Rattle.std.specs.Fmt.{decimal, signed_decimal}
 use Rattle.std.specs.List.{join_with_byte}
 use Rattle.apex_types.specs.Line.{words_text}
-use Rattle.apex_meaning.specs.Image.{Partition, at_number}
+use Rattle.module_meaning.specs.Table.{Partition, at_number}
 use Rattle.isolation.specs.declared.input.Input.{Input}
 use Rattle.isolation.specs.declared.input.Input.TheVariants.{Arrive, ModuleFault, PartitionFault}
 use Rattle.isolation.specs.declared.input.InputLine.{InputLine}

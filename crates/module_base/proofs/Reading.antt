@@ -4,7 +4,7 @@ use Rattle.std.specs.Prelude.{not, ◌==◌, IsErr, IsErrAnd, IfErr}
 use Rattle.std.specs.List.{prefix_len}
 use Rattle.apex_types.specs.declared.device.DeviceFault.{DeviceFault}
 use Rattle.apex_types.specs.declared.device.DeviceFault.TheVariants as fault
-use Rattle.apex_meaning.specs.DeviceText.{piece, pieces_behind_marks, pieces}
+use Rattle.module_meaning.specs.DeviceText.{piece, pieces_behind_marks, pieces}
 use Rattle.module_base.specs.Refusals.{IsRefusal}
 use Rattle.module_base.specs.TextLines.{Taking, line_by, taken_by, ends_with, put_line, and_then, lines_by}
 use Rattle.module_base.specs.declared.fault.DeviceTextFault.{DeviceTextFault}

@@ -5,10 +5,10 @@ use Rattle.apex_types.specs.declared.device.DeviceFault.{DeviceFault}
 use Rattle.apex_types.specs.declared.device.DeviceFault.TheVariants as fault
 use Rattle.apex_types.specs.declared.device.DeviceLine.{DeviceLine}
 use Rattle.apex_types.specs.declared.row.PortRow.{PortRow}
-use Rattle.apex_meaning.specs.DeviceText as meant
-use Rattle.apex_meaning.specs.DeviceText.{first_from, is_room, line_with, piece, pieces_behind_marks, plain_number, taken_message, taken_fault, named}
-use Rattle.apex_meaning.specs.GrammarWords.{same}
-use Rattle.apex_meaning.specs.Image.{Partition, Channel}
+use Rattle.module_meaning.specs.DeviceText as meant
+use Rattle.module_meaning.specs.DeviceText.{first_from, is_room, line_with, piece, pieces_behind_marks, plain_number, taken_message, taken_fault, named}
+use Rattle.engine_meaning.specs.Digits.{same}
+use Rattle.module_meaning.specs.Table.{Partition, Channel}
 use Rattle.isolation.specs.declared.input.Input.TheVariants.{PartitionFault}
 use Rattle.isolation.specs.declared.input.InputLine.{InputLine}
 use Rattle.isolation.specs.ReplayText as replay

@@ -1,7 +1,7 @@
 -- What the row of a partition of an image has.
 use Rattle.std.specs.Prelude.{◌≤◌, length, All}
 use Rattle.apex_types.specs.declared.row.PortRow.{PortRow}
-use Rattle.apex_meaning.specs.Image.{Partition}
+use Rattle.module_meaning.specs.Table.{Partition}
 
 -- at most 16 ports, each for messages of at most 16 words
 pub record HasPorts (row : Partition) : Type 0 where

@@ -1,8 +1,8 @@
 -- What the code holds of the lines of a device text.
 use Rattle.std.specs.Prelude.{ℕ, ℤ, List, [], length, nat_le, if◌then◌else◌, Option, Some, None}
-use Rattle.apex_meaning.specs.DeviceText as meant
-use Rattle.apex_meaning.specs.DeviceText.{pieces}
-use Rattle.apex_meaning.specs.Step.{message}
+use Rattle.module_meaning.specs.DeviceText as meant
+use Rattle.module_meaning.specs.DeviceText.{pieces}
+use Rattle.kernel_meaning.specs.Step.{message}
 use Rattle.module_base.specs.declared.line.MessageWords.{MessageWords}
 use Rattle.module_base.specs.declared.line.MessageWords.TheVariants as words
 use Rattle.module_base.specs.declared.line.Written.{Written}

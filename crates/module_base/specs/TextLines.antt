@@ -2,8 +2,8 @@
 use Rattle.std.specs.Prelude.{ℕ, ◌+◌, ◌^◌, nat_lt, if◌then◌else◌, List, [], ◌∷◌, codes, Option, Some, None, Result, Ok, Err}
 use Rattle.apex_types.specs.declared.device.DeviceFault.{DeviceFault}
 use Rattle.apex_types.specs.declared.device.DeviceFault.TheVariants as fault
-use Rattle.apex_meaning.specs.DeviceText.{Written, WrittenLine, message_of, fault_of, line_with, plain_number, pieces}
-use Rattle.apex_meaning.specs.GrammarWords.{same}
+use Rattle.module_meaning.specs.DeviceText.{Written, WrittenLine, message_of, fault_of, line_with, plain_number, pieces}
+use Rattle.engine_meaning.specs.Digits.{same}
 
 -- ---- the forms of a line
 -- a message behind its mark, or a fault

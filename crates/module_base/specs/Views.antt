@@ -1,7 +1,7 @@
 -- The partitions and channels of an image.
 use Rattle.std.specs.Prelude.{List, map}
-use Rattle.apex_meaning.specs.DeviceText.{row_of_item}
-use Rattle.apex_meaning.specs.Image.{Partition, Channel}
+use Rattle.machine_meaning.specs.MachineMeaning.{row_of_item}
+use Rattle.module_meaning.specs.Table.{Partition, Channel}
 use Rattle.image.specs.Items.{items_of, channels_of}
 use Rattle.image.specs.declared.value.Image.{Image}
 

@@ -1,10 +1,11 @@
 //! Device texts: what the lines of a text are for an image.
 
 ghost use Rattle.std.specs.Prelude.{◌≡◌, ◌<◌, ℤ, List, Some, Ok, IfOk, IfErr};
-ghost use Rattle.apex_meaning.specs.DeviceText as meant;
-ghost use Rattle.apex_meaning.specs.DeviceText.{first_from, is_device, verdict_for, words_of_end, words_of_ends, words_of_port};
-ghost use Rattle.apex_meaning.specs.GrammarWords.{same};
-ghost use Rattle.apex_meaning.specs.Image.{at_number};
+ghost use Rattle.module_meaning.specs.DeviceText as meant;
+ghost use Rattle.module_meaning.specs.DeviceText.{first_from, is_device, words_of_end, words_of_ends, words_of_port};
+ghost use Rattle.machine_meaning.specs.MachineMeaning.{verdict_for};
+ghost use Rattle.engine_meaning.specs.Digits.{same};
+ghost use Rattle.module_meaning.specs.Table.{at_number};
 ghost use Rattle.image.specs.Items.{channel_of};
 ghost use Rattle.image.specs.Views.{image_of};
 ghost use Rattle.module_base.specs.Refusals.{IsRefusal};
@@ -39,7 +40,7 @@ pub fn read_devices(
 }
 
 impl TakesLines for Image {
-    ghost use Rattle.apex_meaning.specs.DeviceText.{named as named_in};
+    ghost use Rattle.module_meaning.specs.DeviceText.{named as named_in};
     ghost use Rattle.module_base.specs.Views.{rows_in, channels_in};
 
     type Line = DeviceLine;
@@ -76,7 +77,7 @@ fn taken(
 }
 
 /// A message by the channel of that name.
-#[tactic(auto, using(std::proofs::lemmas::List::drop_more, crate::proofs::Lawful::few_channels), unfolding(apex_meaning::specs::DeviceText::first_from))]
+#[tactic(auto, using(std::proofs::lemmas::List::drop_more, crate::proofs::Lawful::few_channels), unfolding(module_meaning::specs::DeviceText::first_from))]
 fn message(
     image: &Image,
     count: usize,
@@ -121,7 +122,7 @@ fn message_by(
 }
 
 /// A fault of the partition of that name.
-#[tactic(auto, using(std::proofs::lemmas::List::drop_more, crate::proofs::Lawful::few_partitions), unfolding(apex_meaning::specs::DeviceText::first_from))]
+#[tactic(auto, using(std::proofs::lemmas::List::drop_more, crate::proofs::Lawful::few_partitions), unfolding(module_meaning::specs::DeviceText::first_from))]
 fn partition_fault(
     image: &Image,
     count: usize,

@@ -3,9 +3,9 @@
 ghost use Rattle.std.specs.Prelude.{◌≡◌, ◌≤◌, ℤ, List, Some, Ok, Err, All, length, IfOk, IfErr, if◌then◌else◌};
 ghost use Rattle.apex_types.specs.declared.device.DeviceFault.TheVariants as fault;
 ghost use Rattle.apex_types.specs.declared.row.PortRow.{PortRow};
-ghost use Rattle.apex_meaning.specs.DeviceText as meant;
-ghost use Rattle.apex_meaning.specs.DeviceText.{first_from, is_room};
-ghost use Rattle.apex_meaning.specs.GrammarWords.{same};
+ghost use Rattle.module_meaning.specs.DeviceText as meant;
+ghost use Rattle.module_meaning.specs.DeviceText.{first_from, is_room};
+ghost use Rattle.engine_meaning.specs.Digits.{same};
 ghost use Rattle.image.specs.Items.{partition_of};
 ghost use Rattle.isolation.specs.declared.input.Input.TheVariants.{PartitionFault};
 ghost use Rattle.isolation.specs.InputText.{AreInOrder};
@@ -82,7 +82,7 @@ fn taken(
 }
 
 /// A message at the port of that name.
-#[tactic(auto, using(std::proofs::lemmas::List::drop_more), unfolding(apex_meaning::specs::DeviceText::first_from))]
+#[tactic(auto, using(std::proofs::lemmas::List::drop_more), unfolding(module_meaning::specs::DeviceText::first_from))]
 fn message(
     ports: &[PortRow],
     count: usize,

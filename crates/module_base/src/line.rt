@@ -1,8 +1,8 @@
 //! The lines of a text by themselves, before their names are known.
 
 ghost use Rattle.std.specs.Prelude.{◌≡◌, option_map, option_copied};
-ghost use Rattle.apex_meaning.specs.DeviceText as meant;
-ghost use Rattle.apex_meaning.specs.DeviceText.{pieces};
+ghost use Rattle.module_meaning.specs.DeviceText as meant;
+ghost use Rattle.module_meaning.specs.DeviceText.{pieces};
 ghost use Rattle.module_base.specs.Seen.{pieces_of, fitting, seen, seen_line};
 ghost use Rattle.module_base.specs.TextLines.{line_by, written_by};
 
@@ -86,7 +86,7 @@ fn fault_of(text: Option<&[u8]>) -> Option<Written>
 }
 
 /// The words of a text, if all its pieces are words.
-#[tactic(auto, unfolding(apex_meaning::specs::DeviceText::words))]
+#[tactic(auto, unfolding(module_meaning::specs::DeviceText::words))]
 fn words(text: &[u8]) -> Option<MessageWords>
     ensures { result ≡ option_map fitting (meant.words (pieces 32 text.now)) }
 {

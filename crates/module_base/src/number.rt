@@ -2,8 +2,8 @@
 
 ghost use Rattle.std.specs.Prelude.{◌≡◌, ◌+◌, ◌-◌, ◌*◌, ◌^◌, ◌≤◌, IfSome};
 ghost use Rattle.std.specs.List.{list_all};
-ghost use Rattle.apex_meaning.specs.GrammarWords.{is_digit, decimal_value};
-ghost use Rattle.apex_meaning.specs.DeviceText.{is_plain, if_at_most, plain_number, positive, negative, word};
+ghost use Rattle.engine_meaning.specs.Digits.{is_digit, decimal_value};
+ghost use Rattle.module_meaning.specs.DeviceText.{is_plain, if_at_most, plain_number, positive, negative, word};
 
 /// The greatest word.
 const GREATEST: u64 = 9_223_372_036_854_775_807;
@@ -44,7 +44,7 @@ fn with_digit(most: u64, value: u64, digit: u8) -> Option<u64>
 }
 
 /// The number of these digits, if it is not too great.
-#[tactic(auto, using(crate::proofs::Decimals::stays_above), unfolding(apex_meaning::specs::GrammarWords::decimal_value))]
+#[tactic(auto, using(crate::proofs::Decimals::stays_above), unfolding(engine_meaning::specs::Digits::decimal_value))]
 fn at_most(most: u64, digits: &[u8]) -> Option<u64>
     requires { most ≤ 2 ^ 63 }
     ensures { result ≡ if_at_most most (decimal_value digits.now) }

@@ -1,8 +1,8 @@
 //! The lines of a text, read one after another, whatever they are taken as.
 
 ghost use Rattle.std.specs.Prelude.{◌≡◌, ◌<◌, ℕ, Some, Ok, IfOk, IfErr};
-ghost use Rattle.apex_meaning.specs.DeviceText as meant;
-ghost use Rattle.apex_meaning.specs.DeviceText.{is_room};
+ghost use Rattle.module_meaning.specs.DeviceText as meant;
+ghost use Rattle.module_meaning.specs.DeviceText.{is_room};
 ghost use Rattle.module_base.specs.Refusals.{IsRefusal};
 ghost use Rattle.module_base.specs.Seen.{seen, seen_line};
 ghost use Rattle.module_base.specs.TextLines.{Taking, line_by, taken_by, verdict_by};

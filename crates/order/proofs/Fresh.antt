@@ -11,18 +11,22 @@ use Rattle.apex_types.specs.declared.identity.Runner.TheVariants as runner
 use Rattle.apex_types.specs.declared.identity.TheConstants.{MOST_OBJECTS}
 use Rattle.apex_types.specs.declared.process.Entry.{Entry}
 use Rattle.apex_types.specs.declared.process.ProcessStatus.{ProcessStatus}
-use Rattle.apex_meaning.specs.Image.{Item, Image, Partition, Table}
-use Rattle.apex_meaning.specs.Kernel.{Fixed, Kernel}
-use Rattle.apex_meaning.specs.Module.{of_member}
-use Rattle.apex_meaning.specs.Objects.{Objects}
-use Rattle.apex_meaning.specs.Partition.{Member}
-use Rattle.apex_meaning.specs.Ports.{Ports}
-use Rattle.apex_meaning.specs.ProcessServices.{is_ready_state}
-use Rattle.apex_meaning.specs.Program as program
-use Rattle.apex_meaning.specs.Queues.{list_in, list_at}
-use Rattle.apex_meaning.specs.TwoMeanings.{init_row, handler_row, fresh_kernel, fresh_queues, machine_row, machine_member, machine_members, source_row, source_member, source_members, fixed_of}
-use Rattle.apex_meaning.specs.WaitingOrder.{IsQueue}
-use Rattle.apex_meaning.specs.Windows.{Schedule}
+use Rattle.machine_meaning.specs.Image.{Item, Image}
+use Rattle.module_meaning.specs.Table.{Partition, Table}
+use Rattle.kernel_meaning.specs.Kernel.{Fixed, Kernel}
+use Rattle.module_meaning.specs.Module.{of_member}
+use Rattle.kernel_meaning.specs.Objects.{Objects}
+use Rattle.kernel_meaning.specs.Partition.{Member}
+use Rattle.kernel_meaning.specs.Objects.{Ports}
+use Rattle.kernel_meaning.specs.ProcessServices.{is_ready_state}
+use Rattle.pal_meaning.specs.Program as program
+use Rattle.kernel_meaning.specs.Queues.{list_in, list_at}
+use Rattle.kernel_meaning.specs.Fresh.{init_row, handler_row, fresh_kernel, fresh_queues}
+use Rattle.machine_meaning.specs.MachineMeaning.{machine_row, machine_member, machine_members}
+use Rattle.module_meaning.specs.SourceMeaning.{source_row, source_member, source_members}
+use Rattle.module_meaning.specs.Table.{fixed_of}
+use Rattle.kernel_laws.specs.WaitingOrder.{IsQueue}
+use Rattle.kernel_meaning.specs.Windows.{Schedule}
 use Rattle.order.specs.Agreement.{RecordsAgree, IsReadyAt}
 use Rattle.order.specs.Numbers.{AreNamed, HaveDisciplines, PortsHaveDisciplines, first_numbers, subject_at}
 use Rattle.order.specs.OrderLaw.{IsOrdered}

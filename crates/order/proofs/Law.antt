@@ -5,13 +5,13 @@ use Rattle.apex_types.specs.declared.codes.Discipline.{Discipline}
 use Rattle.apex_types.specs.declared.device.DeviceLine.{DeviceLine}
 use Rattle.apex_types.specs.declared.identity.ListKey.{ListKey}
 use Rattle.apex_types.specs.declared.process.Entry.{Entry}
-use Rattle.apex_meaning.specs.Image.{at_number}
-use Rattle.apex_meaning.specs.Kernel.{Kernel}
-use Rattle.apex_meaning.specs.Module.{Module, Advanced}
-use Rattle.apex_meaning.specs.Partition.{Member}
-use Rattle.apex_meaning.specs.Waiting.{waiting}
-use Rattle.apex_meaning.specs.WaitingOrder.{IsReleasedFirst}
-use Rattle.apex_meaning.proofs.WaitingOrder.{released_first}
+use Rattle.module_meaning.specs.Table.{at_number}
+use Rattle.kernel_meaning.specs.Kernel.{Kernel}
+use Rattle.module_meaning.specs.Module.{Module, Advanced}
+use Rattle.kernel_meaning.specs.Partition.{Member}
+use Rattle.kernel_meaning.specs.Sharing.{waiting}
+use Rattle.kernel_laws.specs.WaitingOrder.{IsReleasedFirst}
+use Rattle.kernel_laws.proofs.WaitingOrder.{released_first}
 use Rattle.order.specs.History.{members_after}
 use Rattle.order.specs.Numbers.{Numbers, first_numbers}
 use Rattle.order.specs.OrderLaw.{IsOrdered}

@@ -11,12 +11,12 @@ use Rattle.apex_types.specs.declared.identity.ListKey.{ListKey}
 use Rattle.apex_types.specs.declared.identity.Runner.{Runner}
 use Rattle.apex_types.specs.declared.service.ArrayPlace.{ArrayPlace}
 use Rattle.apex_types.specs.declared.service.Service.TheVariants as service
-use Rattle.apex_meaning.specs.BlackboardServices.{clear_blackboard, create_blackboard, creates, display_blackboard, displays, get_blackboard_id, get_blackboard_status, is_created, list, read_blackboard, reader, reads, shows, status}
-use Rattle.apex_meaning.specs.Durations.{is_duration}
-use Rattle.apex_meaning.specs.Objects.{Objects, Blackboard, blackboard, put_blackboard}
-use Rattle.apex_meaning.specs.Sharing.{Sharing, becomes, is_large_enough, is_length, has, refuses}
-use Rattle.apex_meaning.specs.Step.{Step, first_words, message}
-use Rattle.apex_meaning.specs.Waiting.{waiting}
+use Rattle.kernel_meaning.specs.BlackboardServices.{clear_blackboard, create_blackboard, creates, display_blackboard, displays, get_blackboard_id, get_blackboard_status, is_created, list, read_blackboard, reader, reads, shows, status}
+use Rattle.kernel_meaning.specs.Times.{is_duration}
+use Rattle.kernel_meaning.specs.Objects.{Objects, Blackboard, blackboard, put_blackboard}
+use Rattle.kernel_meaning.specs.Sharing.{Sharing, becomes, is_large_enough, is_length, has, refuses}
+use Rattle.kernel_meaning.specs.Step.{Step, first_words, message}
+use Rattle.kernel_meaning.specs.Sharing.{waiting}
 use Rattle.order.specs.Numbers.{HaveDisciplines, May, itself}
 use Rattle.order.proofs.Shares.{Shares, IsSet, of_shares, becomes_shares, fills_shares, answers_shares, refuses_shares, row_shares, after_shares, on_shares, create_shares, get_id_shares, get_status_shares, each_put, numbered_is}
 use Rattle.order.proofs.Steps.{blocks_goes, give_all_goes}

@@ -11,12 +11,12 @@ use Rattle.apex_types.specs.declared.identity.Runner.{Runner}
 use Rattle.apex_types.specs.declared.process.ProcessStatus.{ProcessStatus}
 use Rattle.apex_types.specs.declared.service.ArrayPlace.{ArrayPlace}
 use Rattle.apex_types.specs.declared.service.Service.TheVariants as service
-use Rattle.apex_meaning.specs.BufferServices.{admits, create_buffer, creates, get_buffer_id, get_buffer_status, is_created, is_full, list, receive_buffer, receiver, receives, send_buffer, sender, sends, status, takes_message, with_message}
-use Rattle.apex_meaning.specs.Durations.{is_duration}
-use Rattle.apex_meaning.specs.Objects.{Objects, Buffer, buffer, put_buffer}
-use Rattle.apex_meaning.specs.Sharing.{Sharing, becomes, is_large_enough, is_length, has, refuses}
-use Rattle.apex_meaning.specs.Step.{Step, first_words, message}
-use Rattle.apex_meaning.specs.Waiting.{first_waiting, handed_by}
+use Rattle.kernel_meaning.specs.BufferServices.{admits, create_buffer, creates, get_buffer_id, get_buffer_status, is_created, is_full, list, receive_buffer, receiver, receives, send_buffer, sender, sends, status, takes_message, with_message}
+use Rattle.kernel_meaning.specs.Times.{is_duration}
+use Rattle.kernel_meaning.specs.Objects.{Objects, Buffer, buffer, put_buffer}
+use Rattle.kernel_meaning.specs.Sharing.{Sharing, becomes, is_large_enough, is_length, has, refuses}
+use Rattle.kernel_meaning.specs.Step.{Step, first_words, message}
+use Rattle.kernel_meaning.specs.Sharing.{first_waiting, handed_by}
 use Rattle.order.specs.Numbers.{HaveDisciplines, May, itself}
 use Rattle.order.proofs.Shares.{Shares, IsSet, of_shares, becomes_shares, fills_shares, answers_shares, refuses_shares, either_shares, row_shares, after_shares, on_shares, create_shares, get_id_shares, get_status_shares, each_put, numbered_is}
 use Rattle.order.proofs.Steps.{release_goes, gives_goes, blocks_goes, first_is_of}

@@ -9,12 +9,12 @@ use Rattle.apex_types.specs.declared.identity.At.{At}
 use Rattle.apex_types.specs.declared.identity.ListKey.{ListKey}
 use Rattle.apex_types.specs.declared.identity.Runner.{Runner}
 use Rattle.apex_types.specs.declared.service.Service.TheVariants as service
-use Rattle.apex_meaning.specs.Durations.{is_duration}
-use Rattle.apex_meaning.specs.EventServices.{awaits, create_event, creates, get_event_id, get_event_status, is_created, list, raises, reset_event, set_event, sets, status, wait_event, waiting_for}
-use Rattle.apex_meaning.specs.Objects.{Objects, Event, event, put_event}
-use Rattle.apex_meaning.specs.Sharing.{Sharing, becomes, has, refuses}
-use Rattle.apex_meaning.specs.Step.{Step, message}
-use Rattle.apex_meaning.specs.Waiting.{waiting}
+use Rattle.kernel_meaning.specs.Times.{is_duration}
+use Rattle.kernel_meaning.specs.EventServices.{awaits, create_event, creates, get_event_id, get_event_status, is_created, list, raises, reset_event, set_event, sets, status, wait_event, waiting_for}
+use Rattle.kernel_meaning.specs.Objects.{Objects, Event, event, put_event}
+use Rattle.kernel_meaning.specs.Sharing.{Sharing, becomes, has, refuses}
+use Rattle.kernel_meaning.specs.Step.{Step, message}
+use Rattle.kernel_meaning.specs.Sharing.{waiting}
 use Rattle.order.specs.Numbers.{HaveDisciplines, May, itself}
 use Rattle.order.proofs.Shares.{Shares, IsSet, of_shares, becomes_shares, answers_shares, refuses_shares, either_shares, row_shares, after_shares, on_shares, create_shares, get_id_shares, get_status_shares, each_put, numbered_is}
 use Rattle.order.proofs.Steps.{blocks_goes, releases_goes}

@@ -29,20 +29,20 @@ use Rattle.apex_types.specs.declared.process.Wait.{Wait}
 use Rattle.apex_types.specs.declared.process.Wait.TheVariants as wait
 use Rattle.apex_types.specs.declared.service.ArrayPlace.{ArrayPlace}
 use Rattle.apex_types.specs.declared.service.Service.TheVariants as service
-use Rattle.apex_meaning.specs.Due.{Treated, due_from, ends_wait, is_past, misses, mode_of_action, tick_of, timed_out, treated_after, treats, treats_deadline}
-use Rattle.apex_meaning.specs.Due as due
-use Rattle.apex_meaning.specs.HealthServices.{breaks, is_message_length, acts_on_error, faults, handles, is_fault, queues, then_clears, then_acts, waits_or_leaves, raises_application_error, leaves_none, raises, response_of, tells_error, action_of, raise_application_error}
-use Rattle.apex_meaning.specs.HealthServices as health
-use Rattle.apex_meaning.specs.Kernel.{Kernel, of_objects, of_ports, with_objects, with_ports, of_processes, with_errors}
-use Rattle.apex_meaning.specs.Objects.{Objects, cleared_blackboard, cleared_buffer, cleared_event, cleared_semaphore}
-use Rattle.apex_meaning.specs.Partition.{treats_due}
-use Rattle.apex_meaning.specs.PartitionServices.{clears, next_release_of, clear_lines, ends_body, enters_mode, enters_normal, forgotten, is_cold, is_warm, mode_of, ready_init, set_partition_mode, started_rows, starts_normally, wants}
-use Rattle.apex_meaning.specs.Ports.{Ports, discipline_of, cleared_port}
-use Rattle.apex_meaning.specs.Processes.{Processes, index, is_normal, rests_found, row_of, refuses}
-use Rattle.apex_meaning.specs.Sharing.{Sharing}
-use Rattle.apex_meaning.specs.Sharing as sharing
-use Rattle.apex_meaning.specs.Starts.{released_at, start_from, starts_if_waiting, starts_waiting}
-use Rattle.apex_meaning.specs.Step.{Step, after, lifted, nothing, row, first_words}
+use Rattle.kernel_meaning.specs.Times.{Treated, due_from, ends_wait, is_past, misses, mode_of_action, tick_of, timed_out, treated_after, treats, treats_deadline}
+use Rattle.kernel_meaning.specs.Times as due
+use Rattle.kernel_meaning.specs.HealthServices.{breaks, is_message_length, acts_on_error, faults, handles, is_fault, queues, then_clears, then_acts, waits_or_leaves, raises_application_error, leaves_none, raises, response_of, tells_error, action_of, raise_application_error}
+use Rattle.kernel_meaning.specs.HealthServices as health
+use Rattle.kernel_meaning.specs.Kernel.{Kernel, of_objects, of_ports, with_objects, with_ports, of_processes, with_errors}
+use Rattle.kernel_meaning.specs.Objects.{Objects, cleared_blackboard, cleared_buffer, cleared_event, cleared_semaphore}
+use Rattle.kernel_meaning.specs.Partition.{treats_due}
+use Rattle.kernel_meaning.specs.PartitionServices.{clears, next_release_of, clear_lines, ends_body, enters_mode, enters_normal, forgotten, is_cold, is_warm, mode_of, ready_init, set_partition_mode, started_rows, starts_normally, wants}
+use Rattle.kernel_meaning.specs.Objects.{Ports, discipline_of, cleared_port}
+use Rattle.kernel_meaning.specs.Processes.{Processes, index, is_normal, rests_found, row_of, refuses}
+use Rattle.kernel_meaning.specs.Sharing.{Sharing}
+use Rattle.kernel_meaning.specs.Sharing as sharing
+use Rattle.kernel_meaning.specs.Times.{released_at, start_from, starts_if_waiting, starts_waiting}
+use Rattle.kernel_meaning.specs.Step.{Step, after, lifted, nothing, row, first_words}
 use Rattle.order.specs.Numbers.{AreNamed, Goes, HaveDisciplines, PortsHaveDisciplines, ready_lines, subject_at, May, nobody}
 use Rattle.order.proofs.OfProcesses.{normal_goes}
 use Rattle.order.proofs.Primitives.{in_order_cleared, named_map, named_set}

@@ -7,9 +7,9 @@ use Rattle.apex_types.specs.declared.identity.ListKey.{ListKey}
 use Rattle.apex_types.specs.declared.identity.Runner.{Runner}
 use Rattle.apex_types.specs.declared.service.Call.{Call}
 use Rattle.apex_types.specs.declared.service.Call.TheVariants as call
-use Rattle.apex_meaning.specs.ObjectServices.{serves_objects}
-use Rattle.apex_meaning.specs.Objects.{Objects}
-use Rattle.apex_meaning.specs.Sharing.{Sharing}
+use Rattle.kernel_meaning.specs.ObjectServices.{serves_objects}
+use Rattle.kernel_meaning.specs.Objects.{Objects}
+use Rattle.kernel_meaning.specs.Sharing.{Sharing}
 use Rattle.order.specs.Numbers.{HaveDisciplines, may_by}
 use Rattle.order.proofs.OfBlackboards.{create_blackboard_shares, get_blackboard_id_shares, display_blackboard_shares, clear_blackboard_shares, read_blackboard_shares, get_blackboard_status_shares}
 use Rattle.order.proofs.OfBuffers.{create_buffer_shares, get_buffer_id_shares, send_buffer_shares, receive_buffer_shares, get_buffer_status_shares}

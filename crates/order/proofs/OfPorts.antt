@@ -16,15 +16,15 @@ use Rattle.apex_types.specs.declared.service.ArrayPlace.{ArrayPlace}
 use Rattle.apex_types.specs.declared.service.Call.{Call}
 use Rattle.apex_types.specs.declared.service.Call.TheVariants as call
 use Rattle.apex_types.specs.declared.service.Service.TheVariants as service
-use Rattle.apex_meaning.specs.Arrival.{admits, all_enter, arrived, arrives, arrives_at, arrives_queuing, enters_found, enters_port, is_lost}
-use Rattle.apex_meaning.specs.Durations.{is_duration}
-use Rattle.apex_meaning.specs.Objects.{numbered_in}
-use Rattle.apex_meaning.specs.PortServices.{becomes_port, clear_queuing_port, clears_port, code_of_receive, create_queuing_port, create_sampling_port, creates, get_queuing_port_id, get_queuing_port_status, get_sampling_port_id, get_sampling_port_status, is_created, is_valid, list, queuing_status, read_sampling_message, reads_sample, receive_queuing_message, receiver, receives, sampling_status, send_queuing_message, sender, sends, serves_ports, validity_number, write_sampling_message, writes_sample}
-use Rattle.apex_meaning.specs.Ports.{Ports, discipline_of, Port, if_sampling, is_full, is_sampling, is_source, port_at, put_port, queuing, sampling, those_queuing, those_sampling, unless_sampling, with_message, with_sample}
-use Rattle.apex_meaning.specs.Processes.{numbered, row_of}
-use Rattle.apex_meaning.specs.Sharing.{Sharing, is_large_enough, is_length, has, refuses}
-use Rattle.apex_meaning.specs.Step.{Step, first_words, message}
-use Rattle.apex_meaning.specs.Waiting.{first_waiting, handed_by, waiting}
+use Rattle.kernel_meaning.specs.PortServices.{admits, all_enter, arrived, arrives, arrives_at, arrives_queuing, enters_found, enters_port, is_lost}
+use Rattle.kernel_meaning.specs.Times.{is_duration}
+use Rattle.kernel_meaning.specs.Objects.{numbered_in}
+use Rattle.kernel_meaning.specs.PortServices.{becomes_port, clear_queuing_port, clears_port, code_of_receive, create_queuing_port, create_sampling_port, creates, get_queuing_port_id, get_queuing_port_status, get_sampling_port_id, get_sampling_port_status, is_created, is_valid, list, queuing_status, read_sampling_message, reads_sample, receive_queuing_message, receiver, receives, sampling_status, send_queuing_message, sender, sends, serves_ports, validity_number, write_sampling_message, writes_sample}
+use Rattle.kernel_meaning.specs.Objects.{Ports, discipline_of, Port, if_sampling, is_full, is_sampling, is_source, port_at, put_port, queuing, sampling, those_queuing, those_sampling, unless_sampling, with_message, with_sample}
+use Rattle.kernel_meaning.specs.Processes.{numbered, row_of}
+use Rattle.kernel_meaning.specs.Sharing.{Sharing, is_large_enough, is_length, has, refuses}
+use Rattle.kernel_meaning.specs.Step.{Step, first_words, message}
+use Rattle.kernel_meaning.specs.Sharing.{first_waiting, handed_by, waiting}
 use Rattle.order.specs.Numbers.{PortsHaveDisciplines, May, may_by, itself}
 use Rattle.order.proofs.Shares.{Shares, IsSet, of_shares, becomes_shares, nothing_shares, fills_shares, answers_shares, refuses_shares, either_shares, row_shares, after_shares, on_shares, create_shares, get_id_shares, get_status_shares, each_put, numbered_is}
 use Rattle.order.proofs.Steps.{release_goes, gives_goes, blocks_goes, first_is_of, IsOf, row_is_of}

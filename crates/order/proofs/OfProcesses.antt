@@ -14,13 +14,13 @@ use Rattle.apex_types.specs.declared.process.ProcessStatus.{ProcessStatus}
 use Rattle.apex_types.specs.declared.process.Wait.{Wait}
 use Rattle.apex_types.specs.declared.process.Wait.TheVariants as wait
 use Rattle.apex_types.specs.declared.service.Service.TheVariants as service
-use Rattle.apex_meaning.specs.Durations.{is_duration, amount, is_delay}
-use Rattle.apex_meaning.specs.Operators.{is_zero}
-use Rattle.apex_meaning.specs.ProcessServices.{time_out, with_lock, create_process, creates, delayed_start, get_my_id, get_process_id, get_process_status, is_beyond, is_holder, is_priority, is_ready_state, level_of, lock_preemption, locked_by, may_not_lock, of_row, priority_of, resume, resumes, resumes_from, set_priority, start, stop, suspend, suspend_self, suspends, suspends_self, takes_priority, tells_status, unlock_preemption, unlocked}
-use Rattle.apex_meaning.specs.Processes.{Processes, is_busy, is_dormant, is_normal, process_at, put_ready, put_row, rests, row_of, answers, has, is_created, is_held, is_no_other, is_periodic, is_suspended, is_unknown, on, refuses}
-use Rattle.apex_meaning.specs.Starts.{begins, released_at, starts, starts_in_normal, ticks}
-use Rattle.apex_meaning.specs.Step.{after, nothing}
-use Rattle.apex_meaning.specs.TimeServices.{deadline_in, delays, get_time, has_no_deadline, periodic_wait, reaches_past, replenish, replenishes, timed_wait, waits_for_period, waits_periodically, waits_until, yields}
+use Rattle.kernel_meaning.specs.Times.{is_duration, amount, is_delay}
+use Rattle.engine_meaning.specs.Operators.{is_zero}
+use Rattle.kernel_meaning.specs.ProcessServices.{time_out, with_lock, create_process, creates, delayed_start, get_my_id, get_process_id, get_process_status, is_beyond, is_holder, is_priority, is_ready_state, level_of, lock_preemption, locked_by, may_not_lock, of_row, priority_of, resume, resumes, resumes_from, set_priority, start, stop, suspend, suspend_self, suspends, suspends_self, takes_priority, tells_status, unlock_preemption, unlocked}
+use Rattle.kernel_meaning.specs.Processes.{Processes, is_busy, is_dormant, is_normal, process_at, put_ready, put_row, rests, row_of, answers, has, is_created, is_held, is_no_other, is_periodic, is_suspended, is_unknown, on, refuses}
+use Rattle.kernel_meaning.specs.Times.{begins, released_at, starts, starts_in_normal, ticks}
+use Rattle.kernel_meaning.specs.Step.{after, nothing}
+use Rattle.kernel_meaning.specs.ProcessServices.{deadline_in, delays, get_time, has_no_deadline, periodic_wait, reaches_past, replenish, replenishes, timed_wait, waits_for_period, waits_periodically, waits_until, yields}
 use Rattle.order.specs.Numbers.{Goes, itself, process_of, May, only_last}
 use Rattle.order.proofs.Steps.{Named, IsOf, nothing_goes, either_goes, row_goes, after_goes, put_goes, last_goes, wakes_goes, waits_goes, rests_goes, release_goes, fills_goes, on_at, row_is_of, refuse_goes, answer_goes, lock_goes}
 

@@ -9,12 +9,12 @@ use Rattle.apex_types.specs.declared.identity.ListKey.{ListKey}
 use Rattle.apex_types.specs.declared.identity.Runner.{Runner}
 use Rattle.apex_types.specs.declared.process.ProcessStatus.{ProcessStatus}
 use Rattle.apex_types.specs.declared.service.Service.TheVariants as service
-use Rattle.apex_meaning.specs.Durations.{is_duration}
-use Rattle.apex_meaning.specs.Objects.{Objects, Semaphore, put_semaphore, semaphore}
-use Rattle.apex_meaning.specs.SemaphoreServices.{create_semaphore, creates, get_semaphore_id, get_semaphore_status, is_at_maximum, is_created, list, signal_semaphore, signals, status, takes, wait_semaphore, waiting_for}
-use Rattle.apex_meaning.specs.Sharing.{Sharing, becomes, has, refuses}
-use Rattle.apex_meaning.specs.Step.{Step, message}
-use Rattle.apex_meaning.specs.Waiting.{first_waiting}
+use Rattle.kernel_meaning.specs.Times.{is_duration}
+use Rattle.kernel_meaning.specs.Objects.{Objects, Semaphore, put_semaphore, semaphore}
+use Rattle.kernel_meaning.specs.SemaphoreServices.{create_semaphore, creates, get_semaphore_id, get_semaphore_status, is_at_maximum, is_created, list, signal_semaphore, signals, status, takes, wait_semaphore, waiting_for}
+use Rattle.kernel_meaning.specs.Sharing.{Sharing, becomes, has, refuses}
+use Rattle.kernel_meaning.specs.Step.{Step, message}
+use Rattle.kernel_meaning.specs.Sharing.{first_waiting}
 use Rattle.order.specs.Numbers.{HaveDisciplines, May, itself}
 use Rattle.order.proofs.Shares.{Shares, IsSet, of_shares, becomes_shares, answers_shares, refuses_shares, either_shares, row_shares, after_shares, on_shares, create_shares, get_id_shares, get_status_shares, each_put, numbered_is}
 use Rattle.order.proofs.Steps.{release_goes, blocks_goes, first_is_of}

@@ -18,20 +18,20 @@ use Rattle.apex_types.specs.declared.service.ArrayPlace.{ArrayPlace}
 use Rattle.apex_types.specs.declared.service.Call.{Call}
 use Rattle.apex_types.specs.declared.service.Call.TheVariants as call
 use Rattle.apex_types.specs.declared.service.Service.TheVariants as service
-use Rattle.apex_meaning.specs.Engine.{Asks, Nothing, Calls, Faults, Ends}
-use Rattle.apex_meaning.specs.Errors.{Errors}
-use Rattle.apex_meaning.specs.HealthServices.{begins_if_dormant, create_error_handler, creates_found, error_status, get_error_status, is_handler_created, is_message_length, is_waiting, report, starts_handler, takes_error}
-use Rattle.apex_meaning.specs.Kernel.{Kernel, of_objects, of_ports, with_errors, with_objects, with_ports, of_errors}
-use Rattle.apex_meaning.specs.ObjectServices as objects
-use Rattle.apex_meaning.specs.Partition.{chooses_with_handler, pick, treats_asked, are_same, chooses, leaves_processor, preempts, runs, serves, serves_processes, serves_shared, takes_processor}
-use Rattle.apex_meaning.specs.PartitionServices.{next_release_of, status_of}
-use Rattle.apex_meaning.specs.PortServices as ports
-use Rattle.apex_meaning.specs.ProcessServices.{number_of}
-use Rattle.apex_meaning.specs.Processes.{Processes, is_dormant, is_normal, put_ready, put_unready, row_of, is_same, refuses}
-use Rattle.apex_meaning.specs.Sharing.{Sharing, is_large_enough}
-use Rattle.apex_meaning.specs.Sharing as sharing
-use Rattle.apex_meaning.specs.Starts.{begins}
-use Rattle.apex_meaning.specs.Step.{Step, after, lifted, nothing}
+use Rattle.engine_meaning.specs.Engine.{Asks, Nothing, Calls, Faults, Ends}
+use Rattle.kernel_meaning.specs.Kernel.{Errors}
+use Rattle.kernel_meaning.specs.HealthServices.{begins_if_dormant, create_error_handler, creates_found, error_status, get_error_status, is_handler_created, is_message_length, is_waiting, report, starts_handler, takes_error}
+use Rattle.kernel_meaning.specs.Kernel.{Kernel, of_objects, of_ports, with_errors, with_objects, with_ports, of_errors}
+use Rattle.kernel_meaning.specs.ObjectServices as objects
+use Rattle.kernel_meaning.specs.Partition.{chooses_with_handler, pick, treats_asked, are_same, chooses, leaves_processor, preempts, runs, serves, serves_processes, serves_shared, takes_processor}
+use Rattle.kernel_meaning.specs.PartitionServices.{next_release_of, status_of}
+use Rattle.kernel_meaning.specs.PortServices as ports
+use Rattle.kernel_meaning.specs.ProcessServices.{number_of}
+use Rattle.kernel_meaning.specs.Processes.{Processes, is_dormant, is_normal, put_ready, put_unready, row_of, is_same, refuses}
+use Rattle.kernel_meaning.specs.Sharing.{Sharing, is_large_enough}
+use Rattle.kernel_meaning.specs.Sharing as sharing
+use Rattle.kernel_meaning.specs.Times.{begins}
+use Rattle.kernel_meaning.specs.Step.{Step, after, lifted, nothing}
 use Rattle.order.specs.Numbers.{Goes, subject_at, May, nobody, may_by, may_asked}
 use Rattle.order.proofs.OfKernel.{Moves, IsReady, of_moves, of_objects_moves, of_ports_moves, set_mode_moves, ends_body_moves, raise_moves, faults_moves}
 use Rattle.order.proofs.OfObjects.{serves_objects_shares}

@@ -17,18 +17,18 @@ use Rattle.apex_types.specs.declared.identity.Runner.{Runner}
 use Rattle.apex_types.specs.declared.process.Action.{Action}
 use Rattle.apex_types.specs.declared.process.Action.TheVariants as action
 use Rattle.apex_types.specs.declared.process.Entry.{Entry}
-use Rattle.apex_meaning.specs.Arrival as arrival
-use Rattle.apex_meaning.specs.Choice.{IsNumbered, Picks}
-use Rattle.apex_meaning.specs.Engine.{Engine}
-use Rattle.apex_meaning.specs.HealthServices.{breaks, then_clears}
-use Rattle.apex_meaning.specs.Kernel.{Kernel, of_ports, with_errors, with_ports, of_ports_alone, of_processes}
-use Rattle.apex_meaning.specs.Partition.{chooses_with_handler, pick, treats_asked, treats_due, World, Member, act, act_all, admits, arrives, breaks_down, choice_phase, cold_start, control_at, due_phase, given, moved, place_of_port, prepares, spends_chosen, ticked, told, leaves, Moved, followed_by, treating_phase, clearing_phase, goes_out}
-use Rattle.apex_meaning.specs.PartitionServices.{clears}
-use Rattle.apex_meaning.specs.Ports.{Port, discipline_of, port_at}
-use Rattle.apex_meaning.specs.Processes.{Processes}
-use Rattle.apex_meaning.specs.Queues.{Queues}
-use Rattle.apex_meaning.specs.Step.{nothing, Step}
-use Rattle.apex_meaning.proofs.Choosing as choosing
+use Rattle.kernel_meaning.specs.PortServices as arrival
+use Rattle.kernel_laws.specs.Choice.{IsNumbered, Picks}
+use Rattle.engine_meaning.specs.Engine.{Engine}
+use Rattle.kernel_meaning.specs.HealthServices.{breaks, then_clears}
+use Rattle.kernel_meaning.specs.Kernel.{Kernel, of_ports, with_errors, with_ports, of_ports_alone, of_processes}
+use Rattle.kernel_meaning.specs.Partition.{chooses_with_handler, pick, treats_asked, treats_due, World, Member, act, act_all, admits, arrives, breaks_down, choice_phase, cold_start, control_at, due_phase, given, moved, place_of_port, prepares, spends_chosen, ticked, told, leaves, Moved, followed_by, treating_phase, clearing_phase, goes_out}
+use Rattle.kernel_meaning.specs.PartitionServices.{clears}
+use Rattle.kernel_meaning.specs.Objects.{Port, discipline_of, port_at}
+use Rattle.kernel_meaning.specs.Processes.{Processes}
+use Rattle.kernel_meaning.specs.Queues.{Queues}
+use Rattle.kernel_meaning.specs.Step.{nothing, Step}
+use Rattle.kernel_laws.proofs.Choosing as choosing
 use Rattle.order.specs.Agreement.{RecordsAgree}
 use Rattle.order.specs.Numbers.{Goes, IsInOrder, Numbers, ready_lines, take_all, May, nobody, may_asked}
 use Rattle.order.specs.OrderLaw.{GoesOn, IsOrdered, TickGoes, chosen_among, kind_of, may_of_chosen}

@@ -12,13 +12,13 @@ use Rattle.apex_types.specs.declared.identity.Runner.{Runner}
 use Rattle.apex_types.specs.declared.identity.Runner.TheVariants as runner
 use Rattle.apex_types.specs.declared.process.Entry.{Entry}
 use Rattle.apex_types.specs.declared.process.ProcessStatus.{ProcessStatus}
-use Rattle.apex_meaning.specs.Choice.{IsNumbered, AreNumbersBelow}
-use Rattle.apex_meaning.specs.Entries.{entry}
-use Rattle.apex_meaning.specs.Processes.{Processes, goes_last, leaves, leaves_queues}
-use Rattle.apex_meaning.specs.Queues.{joins, list_at, emptied, Queues}
-use Rattle.apex_meaning.specs.WaitingOrder.{AreQueues}
-use Rattle.apex_meaning.proofs.Choosing as choosing
-use Rattle.apex_meaning.proofs.WaitingOrder as waiting
+use Rattle.kernel_laws.specs.Choice.{IsNumbered, AreNumbersBelow}
+use Rattle.kernel_meaning.specs.Queues.{entry}
+use Rattle.kernel_meaning.specs.Processes.{Processes, goes_last, leaves, leaves_queues}
+use Rattle.kernel_meaning.specs.Queues.{joins, list_at, emptied, Queues}
+use Rattle.kernel_laws.specs.WaitingOrder.{AreQueues}
+use Rattle.kernel_laws.proofs.Choosing as choosing
+use Rattle.kernel_laws.proofs.WaitingOrder as waiting
 use Rattle.order.specs.Numbers.{AreAllowed, AreNamed, BeginsToWait, Follows, IsInOrder, Numbers, ready_lines, take_all, take_one, those_ready, Taking, BecomesReady, GoesLast, ready_line, taken_ready, May}
 
 -- ---- the next number grows

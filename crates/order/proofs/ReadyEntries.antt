@@ -3,8 +3,8 @@ use Rattle.std.proofs.Common.{◌≡◌, inl, inr, ℕ, Bool, true, false, not, 
 use Rattle.std.proofs.lemmas.Bool.{false≢true}
 use Rattle.std.specs.Prelude.{◌⊎◌, if◌then◌else◌}
 use Rattle.apex_types.specs.declared.process.Entry.{Entry}
-use Rattle.apex_meaning.specs.Choice.{IsAmong}
-use Rattle.apex_meaning.specs.Processes.{without, behind_equals}
+use Rattle.kernel_laws.specs.Choice.{IsAmong}
+use Rattle.kernel_meaning.specs.Processes.{without, behind_equals}
 
 -- ---- one has left
 

@@ -14,11 +14,11 @@ use Rattle.apex_types.specs.declared.process.Entry.{Entry}
 use Rattle.apex_types.specs.declared.process.Lock.{Lock}
 use Rattle.apex_types.specs.declared.process.Lock.TheVariants as lock
 use Rattle.apex_types.specs.declared.process.ProcessStatus.{ProcessStatus}
-use Rattle.apex_meaning.specs.Choice.{IsAmong}
-use Rattle.apex_meaning.specs.Partition.{are_same, chooses, first_ready, is_ready, leaves_processor, pick, preempts, runs, takes_processor, unless_held}
-use Rattle.apex_meaning.specs.ProcessServices.{is_ready_state}
-use Rattle.apex_meaning.specs.Processes.{Processes, row_of, index, is_same}
-use Rattle.apex_meaning.specs.Step.{Step}
+use Rattle.kernel_laws.specs.Choice.{IsAmong}
+use Rattle.kernel_meaning.specs.Partition.{are_same, chooses, first_ready, is_ready, leaves_processor, pick, preempts, runs, takes_processor, unless_held}
+use Rattle.kernel_meaning.specs.ProcessServices.{is_ready_state}
+use Rattle.kernel_meaning.specs.Processes.{Processes, row_of, index, is_same}
+use Rattle.kernel_meaning.specs.Step.{Step}
 use Rattle.order.specs.Agreement.{IsPlain, IsReadyAt, RecordsAgree, record_at}
 use Rattle.order.proofs.RecordRows.{IsCaller}
 use Rattle.order.proofs.Records.{OfProcess, either, kept_agrees, plain_of, same_at, stays_ready, was_at}

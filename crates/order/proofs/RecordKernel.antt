@@ -27,17 +27,17 @@ use Rattle.apex_types.specs.declared.process.Wait.TheVariants as wait
 use Rattle.apex_types.specs.declared.process.WaitingError.{WaitingError}
 use Rattle.apex_types.specs.declared.service.ArrayPlace.{ArrayPlace}
 use Rattle.apex_types.specs.declared.service.Service.TheVariants as service
-use Rattle.apex_meaning.specs.Due.{Treated, timed_out, ends_wait, treats_due, misses, treats_deadline, treats, due_from, is_past, tick_of, mode_of_action}
-use Rattle.apex_meaning.specs.Errors.{Errors}
-use Rattle.apex_meaning.specs.HealthServices.{action_of, acts_on_error, begins_if_dormant, breaks, create_error_handler, creates_found, enters_mode as enters_mode_of_action, faults, get_error_status, goes_on, is_fault, is_waiting, raise_application_error, raises, raises_application_error, starts_handler, takes_error, then_clears}
-use Rattle.apex_meaning.specs.Kernel.{Kernel, of_processes, with_errors}
-use Rattle.apex_meaning.specs.Partition.{runs}
-use Rattle.apex_meaning.specs.PartitionServices.{clears, cleared_processes, ends_body, enters_mode, forgotten, is_cold, is_warm, mode_of, next_release_of, ready_init, set_partition_mode, started_rows, starts_normally, wants}
-use Rattle.apex_meaning.specs.ProcessServices.{is_ready_state}
-use Rattle.apex_meaning.specs.Processes.{Processes, row_of, index, is_dormant, is_normal, rests_found}
-use Rattle.apex_meaning.specs.Sharing.{Sharing}
-use Rattle.apex_meaning.specs.Starts.{released_at}
-use Rattle.apex_meaning.specs.Step.{Step}
+use Rattle.kernel_meaning.specs.Times.{Treated, timed_out, ends_wait, treats_due, misses, treats_deadline, treats, due_from, is_past, tick_of, mode_of_action}
+use Rattle.kernel_meaning.specs.Kernel.{Errors}
+use Rattle.kernel_meaning.specs.HealthServices.{action_of, acts_on_error, begins_if_dormant, breaks, create_error_handler, creates_found, enters_mode as enters_mode_of_action, faults, get_error_status, goes_on, is_fault, is_waiting, raise_application_error, raises, raises_application_error, starts_handler, takes_error, then_clears}
+use Rattle.kernel_meaning.specs.Kernel.{Kernel, of_processes, with_errors}
+use Rattle.kernel_meaning.specs.Partition.{runs}
+use Rattle.kernel_meaning.specs.PartitionServices.{clears, cleared_processes, ends_body, enters_mode, forgotten, is_cold, is_warm, mode_of, next_release_of, ready_init, set_partition_mode, started_rows, starts_normally, wants}
+use Rattle.kernel_meaning.specs.ProcessServices.{is_ready_state}
+use Rattle.kernel_meaning.specs.Processes.{Processes, row_of, index, is_dormant, is_normal, rests_found}
+use Rattle.kernel_meaning.specs.Sharing.{Sharing}
+use Rattle.kernel_meaning.specs.Times.{released_at}
+use Rattle.kernel_meaning.specs.Step.{Step}
 use Rattle.order.specs.Agreement.{IsReadyAt, RecordsAgree, record_at}
 use Rattle.order.proofs.Places.{get_set_other, some_set}
 use Rattle.order.proofs.RecordObjects.{either as either_shared}

@@ -15,19 +15,18 @@ use Rattle.apex_types.specs.declared.service.ArrayPlace.{ArrayPlace}
 use Rattle.apex_types.specs.declared.service.Call.{Call}
 use Rattle.apex_types.specs.declared.service.Call.TheVariants as call
 use Rattle.apex_types.specs.declared.service.Service.{Service}
-use Rattle.apex_meaning.specs.Arrival as arrival
-use Rattle.apex_meaning.specs.BlackboardServices as blackboards
-use Rattle.apex_meaning.specs.BufferServices as buffers
-use Rattle.apex_meaning.specs.EventServices as events
-use Rattle.apex_meaning.specs.ObjectServices.{serves_objects}
-use Rattle.apex_meaning.specs.Objects.{Objects, Blackboard, Buffer, Semaphore, Event, semaphore, event, buffer, blackboard}
-use Rattle.apex_meaning.specs.PortServices as ports
-use Rattle.apex_meaning.specs.Ports.{Port, Ports, is_full, is_sampling, port_at, sampling, queuing}
-use Rattle.apex_meaning.specs.Processes.{row_of, numbered}
-use Rattle.apex_meaning.specs.SemaphoreServices as semaphores
-use Rattle.apex_meaning.specs.Sharing.{Sharing, of_processes, on, create, get_id, get_status}
-use Rattle.apex_meaning.specs.Step.{Step, message}
-use Rattle.apex_meaning.specs.Waiting.{blocks, first_waiting, waiting}
+use Rattle.kernel_meaning.specs.BlackboardServices as blackboards
+use Rattle.kernel_meaning.specs.BufferServices as buffers
+use Rattle.kernel_meaning.specs.EventServices as events
+use Rattle.kernel_meaning.specs.ObjectServices.{serves_objects}
+use Rattle.kernel_meaning.specs.Objects.{Objects, Blackboard, Buffer, Semaphore, Event, semaphore, event, buffer, blackboard}
+use Rattle.kernel_meaning.specs.PortServices as ports
+use Rattle.kernel_meaning.specs.Objects.{Port, Ports, is_full, is_sampling, port_at, sampling, queuing}
+use Rattle.kernel_meaning.specs.Processes.{row_of, numbered}
+use Rattle.kernel_meaning.specs.SemaphoreServices as semaphores
+use Rattle.kernel_meaning.specs.Sharing.{Sharing, of_processes, on, create, get_id, get_status}
+use Rattle.kernel_meaning.specs.Step.{Step, message}
+use Rattle.kernel_meaning.specs.Sharing.{blocks, first_waiting, waiting}
 use Rattle.order.specs.Agreement.{RecordsAgree}
 use Rattle.order.proofs.Records.{IsFound, numbered_found, first_waiting_found, released_agrees, gives_agrees, all_released_agree, all_given_agree, blocks_agrees}
 use Rattle.order.proofs.Records as records
@@ -237,31 +236,31 @@ module _ (b : Sharing Ports) (h : RecordsAgree b.processes) (p : Runner) where
 -- ---- messages that come, and senders that enter
 
 module _ (b : Sharing Ports) (h : RecordsAgree b.processes) where
-  queuing_agrees : (place : ℕ) (x : Port) (m : ArrayVec ℤ) → Agrees (arrival.arrives_queuing b place x m (first_waiting b.processes (ports.list place)))
+  queuing_agrees : (place : ℕ) (x : Port) (m : ArrayVec ℤ) → Agrees (ports.arrives_queuing b place x m (first_waiting b.processes (ports.list place)))
   queuing_agrees place x m = first (first_waiting b.processes (ports.list place)) (first_waiting_found b.processes (ports.list place))
     where
-      first : (o : Option (Runner × ProcessStatus)) → IsFound b.processes o → Agrees (arrival.arrives_queuing b place x m o)
+      first : (o : Option (Runner × ProcessStatus)) → IsFound b.processes o → Agrees (ports.arrives_queuing b place x m o)
       first None found = either (is_full x) _ _ h h
       first (Some f) found = gives_agrees b.processes h f.0 f.1 m (found f refl)
 
-  arrives_at_agrees : (at : At) (place : ℕ) (m : ArrayVec ℤ) (o : Option Port) → Agrees (arrival.arrives_at at b place m o)
+  arrives_at_agrees : (at : At) (place : ℕ) (m : ArrayVec ℤ) (o : Option Port) → Agrees (ports.arrives_at at b place m o)
   arrives_at_agrees at place m None = h
   arrives_at_agrees at place m (Some x) = either (is_sampling x) _ _ h (queuing_agrees place x m)
 
-  pub arrives_agrees : (at : At) (place : ℕ) (m : ArrayVec ℤ) → Agrees (arrival.arrives at b place m)
+  pub arrives_agrees : (at : At) (place : ℕ) (m : ArrayVec ℤ) → Agrees (ports.arrives at b place m)
   arrives_agrees at place m = arrives_at_agrees at place m (port_at b.shared place)
 
-  enters_agrees : (place : ℕ) (e : Entry) (o : Option Port) → Agrees (arrival.enters_port b place e o)
+  enters_agrees : (place : ℕ) (e : Entry) (o : Option Port) → Agrees (ports.enters_port b place e o)
   enters_agrees place e None = h
   enters_agrees place e (Some x) = either (is_full x) _ _ h (entered (numbered e.process (row_of b.processes (runner.Process e.process))) (numbered_found b.processes e.process))
     where
-      entered : (o : Option (Runner × ProcessStatus)) → IsFound b.processes o → Agrees (arrival.enters_found b place x o)
+      entered : (o : Option (Runner × ProcessStatus)) → IsFound b.processes o → Agrees (ports.enters_found b place x o)
       entered None found = h
       entered (Some f) found = released_agrees b.processes h f.0 f.1 f.1 code.NoError (found f refl) refl (λ k. k)
 
-all_enter_agree : (es : List Entry) (place : ℕ) (b : Sharing Ports) → RecordsAgree b.processes → Agrees (arrival.all_enter es place b)
+all_enter_agree : (es : List Entry) (place : ℕ) (b : Sharing Ports) → RecordsAgree b.processes → Agrees (ports.all_enter es place b)
 all_enter_agree [] place b h = h
 all_enter_agree (e ∷ es) place b h = all_enter_agree es place _ (enters_agrees b h place e (port_at b.shared place))
 
-pub admits_agree : (b : Sharing Ports) (place : ℕ) → RecordsAgree b.processes → Agrees (arrival.admits b place)
+pub admits_agree : (b : Sharing Ports) (place : ℕ) → RecordsAgree b.processes → Agrees (ports.admits b place)
 admits_agree b place h = all_enter_agree (waiting b.processes (ports.list place)) place b h

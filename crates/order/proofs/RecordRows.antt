@@ -18,14 +18,14 @@ use Rattle.apex_types.specs.declared.process.ProcessStatus.{ProcessStatus}
 use Rattle.apex_types.specs.declared.process.Wait.{Wait}
 use Rattle.apex_types.specs.declared.process.Wait.TheVariants as wait
 use Rattle.apex_types.specs.declared.service.Service.TheVariants as service
-use Rattle.apex_meaning.specs.Durations.{amount, is_delay, is_duration}
-use Rattle.apex_meaning.specs.Operators.{is_zero}
-use Rattle.apex_meaning.specs.Partition.{is_ready}
-use Rattle.apex_meaning.specs.ProcessServices.{get_process_id, get_process_status, tells_status, create_process, creates, set_priority, takes_priority, is_priority, priority_of, is_ready_state, suspend_self, suspends_self, of_row, holds, is_holder, suspend, suspends, resume, resumes, resumes_from, stop, stop_self, start, delayed_start, is_beyond, level_of, may_not_lock, locked_by, unlocked, lock_preemption, unlock_preemption, get_my_id}
-use Rattle.apex_meaning.specs.Processes.{Processes, row_of, index, process_at, has, on, is_created, is_dormant, is_dormant_state, is_held, is_periodic, is_suspended, is_unknown, is_no_other, is_busy, is_normal, put_row, put_ready}
-use Rattle.apex_meaning.specs.Starts.{starts, starts_in_normal, starts_if_waiting, starts_waiting, start_from, start_all_waiting, released_at, ticks}
-use Rattle.apex_meaning.specs.Step.{Step}
-use Rattle.apex_meaning.specs.TimeServices.{timed_wait, delays, yields, waits_until, periodic_wait, waits_periodically, waits_for_period, replenish, replenishes, deadline_in, has_no_deadline, reaches_past}
+use Rattle.kernel_meaning.specs.Times.{amount, is_delay, is_duration}
+use Rattle.engine_meaning.specs.Operators.{is_zero}
+use Rattle.kernel_meaning.specs.Partition.{is_ready}
+use Rattle.kernel_meaning.specs.ProcessServices.{get_process_id, get_process_status, tells_status, create_process, creates, set_priority, takes_priority, is_priority, priority_of, is_ready_state, suspend_self, suspends_self, of_row, holds, is_holder, suspend, suspends, resume, resumes, resumes_from, stop, stop_self, start, delayed_start, is_beyond, level_of, may_not_lock, locked_by, unlocked, lock_preemption, unlock_preemption, get_my_id}
+use Rattle.kernel_meaning.specs.Processes.{Processes, row_of, index, process_at, has, on, is_created, is_dormant, is_dormant_state, is_held, is_periodic, is_suspended, is_unknown, is_no_other, is_busy, is_normal, put_row, put_ready}
+use Rattle.kernel_meaning.specs.Times.{starts, starts_in_normal, starts_if_waiting, starts_waiting, start_from, start_all_waiting, released_at, ticks}
+use Rattle.kernel_meaning.specs.Step.{Step}
+use Rattle.kernel_meaning.specs.ProcessServices.{timed_wait, delays, yields, waits_until, periodic_wait, waits_periodically, waits_for_period, replenish, replenishes, deadline_in, has_no_deadline, reaches_past}
 use Rattle.order.specs.Agreement.{IsPlain, RecordsAgree, record_at}
 use Rattle.order.proofs.Records.{OfProcess, IsFree, at_found, either, free_of, is_free, kept_agrees, not_free, on_agrees, plain_of, ready_agrees, released_agrees, rests_agrees, rests_found_agrees, same_holder, waits_agrees, wakes_agrees, was_at}
 

@@ -7,15 +7,15 @@ use Rattle.apex_types.specs.declared.process.Action.{Action}
 use Rattle.apex_types.specs.declared.process.Action.TheVariants as action
 use Rattle.apex_types.specs.declared.service.Call.{Call}
 use Rattle.apex_types.specs.declared.service.Call.TheVariants as call
-use Rattle.apex_meaning.specs.Engine.{Engine, Asks, Nothing, Calls, Faults, Ends}
-use Rattle.apex_meaning.specs.HealthServices.{is_message_length}
-use Rattle.apex_meaning.specs.Kernel.{Kernel, of_processes, with_errors, with_objects, with_ports}
-use Rattle.apex_meaning.specs.Partition.{World, act, act_all, chooses_with_handler, pick, serves, serves_processes, serves_shared, treats_asked, treats_due}
-use Rattle.apex_meaning.specs.PartitionServices.{next_release_of}
-use Rattle.apex_meaning.specs.PortServices.{is_on_ports}
-use Rattle.apex_meaning.specs.ProcessServices.{number_of}
-use Rattle.apex_meaning.specs.Processes.{Processes}
-use Rattle.apex_meaning.specs.Step.{Step}
+use Rattle.engine_meaning.specs.Engine.{Engine, Asks, Nothing, Calls, Faults, Ends}
+use Rattle.kernel_meaning.specs.HealthServices.{is_message_length}
+use Rattle.kernel_meaning.specs.Kernel.{Kernel, of_processes, with_errors, with_objects, with_ports}
+use Rattle.kernel_meaning.specs.Partition.{World, act, act_all, chooses_with_handler, pick, serves, serves_processes, serves_shared, treats_asked, treats_due}
+use Rattle.kernel_meaning.specs.PartitionServices.{next_release_of}
+use Rattle.kernel_meaning.specs.PortServices.{is_on_ports}
+use Rattle.kernel_meaning.specs.ProcessServices.{number_of}
+use Rattle.kernel_meaning.specs.Processes.{Processes}
+use Rattle.kernel_meaning.specs.Step.{Step}
 use Rattle.order.specs.OrderLaw.{chosen_among}
 use Rattle.order.proofs.RecordChoice.{chooses_agrees, picked_runs}
 use Rattle.order.proofs.RecordKernel.{KernelAgrees, create_handler_agrees, due_from_agrees, ends_body_agrees, error_status_agrees, faults_agrees, handler_agrees, raise_agrees, set_mode_agrees}

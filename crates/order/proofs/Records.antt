@@ -21,14 +21,14 @@ use Rattle.apex_types.specs.declared.process.ProcessStatus.{ProcessStatus}
 use Rattle.apex_types.specs.declared.process.Wait.{Wait}
 use Rattle.apex_types.specs.declared.process.Wait.TheVariants as wait
 use Rattle.apex_types.specs.declared.process.Waiting.{Waiting as Place}
-use Rattle.apex_meaning.specs.Choice.{IsAmong}
-use Rattle.apex_meaning.specs.Entries.{entry}
-use Rattle.apex_meaning.specs.Operators.{is_zero}
-use Rattle.apex_meaning.specs.Partition.{is_ready}
-use Rattle.apex_meaning.specs.ProcessServices.{is_ready_state}
-use Rattle.apex_meaning.specs.Processes.{Processes, row_of, index, numbered, process_at, is_same, is_busy, is_held, on, put_row, put_ready, put_unready, put_dormant, leaves, goes_last, without, behind_equals, not_running, without_holder, no_longer_waits, wakes, waits, rests, rests_found, released, released_with, zeros_of_wait}
-use Rattle.apex_meaning.specs.Step.{Step}
-use Rattle.apex_meaning.specs.Waiting.{enters, waits_at, blocks, gives, gives_found, gives_all, releases_found, releases_all, found_first, first_waiting, waiting}
+use Rattle.kernel_laws.specs.Choice.{IsAmong}
+use Rattle.kernel_meaning.specs.Queues.{entry}
+use Rattle.engine_meaning.specs.Operators.{is_zero}
+use Rattle.kernel_meaning.specs.Partition.{is_ready}
+use Rattle.kernel_meaning.specs.ProcessServices.{is_ready_state}
+use Rattle.kernel_meaning.specs.Processes.{Processes, row_of, index, numbered, process_at, is_same, is_busy, is_held, on, put_row, put_ready, put_unready, put_dormant, leaves, goes_last, without, behind_equals, not_running, without_holder, no_longer_waits, wakes, waits, rests, rests_found, released, released_with, zeros_of_wait}
+use Rattle.kernel_meaning.specs.Step.{Step}
+use Rattle.kernel_meaning.specs.Sharing.{enters, waits_at, blocks, gives, gives_found, gives_all, releases_found, releases_all, found_first, first_waiting, waiting}
 use Rattle.order.specs.Agreement.{IsPlain, IsReadyAt, RecordsAgree, record_at}
 use Rattle.order.proofs.Places.{get_set_same, get_set_other, some_set}
 use Rattle.order.proofs.ReadyEntries.{stays, left, in_behind, of_behind}

@@ -16,10 +16,10 @@ use Rattle.apex_types.specs.declared.identity.PartitionId.{PartitionId}
 use Rattle.apex_types.specs.declared.identity.PortId.{PortId}
 use Rattle.apex_types.specs.declared.row.ChannelEnd.{ChannelEnd}
 use Rattle.apex_types.specs.declared.row.ChannelEnd.TheVariants as ends
-use Rattle.apex_meaning.specs.Image.{Channel, at_number}
-use Rattle.apex_meaning.specs.Module.{Plan, Module, Advanced, Course, still, then_goes, unless_down, then_runs, steps, steps_member, started_member, start_lines, starts_all, delivers, delivers_all, goes_by, fault_line, tells_fault, as_origin, breaks_module, inputs, inputs_all, of_tick, channel_from, of_member, moves_found, moves_message, moves_messages, moves_so_many, ports_from, moves_port, moves_ports, moves_ended, ticks_owner, moves_and_ticks, module_tick, first_tick, next_tick, trace_from, trace}
-use Rattle.apex_meaning.specs.Partition.{Member, leaving, messages_to_move}
-use Rattle.apex_meaning.specs.Windows.{owner, ended}
+use Rattle.module_meaning.specs.Table.{Channel, at_number}
+use Rattle.module_meaning.specs.Module.{Plan, Module, Advanced, Course, still, then_goes, unless_down, then_runs, steps, steps_member, started_member, start_lines, starts_all, delivers, delivers_all, goes_by, fault_line, tells_fault, as_origin, breaks_module, inputs, inputs_all, of_tick, channel_from, of_member, moves_found, moves_message, moves_messages, moves_so_many, ports_from, moves_port, moves_ports, moves_ended, ticks_owner, moves_and_ticks, module_tick, first_tick, next_tick, trace_from, trace}
+use Rattle.kernel_meaning.specs.Partition.{Member, leaving, messages_to_move}
+use Rattle.kernel_meaning.specs.Windows.{owner, ended}
 use Rattle.order.specs.History.{Move, Starts, BreaksDown, Arrives, Leaves, Admits, GoesOut, Advances, makes, Happening, Moves, Tells, happens, all_happen, members_from, members_after}
 
 -- ---- lists

@@ -11,11 +11,11 @@ use Rattle.apex_types.specs.declared.identity.ListKey.{ListKey}
 use Rattle.apex_types.specs.declared.identity.Runner.{Runner}
 use Rattle.apex_types.specs.declared.service.ArrayPlace.{ArrayPlace}
 use Rattle.apex_types.specs.declared.service.Service.{Service}
-use Rattle.apex_meaning.specs.Objects.{numbered_in, placed}
-use Rattle.apex_meaning.specs.Processes.{Processes, is_normal}
-use Rattle.apex_meaning.specs.Sharing.{Sharing, becomes, of_processes, answers, refuses, has, on, create, get_id, get_status}
-use Rattle.apex_meaning.specs.Step.{Step, after, lifted, nothing, row}
-use Rattle.apex_meaning.specs.Waiting.{fills, writes}
+use Rattle.kernel_meaning.specs.Objects.{numbered_in, placed}
+use Rattle.kernel_meaning.specs.Processes.{Processes, is_normal}
+use Rattle.kernel_meaning.specs.Sharing.{Sharing, becomes, of_processes, answers, refuses, has, on, create, get_id, get_status}
+use Rattle.kernel_meaning.specs.Step.{Step, after, lifted, nothing, row}
+use Rattle.kernel_meaning.specs.Sharing.{fills, writes}
 use Rattle.order.specs.Numbers.{Goes, EachAt, May}
 use Rattle.order.proofs.Steps.{Named, nothing_goes, after_goes, fills_goes, answer_goes, refuse_goes}
 

@@ -26,13 +26,13 @@ use Rattle.apex_types.specs.declared.process.Wait.{Wait}
 use Rattle.apex_types.specs.declared.process.Wait.TheVariants as wait
 use Rattle.apex_types.specs.declared.process.Waiting.{Waiting as Place}
 use Rattle.apex_types.specs.declared.service.Service.{Service}
-use Rattle.apex_meaning.specs.Entries.{entry}
-use Rattle.apex_meaning.specs.Operators.{is_zero}
-use Rattle.apex_meaning.specs.ProcessServices.{time_out, with_lock}
-use Rattle.apex_meaning.specs.Processes.{Processes, index, is_busy, numbered, process_at, put_ready, put_row, put_unready, rests, row_of, waiting_lines, wakes, waits, answers, refuses, answers_wait, released, zeros_of_wait, no_longer_waits, on}
-use Rattle.apex_meaning.specs.Queues.{joins}
-use Rattle.apex_meaning.specs.Step.{Step, after, nothing, row, answered}
-use Rattle.apex_meaning.specs.Waiting.{fills, first_waiting, waiting, writes, enters, waits_at, blocks, releases_found, releases_all, gives, gives_found, gives_all, found_first, array_of_wait}
+use Rattle.kernel_meaning.specs.Queues.{entry}
+use Rattle.engine_meaning.specs.Operators.{is_zero}
+use Rattle.kernel_meaning.specs.ProcessServices.{time_out, with_lock}
+use Rattle.kernel_meaning.specs.Processes.{Processes, index, is_busy, numbered, process_at, put_ready, put_row, put_unready, rests, row_of, waiting_lines, wakes, waits, answers, refuses, answers_wait, released, zeros_of_wait, no_longer_waits, on}
+use Rattle.kernel_meaning.specs.Queues.{joins}
+use Rattle.kernel_meaning.specs.Step.{Step, after, nothing, row, answered}
+use Rattle.kernel_meaning.specs.Sharing.{fills, first_waiting, waiting, writes, enters, waits_at, blocks, releases_found, releases_all, gives, gives_found, gives_all, found_first, array_of_wait}
 use Rattle.order.specs.Numbers.{AreAllowed, AreNamed, BeginsToWait, Follows, Goes, IsInOrder, itself, process_of, ready_lines, subject_at, take_one, those_ready, called_ready, May, only_last}
 use Rattle.order.proofs.Primitives.{readied, lasted, in_order_ready, in_order_last, in_order_unready, in_order_released, in_order_enters, follows_after, told_after, allowed_after, named_set}
 

@@ -5,9 +5,9 @@ use Rattle.std.proofs.lemmas.Option.{none-some, same_Some}
 use Rattle.std.specs.Prelude.{◌==◌, if◌then◌else◌, slice_get, slice_set}
 use Rattle.apex_types.specs.declared.codes.Discipline.{Discipline}
 use Rattle.apex_types.specs.declared.identity.ListKey.{ListKey}
-use Rattle.apex_meaning.specs.Image.{at_number}
-use Rattle.apex_meaning.specs.Module.{steps_member}
-use Rattle.apex_meaning.specs.Partition.{Member, with_world}
+use Rattle.module_meaning.specs.Table.{at_number}
+use Rattle.module_meaning.specs.Module.{steps_member}
+use Rattle.kernel_meaning.specs.Partition.{Member, with_world}
 use Rattle.order.specs.History.{Move, Starts, BreaksDown, Arrives, Leaves, Admits, GoesOut, Advances, makes, Happening, Moves, Tells, happens, all_happen}
 use Rattle.order.specs.Numbers.{Numbers}
 use Rattle.order.specs.OrderLaw.{IsOrdered}

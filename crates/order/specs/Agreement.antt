@@ -10,10 +10,10 @@ use Rattle.apex_types.specs.declared.process.Lock.{Lock}
 use Rattle.apex_types.specs.declared.process.Lock.TheVariants as lock
 use Rattle.apex_types.specs.declared.process.ProcessStatus.{ProcessStatus}
 use Rattle.apex_types.specs.declared.process.Wait.TheVariants as wait
-use Rattle.apex_meaning.specs.Choice.{IsAmong}
-use Rattle.apex_meaning.specs.Partition.{is_ready}
-use Rattle.apex_meaning.specs.ProcessServices.{is_ready_state}
-use Rattle.apex_meaning.specs.Processes.{Processes}
+use Rattle.kernel_laws.specs.Choice.{IsAmong}
+use Rattle.kernel_meaning.specs.Partition.{is_ready}
+use Rattle.kernel_meaning.specs.ProcessServices.{is_ready_state}
+use Rattle.kernel_meaning.specs.Processes.{Processes}
 
 -- the record of a process
 abbrev pub record_at : List ProcessStatus → ProcessIndex → Option ProcessStatus

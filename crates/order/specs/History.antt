@@ -6,8 +6,8 @@ use Rattle.apex_types.specs.declared.device.DeviceLine.{DeviceLine}
 use Rattle.apex_types.specs.declared.event.Event.{Event}
 use Rattle.apex_types.specs.declared.identity.At.{At}
 use Rattle.apex_types.specs.declared.identity.PortId.{PortId}
-use Rattle.apex_meaning.specs.Module.{Plan, Module, Advanced, still, then_goes, steps, starts, first_tick, next_tick, module_tick}
-use Rattle.apex_meaning.specs.Partition.{Member, Moved, cold_start, breaks_down, arrives, leaves, admits, goes_out, advances}
+use Rattle.module_meaning.specs.Module.{Plan, Module, Advanced, still, then_goes, steps, starts, first_tick, next_tick, module_tick}
+use Rattle.kernel_meaning.specs.Partition.{Member, Moved, cold_start, breaks_down, arrives, leaves, admits, goes_out, advances}
 
 -- What a module does with a partition: it clears it to a cold start, breaks its hardware, lets a message arrive at a
 -- port or leave it, lets the senders enter that wait at a port, lets a message go out by a channel, or gives it a tick.

@@ -17,14 +17,14 @@ use Rattle.apex_types.specs.declared.process.Entry.{Entry}
 use Rattle.apex_types.specs.declared.process.ProcessStatus.{ProcessStatus}
 use Rattle.apex_types.specs.declared.service.Call.{Call}
 use Rattle.apex_types.specs.declared.service.Call.TheVariants as call
-use Rattle.apex_meaning.specs.Choice.{IsNumbered, takes}
-use Rattle.apex_meaning.specs.Engine.{Asks, Calls}
-use Rattle.apex_meaning.specs.Objects.{Objects}
-use Rattle.apex_meaning.specs.Ports.{Ports, discipline_of}
-use Rattle.apex_meaning.specs.Processes.{Processes}
-use Rattle.apex_meaning.specs.Queues.{Queues}
-use Rattle.apex_meaning.specs.Step.{Step}
-use Rattle.apex_meaning.specs.WaitingOrder.{AreQueues}
+use Rattle.kernel_laws.specs.Choice.{IsNumbered, takes}
+use Rattle.engine_meaning.specs.Engine.{Asks, Calls}
+use Rattle.kernel_meaning.specs.Objects.{Objects}
+use Rattle.kernel_meaning.specs.Objects.{Ports, discipline_of}
+use Rattle.kernel_meaning.specs.Processes.{Processes}
+use Rattle.kernel_meaning.specs.Queues.{Queues}
+use Rattle.kernel_meaning.specs.Step.{Step}
+use Rattle.kernel_laws.specs.WaitingOrder.{AreQueues}
 
 -- The ready number and the waiting number of each process, by its place from 0, and the next number: no number was
 -- given yet from it on.

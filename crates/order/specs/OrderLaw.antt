@@ -7,12 +7,12 @@ use Rattle.apex_types.specs.declared.event.EventKind.{EventKind}
 use Rattle.apex_types.specs.declared.identity.At.{At}
 use Rattle.apex_types.specs.declared.identity.ListKey.{ListKey}
 use Rattle.apex_types.specs.declared.identity.Runner.{Runner}
-use Rattle.apex_meaning.specs.Choice.{Picks}
-use Rattle.apex_meaning.specs.Engine.{Engine}
-use Rattle.apex_meaning.specs.HealthServices.{starts_handler}
-use Rattle.apex_meaning.specs.Kernel.{Kernel, with_errors}
-use Rattle.apex_meaning.specs.Partition.{World, Moved, control_at, due_phase, pick, prepares, spending_phase, ticked}
-use Rattle.apex_meaning.specs.Processes.{Processes}
+use Rattle.kernel_laws.specs.Choice.{Picks}
+use Rattle.engine_meaning.specs.Engine.{Engine}
+use Rattle.kernel_meaning.specs.HealthServices.{starts_handler}
+use Rattle.kernel_meaning.specs.Kernel.{Kernel, with_errors}
+use Rattle.kernel_meaning.specs.Partition.{World, Moved, control_at, due_phase, pick, prepares, spending_phase, ticked}
+use Rattle.kernel_meaning.specs.Processes.{Processes}
 use Rattle.order.specs.Agreement.{RecordsAgree}
 use Rattle.order.specs.Numbers.{Numbers, Taking, May, nobody, may_asked, AreAllowed, AreNamed, HaveDisciplines, IsInOrder, PortsHaveDisciplines, ready_lines, subject_at, take_all, those_ready}
 

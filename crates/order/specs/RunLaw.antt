@@ -9,13 +9,13 @@ use Rattle.apex_types.specs.declared.identity.ListKey.{ListKey}
 use Rattle.apex_types.specs.declared.identity.ListKey.TheVariants as key
 use Rattle.apex_types.specs.declared.process.Entry.{Entry}
 use Rattle.apex_types.specs.declared.process.ProcessStatus.{ProcessStatus}
-use Rattle.apex_meaning.specs.Choice.{IsAmong}
-use Rattle.apex_meaning.specs.Image.{at_number}
-use Rattle.apex_meaning.specs.Kernel.{Kernel}
-use Rattle.apex_meaning.specs.Module.{Module, trace, of_member}
-use Rattle.apex_meaning.specs.Objects.{Semaphore, Buffer}
-use Rattle.apex_meaning.specs.Partition.{Member}
-use Rattle.apex_meaning.specs.Ports.{Port, discipline_of}
+use Rattle.kernel_laws.specs.Choice.{IsAmong}
+use Rattle.module_meaning.specs.Table.{at_number}
+use Rattle.kernel_meaning.specs.Kernel.{Kernel}
+use Rattle.module_meaning.specs.Module.{Module, trace, of_member}
+use Rattle.kernel_meaning.specs.Objects.{Semaphore, Buffer}
+use Rattle.kernel_meaning.specs.Partition.{Member}
+use Rattle.kernel_meaning.specs.Objects.{Port, discipline_of}
 use Rattle.order.specs.Agreement.{IsReadyAt, record_at}
 use Rattle.order.specs.History.{Move, Starts, BreaksDown, Arrives, Leaves, Admits, GoesOut, Advances, makes, Happening, Moves, Tells, happens, all_happen, members_after}
 use Rattle.order.specs.Numbers.{Numbers, first_numbers, nobody, take_all}

@@ -2,9 +2,9 @@
 use Rattle.std.proofs.Common.{◌≡◌, ℕ, List, Ok}
 use Rattle.std.proofs.Math.Logic.{∥∥₁_map}
 use Rattle.apex_types.specs.declared.row.PortRow.{PortRow}
-use Rattle.apex_meaning.specs.Program as program
-use Rattle.apex_meaning.specs.Syntax as written
-use Rattle.apex_meaning.specs.WellFormed.{verdict}
+use Rattle.pal_meaning.specs.Program as program
+use Rattle.pal_meaning.specs.Syntax as written
+use Rattle.pal_meaning.specs.WellFormed.{verdict}
 use Rattle.pal_base.specs.Accepted.{IsAccepted}
 use Rattle.pal_base.specs.Answers.{HasText}
 

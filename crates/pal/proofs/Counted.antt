@@ -2,7 +2,7 @@
 use Rattle.std.proofs.Common.{◌≡◌, ℕ, List, [], ◌∷◌, length, arith}
 use Rattle.pal_base.specs.declared.syntax.Expr.{Expr}
 use Rattle.pal_base.specs.View.{exprs_of}
-use Rattle.apex_meaning.specs.WellFormed.{expr_count}
+use Rattle.pal_meaning.specs.WellFormed.{expr_count}
 
 pub counted : (names : List (List ℕ)) (es : List Expr) → length es ≡ expr_count (exprs_of names es)
 counted names [] = omega arith

@@ -5,10 +5,9 @@ use Rattle.std.specs.List.{sum}
 use Rattle.std.proofs.Math.Logic.{∥∥₁_elim}
 use Rattle.std.proofs.lemmas.List.{drop_more}
 use Rattle.std.proofs.Props.{props}
-use Rattle.apex_meaning.specs.Bounds.{IsHeld, IsBodyHeld, IsProcedureHeld, IsHandlerHeld, AreProcessesHeld, AreProceduresHeld, AreCostsHeld}
-use Rattle.apex_meaning.specs.Cost as cost
-use Rattle.apex_meaning.specs.Program as program
-use Rattle.apex_meaning.proofs.ProgramCosts.{accepted_costs}
+use Rattle.compiling_laws.specs.Bounds.{IsHeld, IsBodyHeld, IsProcedureHeld, IsHandlerHeld, AreProcessesHeld, AreProceduresHeld, AreCostsHeld}
+use Rattle.pal_meaning.specs.Program as program
+use Rattle.compiling_laws.proofs.ProgramCosts.{accepted_costs}
 use Rattle.pal_base.specs.Accepted.{IsAccepted}
 use Rattle.pal_base.specs.Costs.{held, comes_to}
 use Rattle.pal_base.specs.ProgramView.{body_of, procedure_of, process_of, program_of}
@@ -57,13 +56,13 @@ same_row name costs c f frame is frame_is size ticks fits =
     ∙ ap (λ n. record { name = name; instructions = n; frame = frame; cost = held (sum costs) }) (held_is (length costs) size)
     ∙ ap (λ n. record { name = name; instructions = length costs; frame = frame; cost = n }) (held_is (sum costs) ticks)
 
-pub body_is : (name : BodyName) (b : Body) (c : Cost) (f : ℕ) → c ≡ comes_to (cost.costs_of_body (body_of b)) → f ≡ min (cost.frame_of_body (body_of b)) 18446744073709551615 → IsBodyHeld (body_of b)
+pub body_is : (name : BodyName) (b : Body) (c : Cost) (f : ℕ) → c ≡ comes_to (program.costs_of_body (body_of b)) → f ≡ min (program.frame_of_body (body_of b)) 18446744073709551615 → IsBodyHeld (body_of b)
     → record { name = name; instructions = c.size; frame = f; cost = c.ticks } ≡ cost_of_body name b
-body_is name b c f is frame_is h = same_row name (cost.costs_of_body (body_of b)) c f (cost.frame_of_body (body_of b)) is frame_is h.0 h.1 h.2
+body_is name b c f is frame_is h = same_row name (program.costs_of_body (body_of b)) c f (program.frame_of_body (body_of b)) is frame_is h.0 h.1 h.2
 
-pub procedure_is : (name : BodyName) (p : code_procedure.Procedure) (c : Cost) (f : ℕ) → c ≡ comes_to (cost.costs_of_procedure (procedure_of p)) → f ≡ min (cost.frame_of_procedure (procedure_of p)) 18446744073709551615 → IsProcedureHeld (procedure_of p)
+pub procedure_is : (name : BodyName) (p : code_procedure.Procedure) (c : Cost) (f : ℕ) → c ≡ comes_to (program.costs_of_procedure (procedure_of p)) → f ≡ min (program.frame_of_procedure (procedure_of p)) 18446744073709551615 → IsProcedureHeld (procedure_of p)
     → record { name = name; instructions = c.size; frame = f; cost = c.ticks } ≡ cost_of_procedure_body name p
-procedure_is name p c f is frame_is h = same_row name (cost.costs_of_procedure (procedure_of p)) c f (cost.frame_of_procedure (procedure_of p)) is frame_is h.0 h.1 h.2
+procedure_is name p c f is frame_is h = same_row name (program.costs_of_procedure (procedure_of p)) c f (program.frame_of_procedure (procedure_of p)) is frame_is h.0 h.1 h.2
 
 -- ---- one after the other
 

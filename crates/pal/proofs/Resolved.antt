@@ -1,9 +1,9 @@
 -- Resolved parts that were put one behind the other are the whole.
 use Rattle.std.proofs.Common.{◌≡◌, ℕ, suc, ◌+◌, ◌<◌, ◌≤◌, ◌-◌, ℤ, pos, take, replicate, List, [], ◌∷◌, ◌++◌, length, drop, get_or, drop-cons, refl, sym, ap, ◌∙◌, arith}
 use Rattle.std.proofs.lemmas.List.{drop_all, take_all}
-use Rattle.apex_meaning.specs.Program as tree
-use Rattle.apex_meaning.specs.Resolve.{Scope, resolve_expr, resolve_exprs, resolve_links, resolve_stmt, resolve_block, resolve_arguments}
-use Rattle.apex_meaning.specs.Syntax as written
+use Rattle.pal_meaning.specs.Program as tree
+use Rattle.pal_meaning.specs.Resolve.{Scope, resolve_expr, resolve_exprs, resolve_links, resolve_stmt, resolve_block, resolve_arguments}
+use Rattle.pal_meaning.specs.Syntax as written
 use Rattle.apex_types.specs.declared.shape.ArgumentKind.{ArgumentKind}
 use Rattle.pal_base.specs.declared.program.Expr as code_expr
 use Rattle.pal_base.specs.declared.program.Link as code_link

@@ -15,9 +15,9 @@ use Rattle.apex_types.specs.declared.denotation.ObjectKind.TheVariants as object
 use Rattle.pal_base.specs.declared.syntax.Declaration.{Declaration}
 use Rattle.pal_base.specs.declared.syntax.Process.{Process}
 use Rattle.pal_base.specs.View.{name_of, declaration_of, declared_of, process_of}
-use Rattle.apex_meaning.specs.Resolve as meant
-use Rattle.apex_meaning.specs.Resolve.{Entry, Counts, find, or_else, scope_of, slot, own_entries, declaration_entries, process_entries, declared_meaning, after, counted}
-use Rattle.apex_meaning.specs.WellFormed.{are_new}
+use Rattle.pal_meaning.specs.Resolve as meant
+use Rattle.pal_meaning.specs.Resolve.{Entry, Counts, find, or_else, scope_of, slot, own_entries, declaration_entries, process_entries, declared_meaning, after, counted}
+use Rattle.pal_meaning.specs.WellFormed.{are_new}
 use Rattle.pal.specs.declared.meanings.Counts as code
 use Rattle.pal.specs.Tables.{counts_of}
 

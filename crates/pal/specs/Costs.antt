@@ -1,7 +1,7 @@
 -- What the report of a program's costs has: a row for each body, INIT, the handler, the processes and
 -- the procedures, in this order.
 use Rattle.std.specs.Prelude.{List, [], ◌∷◌, ◌++◌, map, Option, Some, None}
-use Rattle.apex_meaning.specs.Cost as cost
+use Rattle.pal_meaning.specs.Program as cost
 use Rattle.pal_base.specs.declared.program.Body.{Body}
 use Rattle.pal_base.specs.declared.program.Procedure as code_procedure
 use Rattle.pal_base.specs.declared.program.Process as code_process

@@ -3,10 +3,10 @@
 use Rattle.std.specs.Prelude.{ℕ, Bool, ◌&&◌, nat_le, List, [], ◌∷◌, length, map, flat_map, filter_map, option_map}
 use Rattle.std.specs.List.{list_all}
 use Rattle.apex_types.specs.declared.identity.TheConstants.{MOST_PROCESSES}
-use Rattle.apex_meaning.specs.Resolve.{Entry, no_counts, counts_of, words_of, semaphore_of, buffer_of, blackboard_of, procedure_of, resolve_stack_body, resolve_process}
-use Rattle.apex_meaning.specs.Syntax as written
-use Rattle.apex_meaning.specs.Program as tree
-use Rattle.apex_meaning.specs.WellFormed.{names_hold_in_body, keeps_counts, keeps_declaration, keeps_stack_body, keeps_handler, keeps_process}
+use Rattle.pal_meaning.specs.Resolve.{Entry, no_counts, counts_of, words_of, semaphore_of, buffer_of, blackboard_of, procedure_of, resolve_stack_body, resolve_process}
+use Rattle.pal_meaning.specs.Syntax as written
+use Rattle.pal_meaning.specs.Program as tree
+use Rattle.pal_meaning.specs.WellFormed.{names_hold_in_body, keeps_counts, keeps_declaration, keeps_stack_body, keeps_handler, keeps_process}
 use Rattle.pal_base.specs.declared.program.Expr as code_expr
 use Rattle.pal_base.specs.declared.program.Link as code_link
 use Rattle.pal_base.specs.declared.program.Stmt as code_stmt

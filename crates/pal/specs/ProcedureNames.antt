@@ -1,6 +1,6 @@
 -- The names of the procedures of a program, in the order of declaration.
 use Rattle.std.specs.Prelude.{ℕ, List, map, filter_map, Option, Some, None}
-use Rattle.apex_meaning.specs.Syntax as written
+use Rattle.pal_meaning.specs.Syntax as written
 use Rattle.pal_base.specs.declared.program.Procedure as code_procedure
 
 abbrev pub name_if_procedure : List ℕ → written.Kind → Option (List ℕ)

@@ -1,6 +1,6 @@
 -- What the definitions see of the scope of a body.
 use Rattle.std.specs.Prelude.{ℕ, List}
-use Rattle.apex_meaning.specs.Resolve as resolve
+use Rattle.pal_meaning.specs.Resolve as resolve
 use Rattle.pal_base.specs.View.{texts}
 use Rattle.pal.specs.declared.scope.Scope.{Scope}
 use Rattle.pal.specs.Tables.{entries_of}

@@ -1,6 +1,6 @@
 -- What the definitions see of a table of names, and of the counts of declarations.
 use Rattle.std.specs.Prelude.{List, map}
-use Rattle.apex_meaning.specs.Resolve.{Entry, Counts}
+use Rattle.pal_meaning.specs.Resolve.{Entry, Counts}
 use Rattle.pal.specs.declared.table.NameTable.{NameTable}
 use Rattle.pal.specs.declared.meanings.Counts as code
 

@@ -1,26 +1,15 @@
 -- When an answer of the check is the verdict on the program.
 use Rattle.std.specs.Prelude.{◌≡◌, ℕ, List, not, if◌then◌else◌, Result, Ok, Err}
-use Rattle.apex_meaning.specs.Program as tree
-use Rattle.apex_meaning.specs.Resolve.{Entry}
-use Rattle.apex_meaning.specs.Syntax as written
-use Rattle.apex_meaning.specs.WellFormed.{Refused, ByName, ByKind, ByLimit, ByPeriod, holds_of_bodies, kinds_hold_in_body, periods_hold}
+use Rattle.pal_meaning.specs.Program as tree
+use Rattle.pal_meaning.specs.Resolve.{Entry}
+use Rattle.pal_meaning.specs.Syntax as written
+use Rattle.pal_meaning.specs.WellFormed.{Refused, ByKind, ByLimit, ByPeriod, holds_of_bodies, kinds_hold_in_body, periods_hold}
 use Rattle.pal_base.specs.ProgramView.{program_of}
 use Rattle.pal_base.specs.declared.fault.PalFault.{PalFault}
-use Rattle.pal_base.specs.declared.fault.Refusal.{Refusal}
-use Rattle.pal_base.specs.declared.fault.Refusal.TheVariants as refusal
 use Rattle.pal.specs.Parts.{limits_hold_among, resolve_among}
 use Rattle.pal_base.specs.declared.checked.Checked.{Checked}
 use Rattle.pal_base.specs.declared.program.Program.{Program}
-
--- a refusal has the number of the verdict; want of memory says nothing of it
-abbrev pub Refuses : Refusal → Result tree.Program Refused → Type 0
-Refuses refusal.Text verdict = ⊥
-Refuses refusal.Grammar verdict = ⊥
-Refuses refusal.Name verdict = verdict ≡ Err ByName
-Refuses refusal.Kind verdict = verdict ≡ Err ByKind
-Refuses refusal.Limit verdict = verdict ≡ Err ByLimit
-Refuses refusal.Period verdict = verdict ≡ Err ByPeriod
-Refuses refusal.Memory verdict = Unit {0}
+use Rattle.pal_base.specs.Answers.{Refuses}
 
 -- the program with its names resolved is that of the verdict
 abbrev pub AnswersWith : Result Program PalFault → Result tree.Program Refused → Type 0

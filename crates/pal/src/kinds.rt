@@ -3,7 +3,7 @@
 
 ghost use Rattle.std.specs.Prelude.{◌≡◌, ◌&&◌, [], List, ℕ, length, nat_eq, map, is_ok, false, option_map, IfOk};
 ghost use Rattle.std.specs.List.{list_all};
-ghost use Rattle.apex_meaning.specs.WellFormed.{is_scalar, fits_argument, fits_arguments, fits_expr, fits_links, fits_exprs, fits_stmt, fits_block, kinds_hold_in_body, holds_of_bodies, holds_of_handler, holds_of_procedure};
+ghost use Rattle.pal_meaning.specs.WellFormed.{is_scalar, fits_argument, fits_arguments, fits_expr, fits_links, fits_exprs, fits_stmt, fits_block, kinds_hold_in_body, holds_of_bodies, holds_of_handler, holds_of_procedure};
 ghost use Rattle.pal_base.specs.View as view;
 ghost use Rattle.pal_base.specs.View.{texts, name_of, expr_of, exprs_of, links_of, stmt_of, block_of, body_of};
 ghost use Rattle.pal_base.specs.WrittenView.{program_of};

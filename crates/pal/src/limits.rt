@@ -3,10 +3,10 @@
 ghost use Rattle.std.specs.Prelude.{◌≡◌, ◌&&◌, List, ℕ, Some, map, length, nat_le, is_ok, is_some, option_map, IfOk};
 ghost use Rattle.std.specs.List.{list_all};
 ghost use Rattle.apex_types.specs.NameText as name_text;
-ghost use Rattle.apex_meaning.specs.Resolve.{no_counts};
-ghost use Rattle.apex_meaning.specs.Syntax as tree;
-ghost use Rattle.apex_meaning.specs.WellFormed as well_formed;
-ghost use Rattle.apex_meaning.specs.WellFormed.{is_between, is_time, is_word, value_at_most, keeps_counts, keeps_expr, keeps_links, keeps_exprs, keeps_stmt, keeps_block, keeps_body, keeps_kind, keeps_declaration, keeps_stack_body, keeps_handler, keeps_process};
+ghost use Rattle.pal_meaning.specs.Resolve.{no_counts};
+ghost use Rattle.pal_meaning.specs.Syntax as tree;
+ghost use Rattle.pal_meaning.specs.WellFormed as well_formed;
+ghost use Rattle.pal_meaning.specs.WellFormed.{is_between, is_time, is_word, value_at_most, keeps_counts, keeps_expr, keeps_links, keeps_exprs, keeps_stmt, keeps_block, keeps_body, keeps_kind, keeps_declaration, keeps_stack_body, keeps_handler, keeps_process};
 ghost use Rattle.pal_base.specs.View as view;
 ghost use Rattle.pal_base.specs.View.{texts, name_of, number_of, integer_of, expr_of, exprs_of, links_of, block_of, body_of};
 ghost use Rattle.pal_base.specs.WrittenView.{program_of};

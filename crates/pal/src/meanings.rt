@@ -1,9 +1,9 @@
 //! What the declared names of a program stand for.
 
 ghost use Rattle.std.specs.Prelude.{◌≡◌, ◌+◌, ◌++◌, ◌&&◌, [], List, ℕ, ◌<◌, map, take, position, is_ok, true, option_map, IfOk, IfSome};
-ghost use Rattle.apex_meaning.specs.Resolve as meant;
-ghost use Rattle.apex_meaning.specs.Resolve.{Entry, declared_entries, declaration_entries, process_entries, no_counts, declared_meaning};
-ghost use Rattle.apex_meaning.specs.WellFormed.{are_new};
+ghost use Rattle.pal_meaning.specs.Resolve as meant;
+ghost use Rattle.pal_meaning.specs.Resolve.{Entry, declared_entries, declaration_entries, process_entries, no_counts, declared_meaning};
+ghost use Rattle.pal_meaning.specs.WellFormed.{are_new};
 ghost use Rattle.std.specs.Str.{bytes_eq};
 ghost use Rattle.pal_base.specs.View as view;
 ghost use Rattle.pal_base.specs.View.{texts, declaration_of, declared_of, process_of};

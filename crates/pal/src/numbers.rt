@@ -2,7 +2,7 @@
 
 ghost use Rattle.std.specs.Prelude.{◌≡◌, ◌≤◌, pos};
 ghost use Rattle.pal_base.specs.View.{number_of, integer_of};
-ghost use Rattle.apex_meaning.specs.Resolve.{within, value_or_zero, signed_word};
+ghost use Rattle.pal_meaning.specs.Resolve.{within, value_or_zero, signed_word};
 
 use pal_base::syntax::{Natural, Numeral};
 

@@ -2,7 +2,7 @@
 
 ghost use Rattle.std.specs.Prelude.{◌≡◌, ◌&&◌, List, ℕ, map, is_ok, true, if◌then◌else◌};
 ghost use Rattle.std.specs.List.{list_all};
-ghost use Rattle.apex_meaning.specs.WellFormed.{keeps_period, is_written_multiple};
+ghost use Rattle.pal_meaning.specs.WellFormed.{keeps_period, is_written_multiple};
 ghost use Rattle.pal_base.specs.View as view;
 ghost use Rattle.pal_base.specs.View.{number_of};
 

@@ -1,7 +1,7 @@
 //! What the bodies of a program cost.
 
 ghost use Rattle.std.specs.Prelude.{◌≡◌, ◌++◌, map, option_map, IfOk, IfErr, OnOk};
-ghost use Rattle.apex_meaning.specs.Bounds.{AreCostsHeld, AreProceduresHeld, AreProcessesHeld, IsBodyHeld, IsHandlerHeld, IsProcedureHeld};
+ghost use Rattle.compiling_laws.specs.Bounds.{AreCostsHeld, AreProceduresHeld, AreProcessesHeld, IsBodyHeld, IsHandlerHeld, IsProcedureHeld};
 ghost use Rattle.pal_base.specs.ProgramView.{body_of, procedure_of, process_of, program_of};
 ghost use Rattle.pal_base.specs.declared.fault.Refusal.TheVariants.{Memory};
 ghost use Rattle.pal.specs.Costs.{costs_of, cost_of_body, cost_of_handler, cost_of_process, cost_of_procedure, cost_of_procedure_body};

@@ -4,10 +4,10 @@
 ghost use Rattle.std.specs.Prelude.{◌≡◌, ◌++◌, ◌-◌, ◌^◌, List, ℕ, pos, map, length, replicate, flat_map, filter_map, option_map, true, IfOk, OnOk};
 ghost use Rattle.std.specs.List.{list_all};
 ghost use Rattle.apex_types.specs.NameText.{is_name};
-ghost use Rattle.apex_meaning.specs.Program as tree;
-ghost use Rattle.apex_meaning.specs.Resolve as meant;
-ghost use Rattle.apex_meaning.specs.Resolve.{no_counts, counts_of, words_of, array_words, semaphore_of, buffer_of, blackboard_of, resolve_expr, resolve_exprs, resolve_links, resolve_stmt, resolve_block};
-ghost use Rattle.apex_meaning.specs.WellFormed.{keeps_declaration, keeps_process};
+ghost use Rattle.pal_meaning.specs.Program as tree;
+ghost use Rattle.pal_meaning.specs.Resolve as meant;
+ghost use Rattle.pal_meaning.specs.Resolve.{no_counts, counts_of, words_of, array_words, semaphore_of, buffer_of, blackboard_of, resolve_expr, resolve_exprs, resolve_links, resolve_stmt, resolve_block};
+ghost use Rattle.pal_meaning.specs.WellFormed.{keeps_declaration, keeps_process};
 ghost use Rattle.pal_base.specs.View as view;
 ghost use Rattle.pal_base.specs.WrittenView as written;
 ghost use Rattle.pal_base.specs.View.{texts, name_of, number_of, integer_of};

@@ -1,10 +1,10 @@
 //! The names that a body sees.
 
 ghost use Rattle.std.specs.Prelude.{◌≡◌, ◌++◌, ◌&&◌, ◌+◌, [], List, ℕ, map, is_ok, is_some, IfOk, OnOk};
-ghost use Rattle.apex_meaning.specs.Resolve as resolve;
-ghost use Rattle.apex_meaning.specs.Resolve.{Entry, own_entries, scope_of, find, place_of, array_place_of, array_size_of, object_number_of, procedure_number_of};
-ghost use Rattle.apex_meaning.specs.WellFormed as well_formed;
-ghost use Rattle.apex_meaning.specs.WellFormed.{are_new};
+ghost use Rattle.pal_meaning.specs.Resolve as resolve;
+ghost use Rattle.pal_meaning.specs.Resolve.{Entry, own_entries, scope_of, find, place_of, array_place_of, array_size_of, object_number_of, procedure_number_of};
+ghost use Rattle.pal_meaning.specs.WellFormed as well_formed;
+ghost use Rattle.pal_meaning.specs.WellFormed.{are_new};
 ghost use Rattle.pal_base.specs.View.{texts, name_of};
 ghost use Rattle.pal.specs.Tables.{entries_of};
 ghost use Rattle.pal.specs.Scopes.{names_of, sees};

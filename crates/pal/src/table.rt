@@ -1,8 +1,8 @@
 //! Tables of what the names of a program stand for.
 
 ghost use Rattle.std.specs.Prelude.{◌≡◌, ◌++◌, ◌∷◌, ◌&&◌, [], List, ℕ, not, is_some, true, IfOk, OnOk};
-ghost use Rattle.apex_meaning.specs.Resolve.{Entry, find};
-ghost use Rattle.apex_meaning.specs.WellFormed.{are_new};
+ghost use Rattle.pal_meaning.specs.Resolve.{Entry, find};
+ghost use Rattle.pal_meaning.specs.WellFormed.{are_new};
 ghost use Rattle.pal_base.specs.View.{texts, id_text};
 ghost use Rattle.pal.specs.Tables.{entries_of};
 

@@ -1,7 +1,7 @@
 //! The verdict on a program.
 
 ghost use Rattle.std.specs.Prelude.{◌≡◌, is_ok, IfErr, IfOk};
-ghost use Rattle.apex_meaning.specs.WellFormed as well_formed;
+ghost use Rattle.pal_meaning.specs.WellFormed as well_formed;
 ghost use Rattle.pal_base.specs.WrittenView.{program_of};
 ghost use Rattle.pal.specs.ProcedureNames.{names_of_procedures, procedure_names};
 ghost use Rattle.pal.specs.Tables.{entries_of};

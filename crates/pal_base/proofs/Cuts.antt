@@ -2,9 +2,10 @@
 use Rattle.std.proofs.Common.{◌≡◌, ℕ, zero, suc, ◌-◌, Bool, true, false, cond, nat_eq, List, [], ◌∷◌, length, map, Option, Some, None, refl, sym, ◌∙◌, ap, arith, ◌++◌}
 use Rattle.std.specs.Prelude.{codes, if◌then◌else◌, ◌==◌}
 use Rattle.std.proofs.lemmas.Bool.{eqb-true}
-use Rattle.apex_meaning.specs.GrammarWords.{Word}
-use Rattle.apex_meaning.specs.GrammarReading.{Reading, repeat, either, expect, name_at, service_at, integer_at, integers_at, first_values_at, declarations_at, stack_body_at, handler_at, processes_at, program_at, all_read, expr_at, exprs_of, ranked, Rank, Disjunction, unary_with, unary_at, unary_read, deeper_at, nested_at, arguments_at, arguments_with, links_at, link_at, links_of, operator_at, chain_with, chain_of, named_with, operated_at, block_at, block_read, statements_at, statements_with, stmt_at, stmt_with, branch_with, while_with, service_call_at, assignment_at, work_at, return_at, targets_at, block_of, ◌>>=◌}
-use Rattle.apex_meaning.specs.Syntax as tree
+use Rattle.pal_meaning.specs.Grammar.{Word}
+use Rattle.pal_laws.specs.GrammarReading.{Reading, repeat, either, expect, name_at, service_at, integer_at, integers_at, first_values_at, declarations_at, stack_body_at, handler_at, processes_at, program_at, all_read, expr_at, exprs_of, ranked, unary_with, unary_at, unary_read, deeper_at, nested_at, arguments_at, arguments_with, links_at, link_at, links_of, operator_at, chain_with, chain_of, named_with, operated_at, block_at, block_read, statements_at, statements_with, stmt_at, stmt_with, branch_with, while_with, service_call_at, assignment_at, work_at, return_at, targets_at, block_of, ◌>>=◌}
+use Rattle.pal_meaning.specs.Grammar.{Rank, Disjunction}
+use Rattle.pal_meaning.specs.Syntax as tree
 use Rattle.apex_types.specs.declared.instruction.BinaryOperator.{BinaryOperator}
 use Rattle.apex_types.specs.declared.instruction.UnaryOperator.{UnaryOperator}
 use Rattle.pal_base.specs.declared.source.Rank as declared

@@ -2,7 +2,7 @@
 use Rattle.std.proofs.Common.{◌≡◌, ℕ, ◌+◌, ◌-◌, ◌*◌, ◌^◌, ◌≤◌, Bool, true, false, List, [], ◌∷◌, Some, None, refl, ◌∙◌, ap, arith, cond}
 use Rattle.std.specs.Prelude.{fold, nat_lt}
 use Rattle.std.proofs.lemmas.Bool.{ltb-true, lt-ltb}
-use Rattle.apex_meaning.specs.GrammarWords.{within}
+use Rattle.pal_meaning.specs.Grammar.{within}
 
 fold_grows : (ds : List ℕ) (v : ℕ) → v ≤ fold (λ (n d : ℕ). n * 10 + (d - 48)) v ds
 fold_grows [] v = omega arith

@@ -11,8 +11,9 @@ use Rattle.std.proofs.lemmas.Bool.{leb-true, eqb-true}
 use Rattle.std.proofs.lemmas.Option.{slice_get-map}
 use Rattle.std.proofs.lemmas.List.{map-append}
 use Rattle.indexmap.specs.IndexSet.{insert_key}
-use Rattle.apex_meaning.specs.GrammarWords as grammar
-use Rattle.apex_meaning.specs.GrammarWords.{front, in_name, is_lower, is_digit}
+use Rattle.pal_meaning.specs.Grammar as grammar
+use Rattle.engine_meaning.specs.Digits.{front, is_digit}
+use Rattle.pal_meaning.specs.Grammar.{in_name, is_lower}
 use Rattle.pal_base.specs.declared.word.Token.{Token}
 use Rattle.pal_base.specs.declared.word.Word.{Word}
 use Rattle.pal_base.specs.declared.word.Word.TheVariants as word

@@ -3,7 +3,7 @@ use Rattle.std.proofs.Common.{◌≡◌, ℕ, List, [], ◌∷◌, ◌++◌, len
 use Rattle.std.proofs.lemmas.List.{map-append, length-map, take_at, drop_at}
 use Rattle.std.specs.List.{Contains}
 use Rattle.std.proofs.lemmas.List.Elements.{Contains-append_cases, Contains-append_left, Contains-append_right, Contains-push_cases}
-use Rattle.apex_meaning.specs.GrammarWords.{Word, words_of}
+use Rattle.pal_meaning.specs.Grammar.{Word, words_of}
 use Rattle.pal_base.specs.Next.{IsWhole, IsMisfit, MayFollow, AreNext, IsFirstFit, IsLookedFor, IsFit, IsNoted}
 use Rattle.pal_base.specs.declared.looking.Fit.{Fit}
 use Rattle.pal_base.specs.declared.looking.Fit.TheVariants as fit

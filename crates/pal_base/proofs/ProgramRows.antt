@@ -7,7 +7,7 @@ use Rattle.pal_base.specs.declared.program.Expr.{Expr, Chain, Chain', Apply, App
 use Rattle.pal_base.specs.declared.program.Link.{Link}
 use Rattle.pal_base.specs.declared.program.Stmt.{Stmt, If, If', IfElse, IfElse', While, While', Row_of-Stmt, end_of-Stmt, more_of-Stmt, items-the_row-Stmt, items_hidden-the_row-Stmt-0}
 use Rattle.pal_base.specs.ProgramView.{expr_of, expr_row, link_row, exprs_of, links_of, stmt_of, stmt_row, block_of}
-use Rattle.apex_meaning.specs.Program as tree
+use Rattle.pal_meaning.specs.Program as tree
 
 expr_list : (n : _) (k : Row_of-Expr n) → expr_row k ≡ exprs_of (items-the_row-Expr n k)
 expr_list n end_of-Expr = refl

@@ -2,13 +2,14 @@
 use Rattle.std.proofs.Common.{Some, None, Result, Ok, Err, ◌≡◌, ◌++◌, ℕ, List, sym, ◌∙◌, subst}
 use Rattle.std.specs.Prelude.{IfErr}
 use Rattle.std.proofs.lemmas.Option.{none-some}
-use Rattle.apex_meaning.specs.Grammar.{IsWritten}
-use Rattle.apex_meaning.specs.Syntax as tree
-use Rattle.apex_meaning.proofs.ReadPrograms.{written_is_read}
-use Rattle.apex_meaning.proofs.Shaped.{program_is_written}
-use Rattle.apex_meaning.specs.GrammarWords as grammar
-use Rattle.apex_meaning.specs.GrammarReading.{program_at}
-use Rattle.pal_base.specs.Answers.{IsText, IsRefused}
+use Rattle.pal_meaning.specs.Grammar.{IsWritten}
+use Rattle.pal_meaning.specs.Syntax as tree
+use Rattle.pal_laws.proofs.ReadPrograms.{written_is_read}
+use Rattle.pal_laws.proofs.Shaped.{program_is_written}
+use Rattle.pal_meaning.specs.Grammar as grammar
+use Rattle.pal_laws.specs.GrammarReading.{program_at}
+use Rattle.pal_meaning.specs.Grammar.{IsText}
+use Rattle.pal_base.specs.Answers.{IsRefused}
 use Rattle.pal_base.specs.Seen.{Refuses, Gives, IsSettled, refusal_of}
 use Rattle.pal_base.specs.Next.{IsWhole, IsMisfit}
 use Rattle.pal_base.specs.declared.source.Misfit.{Misfit}

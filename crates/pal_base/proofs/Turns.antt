@@ -1,9 +1,9 @@
 -- What a loop has found, followed by what the rest of the repetition finds, is the whole.
 use Rattle.std.proofs.Common.{◌≡◌, ℕ, ◌<◌, Bool, true, false, List, [], ◌∷◌, ◌++◌, length, map, Option, Some, None, Result, Ok, Err, refl, sym, ◌∙◌, ap, append_assoc, append-nil, length-append, arith, is_some, subst}
 use Rattle.std.proofs.lemmas.List.{length-map, map-append}
-use Rattle.apex_meaning.specs.GrammarWords.{Word}
-use Rattle.apex_meaning.specs.GrammarReading.{Reading, repeat, each, until, expect, ◌>>=◌}
-use Rattle.apex_meaning.proofs.Repeats.{repeat_ends, repeat_fails, repeat_goes_on, after}
+use Rattle.pal_meaning.specs.Grammar.{Word}
+use Rattle.pal_laws.specs.GrammarReading.{Reading, repeat, each, until, expect, ◌>>=◌}
+use Rattle.pal_laws.proofs.Repeats.{repeat_ends, repeat_fails, repeat_goes_on, after}
 use Rattle.pal_base.specs.Reads.{listed, up_to}
 use Rattle.std.specs.Result.{IsErr, IsErrAnd}
 use Rattle.pal_base.specs.Seen.{Refuses, Gives, IsSettled, Ahead}

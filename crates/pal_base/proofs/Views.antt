@@ -10,8 +10,8 @@ use Rattle.pal_base.specs.declared.syntax.Stmt.{Stmt}
 use Rattle.pal_base.specs.declared.syntax.StmtKind.{StmtKind, If, If', IfElse, IfElse', While, While', Row_of-Stmt, end_of-Stmt, more_of-Stmt, items-the_row-Stmt, items_hidden-the_row-Stmt-0}
 use Rattle.pal_base.specs.View.{name_of, expr_of, expr_row, link_row, exprs_of, links_of, kind_of, stmt_of, stmt_row, block_of}
 use Rattle.pal_base.specs.Rows.{pair_of}
-use Rattle.apex_meaning.specs.GrammarReading as reading
-use Rattle.apex_meaning.specs.Syntax as tree
+use Rattle.pal_laws.specs.GrammarReading as reading
+use Rattle.pal_meaning.specs.Syntax as tree
 
 expr_list : (names : List (List ℕ)) (n : _) (k : Row_of-Expr n) → expr_row names k ≡ exprs_of names (items-the_row-Expr n k)
 expr_list names n end_of-Expr = refl

@@ -1,10 +1,10 @@
 -- When a program with its names resolved is what a source text is accepted as.
 use Rattle.std.specs.Prelude.{◌≡◌, ℕ, List, Ok}
 use Rattle.apex_types.specs.declared.row.PortRow.{PortRow}
-use Rattle.apex_meaning.specs.Program.{Program}
-use Rattle.apex_meaning.specs.Syntax as written
-use Rattle.apex_meaning.specs.WellFormed.{verdict}
-use Rattle.pal_base.specs.Answers.{IsProgramOf}
+use Rattle.pal_meaning.specs.Program.{Program}
+use Rattle.pal_meaning.specs.Syntax as written
+use Rattle.pal_meaning.specs.WellFormed.{verdict}
+use Rattle.pal_meaning.specs.Grammar.{IsProgramOf}
 
 -- There is a text of a program that is well formed for a partition with these ports and this period, and
 -- this is that program.

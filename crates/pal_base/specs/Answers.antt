@@ -1,19 +1,12 @@
--- What is answered to a source text.
-use Rattle.std.specs.Prelude.{ℕ, ◌≤◌, List, length}
-use Rattle.std.specs.Str.{IsAscii}
-use Rattle.apex_meaning.specs.GrammarWords.{words_of}
-use Rattle.apex_meaning.specs.Grammar.{IsWritten}
-use Rattle.apex_meaning.specs.Syntax as tree
+-- When a refusal of a source is right.
+use Rattle.std.specs.Prelude.{ℕ, List, ◌≡◌, Result, Err}
+use Rattle.pal_meaning.specs.Syntax as tree
 use Rattle.pal_base.specs.declared.fault.Refusal.{Refusal}
 use Rattle.pal_base.specs.declared.fault.Refusal.TheVariants.{Text, Grammar, Name, Kind, Limit, Period, Memory}
-
--- a source text is ASCII, and no longer than 1,048,576 bytes
-abbrev pub IsText : List ℕ → Type 0
-IsText text = IsAscii text × (length text ≤ 1048576)
-
--- the text of a program: its words are those that the grammar writes the program with
-abbrev pub IsProgramOf : List ℕ → tree.Program → Type 0
-IsProgramOf text program = IsText text × IsWritten (words_of text) program
+use Rattle.pal_meaning.specs.Grammar.{IsProgramOf, IsText}
+use Rattle.pal_meaning.specs.Program as resolved
+use Rattle.pal_meaning.specs.WellFormed.{Refused, ByName, ByKind, ByLimit, ByPeriod}
+use Rattle.pal_base.specs.declared.fault.Refusal.TheVariants as refusal
 
 -- there is a text of the program
 abbrev pub HasText : tree.Program → Type 0
@@ -28,3 +21,13 @@ IsRefused Kind text = ⊥
 IsRefused Limit text = ⊥
 IsRefused Period text = ⊥
 IsRefused Memory text = IsText text
+
+-- a refusal has the number of the verdict; want of memory says nothing of it
+abbrev pub Refuses : Refusal → Result resolved.Program Refused → Type 0
+Refuses refusal.Text verdict = ⊥
+Refuses refusal.Grammar verdict = ⊥
+Refuses refusal.Name verdict = verdict ≡ Err ByName
+Refuses refusal.Kind verdict = verdict ≡ Err ByKind
+Refuses refusal.Limit verdict = verdict ≡ Err ByLimit
+Refuses refusal.Period verdict = verdict ≡ Err ByPeriod
+Refuses refusal.Memory verdict = Unit {0}

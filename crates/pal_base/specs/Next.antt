@@ -2,9 +2,9 @@
 use Rattle.std.specs.Prelude.{◌≡◌, ℕ, ◌<◌, ◌≤◌, List, [], ◌∷◌, ◌++◌, Option, Some, None, slice_get, take, drop, length}
 use Rattle.std.specs.List.{Contains}
 use Rattle.apex_types.specs.declared.service.Service.TheVariants.{GetTime}
-use Rattle.apex_meaning.specs.GrammarWords.{Word, Name, Number, ServiceWord, Mark, words_of}
-use Rattle.apex_meaning.specs.Grammar.{IsWritten}
-use Rattle.apex_meaning.specs.Syntax as tree
+use Rattle.pal_meaning.specs.Grammar.{Word, Name, Number, ServiceWord, Mark, words_of}
+use Rattle.pal_meaning.specs.Grammar.{IsWritten}
+use Rattle.pal_meaning.specs.Syntax as tree
 use Rattle.pal_base.specs.Marks.{mark_text}
 use Rattle.pal_base.specs.View.{text_or_none}
 use Rattle.pal_base.specs.declared.looking.Fit.{Fit}

@@ -1,6 +1,6 @@
 -- What the definitions see of the parts of a program.
 use Rattle.std.specs.Prelude.{ℕ, List, map, option_map}
-use Rattle.apex_meaning.specs.Syntax as tree
+use Rattle.pal_meaning.specs.Syntax as tree
 use Rattle.pal_base.specs.declared.parse.Parts.{Parts}
 use Rattle.pal_base.specs.View.{declaration_of, stack_body_of, process_of}
 

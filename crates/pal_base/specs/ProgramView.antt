@@ -8,7 +8,7 @@ use Rattle.pal_base.specs.declared.program.Body as code_body
 use Rattle.pal_base.specs.declared.program.Procedure as code_procedure
 use Rattle.pal_base.specs.declared.program.Process as code_process
 use Rattle.pal_base.specs.declared.program.Program as code_program
-use Rattle.apex_meaning.specs.Program as tree
+use Rattle.pal_meaning.specs.Program as tree
 
 -- an expression; the rows are those of its arguments and of its operators with their operands
 abbrev mutual

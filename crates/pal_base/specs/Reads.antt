@@ -1,8 +1,8 @@
 -- The readings of those functions of the code that are cut in another way than the definitions.
 use Rattle.std.specs.Prelude.{ℕ, ◌-◌, ◌==◌, if◌then◌else◌, List, ◌∷◌, Option, Some, None, codes}
-use Rattle.apex_meaning.specs.GrammarWords.{Word}
-use Rattle.apex_meaning.specs.GrammarReading.{Reading, repeat, each, until, either, expect, integer_at, expr_at, exprs_of, name_at, service_at, targets_at, assignment_at, work_at, return_at, branch_with, while_with, block_read, ◌>>=◌}
-use Rattle.apex_meaning.specs.Syntax as tree
+use Rattle.pal_meaning.specs.Grammar.{Word}
+use Rattle.pal_laws.specs.GrammarReading.{Reading, repeat, each, until, either, expect, integer_at, expr_at, exprs_of, name_at, service_at, targets_at, assignment_at, work_at, return_at, branch_with, while_with, block_read, ◌>>=◌}
+use Rattle.pal_meaning.specs.Syntax as tree
 use Rattle.apex_types.specs.declared.service.Service.{Service}
 
 -- one thing as often as this mark stands before it

@@ -1,7 +1,7 @@
 -- What the definitions see of operators with their operands, one by one.
 use Rattle.std.specs.Prelude.{ℕ, List}
 use Rattle.apex_types.specs.declared.instruction.BinaryOperator.{BinaryOperator}
-use Rattle.apex_meaning.specs.Syntax as tree
+use Rattle.pal_meaning.specs.Syntax as tree
 use Rattle.pal_base.specs.declared.syntax.Link.{Link}
 use Rattle.pal_base.specs.View.{expr_of}
 

@@ -1,6 +1,7 @@
 -- What may stand in a run of bytes.
 use Rattle.std.specs.Prelude.{ℕ, Bool}
-use Rattle.apex_meaning.specs.GrammarWords.{is_digit, in_name, in_service}
+use Rattle.engine_meaning.specs.Digits.{is_digit}
+use Rattle.pal_meaning.specs.Grammar.{in_name, in_service}
 use Rattle.pal_base.specs.declared.word.Run.{Run}
 use Rattle.pal_base.specs.declared.word.Run.TheVariants as run
 

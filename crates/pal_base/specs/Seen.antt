@@ -10,15 +10,14 @@ use Rattle.pal_base.specs.declared.source.Source.{Source}
 use Rattle.pal_base.specs.declared.word.Token.{Token}
 use Rattle.pal_base.specs.View.{texts}
 use Rattle.pal_base.specs.WordView.{token_of}
-use Rattle.apex_meaning.specs.GrammarWords as grammar
-use Rattle.apex_meaning.specs.GrammarReading as reading
+use Rattle.pal_meaning.specs.Grammar as grammar
 
-abbrev pub rank_of : Rank → reading.Rank
-rank_of rank.Disjunction = reading.Disjunction
-rank_of rank.Conjunction = reading.Conjunction
-rank_of rank.Comparison = reading.Comparison
-rank_of rank.Sum = reading.Sum
-rank_of rank.Product = reading.Product
+abbrev pub rank_of : Rank → grammar.Rank
+rank_of rank.Disjunction = grammar.Disjunction
+rank_of rank.Conjunction = grammar.Conjunction
+rank_of rank.Comparison = grammar.Comparison
+rank_of rank.Sum = grammar.Sum
+rank_of rank.Product = grammar.Product
 
 -- how many ranks bind more
 abbrev pub looseness : Rank → ℕ

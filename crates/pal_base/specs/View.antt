@@ -19,7 +19,7 @@ use Rattle.pal_base.specs.declared.syntax.DeclarationKind.TheVariants.{Variable,
 use Rattle.pal_base.specs.declared.syntax.Declaration.{Declaration}
 use Rattle.pal_base.specs.declared.syntax.StackBody.{StackBody}
 use Rattle.pal_base.specs.declared.syntax.Process.{Process}
-use Rattle.apex_meaning.specs.Syntax as tree
+use Rattle.pal_meaning.specs.Syntax as tree
 
 -- the text of the name of that number, where there is one
 abbrev pub text_or_none : Option (List ℕ) → List ℕ

@@ -5,7 +5,7 @@ use Rattle.pal_base.specs.declared.word.Word.{Word}
 use Rattle.pal_base.specs.declared.word.Word.TheVariants as word
 use Rattle.pal_base.specs.Marks.{mark_text}
 use Rattle.pal_base.specs.View.{natural_of, id_text}
-use Rattle.apex_meaning.specs.GrammarWords as grammar
+use Rattle.pal_meaning.specs.Grammar as grammar
 
 -- a word, where the names have these texts
 abbrev pub word_of : List (List ℕ) → Word → grammar.Word

@@ -2,9 +2,9 @@
 
 ghost use Rattle.std.specs.Prelude.{◌≡◌, ◌∷◌, ◌++◌, [], ℕ, List, map};
 ghost use Rattle.apex_types.specs.declared.cost.TheConstants as constant;
-ghost use Rattle.apex_meaning.specs.Cost as cost;
-ghost use Rattle.apex_meaning.specs.ServiceTable as services;
-ghost use Rattle.apex_meaning.specs.Operators as operators;
+ghost use Rattle.pal_meaning.specs.Program as cost;
+ghost use Rattle.apex_types.specs.ServiceShape as services;
+ghost use Rattle.engine_meaning.specs.Operators as operators;
 ghost use Rattle.pal_base.specs.ProgramView.{expr_of, exprs_of, links_of, stmt_of, block_of, body_of, procedure_of};
 ghost use Rattle.pal_base.specs.Costs.{comes_to};
 

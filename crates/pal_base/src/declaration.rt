@@ -1,8 +1,8 @@
 //! Reading of declarations.
 
 ghost use Rattle.std.specs.Prelude.{◌≡◌, ◌<◌, ◌≤◌, List, ◌++◌, length, map, option_map, codes, IfOk, IfErr};
-ghost use Rattle.apex_meaning.specs.GrammarWords as grammar;
-ghost use Rattle.apex_meaning.specs.GrammarReading as reading;
+ghost use Rattle.pal_meaning.specs.Grammar as grammar;
+ghost use Rattle.pal_laws.specs.GrammarReading as reading;
 ghost use Rattle.pal_base.specs.Reads.{and_more, up_to, integers_read};
 ghost use Rattle.pal_base.specs.Seen.{seen, names_of, Gives, Ahead, IsSettled};
 ghost use Rattle.pal_base.specs.View.{name_of, integer_of, declaration_of};
@@ -31,7 +31,7 @@ impl Source {
         Ok((declarations, rest))
     }
 
-    #[tactic(auto, unfolding(apex_meaning::specs::GrammarReading::declaration_at))]
+    #[tactic(auto, unfolding(pal_laws::specs::GrammarReading::declaration_at))]
     /// A declaration.
     fn declaration<'a>(&self, alloc: Global, tokens: &'a [Token]) -> Read<'a, Declaration>
         ensures shorter { IfOk result (λ x. length x.1.now < length tokens.now) }
@@ -65,7 +65,7 @@ impl Source {
         self.procedure(alloc, line, rest)
     }
 
-    #[tactic(auto, unfolding(apex_meaning::specs::GrammarReading::variable_at))]
+    #[tactic(auto, unfolding(pal_laws::specs::GrammarReading::variable_at))]
     /// What follows the word `var` of that line.
     fn variable<'a>(&self, line: u32, tokens: &'a [Token]) -> Read<'a, Declaration>
         ensures shorter { IfOk result (λ x. length x.1.now < length tokens.now) }
@@ -80,7 +80,7 @@ impl Source {
         Ok((Declaration { line, name, kind }, rest))
     }
 
-    #[tactic(auto, unfolding(apex_meaning::specs::GrammarReading::first_value_at))]
+    #[tactic(auto, unfolding(pal_laws::specs::GrammarReading::first_value_at))]
     /// An equals sign and a number, or nothing.
     fn first_value<'a>(&self, tokens: &'a [Token]) -> Read<'a, Option<Numeral>>
         ensures shorter { IfOk result (λ x. length x.1.now ≤ length tokens.now) }
@@ -97,7 +97,7 @@ impl Source {
         }
     }
 
-    #[tactic(auto, unfolding(apex_meaning::specs::GrammarReading::array_at))]
+    #[tactic(auto, unfolding(pal_laws::specs::GrammarReading::array_at))]
     /// What follows the word `array` of that line.
     fn array<'a>(&self, alloc: Global, line: u32, tokens: &'a [Token]) -> Read<'a, Declaration>
         ensures shorter { IfOk result (λ x. length x.1.now < length tokens.now) }
@@ -114,7 +114,7 @@ impl Source {
         Ok((Declaration { line, name, kind }, rest))
     }
 
-    #[tactic(auto, unfolding(apex_meaning::specs::GrammarReading::first_values_at))]
+    #[tactic(auto, unfolding(pal_laws::specs::GrammarReading::first_values_at))]
     /// An equals sign and one or more numbers, or nothing, and a semicolon.
     fn first_values<'a>(&self, alloc: Global, tokens: &'a [Token]) -> Read<'a, Vec<Numeral>>
         ensures shorter { IfOk result (λ x. length x.1.now < length tokens.now) }
@@ -168,7 +168,7 @@ impl Source {
         Ok((values, rest))
     }
 
-    #[tactic(auto, unfolding(apex_meaning::specs::GrammarReading::semaphore_at))]
+    #[tactic(auto, unfolding(pal_laws::specs::GrammarReading::semaphore_at))]
     /// What follows the word `semaphore` of that line.
     fn semaphore<'a>(&self, line: u32, tokens: &'a [Token]) -> Read<'a, Declaration>
         ensures shorter { IfOk result (λ x. length x.1.now < length tokens.now) }
@@ -189,7 +189,7 @@ impl Source {
         Ok((Declaration { line, name, kind }, rest))
     }
 
-    #[tactic(auto, unfolding(apex_meaning::specs::GrammarReading::event_at))]
+    #[tactic(auto, unfolding(pal_laws::specs::GrammarReading::event_at))]
     /// What follows the word `event` of that line.
     fn event<'a>(&self, line: u32, tokens: &'a [Token]) -> Read<'a, Declaration>
         ensures shorter { IfOk result (λ x. length x.1.now < length tokens.now) }
@@ -203,7 +203,7 @@ impl Source {
         Ok((Declaration { line, name, kind }, rest))
     }
 
-    #[tactic(auto, unfolding(apex_meaning::specs::GrammarReading::buffer_at))]
+    #[tactic(auto, unfolding(pal_laws::specs::GrammarReading::buffer_at))]
     /// What follows the word `buffer` of that line.
     fn buffer<'a>(&self, line: u32, tokens: &'a [Token]) -> Read<'a, Declaration>
         ensures shorter { IfOk result (λ x. length x.1.now < length tokens.now) }
@@ -224,7 +224,7 @@ impl Source {
         Ok((Declaration { line, name, kind }, rest))
     }
 
-    #[tactic(auto, unfolding(apex_meaning::specs::GrammarReading::blackboard_at))]
+    #[tactic(auto, unfolding(pal_laws::specs::GrammarReading::blackboard_at))]
     /// What follows the word `blackboard` of that line.
     fn blackboard<'a>(&self, line: u32, tokens: &'a [Token]) -> Read<'a, Declaration>
         ensures shorter { IfOk result (λ x. length x.1.now < length tokens.now) }
@@ -239,7 +239,7 @@ impl Source {
         Ok((Declaration { line, name, kind }, rest))
     }
 
-    #[tactic(auto, unfolding(apex_meaning::specs::GrammarReading::port_at))]
+    #[tactic(auto, unfolding(pal_laws::specs::GrammarReading::port_at))]
     /// What follows the word `port` of that line.
     fn port<'a>(&self, line: u32, tokens: &'a [Token]) -> Read<'a, Declaration>
         ensures shorter { IfOk result (λ x. length x.1.now < length tokens.now) }
@@ -253,7 +253,7 @@ impl Source {
         Ok((Declaration { line, name, kind }, rest))
     }
 
-    #[tactic(auto, unfolding(apex_meaning::specs::GrammarReading::procedure_at))]
+    #[tactic(auto, unfolding(pal_laws::specs::GrammarReading::procedure_at))]
     /// What follows the word `proc` of that line.
     fn procedure<'a>(&self, alloc: Global, line: u32, tokens: &'a [Token]) -> Read<'a, Declaration>
         ensures shorter { IfOk result (λ x. length x.1.now < length tokens.now) }
@@ -269,7 +269,7 @@ impl Source {
         Ok((Declaration { line, name, kind }, rest))
     }
 
-    #[tactic(auto, unfolding(apex_meaning::specs::GrammarReading::parameters_at))]
+    #[tactic(auto, unfolding(pal_laws::specs::GrammarReading::parameters_at))]
     /// The parameters up to the closing parenthesis, and that parenthesis.
     fn parameters<'a>(&self, alloc: Global, tokens: &'a [Token]) -> Read<'a, Vec<Identifier>>
         ensures shorter { IfOk result (λ x. length x.1.now < length tokens.now) }

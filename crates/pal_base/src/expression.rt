@@ -1,8 +1,8 @@
 //! Reading of expressions. `levels` is how many levels may still be opened.
 
 ghost use Rattle.std.specs.Prelude.{◌<◌, ◌+◌, ◌≤◌, List, ◌++◌, length, map, codes, IfOk, IfErr};
-ghost use Rattle.apex_meaning.specs.GrammarWords as grammar;
-ghost use Rattle.apex_meaning.specs.GrammarReading as reading;
+ghost use Rattle.pal_meaning.specs.Grammar as grammar;
+ghost use Rattle.pal_laws.specs.GrammarReading as reading;
 ghost use Rattle.pal_base.specs.Reads.{and_more, listed, arguments_read};
 ghost use Rattle.pal_base.specs.Rows.{pair_of};
 ghost use Rattle.pal_base.specs.Seen.{seen, names_of, rank_of, Gives, Ahead, IsSettled};
@@ -16,7 +16,7 @@ use apex_types::UnaryOperator;
 use std::alloc::Global;
 
 impl Source {
-    #[tactic(auto, unfolding(apex_meaning::specs::GrammarReading::expr_at))]
+    #[tactic(auto, unfolding(pal_laws::specs::GrammarReading::expr_at))]
     /// The expression at the front.
     pub fn expression<'a>(&self, alloc: Global, levels: u32, tokens: &'a [Token]) -> Read<'a, Expr>
         ensures shorter { IfOk result (λ x. length x.1.now < length tokens.now) }
@@ -28,7 +28,7 @@ impl Source {
     }
 
     /// The operands of this rank at the front, with the operators between them.
-    #[tactic(auto, unfolding(apex_meaning::specs::GrammarReading::ranked, apex_meaning::specs::GrammarReading::chain_with))]
+    #[tactic(auto, unfolding(pal_laws::specs::GrammarReading::ranked, pal_laws::specs::GrammarReading::chain_with))]
     #[cycle(expression)]
     fn chain<'a>(
         &self,
@@ -51,7 +51,7 @@ impl Source {
     }
 
     /// An operand of the operators of this rank.
-    #[tactic(auto, unfolding(apex_meaning::specs::GrammarReading::ranked, apex_meaning::specs::GrammarReading::operand_with, apex_meaning::specs::GrammarReading::conjunctions_with, apex_meaning::specs::GrammarReading::comparisons_with, apex_meaning::specs::GrammarReading::sums_with, apex_meaning::specs::GrammarReading::products_with))]
+    #[tactic(auto, unfolding(pal_laws::specs::GrammarReading::ranked, pal_laws::specs::GrammarReading::operand_with, pal_laws::specs::GrammarReading::conjunctions_with, pal_laws::specs::GrammarReading::comparisons_with, pal_laws::specs::GrammarReading::sums_with, pal_laws::specs::GrammarReading::products_with))]
     #[cycle(expression)]
     fn operand<'a>(
         &self,
@@ -95,7 +95,7 @@ impl Source {
     }
 
     /// One comparison with its right operand, or none.
-    #[tactic(auto, unfolding(apex_meaning::specs::GrammarReading::links_at, apex_meaning::specs::GrammarReading::link_at))]
+    #[tactic(auto, unfolding(pal_laws::specs::GrammarReading::links_at, pal_laws::specs::GrammarReading::link_at))]
     #[cycle(expression)]
     fn one_link<'a>(&self, alloc: Global, levels: u32, tokens: &'a [Token]) -> Read<'a, Vec<Link>>
         ensures shorter { IfOk result (λ x. length x.1.now ≤ length tokens.now) }
@@ -139,7 +139,7 @@ impl Source {
     }
 
     /// An operand that is no chain.
-    #[tactic(auto, unfolding(apex_meaning::specs::GrammarReading::unary_read, apex_meaning::specs::GrammarReading::unary_with, apex_meaning::specs::GrammarReading::operated_at))]
+    #[tactic(auto, unfolding(pal_laws::specs::GrammarReading::unary_read, pal_laws::specs::GrammarReading::unary_with, pal_laws::specs::GrammarReading::operated_at))]
     #[cycle(expression)]
     fn unary<'a>(&self, alloc: Global, levels: u32, tokens: &'a [Token]) -> Read<'a, Expr>
         ensures shorter { IfOk result (λ x. length x.1.now < length tokens.now) }
@@ -166,7 +166,7 @@ impl Source {
     }
 
     /// The operand of a unary operator, one level further in.
-    #[tactic(auto, unfolding(apex_meaning::specs::GrammarReading::operated_at, apex_meaning::specs::GrammarReading::deeper_at))]
+    #[tactic(auto, unfolding(pal_laws::specs::GrammarReading::operated_at, pal_laws::specs::GrammarReading::deeper_at))]
     #[cycle(expression)]
     fn operated<'a>(
         &self,
@@ -189,7 +189,7 @@ impl Source {
     }
 
     /// An expression one level further in, behind the word that opens the level.
-    #[tactic(auto, unfolding(apex_meaning::specs::GrammarReading::nested_at, apex_meaning::specs::GrammarReading::expr_at))]
+    #[tactic(auto, unfolding(pal_laws::specs::GrammarReading::nested_at, pal_laws::specs::GrammarReading::expr_at))]
     #[cycle(expression)]
     pub fn nested<'a>(
         &self,
@@ -210,7 +210,7 @@ impl Source {
     }
 
     /// What begins with this name: an element, a call or the name alone.
-    #[tactic(auto, unfolding(apex_meaning::specs::GrammarReading::named_with))]
+    #[tactic(auto, unfolding(pal_laws::specs::GrammarReading::named_with))]
     #[cycle(expression)]
     fn named<'a>(
         &self,
@@ -237,7 +237,7 @@ impl Source {
     }
 
     /// The arguments behind the parenthesis that opens their list, up to the one that closes it.
-    #[tactic(auto, unfolding(crate::specs::Reads::arguments_read, crate::specs::Reads::arguments_within, apex_meaning::specs::GrammarReading::expr_at))]
+    #[tactic(auto, unfolding(crate::specs::Reads::arguments_read, crate::specs::Reads::arguments_within, pal_laws::specs::GrammarReading::expr_at))]
     #[cycle(expression)]
     pub fn arguments<'a>(
         &self,
@@ -264,7 +264,7 @@ impl Source {
     }
 
     /// This argument and all that follow with commas before them.
-    #[tactic(auto, unfolding(apex_meaning::specs::GrammarReading::expr_at))]
+    #[tactic(auto, unfolding(pal_laws::specs::GrammarReading::expr_at))]
     #[cycle(expression)]
     fn more_arguments<'a>(
         &self,

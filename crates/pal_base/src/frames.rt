@@ -2,7 +2,7 @@
 //! of 64 bits.
 
 ghost use Rattle.std.specs.Prelude.{◌≡◌, min};
-ghost use Rattle.apex_meaning.specs.Cost as cost;
+ghost use Rattle.pal_meaning.specs.Program as cost;
 ghost use Rattle.pal_base.specs.ProgramView.{body_of, block_of};
 
 use crate::operands::operands_of_block;

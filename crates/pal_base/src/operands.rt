@@ -2,7 +2,7 @@
 //! bits is the greatest number of 64 bits.
 
 ghost use Rattle.std.specs.Prelude.{◌≡◌, ◌+◌, min, max};
-ghost use Rattle.apex_meaning.specs.Cost as cost;
+ghost use Rattle.pal_meaning.specs.Program as cost;
 ghost use Rattle.pal_base.specs.ProgramView.{expr_of, exprs_of, links_of, stmt_of, block_of};
 
 use crate::program::{Expr, Link, Stmt};

@@ -2,9 +2,10 @@
 
 ghost use Rattle.std.specs.Prelude.{◌≡◌, ◌<◌, ◌≤◌, List, ◌++◌, length, map, option_map, Some, None, IfOk, IfErr, MatchOption, OnOk};
 ghost use Rattle.std.specs.Str.{IsAscii};
-ghost use Rattle.apex_meaning.specs.GrammarReading as reading;
-ghost use Rattle.apex_meaning.specs.GrammarWords as grammar;
-ghost use Rattle.pal_base.specs.Answers.{IsText, IsProgramOf, IsRefused};
+ghost use Rattle.pal_laws.specs.GrammarReading as reading;
+ghost use Rattle.pal_meaning.specs.Grammar as grammar;
+ghost use Rattle.pal_meaning.specs.Grammar.{IsText, IsProgramOf};
+ghost use Rattle.pal_base.specs.Answers.{IsRefused};
 ghost use Rattle.pal_base.specs.Marks.{mark_text};
 ghost use Rattle.pal_base.specs.Parts.{parts_of};
 ghost use Rattle.pal_base.specs.Seen.{seen, names_of, Gives, Ahead, IsSettled};
@@ -103,7 +104,7 @@ pub struct Parts {
 }
 
 impl Source {
-    #[tactic(auto, unfolding(apex_meaning::specs::GrammarReading::program_at))]
+    #[tactic(auto, unfolding(pal_laws::specs::GrammarReading::program_at))]
     /// The program that these words spell, all of them.
     pub fn program(&self, alloc: Global, tokens: &[Token]) -> Result<Parts, ReadError>
         ensures exact { Gives (parts_of (names_of self.now)) result (reading.program_at (seen self.now tokens.now)) }
@@ -124,7 +125,7 @@ impl Source {
         })
     }
 
-    #[tactic(auto, unfolding(apex_meaning::specs::GrammarReading::stack_body_at))]
+    #[tactic(auto, unfolding(pal_laws::specs::GrammarReading::stack_body_at))]
     /// The body of INIT or of the handler, behind its word.
     fn stack_body<'a>(&self, alloc: Global, mark: Mark, tokens: &'a [Token]) -> Read<'a, StackBody>
         ensures shorter { IfOk result (λ x. length x.1.now < length tokens.now) }
@@ -140,7 +141,7 @@ impl Source {
         Ok((StackBody { line, stack, body }, rest))
     }
 
-    #[tactic(auto, unfolding(apex_meaning::specs::GrammarReading::handler_at))]
+    #[tactic(auto, unfolding(pal_laws::specs::GrammarReading::handler_at))]
     /// The handler, if it is there.
     fn handler<'a>(&self, alloc: Global, tokens: &'a [Token]) -> Read<'a, Option<StackBody>>
         ensures shorter { IfOk result (λ x. length x.1.now ≤ length tokens.now) }
@@ -172,7 +173,7 @@ impl Source {
         Ok((processes, rest))
     }
 
-    #[tactic(auto, unfolding(apex_meaning::specs::GrammarReading::process_at))]
+    #[tactic(auto, unfolding(pal_laws::specs::GrammarReading::process_at))]
     /// What follows the word `process` of that line.
     fn process<'a>(&self, alloc: Global, line: u32, tokens: &'a [Token]) -> Read<'a, Process>
         ensures shorter { IfOk result (λ x. length x.1.now < length tokens.now) }

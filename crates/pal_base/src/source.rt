@@ -1,8 +1,8 @@
 //! Reading of single words.
 
 ghost use Rattle.std.specs.Prelude.{◌≡◌, ◌<◌, List, ◌++◌, length, IfOk, IfErr, IfSome, false, is_some};
-ghost use Rattle.apex_meaning.specs.GrammarWords as grammar;
-ghost use Rattle.apex_meaning.specs.GrammarReading as reading;
+ghost use Rattle.pal_meaning.specs.Grammar as grammar;
+ghost use Rattle.pal_laws.specs.GrammarReading as reading;
 ghost use Rattle.pal_base.specs.Marks.{mark_text};
 ghost use Rattle.pal_base.specs.Seen.{seen, names_of, rank_of, Gives, Finds, Ahead, FindsAhead, IsSettled};
 ghost use Rattle.pal_base.specs.View.{name_of, number_of, integer_of};
@@ -178,7 +178,7 @@ impl Source {
         })
     }
 
-    #[tactic(auto, unfolding(apex_meaning::specs::GrammarReading::expect))]
+    #[tactic(auto, unfolding(pal_laws::specs::GrammarReading::expect))]
     /// The words behind this mark, if it stands at the front.
     pub fn behind<'a>(&self, tokens: &'a [Token], mark: Mark) -> Option<&'a [Token]>
         ensures shorter { IfSome result (λ r. length r.now < length tokens.now) }
@@ -222,7 +222,7 @@ impl Source {
         }
     }
 
-    #[tactic(auto, unfolding(apex_meaning::specs::GrammarReading::name_at))]
+    #[tactic(auto, unfolding(pal_laws::specs::GrammarReading::name_at))]
     /// The name at the front, if one is there.
     pub fn name_at<'a>(&self, tokens: &'a [Token]) -> Option<(Identifier, &'a [Token])>
         ensures shorter { IfSome result (λ x. length x.1.now < length tokens.now) }
@@ -255,7 +255,7 @@ impl Source {
         }
     }
 
-    #[tactic(auto, unfolding(apex_meaning::specs::GrammarReading::number_at))]
+    #[tactic(auto, unfolding(pal_laws::specs::GrammarReading::number_at))]
     /// The number at the front, if one is there.
     pub fn number_at<'a>(&self, tokens: &'a [Token]) -> Option<(Numeral, &'a [Token])>
         ensures shorter { IfSome result (λ x. length x.1.now < length tokens.now) }
@@ -291,7 +291,7 @@ impl Source {
         }
     }
 
-    #[tactic(auto, unfolding(apex_meaning::specs::GrammarReading::integer_at))]
+    #[tactic(auto, unfolding(pal_laws::specs::GrammarReading::integer_at))]
     /// The number that has to stand at the front, with or without a minus sign.
     pub fn integer<'a>(&self, tokens: &'a [Token]) -> Read<'a, Numeral>
         ensures shorter { IfOk result (λ x. length x.1.now < length tokens.now) }
@@ -315,7 +315,7 @@ impl Source {
         }
     }
 
-    #[tactic(auto, unfolding(apex_meaning::specs::GrammarReading::discipline_at))]
+    #[tactic(auto, unfolding(pal_laws::specs::GrammarReading::discipline_at))]
     /// The discipline that has to stand at the front.
     pub fn discipline<'a>(&self, tokens: &'a [Token]) -> Read<'a, Discipline>
         ensures shorter { IfOk result (λ x. length x.1.now < length tokens.now) }
@@ -330,7 +330,7 @@ impl Source {
         Ok((Discipline::Priority, rest))
     }
 
-    #[tactic(auto, unfolding(apex_meaning::specs::GrammarReading::service_at))]
+    #[tactic(auto, unfolding(pal_laws::specs::GrammarReading::service_at))]
     /// The service at the front, if one is there.
     pub fn service_at<'a>(&self, tokens: &'a [Token]) -> Option<(Service, &'a [Token])>
         ensures shorter { IfSome result (λ x. length x.1.now < length tokens.now) }
@@ -344,7 +344,7 @@ impl Source {
         }
     }
 
-    #[tactic(auto, unfolding(apex_meaning::specs::GrammarReading::one_of))]
+    #[tactic(auto, unfolding(pal_laws::specs::GrammarReading::one_of))]
     /// The operator of this rank at the front, if one is there.
     pub fn operator_at<'a>(
         &self,

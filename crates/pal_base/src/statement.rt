@@ -1,8 +1,8 @@
 //! Reading of statements and blocks. `levels` is how many levels may still be opened.
 
 ghost use Rattle.std.specs.Prelude.{◌<◌, ◌+◌, ◌≤◌, List, ◌++◌, length, map, codes, IfOk, IfErr};
-ghost use Rattle.apex_meaning.specs.GrammarWords as grammar;
-ghost use Rattle.apex_meaning.specs.GrammarReading as reading;
+ghost use Rattle.pal_meaning.specs.Grammar as grammar;
+ghost use Rattle.pal_laws.specs.GrammarReading as reading;
 ghost use Rattle.pal_base.specs.Reads.{and_more, listed, service_call_read, stmt_read};
 ghost use Rattle.pal_base.specs.Seen.{seen, names_of, Gives, Ahead, IsSettled};
 ghost use Rattle.pal_base.specs.View.{name_of, kind_of, stmt_of, block_of, body_of};
@@ -18,7 +18,7 @@ use std::alloc::Global;
 const LEVELS_IN_BODY: u32 = 63;
 
 impl Source {
-    #[tactic(auto, unfolding(apex_meaning::specs::GrammarReading::body_at))]
+    #[tactic(auto, unfolding(pal_laws::specs::GrammarReading::body_at))]
     /// A body: its locals, then its statements, within braces.
     pub fn body<'a>(&self, alloc: Global, tokens: &'a [Token]) -> Read<'a, Body>
         ensures shorter { IfOk result (λ x. length x.1.now < length tokens.now) }
@@ -55,7 +55,7 @@ impl Source {
         Ok((locals, rest))
     }
 
-    #[tactic(auto, unfolding(apex_meaning::specs::GrammarReading::local_at))]
+    #[tactic(auto, unfolding(pal_laws::specs::GrammarReading::local_at))]
     /// The name of a local and its semicolon.
     fn local<'a>(&self, tokens: &'a [Token]) -> Read<'a, Identifier>
         ensures shorter { IfOk result (λ x. length x.1.now < length tokens.now) }
@@ -68,7 +68,7 @@ impl Source {
         Ok((name, rest))
     }
 
-    #[tactic(auto, unfolding(apex_meaning::specs::GrammarReading::block_read))]
+    #[tactic(auto, unfolding(pal_laws::specs::GrammarReading::block_read))]
     /// Statements within braces.
     #[cycle(statement)]
     fn block<'a>(&self, alloc: Global, levels: u32, tokens: &'a [Token]) -> Read<'a, Vec<Stmt>>
@@ -164,7 +164,7 @@ impl Source {
     }
 
     /// What follows the word `while`.
-    #[tactic(auto, unfolding(apex_meaning::specs::GrammarReading::while_with))]
+    #[tactic(auto, unfolding(pal_laws::specs::GrammarReading::while_with))]
     #[cycle(statement)]
     fn repetition<'a>(&self, alloc: Global, levels: u32, tokens: &'a [Token]) -> Read<'a, StmtKind>
         ensures shorter { IfOk result (λ x. length x.1.now < length tokens.now) }
@@ -177,7 +177,7 @@ impl Source {
         Ok((StmtKind::While(test, block), rest))
     }
 
-    #[tactic(auto, unfolding(apex_meaning::specs::GrammarReading::branch_with))]
+    #[tactic(auto, unfolding(pal_laws::specs::GrammarReading::branch_with))]
     /// What follows the word `if`.
     #[cycle(statement)]
     fn branch<'a>(&self, alloc: Global, levels: u32, tokens: &'a [Token]) -> Read<'a, StmtKind>
@@ -197,7 +197,7 @@ impl Source {
         }
     }
 
-    #[tactic(auto, unfolding(apex_meaning::specs::GrammarReading::work_at))]
+    #[tactic(auto, unfolding(pal_laws::specs::GrammarReading::work_at))]
     /// What follows the word `work`.
     fn work<'a>(&self, tokens: &'a [Token]) -> Read<'a, StmtKind>
         ensures shorter { IfOk result (λ x. length x.1.now < length tokens.now) }
@@ -210,7 +210,7 @@ impl Source {
         Ok((StmtKind::Work(ticks), rest))
     }
 
-    #[tactic(auto, unfolding(apex_meaning::specs::GrammarReading::return_at))]
+    #[tactic(auto, unfolding(pal_laws::specs::GrammarReading::return_at))]
     /// What follows the word `return`.
     fn returned<'a>(&self, alloc: Global, levels: u32, tokens: &'a [Token]) -> Read<'a, StmtKind>
         ensures shorter { IfOk result (λ x. length x.1.now < length tokens.now) }
@@ -223,7 +223,7 @@ impl Source {
         Ok((StmtKind::Return(value), rest))
     }
 
-    #[tactic(auto, unfolding(apex_meaning::specs::GrammarReading::assignment_at))]
+    #[tactic(auto, unfolding(pal_laws::specs::GrammarReading::assignment_at))]
     /// What follows the name at the front of an assignment.
     fn assignment<'a>(
         &self,
@@ -276,7 +276,7 @@ impl Source {
         Ok((StmtKind::CallService(service, arguments, targets), rest))
     }
 
-    #[tactic(auto, unfolding(apex_meaning::specs::GrammarReading::targets_at))]
+    #[tactic(auto, unfolding(pal_laws::specs::GrammarReading::targets_at))]
     /// An arrow and the names behind it, or nothing.
     fn targets<'a>(&self, alloc: Global, tokens: &'a [Token]) -> Read<'a, Vec<Identifier>>
         ensures shorter { IfOk result (λ x. length x.1.now ≤ length tokens.now) }
@@ -290,7 +290,7 @@ impl Source {
         }
     }
 
-    #[tactic(auto, unfolding(apex_meaning::specs::GrammarReading::names_at))]
+    #[tactic(auto, unfolding(pal_laws::specs::GrammarReading::names_at))]
     /// One or more names, with commas between them.
     pub fn names<'a>(&self, alloc: Global, tokens: &'a [Token]) -> Read<'a, Vec<Identifier>>
         ensures shorter { IfOk result (λ x. length x.1.now < length tokens.now) }

@@ -4,9 +4,11 @@ ghost use Rattle.std.specs.Prelude.{◌≡◌, ◌+◌, ◌-◌, ◌*◌, ◌<�
 ghost use Rattle.std.specs.List.{starts_with};
 ghost use Rattle.std.specs.Str.{IsAscii};
 ghost use Rattle.apex_types.specs.ServiceShape.{service_word};
-ghost use Rattle.apex_types.specs.ServiceNumbers.{services};
-ghost use Rattle.apex_meaning.specs.GrammarWords as grammar;
-ghost use Rattle.apex_meaning.specs.GrammarWords.{is_blank, is_lower, is_digit, is_upper, behind_blanks, front, behind, same};
+ghost use Rattle.apex_types.specs.ServiceShape.{services};
+ghost use Rattle.pal_meaning.specs.Grammar as grammar;
+ghost use Rattle.engine_meaning.specs.Digits as numerals;
+ghost use Rattle.pal_meaning.specs.Grammar.{is_blank, is_lower, is_upper, behind_blanks, behind};
+ghost use Rattle.engine_meaning.specs.Digits.{is_digit, front, same};
 ghost use Rattle.pal_base.specs.declared.fault.Refusal.TheVariants.{Memory};
 ghost use Rattle.pal_base.specs.Marks.{mark_text};
 ghost use Rattle.pal_base.specs.Runs.{member};
@@ -67,7 +69,7 @@ pub fn words_of(alloc: Global, text: &[u8]) -> Result<Words, PalFault>
     })
 }
 
-#[tactic(auto, unfolding(apex_meaning::specs::GrammarWords::behind_blanks))]
+#[tactic(auto, unfolding(pal_meaning::specs::Grammar::behind_blanks))]
 /// What follows the blanks and the comments at the front, and the line in which it stands.
 fn behind_blanks(text: &[u8], line: u32) -> (&[u8], u32)
     ensures { result.0.now ≡ behind_blanks false text.now }
@@ -133,7 +135,7 @@ fn belongs(byte: u8, run: Run) -> bool
 }
 
 /// The word at the front, and what follows it.
-#[tactic(auto, unfolding(apex_meaning::specs::GrammarWords::word_at, apex_meaning::specs::GrammarWords::lower_word, apex_meaning::specs::GrammarWords::upper_word, apex_meaning::specs::GrammarWords::sign_word))]
+#[tactic(auto, unfolding(pal_meaning::specs::Grammar::word_at, pal_meaning::specs::Grammar::lower_word, pal_meaning::specs::Grammar::upper_word, pal_meaning::specs::Grammar::sign_word))]
 fn word_at<'a>(
     alloc: Global,
     names: &mut IndexSet<String>,
@@ -250,10 +252,10 @@ fn sign_at(text: &[u8]) -> Option<(Mark, &[u8])>
     None
 }
 
-#[tactic(auto, using(crate::proofs::Decimals::stays_too_large), unfolding(apex_meaning::specs::GrammarWords::decimal_value))]
+#[tactic(auto, using(crate::proofs::Decimals::stays_too_large), unfolding(engine_meaning::specs::Digits::decimal_value))]
 /// The number of these digits, if it is at most 2^63 - 1.
 fn natural(digits: &[u8]) -> Natural
-    ensures { natural_of result ≡ grammar.within (grammar.decimal_value digits.now) }
+    ensures { natural_of result ≡ grammar.within (numerals.decimal_value digits.now) }
 {
     let mut value = 0;
     for digit in digits {

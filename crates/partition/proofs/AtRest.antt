@@ -2,13 +2,13 @@
 use Rattle.std.proofs.Common.{◌≡◌, ℕ, ◌+◌, ◌-◌, ◌<◌, List, [], ◌∷◌, length, None, refl, ap, arith, subst}
 use Rattle.apex_types.specs.declared.identity.PortId.{PortId}
 use Rattle.apex_types.specs.declared.process.Entry.{Entry}
-use Rattle.apex_meaning.specs.Arrival as arrival
-use Rattle.apex_meaning.specs.Kernel.{Kernel, with_ports}
-use Rattle.apex_meaning.specs.Partition.{chooses_with_handler}
-use Rattle.apex_meaning.specs.PortServices.{list}
-use Rattle.apex_meaning.specs.Step.{nothing}
-use Rattle.apex_meaning.specs.Waiting.{waiting, waiting_count}
-use Rattle.apex_meaning.specs.Windows.{tick_from}
+use Rattle.kernel_meaning.specs.PortServices as arrival
+use Rattle.kernel_meaning.specs.Kernel.{Kernel, with_ports}
+use Rattle.kernel_meaning.specs.Partition.{chooses_with_handler}
+use Rattle.kernel_meaning.specs.PortServices.{list}
+use Rattle.kernel_meaning.specs.Step.{nothing}
+use Rattle.kernel_meaning.specs.Sharing.{waiting, waiting_count}
+use Rattle.kernel_meaning.specs.Windows.{tick_from}
 use Rattle.bursts.specs.Quiet.{IsAtRest, IsStill, HasNothingDue}
 
 empty : {A : Type 0} (xs : List A) → length xs ≡ 0 → xs ≡ []

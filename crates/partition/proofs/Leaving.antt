@@ -6,9 +6,10 @@ use Rattle.apex_types.specs.declared.event.EventKind.{EventKind}
 use Rattle.apex_types.specs.declared.identity.Runner.{Runner}
 use Rattle.apex_types.specs.declared.out.Out.{Out}
 use Rattle.apex_types.specs.declared.process.Action.{Action}
-use Rattle.apex_meaning.specs.HealthServices.{acts_on_error, then_acts}
-use Rattle.apex_meaning.specs.Kernel.{Kernel}
-use Rattle.apex_meaning.specs.Step.{Step, IsMade}
+use Rattle.kernel_meaning.specs.HealthServices.{acts_on_error, then_acts}
+use Rattle.kernel_meaning.specs.Kernel.{Kernel}
+use Rattle.kernel_meaning.specs.Step.{Step}
+use Rattle.kernel_meaning.specs.Made.{IsMade}
 
 pub then_acted : (k : Kernel) (p : Runner) (e : ErrorKind) (s : Step (Option PartitionAction)) (left : Option PartitionAction) (next : Kernel) (a b c : Out)
     → IsMade s left a b → IsMade (acts_on_error k p e left) next b c → IsMade (then_acts k p e s) next a c

@@ -2,11 +2,11 @@
 use Rattle.std.proofs.Common.{◌≡◌, ap, ◌∙◌}
 use Rattle.apex_types.specs.declared.codes.ErrorKind.TheVariants.{DeadlineMissed}
 use Rattle.apex_types.specs.declared.identity.At.{At}
-use Rattle.apex_meaning.specs.Due.{Treated}
-use Rattle.apex_meaning.specs.HealthServices.{action_of, free_places, starts_handler}
-use Rattle.apex_meaning.specs.Kernel.{Kernel, of_processes, with_errors}
-use Rattle.apex_meaning.specs.Partition.{chooses, chooses_with_handler}
-use Rattle.apex_meaning.specs.Step.{nothing, after}
+use Rattle.kernel_meaning.specs.Times.{Treated}
+use Rattle.kernel_meaning.specs.HealthServices.{action_of, free_places, starts_handler}
+use Rattle.kernel_meaning.specs.Kernel.{Kernel, of_processes, with_errors}
+use Rattle.kernel_meaning.specs.Partition.{chooses, chooses_with_handler}
+use Rattle.kernel_meaning.specs.Step.{nothing, after}
 use Rattle.bursts.specs.Quiet.{HasNothingDue}
 use Rattle.process_table_base.specs.Timed.{AreQuiet}
 use Rattle.process_table_base.proofs.Quiet.{none_due}

@@ -3,10 +3,11 @@ use Rattle.std.specs.Prelude.{◌≤◌, List, length, map, is_some}
 use Rattle.apex_types.specs.declared.identity.TheConstants.{MOST_OBJECTS, MOST_PROCESSES}
 use Rattle.apex_types.specs.declared.row.PortRow.{PortRow}
 use Rattle.apex_types.specs.declared.row.Section.{Section}
-use Rattle.apex_meaning.specs.Kernel.{Fixed, Kernel}
-use Rattle.apex_meaning.specs.Objects.{fresh_objects}
-use Rattle.apex_meaning.specs.Ports.{fresh_ports}
-use Rattle.apex_meaning.specs.TwoMeanings.{fresh_kernel, machine_row}
+use Rattle.kernel_meaning.specs.Kernel.{Fixed, Kernel}
+use Rattle.kernel_meaning.specs.Objects.{fresh_objects}
+use Rattle.kernel_meaning.specs.Objects.{fresh_ports}
+use Rattle.kernel_meaning.specs.Fresh.{fresh_kernel}
+use Rattle.machine_meaning.specs.MachineMeaning.{machine_row}
 use Rattle.ports.specs.Bounds as port_rows
 use Rattle.process_table_base.specs.Bounds.{AreShort}
 

@@ -1,5 +1,5 @@
 -- How the state of a partition in the code is seen.
-use Rattle.apex_meaning.specs.Kernel as meaning
+use Rattle.kernel_meaning.specs.Kernel as meaning
 use Rattle.window_table.specs.Schedules.{schedule_of}
 use Rattle.partition.specs.declared.fixed.Fixed.{Fixed}
 use Rattle.partition.specs.declared.kernel.Kernel.TheInside.{Inside}

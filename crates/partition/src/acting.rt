@@ -1,7 +1,7 @@
 //! What the kernel asks for is done, and what happened is told.
 
 ghost use Rattle.std.specs.Prelude.{◌≡◌, ◌≤◌, ◌+◌, [], ◌++◌, length};
-ghost use Rattle.apex_meaning.specs.Partition.{line, told};
+ghost use Rattle.kernel_meaning.specs.Partition.{line, told};
 ghost use Rattle.partition.specs.Members.{member_at, acts, acts_all, IsTold};
 
 use crate::kernel::Kernel;

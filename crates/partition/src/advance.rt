@@ -2,9 +2,9 @@
 
 ghost use Rattle.std.specs.Prelude.{◌≡◌, ◌≤◌, ◌<◌, ◌+◌, ◌^◌, ℕ, [], length, Some, None};
 ghost use Rattle.apex_types.specs.Room.{IsEmpty};
-ghost use Rattle.apex_meaning.specs.Partition as meaning;
-ghost use Rattle.apex_meaning.specs.Step.{nothing};
-ghost use Rattle.apex_meaning.specs.Windows.{tick_from};
+ghost use Rattle.kernel_meaning.specs.Partition as meaning;
+ghost use Rattle.kernel_meaning.specs.Step.{nothing};
+ghost use Rattle.kernel_meaning.specs.Windows.{tick_from};
 ghost use Rattle.bursts.specs.Quiet.{HasNothingDue};
 ghost use Rattle.bursts.specs.Running.{advances_by, burst_of, with_control};
 ghost use Rattle.partition.specs.Members.{member_of, HasAdvanced, HasGone, IsMoved, IsTold, TellsSome};

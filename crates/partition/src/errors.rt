@@ -2,9 +2,9 @@
 
 ghost use Rattle.std.specs.Prelude.{◌≡◌, ◌+◌};
 ghost use Rattle.apex_types.specs.Room.{HasRoom, Grows};
-ghost use Rattle.apex_meaning.specs.HealthServices as meaning;
-ghost use Rattle.apex_meaning.specs.Kernel.{of_errors, of_processes, with_errors};
-ghost use Rattle.apex_meaning.specs.Step.{IsMade};
+ghost use Rattle.kernel_meaning.specs.HealthServices as meaning;
+ghost use Rattle.kernel_meaning.specs.Kernel.{of_errors, of_processes, with_errors};
+ghost use Rattle.kernel_meaning.specs.Made.{IsMade};
 
 use crate::kernel::Kernel;
 use apex_types::{

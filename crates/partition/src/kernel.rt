@@ -2,12 +2,13 @@
 
 ghost use Rattle.std.specs.Prelude.{◌≡◌, ◌<◌, ◌≤◌, ◌+◌, ◌^◌, ℕ, IfOk};
 ghost use Rattle.apex_types.specs.Room.{HasRoom, Grows};
-ghost use Rattle.apex_meaning.specs.Kernel.{of_processes};
-ghost use Rattle.apex_meaning.specs.Partition as tick;
-ghost use Rattle.apex_meaning.specs.PartitionServices.{next_release_of};
-ghost use Rattle.apex_meaning.specs.Processes.{subject};
-ghost use Rattle.apex_meaning.specs.Step.{IsMade, nothing};
-ghost use Rattle.apex_meaning.specs.Windows.{tick_from};
+ghost use Rattle.kernel_meaning.specs.Kernel.{of_processes};
+ghost use Rattle.kernel_meaning.specs.Partition as tick;
+ghost use Rattle.kernel_meaning.specs.PartitionServices.{next_release_of};
+ghost use Rattle.kernel_meaning.specs.Processes.{subject};
+ghost use Rattle.kernel_meaning.specs.Made.{IsMade};
+ghost use Rattle.kernel_meaning.specs.Step.{nothing};
+ghost use Rattle.kernel_meaning.specs.Windows.{tick_from};
 ghost use Rattle.bursts.specs.Quiet.{HasNothingDue};
 ghost use Rattle.partition.specs.Fresh.{AreWithinLimits, idle_kernel};
 ghost use Rattle.partition.specs.View.{fixed_of};
@@ -37,7 +38,7 @@ pub struct Kernel {
 }
 
 impl Model for Kernel {
-    ghost use Rattle.apex_meaning.specs.Kernel as meaning;
+    ghost use Rattle.kernel_meaning.specs.Kernel as meaning;
 
     ghost Value = { meaning.Kernel };
 

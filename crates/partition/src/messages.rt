@@ -2,12 +2,12 @@
 
 ghost use Rattle.std.specs.Prelude.{◌≡◌, ◌≤◌, ◌-◌, ◌+◌, ◌++◌, ◌^◌, [], length, option_map};
 ghost use Rattle.apex_types.specs.Room.{HasRoom, Grows};
-ghost use Rattle.apex_meaning.specs.Arrival as arrival;
-ghost use Rattle.apex_meaning.specs.Image.{at_number};
-ghost use Rattle.apex_meaning.specs.Kernel.{of_ports, of_ports_alone, with_ports};
-ghost use Rattle.apex_meaning.specs.Partition as meaning;
-ghost use Rattle.apex_meaning.specs.Ports.{port_at, is_source};
-ghost use Rattle.apex_meaning.specs.Step.{IsMade};
+ghost use Rattle.kernel_meaning.specs.PortServices as arrival;
+ghost use Rattle.module_meaning.specs.Table.{at_number};
+ghost use Rattle.kernel_meaning.specs.Kernel.{of_ports, of_ports_alone, with_ports};
+ghost use Rattle.kernel_meaning.specs.Partition as meaning;
+ghost use Rattle.kernel_meaning.specs.Objects.{port_at, is_source};
+ghost use Rattle.kernel_meaning.specs.Made.{IsMade};
 ghost use Rattle.partition.specs.Members.{member_of, IsMoved, IsTold};
 ghost use Rattle.ports.specs.Held.{message_behind};
 

@@ -2,10 +2,10 @@
 
 ghost use Rattle.std.specs.Prelude.{◌≡◌, ◌≤◌, ◌+◌, ◌^◌, length, pos};
 ghost use Rattle.apex_types.specs.Room.{HasRoom, Grows};
-ghost use Rattle.apex_meaning.specs.Kernel.{of_processes};
-ghost use Rattle.apex_meaning.specs.PartitionServices as meaning;
-ghost use Rattle.apex_meaning.specs.Processes.{rests_found, row_of};
-ghost use Rattle.apex_meaning.specs.Step.{IsMade, IsTold};
+ghost use Rattle.kernel_meaning.specs.Kernel.{of_processes};
+ghost use Rattle.kernel_meaning.specs.PartitionServices as meaning;
+ghost use Rattle.kernel_meaning.specs.Processes.{rests_found, row_of};
+ghost use Rattle.kernel_meaning.specs.Made.{IsMade, IsTold};
 
 use crate::kernel::Kernel;
 use apex_types::{

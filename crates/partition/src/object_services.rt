@@ -2,9 +2,9 @@
 
 ghost use Rattle.std.specs.Prelude.{◌≡◌, ◌≤◌, ◌+◌, ◌^◌, length};
 ghost use Rattle.apex_types.specs.Room.{HasRoom, Grows};
-ghost use Rattle.apex_meaning.specs.ObjectServices.{serves_objects};
-ghost use Rattle.apex_meaning.specs.Sharing.{both};
-ghost use Rattle.apex_meaning.specs.Step.{IsMade};
+ghost use Rattle.kernel_meaning.specs.ObjectServices.{serves_objects};
+ghost use Rattle.kernel_meaning.specs.Sharing.{both};
+ghost use Rattle.kernel_meaning.specs.Made.{IsMade};
 
 use apex_types::{At, Call, Mode, Out, Runner, Words};
 use process_table_base::ProcessTable;

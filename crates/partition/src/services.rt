@@ -2,8 +2,8 @@
 
 ghost use Rattle.std.specs.Prelude.{◌≡◌, ◌≤◌, ◌+◌, ◌^◌, length};
 ghost use Rattle.apex_types.specs.Room.{HasRoom, Grows};
-ghost use Rattle.apex_meaning.specs.Partition as meaning;
-ghost use Rattle.apex_meaning.specs.Step.{IsMade};
+ghost use Rattle.kernel_meaning.specs.Partition as meaning;
+ghost use Rattle.kernel_meaning.specs.Made.{IsMade};
 ghost use Rattle.processor.specs.Views.{asks_of};
 
 use crate::kernel::Kernel;

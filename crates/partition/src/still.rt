@@ -3,9 +3,9 @@
 ghost use Rattle.std.specs.Prelude.{◌≡◌, ◌≤◌, ◌<◌, ◌+◌, ℕ, true};
 ghost use Rattle.apex_types.specs.declared.identity.PortId.{PortId};
 ghost use Rattle.apex_types.specs.declared.identity.TheConstants.{MOST_OBJECTS};
-ghost use Rattle.apex_meaning.specs.Arrival as arrival;
-ghost use Rattle.apex_meaning.specs.Kernel.{with_ports};
-ghost use Rattle.apex_meaning.specs.Step.{nothing};
+ghost use Rattle.kernel_meaning.specs.PortServices as arrival;
+ghost use Rattle.kernel_meaning.specs.Kernel.{with_ports};
+ghost use Rattle.kernel_meaning.specs.Step.{nothing};
 ghost use Rattle.bursts.specs.Quiet.{IsAtRest, IsStill};
 
 use crate::kernel::Kernel;

@@ -2,8 +2,8 @@
 
 ghost use Rattle.std.specs.Prelude.{◌≡◌, ◌≤◌, ◌+◌, ◌++◌, ◌^◌, [], length, true};
 ghost use Rattle.apex_types.specs.Room.{IsEmpty};
-ghost use Rattle.apex_meaning.specs.Partition as meaning;
-ghost use Rattle.apex_meaning.specs.Step.{IsMade};
+ghost use Rattle.kernel_meaning.specs.Partition as meaning;
+ghost use Rattle.kernel_meaning.specs.Made.{IsMade};
 ghost use Rattle.partition.specs.Members.{member_of, acts_all, IsMoved, IsTold};
 ghost use Rattle.processor.specs.Views.{asks_of};
 
@@ -193,7 +193,7 @@ impl<E: Executor> Partition<E> {
     }
 
     /// The words that a call hands in: those of its array, at most 16.
-    #[tactic(auto, using(apex_meaning::proofs::Numbers::handed_words))]
+    #[tactic(auto, using(kernel_laws::proofs::Numbers::handed_words))]
     pub(crate) fn given(&self, mem: &E::Mem, outcome: &Outcome) -> Words
         ensures { result.items ≡ meaning.given (asks_of outcome.now) (E.words mem.now) }
     {

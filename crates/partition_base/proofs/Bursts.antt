@@ -3,10 +3,10 @@ use Rattle.std.proofs.Common.{◌≡◌, ℕ, zero, suc, ◌+◌, ◌≤◌, ℤ
 use Rattle.std.specs.Prelude.{Option, Some, None, slice_set}
 use Rattle.apex_types.specs.declared.instruction.Instr.{Instr}
 use Rattle.apex_types.specs.declared.row.RoutineRow.{RoutineRow}
-use Rattle.apex_meaning.specs.Engine.{Engine, Asks, Nothing}
-use Rattle.apex_meaning.specs.MachineControl.{MachineControl, machine_tick}
-use Rattle.apex_meaning.specs.Partition.{control_at, ticked}
-use Rattle.apex_meaning.proofs.StackLength.{tick_keeps_stack, tick_keeps_words}
+use Rattle.engine_meaning.specs.Engine.{Engine, Asks, Nothing}
+use Rattle.machine_meaning.specs.MachineControl.{MachineControl, machine_tick}
+use Rattle.kernel_meaning.specs.Partition.{control_at, ticked}
+use Rattle.machine_laws.proofs.StackLength.{tick_keeps_stack, tick_keeps_words}
 use Rattle.bursts.specs.Bursts.{Burst, later, alone, burst, machine_burst, is_nothing, told_of}
 use Rattle.partition_base.specs.Bursting.{at_place, burst_at}
 use Rattle.partition_base.specs.Slots.{controls_from}

@@ -6,10 +6,10 @@ use Rattle.std.proofs.lemmas.List.{map-set, set_past, length-map, length-set, le
 use Rattle.std.proofs.lemmas.Option.{slice_get-map, slice_get_past, slice_get-get_or, slice_get_within, none-some, same_Some}
 use Rattle.apex_types.specs.declared.row.BodyRow.{BodyRow}
 use Rattle.apex_types.specs.declared.row.ProcessRow.{ProcessRow}
-use Rattle.apex_meaning.specs.MachineControl.{MachineControl}
-use Rattle.apex_meaning.specs.Partition.{control_at, no_control}
-use Rattle.apex_meaning.specs.TwoMeanings.{body_of_row}
-use Rattle.apex_meaning.specs.Words.{put_words}
+use Rattle.machine_meaning.specs.MachineControl.{MachineControl}
+use Rattle.kernel_meaning.specs.Partition.{control_at, no_control}
+use Rattle.machine_meaning.specs.MachineMeaning.{body_of_row}
+use Rattle.engine_meaning.specs.Operators.{put_words}
 use Rattle.regions.specs.Space.{Space, seen, put, stacks_of, zeros}
 use Rattle.regions.proofs.Lists.{set_twice, put_back}
 use Rattle.partition_base.specs.Slots.{alone, control_on, control_while, control_of_slot, controls_from, stack_lengths, stack_of_body, is_begun}

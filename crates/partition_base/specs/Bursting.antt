@@ -1,7 +1,7 @@
 -- Many ticks of one of the controls, as ticks of all of them.
 use Rattle.std.specs.Prelude.{ℕ, ℤ, List, Option, slice_set}
-use Rattle.apex_meaning.specs.Engine.{Engine, Asks}
-use Rattle.apex_meaning.specs.Partition.{control_at, ticked}
+use Rattle.engine_meaning.specs.Engine.{Engine, Asks}
+use Rattle.kernel_meaning.specs.Partition.{control_at, ticked}
 use Rattle.bursts.specs.Bursts.{Burst, burst}
 
 -- a burst of the control at a place, the others stay as they are

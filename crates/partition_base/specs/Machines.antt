@@ -1,9 +1,9 @@
 -- The processor of a partition as the definitions see it.
 use Rattle.std.specs.Prelude.{ℕ, ℤ, List, ◌∷◌, Option, length, map}
 use Rattle.apex_types.specs.declared.row.BodyRow.{BodyRow}
-use Rattle.apex_meaning.specs.Engine.{Engine}
-use Rattle.apex_meaning.specs.MachineControl.{MachineControl, machine_engine}
-use Rattle.apex_meaning.specs.SourceControl.{body_at, or_init}
+use Rattle.engine_meaning.specs.Engine.{Engine}
+use Rattle.machine_meaning.specs.MachineControl.{MachineControl, machine_engine}
+use Rattle.engine_meaning.specs.Engine.{body_at, or_init}
 use Rattle.regions.specs.Space.{Space, stacks_of}
 use Rattle.partition_base.specs.Slots.{controls_from, stack_lengths, stack_of_body}
 use Rattle.partition_base.specs.declared.machine.Machine.{Machine}

@@ -3,11 +3,11 @@ use Rattle.std.specs.Prelude.{◌≤◌, List, ◌∷◌, map, length}
 use Rattle.apex_types.specs.declared.identity.TheConstants.{MOST_PROCESSES}
 use Rattle.apex_types.specs.declared.row.BodyRow.{BodyRow}
 use Rattle.apex_types.specs.declared.row.Section.{Section}
-use Rattle.apex_meaning.specs.Engine.{Engine}
-use Rattle.apex_meaning.specs.Instructions.{reading}
-use Rattle.apex_meaning.specs.MachineControl.{MachineControl, machine_engine}
-use Rattle.apex_meaning.specs.SourceControl.{body_at, or_init}
-use Rattle.apex_meaning.specs.TwoMeanings.{body_of_row}
+use Rattle.engine_meaning.specs.Engine.{Engine}
+use Rattle.machine_meaning.specs.Instructions.{reading}
+use Rattle.machine_meaning.specs.MachineControl.{MachineControl, machine_engine}
+use Rattle.engine_meaning.specs.Engine.{body_at, or_init}
+use Rattle.machine_meaning.specs.MachineMeaning.{body_of_row}
 use Rattle.processor.specs.Fitting.{IsFittingBody, AreFitting}
 use Rattle.regions.specs.Space.{Space, seen, zeros}
 use Rattle.partition_base.specs.Slots.{AreFittingBodies, stack_of_body}

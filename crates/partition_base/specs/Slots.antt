@@ -1,7 +1,7 @@
 -- The slots of a partition as the definitions see them.
 use Rattle.std.specs.Prelude.{◌≡◌, ℕ, ℤ, Bool, true, false, List, [], ◌∷◌, Option, Some, None, length, map, slice_get}
 use Rattle.apex_types.specs.declared.row.BodyRow.{BodyRow}
-use Rattle.apex_meaning.specs.MachineControl.{MachineControl}
+use Rattle.machine_meaning.specs.MachineControl.{MachineControl}
 use Rattle.processor.specs.Fitting.{IsFittingBody}
 use Rattle.processor.specs.declared.context.Context.{Context}
 use Rattle.regions.specs.Space.{Space, stacks_of}

@@ -2,10 +2,10 @@
 
 ghost use Rattle.std.specs.Prelude.{◌≡◌, ◌≤◌, ◌<◌, ◌+◌, ◌^◌, ◌∷◌, false, length, map, replicate, slice_get, Some, IfOk};
 ghost use Rattle.apex_types.specs.Runners.{place_of};
-ghost use Rattle.apex_meaning.specs.Partition.{message_from};
-ghost use Rattle.apex_meaning.specs.SourceControl.{or_init};
-ghost use Rattle.apex_meaning.specs.Words.{put_words};
-ghost use Rattle.apex_meaning.specs.TwoMeanings.{body_of_row};
+ghost use Rattle.kernel_meaning.specs.Partition.{message_from};
+ghost use Rattle.engine_meaning.specs.Engine.{or_init};
+ghost use Rattle.engine_meaning.specs.Operators.{put_words};
+ghost use Rattle.machine_meaning.specs.MachineMeaning.{body_of_row};
 ghost use Rattle.processor.specs.Fitting.{IsFittingBody};
 ghost use Rattle.regions.specs.Space.{planned, put};
 ghost use Rattle.partition_base.specs.Sections.{fresh_memory};
@@ -125,7 +125,7 @@ pub fn put(memory: &mut PartitionMem, place: usize, array: &[i64])
 
 impl Machine {
     ghost use Rattle.std.specs.Prelude.{None};
-    ghost use Rattle.apex_meaning.specs.SourceControl.{body_at};
+    ghost use Rattle.engine_meaning.specs.Engine.{body_at};
     ghost use Rattle.partition_base.specs.Machines.{engine_of, controls_of, initial_of, bodies_in, layout_of, laid_of};
     ghost use Rattle.partition_base.specs.Sections.{IsFittingSection, engine_of_section, fresh_memory};
 
@@ -168,7 +168,7 @@ impl Machine {
 }
 
 impl Executor for Machine {
-    ghost use Rattle.apex_meaning.specs.MachineControl.{MachineControl};
+    ghost use Rattle.machine_meaning.specs.MachineControl.{MachineControl};
     ghost use Rattle.partition_base.specs.Machines.{engine_of, controls_of, initial_of, layout_of, laid_of};
 
     type Mem = PartitionMem;

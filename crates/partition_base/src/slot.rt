@@ -3,8 +3,8 @@
 ghost use Rattle.std.specs.Prelude.{◌≡◌, ◌<◌, ℤ, List, length, map, slice_get, slice_set, Some, None, true, false};
 ghost use Rattle.apex_types.specs.declared.identity.Runner.{Runner};
 ghost use Rattle.apex_types.specs.declared.row.BodyRow.{BodyRow};
-ghost use Rattle.apex_meaning.specs.MachineControl.{machine_engine, machine_start};
-ghost use Rattle.apex_meaning.specs.Partition.{control_at, no_control, replied, ticked};
+ghost use Rattle.machine_meaning.specs.MachineControl.{machine_engine, machine_start};
+ghost use Rattle.kernel_meaning.specs.Partition.{control_at, no_control, replied, ticked};
 ghost use Rattle.processor.specs.Fitting.{IsFittingBody};
 ghost use Rattle.bursts.specs.Bursts.{burst, is_nothing};
 ghost use Rattle.processor.specs.Views.{asks_of};

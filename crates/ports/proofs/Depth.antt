@@ -2,7 +2,7 @@
 use Rattle.std.proofs.Common.{◌≡◌, true, refl, rules}
 use Rattle.apex_types.specs.declared.row.PortKind.{PortKind}
 use Rattle.apex_types.specs.declared.row.PortKind.TheVariants as kind
-use Rattle.apex_meaning.specs.Ports.{is_sampling_kind, depth_of}
+use Rattle.kernel_meaning.specs.Objects.{is_sampling_kind, depth_of}
 
 -- a sampling port has room for one message
 pub sampling_depth : (k : PortKind) → is_sampling_kind k ≡ true → depth_of k ≡ 1

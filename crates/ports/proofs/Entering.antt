@@ -2,13 +2,13 @@
 use Rattle.std.proofs.Common.{◌≡◌, ◌≤◌, ℕ, zero, suc, List, [], ◌∷◌, length, None, refl, arith}
 use Rattle.std.specs.Prelude.{slice_get}
 use Rattle.apex_types.specs.declared.process.Entry.{Entry}
-use Rattle.apex_meaning.specs.Arrival.{admits, all_enter}
-use Rattle.apex_meaning.specs.Ports.{Ports, port_at}
-use Rattle.apex_meaning.specs.Sharing.{Sharing, both}
-use Rattle.apex_meaning.specs.PortServices.{list}
-use Rattle.apex_meaning.specs.Processes.{Processes}
-use Rattle.apex_meaning.specs.Waiting.{waiting}
-use Rattle.apex_meaning.specs.Step.{nothing}
+use Rattle.kernel_meaning.specs.PortServices.{admits, all_enter}
+use Rattle.kernel_meaning.specs.Objects.{Ports, port_at}
+use Rattle.kernel_meaning.specs.Sharing.{Sharing, both}
+use Rattle.kernel_meaning.specs.PortServices.{list}
+use Rattle.kernel_meaning.specs.Processes.{Processes}
+use Rattle.kernel_meaning.specs.Sharing.{waiting}
+use Rattle.kernel_meaning.specs.Step.{nothing}
 
 past : {X : Type 0} (xs : List X) (place : ℕ) → length xs ≤ place → slice_get xs place ≡ None
 past [] place h = refl

@@ -1,7 +1,7 @@
 -- A port by its place.
 use Rattle.std.proofs.Common.{◌≡◌, ◌<◌, ℕ, zero, suc, List, [], ◌∷◌, length, refl, arith}
 use Rattle.std.specs.Prelude.{Some, slice_get, slice_index_or}
-use Rattle.apex_meaning.specs.Objects.{placed}
+use Rattle.kernel_meaning.specs.Objects.{placed}
 
 there : {X : Type 0} (xs : List X) (place : ℕ) (x : X) → place < length xs → slice_get xs place ≡ Some (slice_index_or xs place x)
 there [] place x h = absurd (omega arith)

@@ -3,9 +3,9 @@ use Rattle.std.proofs.Common.{◌≡◌, ℕ, ℤ, List, [], ◌∷◌, drop, No
 use Rattle.std.specs.Prelude.{Some, slice_get}
 use Rattle.arrayvec.specs.ArrayVec.{ArrayVec}
 use Rattle.apex_types.specs.declared.event.EventKind.TheVariants as event
-use Rattle.apex_meaning.specs.Arrival.{first_of, leaves_first}
-use Rattle.apex_meaning.specs.Ports.{Port, Ports, put_port}
-use Rattle.apex_meaning.specs.Step.{nothing}
+use Rattle.kernel_meaning.specs.PortServices.{first_of, leaves_first}
+use Rattle.kernel_meaning.specs.Objects.{Port, Ports, put_port}
+use Rattle.kernel_meaning.specs.Step.{nothing}
 
 pub first_is : (ms : List (ArrayVec ℤ)) → first_of ms ≡ slice_get ms 0
 first_is [] = refl

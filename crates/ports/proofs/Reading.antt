@@ -7,11 +7,11 @@ use Rattle.apex_types.specs.declared.identity.At.{At}
 use Rattle.apex_types.specs.declared.identity.Runner.{Runner}
 use Rattle.apex_types.specs.declared.service.ArrayPlace.{ArrayPlace}
 use Rattle.apex_types.specs.declared.service.Service.TheVariants as service
-use Rattle.apex_meaning.specs.PortServices.{reads_sample, becomes_port, validity_number, is_valid}
-use Rattle.apex_meaning.specs.Ports.{Port, Ports}
-use Rattle.apex_meaning.specs.Processes.{Processes}
-use Rattle.apex_meaning.specs.Sharing.{Sharing, both, of_processes, refuses}
-use Rattle.apex_meaning.specs.Step.{after}
+use Rattle.kernel_meaning.specs.PortServices.{reads_sample, becomes_port, validity_number, is_valid}
+use Rattle.kernel_meaning.specs.Objects.{Port, Ports}
+use Rattle.kernel_meaning.specs.Processes.{Processes}
+use Rattle.kernel_meaning.specs.Sharing.{Sharing, both, of_processes, refuses}
+use Rattle.kernel_meaning.specs.Step.{after}
 use Rattle.ports.specs.Delivering.{delivers}
 
 -- there is none

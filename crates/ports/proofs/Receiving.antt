@@ -6,12 +6,12 @@ use Rattle.apex_types.specs.declared.identity.At.{At}
 use Rattle.apex_types.specs.declared.identity.Runner.{Runner}
 use Rattle.apex_types.specs.declared.service.ArrayPlace.{ArrayPlace}
 use Rattle.apex_types.specs.declared.service.Service.TheVariants as service
-use Rattle.apex_meaning.specs.PortServices.{receives, receiver, code_of_receive, becomes_port}
-use Rattle.apex_meaning.specs.Ports.{Port, Ports}
-use Rattle.apex_meaning.specs.Processes.{Processes}
-use Rattle.apex_meaning.specs.Sharing.{Sharing, both, of_processes}
-use Rattle.apex_meaning.specs.Step.{after, message}
-use Rattle.apex_meaning.specs.Waiting.{blocks}
+use Rattle.kernel_meaning.specs.PortServices.{receives, receiver, code_of_receive, becomes_port}
+use Rattle.kernel_meaning.specs.Objects.{Port, Ports}
+use Rattle.kernel_meaning.specs.Processes.{Processes}
+use Rattle.kernel_meaning.specs.Sharing.{Sharing, both, of_processes}
+use Rattle.kernel_meaning.specs.Step.{after, message}
+use Rattle.kernel_meaning.specs.Sharing.{blocks}
 use Rattle.ports.specs.Delivering.{delivers}
 
 -- there is none

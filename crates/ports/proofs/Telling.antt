@@ -4,9 +4,9 @@ use Rattle.std.specs.Prelude.{ℤ, Some}
 use Rattle.apex_types.specs.declared.codes.ReturnCode.TheVariants as code
 use Rattle.apex_types.specs.declared.identity.Runner.{Runner}
 use Rattle.apex_types.specs.declared.service.Service.TheVariants as service
-use Rattle.apex_meaning.specs.Ports.{Port, Ports, queuing}
-use Rattle.apex_meaning.specs.PortServices.{get_queuing_port_status, queuing_status}
-use Rattle.apex_meaning.specs.Sharing.{Sharing, answers}
+use Rattle.kernel_meaning.specs.Objects.{Port, Ports, queuing}
+use Rattle.kernel_meaning.specs.PortServices.{get_queuing_port_status, queuing_status}
+use Rattle.kernel_meaning.specs.Sharing.{Sharing, answers}
 
 pub told : (b : Sharing Ports) (p : Runner) (id : ℤ) (place : ℕ) (x : Port) → queuing b.shared id ≡ Some (place, x) → x.created ≡ true → get_queuing_port_status b p id ≡ answers b p service.GetQueuingPortStatus code.NoError (queuing_status b place x)
 told b p id place x found created = rw found (rw created refl)

@@ -1,7 +1,7 @@
 -- What the rows of ports keep to.
 use Rattle.std.specs.Prelude.{◌≡◌, ◌≤◌, ◌^◌, ℕ, List, Some, slice_get}
 use Rattle.apex_types.specs.declared.row.PortRow.{PortRow}
-use Rattle.apex_meaning.specs.Ports.{refresh_of}
+use Rattle.kernel_meaning.specs.Objects.{refresh_of}
 
 -- no refresh period is longer than 2^40 ticks
 abbrev pub AreShort : List PortRow → Type 0

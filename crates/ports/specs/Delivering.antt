@@ -5,9 +5,9 @@ use Rattle.apex_types.specs.declared.codes.ReturnCode.{ReturnCode}
 use Rattle.apex_types.specs.declared.identity.Runner.{Runner}
 use Rattle.apex_types.specs.declared.service.ArrayPlace.{ArrayPlace}
 use Rattle.apex_types.specs.declared.service.Service.{Service}
-use Rattle.apex_meaning.specs.Processes.{Processes, answers}
-use Rattle.apex_meaning.specs.Step.{Step, after}
-use Rattle.apex_meaning.specs.Waiting.{fills}
+use Rattle.kernel_meaning.specs.Processes.{Processes, answers}
+use Rattle.kernel_meaning.specs.Step.{Step, after}
+use Rattle.kernel_meaning.specs.Sharing.{fills}
 
 -- the service ends with a code and its outputs, and the words go into the array
 abbrev pub delivers : Processes → Runner → Service → ReturnCode → List ℤ → ArrayPlace → ArrayVec ℤ → Step Processes

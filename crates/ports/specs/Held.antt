@@ -1,7 +1,7 @@
 -- What a port holds.
 use Rattle.std.specs.Prelude.{ℕ, ℤ, Option, Some, None, slice_get}
 use Rattle.arrayvec.specs.ArrayVec.{ArrayVec}
-use Rattle.apex_meaning.specs.Ports.{Port}
+use Rattle.kernel_meaning.specs.Objects.{Port}
 
 -- the message of a port that has so many before it, if there is such a port and it holds one
 abbrev pub message_behind : ℕ → Option Port → Option (ArrayVec ℤ)

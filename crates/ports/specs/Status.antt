@@ -2,7 +2,7 @@
 use Rattle.std.specs.Prelude.{ℕ, [], drop, length, Option, Some, None, slice_index_or}
 use Rattle.apex_types.specs.declared.row.PortDirection.TheVariants as direction
 use Rattle.apex_types.specs.declared.row.PortKind.TheVariants as kind
-use Rattle.apex_meaning.specs.Ports.{Port, Ports, fresh_port}
+use Rattle.kernel_meaning.specs.Objects.{Port, Ports, fresh_port}
 use Rattle.ports.specs.declared.port.PortStatus.{PortStatus}
 
 abbrev pub port_status : Port → PortStatus

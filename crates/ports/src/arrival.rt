@@ -3,12 +3,12 @@
 ghost use Rattle.std.specs.Prelude.{◌≡◌, ◌<◌, ◌≤◌, ◌*◌, length, true, None, Some};
 ghost use Rattle.apex_types.specs.Room.{HasRoom, Grows};
 ghost use Rattle.apex_types.specs.declared.identity.TheConstants.{MOST_OBJECTS, MOST_PROCESSES};
-ghost use Rattle.apex_meaning.specs.Arrival as meaning;
-ghost use Rattle.apex_meaning.specs.Ports.{is_sampling, port_at};
-ghost use Rattle.apex_meaning.specs.PortServices.{list};
-ghost use Rattle.apex_meaning.specs.Sharing.{both};
-ghost use Rattle.apex_meaning.specs.Step.{IsMade};
-ghost use Rattle.apex_meaning.specs.Waiting.{first_waiting};
+ghost use Rattle.kernel_meaning.specs.PortServices as meaning;
+ghost use Rattle.kernel_meaning.specs.Objects.{is_sampling, port_at};
+ghost use Rattle.kernel_meaning.specs.PortServices.{list};
+ghost use Rattle.kernel_meaning.specs.Sharing.{both};
+ghost use Rattle.kernel_meaning.specs.Made.{IsMade};
+ghost use Rattle.kernel_meaning.specs.Sharing.{first_waiting};
 ghost use Rattle.ports.specs.Status.{placed_port, port_status};
 
 use crate::port::PortStatus;

@@ -2,7 +2,7 @@
 
 ghost use Rattle.std.specs.Prelude.{◌≡◌, ◌≤◌, length};
 ghost use Rattle.apex_types.specs.Room.{HasRoom, Grows};
-ghost use Rattle.apex_meaning.specs.Step.{IsTold};
+ghost use Rattle.kernel_meaning.specs.Made.{IsTold};
 ghost use Rattle.ports.specs.Delivering.{delivers};
 
 use apex_types::{Action, ArrayPlace, Out, ReturnCode, Runner, Service, Words};

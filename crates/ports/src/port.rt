@@ -1,8 +1,8 @@
 //! One port, with its messages.
 
 ghost use Rattle.std.specs.Prelude.{◌≡◌, ◌<◌, ◌≤◌, ◌^◌, [], length, nat_le, pos, slice_get, IfOk, IsNone, if◌then◌else◌, true};
-ghost use Rattle.apex_meaning.specs.Ports as meaning;
-ghost use Rattle.apex_meaning.specs.PortServices as services;
+ghost use Rattle.kernel_meaning.specs.Objects as meaning;
+ghost use Rattle.kernel_meaning.specs.PortServices as services;
 ghost use Rattle.ports.specs.Status.{port_status, without_first};
 
 use apex_types::{At, Discipline, PortDirection, PortKind, PortRow, Ticks, Words, copied};
@@ -22,7 +22,7 @@ pub(crate) struct Port {
 }
 
 impl Model for Port {
-    ghost use Rattle.apex_meaning.specs.Ports as meaning;
+    ghost use Rattle.kernel_meaning.specs.Objects as meaning;
 
     ghost Value = { meaning.Port };
 

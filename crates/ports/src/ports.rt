@@ -3,11 +3,10 @@
 ghost use Rattle.std.specs.Prelude.{◌≡◌, ◌<◌, ◌≤◌, ◌^◌, [], length, map, option_map, slice_get, true, false, IfOk, IfSome, IsNone, OnSome, None, Some};
 ghost use Rattle.apex_types.specs.Room.{HasRoom, Grows};
 ghost use Rattle.apex_types.specs.declared.identity.TheConstants.{MOST_OBJECTS};
-ghost use Rattle.apex_meaning.specs.Arrival as arrival;
-ghost use Rattle.apex_meaning.specs.Objects.{numbered_in};
-ghost use Rattle.apex_meaning.specs.Ports as meaning;
-ghost use Rattle.apex_meaning.specs.PortServices as services;
-ghost use Rattle.apex_meaning.specs.Step.{IsMade};
+ghost use Rattle.kernel_meaning.specs.Objects.{numbered_in};
+ghost use Rattle.kernel_meaning.specs.Objects as meaning;
+ghost use Rattle.kernel_meaning.specs.PortServices as services;
+ghost use Rattle.kernel_meaning.specs.Made.{IsMade};
 ghost use Rattle.ports.specs.Bounds.{AreShort};
 ghost use Rattle.ports.specs.Held.{message_behind};
 ghost use Rattle.ports.specs.Status.{placed_port, port_of_status, port_status, port_with_status, without_first};
@@ -26,7 +25,7 @@ pub struct Ports {
 }
 
 impl Model for Ports {
-    ghost use Rattle.apex_meaning.specs.Ports as meaning;
+    ghost use Rattle.kernel_meaning.specs.Objects as meaning;
 
     ghost Value = { meaning.Ports };
 
@@ -271,8 +270,8 @@ impl Ports {
     #[tactic(auto, using(crate::proofs::Moving::moving))]
     pub fn move_one(&mut self, place: u8, out: &mut Out) -> Option<Words>
         requires { HasRoom 1 out.old }
-        ensures message { result ≡ arrival.first_message (meaning.port_at self.old place) }
-        ensures step { IsMade (arrival.leaves self.old place) self.new out.old out.new }
+        ensures message { result ≡ services.first_message (meaning.port_at self.old place) }
+        ensures step { IsMade (services.leaves self.old place) self.new out.old out.new }
         ensures grows { Grows 1 out.old out.new }
     {
         let port = self.status(place)?;

@@ -3,11 +3,11 @@
 ghost use Rattle.std.specs.Prelude.{◌≡◌, ◌<◌, ◌≤◌, ◌^◌, length, true};
 ghost use Rattle.apex_types.specs.Room.{HasRoom, Grows};
 ghost use Rattle.apex_types.specs.declared.identity.TheConstants.{MOST_OBJECTS};
-ghost use Rattle.apex_meaning.specs.Durations as durations;
-ghost use Rattle.apex_meaning.specs.Ports.{discipline_of};
-ghost use Rattle.apex_meaning.specs.PortServices as meaning;
-ghost use Rattle.apex_meaning.specs.Sharing.{answers, both};
-ghost use Rattle.apex_meaning.specs.Step.{IsMade, IsTold};
+ghost use Rattle.kernel_meaning.specs.Times as durations;
+ghost use Rattle.kernel_meaning.specs.Objects.{discipline_of};
+ghost use Rattle.kernel_meaning.specs.PortServices as meaning;
+ghost use Rattle.kernel_meaning.specs.Sharing.{answers, both};
+ghost use Rattle.kernel_meaning.specs.Made.{IsMade, IsTold};
 ghost use Rattle.ports.specs.Status.{placed_port, port_status};
 
 use crate::deliver::deliver;

@@ -2,8 +2,8 @@
 
 ghost use Rattle.std.specs.Prelude.{◌≡◌, ◌<◌, ◌≤◌, ◌+◌, length};
 ghost use Rattle.apex_types.specs.Room.{HasRoom, Grows};
-ghost use Rattle.apex_meaning.specs.ProcessServices as meaning;
-ghost use Rattle.apex_meaning.specs.Step.{IsMade, IsTold};
+ghost use Rattle.kernel_meaning.specs.ProcessServices as meaning;
+ghost use Rattle.kernel_meaning.specs.Made.{IsMade, IsTold};
 
 use apex_types::{Lock, Mode, Out, ReturnCode, Runner, Service};
 use process_table_base::ProcessTable;

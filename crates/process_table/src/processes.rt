@@ -4,9 +4,9 @@ ghost use Rattle.std.specs.Prelude.{◌≡◌, ◌<◌, ◌≤◌, ◌+◌, ◌^
 ghost use Rattle.apex_types.specs.Room.{HasRoom, Grows};
 ghost use Rattle.apex_types.specs.Runners.{place_of};
 ghost use Rattle.apex_types.specs.declared.identity.TheConstants.{MOST_RUNNERS};
-ghost use Rattle.apex_meaning.specs.Durations.{amount};
-ghost use Rattle.apex_meaning.specs.ProcessServices as meaning;
-ghost use Rattle.apex_meaning.specs.Step.{IsMade, IsTold};
+ghost use Rattle.kernel_meaning.specs.Times.{amount};
+ghost use Rattle.kernel_meaning.specs.ProcessServices as meaning;
+ghost use Rattle.kernel_meaning.specs.Made.{IsMade, IsTold};
 
 use apex_types::{Mode, Out, Priority, ProcessStatus, ReturnCode, Runner, Service, Ticks};
 use process_table_base::{Points, ProcessTable, is_delay, is_dormant, is_same};

@@ -2,10 +2,10 @@
 
 ghost use Rattle.std.specs.Prelude.{◌≡◌, ◌<◌, ◌≤◌, ◌+◌, ◌^◌, length, true};
 ghost use Rattle.apex_types.specs.Room.{HasRoom, Grows};
-ghost use Rattle.apex_meaning.specs.Durations.{is_duration};
-ghost use Rattle.apex_meaning.specs.Processes.{is_periodic};
-ghost use Rattle.apex_meaning.specs.ProcessServices as meaning;
-ghost use Rattle.apex_meaning.specs.Step.{IsMade};
+ghost use Rattle.kernel_meaning.specs.Times.{is_duration};
+ghost use Rattle.kernel_meaning.specs.Processes.{is_periodic};
+ghost use Rattle.kernel_meaning.specs.ProcessServices as meaning;
+ghost use Rattle.kernel_meaning.specs.Made.{IsMade};
 
 use apex_types::{At, Lock, Out, ProcessStatus, ReturnCode, Runner, Service};
 use process_table_base::{ProcessTable, is_dormant, is_duration, is_same};

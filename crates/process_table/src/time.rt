@@ -2,9 +2,9 @@
 
 ghost use Rattle.std.specs.Prelude.{◌≡◌, ◌<◌, ◌≤◌, ◌≤ℤ◌, ◌+◌, ◌^◌, pos, length, true, Some};
 ghost use Rattle.apex_types.specs.Room.{HasRoom, Grows};
-ghost use Rattle.apex_meaning.specs.Step.{IsMade, IsTold};
-ghost use Rattle.apex_meaning.specs.Durations.{is_delay, is_duration};
-ghost use Rattle.apex_meaning.specs.TimeServices as meaning;
+ghost use Rattle.kernel_meaning.specs.Made.{IsMade, IsTold};
+ghost use Rattle.kernel_meaning.specs.Times.{is_delay, is_duration};
+ghost use Rattle.kernel_meaning.specs.ProcessServices as meaning;
 ghost use Rattle.process_table_base.specs.Bounds.{IsAtMost, IsBounded};
 
 use crate::lock::may_not_lock;

@@ -9,9 +9,10 @@ use Rattle.apex_types.specs.declared.process.ProcessStatus.{ProcessStatus}
 use Rattle.apex_types.specs.declared.process.Wait.{Wait}
 use Rattle.apex_types.specs.declared.process.Wait.TheVariants as wait
 use Rattle.apex_types.specs.declared.row.ProcessRow.{ProcessRow}
-use Rattle.apex_meaning.specs.PartitionServices.{forgotten, started_rows}
-use Rattle.apex_meaning.specs.Starts.{later}
-use Rattle.apex_meaning.specs.TwoMeanings.{machine_row, init_row, handler_row}
+use Rattle.kernel_meaning.specs.PartitionServices.{forgotten, started_rows}
+use Rattle.kernel_meaning.specs.Times.{later}
+use Rattle.machine_meaning.specs.MachineMeaning.{machine_row}
+use Rattle.kernel_meaning.specs.Fresh.{init_row, handler_row}
 use Rattle.process_table_base.specs.Bounds.{AreBounded, IsBounded, AreAllBounded, IsAtMost, IsDelayed, AreShort}
 
 pub set_bounded : (rows : List ProcessStatus) (place : ℕ) (r : ProcessStatus) → IsBounded r → AreAllBounded rows → AreAllBounded (slice_set rows place r)

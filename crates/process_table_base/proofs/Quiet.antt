@@ -6,9 +6,9 @@ use Rattle.apex_types.specs.declared.codes.PartitionAction.{PartitionAction}
 use Rattle.apex_types.specs.declared.identity.At.{At}
 use Rattle.apex_types.specs.declared.identity.Ticks.{Ticks}
 use Rattle.apex_types.specs.declared.process.ProcessStatus.{ProcessStatus}
-use Rattle.apex_meaning.specs.Due.{due, goes_on}
-use Rattle.apex_meaning.specs.Processes.{Processes}
-use Rattle.apex_meaning.specs.Step.{nothing}
+use Rattle.kernel_meaning.specs.Times.{due, goes_on}
+use Rattle.kernel_meaning.specs.Processes.{Processes}
+use Rattle.kernel_meaning.specs.Step.{nothing}
 use Rattle.links.specs.Timers.{IsLeastTick, IsNextDue, earlier, has_come, number_of}
 use Rattle.process_table_base.proofs.Treating.{skips_rest}
 use Rattle.process_table_base.specs.Timed.{AreQuiet, deadlines, due_times}

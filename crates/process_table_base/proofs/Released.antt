@@ -11,11 +11,11 @@ use Rattle.apex_types.specs.declared.identity.Runner.TheVariants as runner
 use Rattle.apex_types.specs.declared.process.Entry.{Entry}
 use Rattle.apex_types.specs.declared.process.ProcessStatus.{ProcessStatus}
 use Rattle.apex_types.specs.declared.process.Wait.TheVariants as wait
-use Rattle.apex_meaning.specs.Processes.{Processes, leaves_queues, no_longer_waits, numbered, put_ready, put_unready, released, wakes}
-use Rattle.apex_meaning.specs.Queues.{Queues, list_at}
-use Rattle.apex_meaning.specs.Step.{Step, nothing}
-use Rattle.apex_meaning.specs.WaitingOrder.{AreQueues}
-use Rattle.apex_meaning.proofs.WaitingOrder.{leaves, released_first}
+use Rattle.kernel_meaning.specs.Processes.{Processes, leaves_queues, no_longer_waits, numbered, put_ready, put_unready, released, wakes}
+use Rattle.kernel_meaning.specs.Queues.{Queues, list_at}
+use Rattle.kernel_meaning.specs.Step.{Step, nothing}
+use Rattle.kernel_laws.specs.WaitingOrder.{AreQueues}
+use Rattle.kernel_laws.proofs.WaitingOrder.{leaves, released_first}
 use Rattle.process_table_base.specs.LeastNumber.{IsLeast}
 use Rattle.process_table_base.specs.Own.{with_record}
 

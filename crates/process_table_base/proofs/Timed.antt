@@ -10,8 +10,9 @@ use Rattle.apex_types.specs.declared.identity.Runner.TheVariants as runner
 use Rattle.apex_types.specs.declared.identity.Ticks.{Ticks}
 use Rattle.apex_types.specs.declared.process.ProcessStatus.{ProcessStatus}
 use Rattle.apex_types.specs.declared.row.ProcessRow.{ProcessRow}
-use Rattle.apex_meaning.specs.PartitionServices.{forgotten, started_rows}
-use Rattle.apex_meaning.specs.TwoMeanings.{machine_row, init_row, handler_row}
+use Rattle.kernel_meaning.specs.PartitionServices.{forgotten, started_rows}
+use Rattle.machine_meaning.specs.MachineMeaning.{machine_row}
+use Rattle.kernel_meaning.specs.Fresh.{init_row, handler_row}
 use Rattle.links.specs.declared.dues.DueEntry.{DueEntry}
 use Rattle.links.specs.Timers.{IsExact, number_of, tick_in, ticks_with}
 use Rattle.process_table_base.specs.Timed.{AreTimed, deadline_of, due_of, record_of}

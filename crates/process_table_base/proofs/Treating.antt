@@ -18,10 +18,10 @@ use Rattle.apex_types.specs.declared.out.Out.{Out}
 use Rattle.apex_types.specs.declared.process.Due.{Due}
 use Rattle.apex_types.specs.declared.process.Due.TheVariants as due_time
 use Rattle.apex_types.specs.declared.process.ProcessStatus.{ProcessStatus}
-use Rattle.apex_meaning.specs.Due.{Treated, due_from, ends_wait, goes_on, is_past, misses, then_others, tick_of, timed_out, treated_after, treats, treats_deadline, treats_due}
-use Rattle.apex_meaning.specs.Processes.{Processes, index, no_longer_waits, released, row_of, wakes}
-use Rattle.apex_meaning.specs.Starts.{released_at}
-use Rattle.apex_meaning.specs.Step.{Step, nothing}
+use Rattle.kernel_meaning.specs.Times.{Treated, due_from, ends_wait, goes_on, is_past, misses, then_others, tick_of, timed_out, treated_after, treats, treats_deadline, treats_due}
+use Rattle.kernel_meaning.specs.Processes.{Processes, index, no_longer_waits, released, row_of, wakes}
+use Rattle.kernel_meaning.specs.Times.{released_at}
+use Rattle.kernel_meaning.specs.Step.{Step, nothing}
 use Rattle.links.specs.Timers.{IsDueMask, has_come, number_of}
 use Rattle.process_table_base.proofs.Timed.{get_other}
 use Rattle.process_table_base.specs.DueMask.{IsFirstOf}

@@ -5,7 +5,7 @@ use Rattle.apex_types.specs.declared.process.ProcessStatus.{ProcessStatus}
 use Rattle.apex_types.specs.declared.process.Wait.{Wait}
 use Rattle.apex_types.specs.declared.process.Wait.TheVariants as wait
 use Rattle.apex_types.specs.declared.row.ProcessRow.{ProcessRow}
-use Rattle.apex_meaning.specs.TwoMeanings.{machine_row}
+use Rattle.machine_meaning.specs.MachineMeaning.{machine_row}
 
 abbrev pub IsAtMost : ℕ → Option Ticks → Type 0
 IsAtMost most count = IfSome count (λ (n : Ticks). n.0 ≤ most)

@@ -4,7 +4,7 @@ use Rattle.apex_types.specs.declared.codes.Discipline.{Discipline}
 use Rattle.apex_types.specs.declared.identity.Runner.{Runner}
 use Rattle.apex_types.specs.declared.identity.Runner.TheVariants as runner
 use Rattle.apex_types.specs.declared.process.Entry.{Entry}
-use Rattle.apex_meaning.specs.WaitingOrder.{IsReleasedFirst}
+use Rattle.kernel_laws.specs.WaitingOrder.{IsReleasedFirst}
 
 -- one who waits in the list, and whom no other of the list is before
 abbrev pub IsLeast : Discipline → (ℕ → ℕ) → List Entry → Runner → Type 0

@@ -2,8 +2,8 @@
 use Rattle.std.specs.Prelude.{Option, Some, None}
 use Rattle.apex_types.specs.declared.identity.Runner.{Runner}
 use Rattle.apex_types.specs.declared.process.ProcessStatus.{ProcessStatus}
-use Rattle.apex_meaning.specs.Processes.{Processes, row_of}
-use Rattle.apex_meaning.specs.Step.{Step, nothing}
+use Rattle.kernel_meaning.specs.Processes.{Processes, row_of}
+use Rattle.kernel_meaning.specs.Step.{Step, nothing}
 
 abbrev pub with_record : {X : Type 0} → Option ProcessStatus → X → (ProcessStatus → X) → X
 with_record None x change = x

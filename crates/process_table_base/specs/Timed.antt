@@ -2,7 +2,7 @@
 use Rattle.std.specs.Prelude.{◌≡◌, ℕ, suc, false, List, Option, Some, None, slice_get}
 use Rattle.apex_types.specs.declared.process.Due.{Due}
 use Rattle.apex_types.specs.declared.process.ProcessStatus.{ProcessStatus}
-use Rattle.apex_meaning.specs.Due.{tick_of}
+use Rattle.kernel_meaning.specs.Times.{tick_of}
 use Rattle.links.specs.Timers.{IsExact, has_come, number_of}
 use Rattle.process_table_base.specs.declared.timers.Timers.{Timers}
 

@@ -1,9 +1,9 @@
 -- What the treatment of processes leaves, as the code has it.
 use Rattle.std.specs.Prelude.{◌≡◌}
 use Rattle.apex_types.specs.declared.out.Out.{Out}
-use Rattle.apex_meaning.specs.Due as meaning
-use Rattle.apex_meaning.specs.Processes.{Processes}
-use Rattle.apex_meaning.specs.Step.{IsMade}
+use Rattle.kernel_meaning.specs.Times as meaning
+use Rattle.kernel_meaning.specs.Processes.{Processes}
+use Rattle.kernel_meaning.specs.Made.{IsMade}
 use Rattle.process_table_base.specs.declared.due.Treated.{Treated}
 
 -- the step is made, and this is how many more errors may wait and the mode of a Clear

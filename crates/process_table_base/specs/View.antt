@@ -1,5 +1,5 @@
 -- How the fields of the process table are seen.
-use Rattle.apex_meaning.specs.Processes.{Processes}
+use Rattle.kernel_meaning.specs.Processes.{Processes}
 use Rattle.process_table_base.specs.declared.table.ProcessTable.TheInside.{Inside}
 
 abbrev pub processes_of : Inside → Processes

@@ -3,9 +3,10 @@
 ghost use Rattle.std.specs.Prelude.{◌≡◌, ◌<◌, ◌≤◌, ◌+◌, ◌++◌, [], ◌∷◌, pos, length};
 ghost use Rattle.apex_types.specs.Room.{HasRoom, Grows};
 ghost use Rattle.apex_types.specs.Runners.{place_of};
-ghost use Rattle.apex_meaning.specs.Processes as meaning;
-ghost use Rattle.apex_meaning.specs.Step.{IsMade, IsTold, code_number, message};
-ghost use Rattle.apex_meaning.specs.Step as step;
+ghost use Rattle.kernel_meaning.specs.Processes as meaning;
+ghost use Rattle.kernel_meaning.specs.Made.{IsMade, IsTold};
+ghost use Rattle.kernel_meaning.specs.Step.{code_number, message};
+ghost use Rattle.kernel_meaning.specs.Step as step;
 ghost use Rattle.process_table_base.specs.Bounds.{IsBounded, IsDelayed};
 
 use crate::table::ProcessTable;

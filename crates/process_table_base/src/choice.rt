@@ -3,9 +3,10 @@
 ghost use Rattle.std.specs.Prelude.{◌≡◌, ◌↔◌, ◌≤◌, ◌+◌, ◌^◌, ℕ, true, Some, length};
 ghost use Rattle.apex_types.specs.Room.{HasRoom, Grows};
 ghost use Rattle.apex_types.specs.declared.identity.Runner.{Runner as Process};
-ghost use Rattle.apex_meaning.specs.Choice.{IsNumbered, Picks};
-ghost use Rattle.apex_meaning.specs.Partition as meaning;
-ghost use Rattle.apex_meaning.specs.Step.{IsMade, nothing};
+ghost use Rattle.kernel_laws.specs.Choice.{IsNumbered, Picks};
+ghost use Rattle.kernel_meaning.specs.Partition as meaning;
+ghost use Rattle.kernel_meaning.specs.Made.{IsMade};
+ghost use Rattle.kernel_meaning.specs.Step.{nothing};
 
 use crate::table::{ProcessTable, is_same};
 use apex_types::{EventKind, Lock, Mode, Out, ProcessState, ProcessStatus, Runner};
@@ -15,7 +16,7 @@ impl ProcessTable {
     /// holds the lock, or the first of those that are ready. Whatever numbers the ready ones have taken
     /// in their order, that is the one of the highest priority with the least number. Each record that
     /// is read adds one to `reads`; at most three are.
-    #[tactic(auto, using(apex_meaning::proofs::Choosing::chosen))]
+    #[tactic(auto, using(kernel_laws::proofs::Choosing::chosen))]
     pub fn pick(&self, mode: Mode, reads: &mut u64) -> Option<Runner>
         requires { reads.old ≤ 2 ^ 32 }
         ensures chosen { result ≡ meaning.pick mode self.now }

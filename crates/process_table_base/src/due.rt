@@ -3,9 +3,9 @@
 ghost use Rattle.std.specs.Prelude.{◌≡◌, ◌<◌, ◌≤◌, ◌+◌, ◌-◌, ◌*◌, ◌^◌, length};
 ghost use Rattle.apex_types.specs.Room.{HasRoom, Grows};
 ghost use Rattle.apex_types.specs.Runners.{place_of};
-ghost use Rattle.apex_meaning.specs.Due as meaning;
-ghost use Rattle.apex_meaning.specs.Processes.{row_of};
-ghost use Rattle.apex_meaning.specs.Step.{IsMade};
+ghost use Rattle.kernel_meaning.specs.Times as meaning;
+ghost use Rattle.kernel_meaning.specs.Processes.{row_of};
+ghost use Rattle.kernel_meaning.specs.Made.{IsMade};
 ghost use Rattle.links.specs.Timers.{IsDueMask};
 ghost use Rattle.process_table_base.specs.Bounds.{IsBounded};
 ghost use Rattle.process_table_base.specs.DueMask.{IsSplit};

@@ -1,8 +1,8 @@
 //! The times that programs give.
 
 ghost use Rattle.std.specs.Prelude.{◌≡◌, ◌≤◌, ◌^◌, true};
-ghost use Rattle.apex_meaning.specs.Durations as meaning;
-ghost use Rattle.apex_meaning.specs.ProcessServices as services;
+ghost use Rattle.kernel_meaning.specs.Times as meaning;
+ghost use Rattle.kernel_meaning.specs.ProcessServices as services;
 
 use apex_types::{At, Due, Ticks};
 

@@ -2,7 +2,7 @@
 
 ghost use Rattle.std.specs.Prelude.{◌≡◌, ◌<◌, IfSome, Some, true};
 ghost use Rattle.apex_types.specs.Runners.{place_of};
-ghost use Rattle.apex_meaning.specs.Processes as meaning;
+ghost use Rattle.kernel_meaning.specs.Processes as meaning;
 ghost use Rattle.process_table_base.specs.Bounds.{IsBounded};
 ghost use Rattle.process_table_base.specs.Own.{own_change};
 
@@ -11,7 +11,7 @@ use apex_types::{Lock, MOST_RUNNERS, ProcessIndex, ProcessState, ProcessStatus, 
 
 impl ProcessTable {
     /// The process with a number, with its record.
-    #[tactic(auto, using(apex_meaning::proofs::Numbers::numbers))]
+    #[tactic(auto, using(kernel_laws::proofs::Numbers::numbers))]
     pub fn process_at(&self, id: i64) -> Option<(Runner, ProcessStatus)>
         ensures found { result ≡ meaning.process_at self.now id }
         ensures own { IfSome result (λ found. meaning.row_of self.now found.0 ≡ Some found.1) }

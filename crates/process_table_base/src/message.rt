@@ -1,8 +1,8 @@
 //! The messages of services.
 
 ghost use Rattle.std.specs.Prelude.{◌≡◌, ◌≤ℤ◌, pos};
-ghost use Rattle.apex_meaning.specs.Sharing as meaning;
-ghost use Rattle.apex_meaning.specs.Step.{first_words, message};
+ghost use Rattle.kernel_meaning.specs.Sharing as meaning;
+ghost use Rattle.kernel_meaning.specs.Step.{first_words, message};
 
 use apex_types::{ArrayPlace, Words, copied};
 
@@ -22,7 +22,7 @@ pub fn is_large_enough(words: u8, array: ArrayPlace) -> bool
 }
 
 /// The first words, as many as a good length says.
-#[tactic(auto, using(apex_meaning::proofs::Numbers::handed_words))]
+#[tactic(auto, using(kernel_laws::proofs::Numbers::handed_words))]
 pub fn first_words(length: i64, words: &Words) -> Words
     requires { pos 1 ≤ℤ length }
     ensures { result ≡ message (first_words length words.now.items) }

@@ -5,10 +5,10 @@ ghost use Rattle.std.specs.Prelude.{◌≡◌, ◌<◌, ◌≤◌, ◌+◌, ◌^
 ghost use Rattle.apex_types.specs.Room.{HasRoom, Grows};
 ghost use Rattle.apex_types.specs.declared.codes.Discipline.{Discipline};
 ghost use Rattle.apex_types.specs.declared.identity.ListKey.{ListKey as Key};
-ghost use Rattle.apex_meaning.specs.Processes as meaning;
-ghost use Rattle.apex_meaning.specs.Step.{IsMade};
-ghost use Rattle.apex_meaning.specs.Waiting.{gives};
-ghost use Rattle.apex_meaning.specs.WaitingOrder.{AreQueues};
+ghost use Rattle.kernel_meaning.specs.Processes as meaning;
+ghost use Rattle.kernel_meaning.specs.Made.{IsMade};
+ghost use Rattle.kernel_meaning.specs.Sharing.{gives};
+ghost use Rattle.kernel_laws.specs.WaitingOrder.{AreQueues};
 ghost use Rattle.process_table_base.specs.Own.{own_change, own_step};
 
 use crate::table::ProcessTable;

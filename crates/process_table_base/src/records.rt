@@ -2,8 +2,10 @@
 
 ghost use Rattle.std.specs.Prelude.{◌≡◌, ◌<◌, ◌≤◌, ◌+◌, ◌-◌, ◌^◌, ◌∷◌, length, map, option_map, slice_get, slice_set, IfOk, IfSome};
 ghost use Rattle.apex_types.specs.Runners.{place_of};
-ghost use Rattle.apex_meaning.specs.PartitionServices.{forgotten, ready_init, started_rows};
-ghost use Rattle.apex_meaning.specs.TwoMeanings.{fresh_row, handler_row, init_row, machine_row, ticks};
+ghost use Rattle.kernel_meaning.specs.PartitionServices.{forgotten, ready_init, started_rows};
+ghost use Rattle.kernel_meaning.specs.Fresh.{fresh_row, handler_row, init_row};
+ghost use Rattle.machine_meaning.specs.MachineMeaning.{machine_row};
+ghost use Rattle.kernel_meaning.specs.Times.{ticks};
 ghost use Rattle.links.specs.Timers.{IsDueMask, IsNextDue, number_of};
 ghost use Rattle.process_table_base.specs.Bounds.{AreAllBounded, AreShort, IsBounded};
 ghost use Rattle.process_table_base.specs.States.{put_state};

@@ -2,11 +2,10 @@
 
 ghost use Rattle.std.specs.Prelude.{◌≡◌, ◌<◌, ◌≤◌, ◌+◌, ◌^◌, length, true, Some};
 ghost use Rattle.apex_types.specs.Room.{HasRoom, Grows};
-ghost use Rattle.apex_meaning.specs.Durations.{is_duration};
-ghost use Rattle.apex_meaning.specs.Processes.{put_row, row_of};
-ghost use Rattle.apex_meaning.specs.ProcessServices as meaning;
-ghost use Rattle.apex_meaning.specs.Step.{IsMade};
-ghost use Rattle.apex_meaning.specs.TimeServices as time;
+ghost use Rattle.kernel_meaning.specs.Times.{is_duration};
+ghost use Rattle.kernel_meaning.specs.Processes.{put_row, row_of};
+ghost use Rattle.kernel_meaning.specs.ProcessServices as meaning;
+ghost use Rattle.kernel_meaning.specs.Made.{IsMade};
 ghost use Rattle.process_table_base.specs.Bounds.{IsAtMost};
 ghost use Rattle.process_table_base.specs.Own.{own_change, own_step};
 
@@ -97,7 +96,7 @@ impl ProcessTable {
     pub fn wait_for_period(&mut self, process: Runner, period: Ticks, out: &mut Out)
         requires period { period.0 ≤ 2 ^ 40 }
         requires room { HasRoom 1 out.old }
-        ensures step { IsMade (own_step self.old process (λ r. time.waits_for_period self.old process r (Some period))) self.new out.old out.new }
+        ensures step { IsMade (own_step self.old process (λ r. meaning.waits_for_period self.old process r (Some period))) self.new out.old out.new }
         ensures grows { Grows 1 out.old out.new }
     {
         let Some(row) = self.row(process) else {

@@ -3,9 +3,9 @@
 ghost use Rattle.std.specs.Prelude.{◌≡◌, ◌<◌, ◌≤◌, ◌+◌, ◌-◌, ◌^◌, length, IfSome};
 ghost use Rattle.apex_types.specs.Room.{HasRoom, Grows};
 ghost use Rattle.apex_types.specs.Runners.{place_of};
-ghost use Rattle.apex_meaning.specs.Processes.{row_of};
-ghost use Rattle.apex_meaning.specs.Starts as meaning;
-ghost use Rattle.apex_meaning.specs.Step.{IsMade};
+ghost use Rattle.kernel_meaning.specs.Processes.{row_of};
+ghost use Rattle.kernel_meaning.specs.Times as meaning;
+ghost use Rattle.kernel_meaning.specs.Made.{IsMade};
 ghost use Rattle.process_table_base.specs.Bounds.{IsAtMost, IsBounded};
 ghost use Rattle.process_table_base.specs.Own.{own_step};
 

@@ -2,11 +2,12 @@
 
 ghost use Rattle.std.specs.Prelude.{◌≡◌, ◌<◌, ◌≤◌, ◌+◌, ◌-◌, ◌^◌, ℕ, length, map, IfOk, IfSome};
 ghost use Rattle.apex_types.specs.Runners.{place_of};
-ghost use Rattle.apex_meaning.specs.PartitionServices.{cleared_processes};
-ghost use Rattle.apex_meaning.specs.Partition.{first_ready};
-ghost use Rattle.apex_meaning.specs.Processes as meaning;
-ghost use Rattle.apex_meaning.specs.ProcessServices.{level_of};
-ghost use Rattle.apex_meaning.specs.TwoMeanings.{fresh_processes, machine_row, no_message};
+ghost use Rattle.kernel_meaning.specs.PartitionServices.{cleared_processes};
+ghost use Rattle.kernel_meaning.specs.Partition.{first_ready};
+ghost use Rattle.kernel_meaning.specs.Processes as meaning;
+ghost use Rattle.kernel_meaning.specs.ProcessServices.{level_of};
+ghost use Rattle.kernel_meaning.specs.Fresh.{fresh_processes, no_message};
+ghost use Rattle.machine_meaning.specs.MachineMeaning.{machine_row};
 ghost use Rattle.links.specs.Timers.{IsDueMask, IsNextDue, number_of};
 ghost use Rattle.process_table_base.specs.Bounds.{AreShort, IsBounded};
 ghost use Rattle.process_table_base.specs.States.{put_state};
@@ -35,8 +36,8 @@ pub struct ProcessTable {
 }
 
 impl Model for ProcessTable {
-    ghost use Rattle.apex_meaning.specs.Processes as meaning;
-    ghost use Rattle.apex_meaning.specs.ProcessServices.{level_of};
+    ghost use Rattle.kernel_meaning.specs.Processes as meaning;
+    ghost use Rattle.kernel_meaning.specs.ProcessServices.{level_of};
 
     ghost Value = { meaning.Processes };
 

@@ -5,12 +5,12 @@ ghost use Rattle.apex_types.specs.Room.{HasRoom, Grows};
 ghost use Rattle.apex_types.specs.Runners.{place_of};
 ghost use Rattle.apex_types.specs.declared.codes.Discipline.{Discipline};
 ghost use Rattle.apex_types.specs.declared.identity.ListKey.{ListKey as Key};
-ghost use Rattle.apex_meaning.specs.Durations.{is_duration};
-ghost use Rattle.apex_meaning.specs.Processes as processes;
-ghost use Rattle.apex_meaning.specs.Queues.{list_at};
-ghost use Rattle.apex_meaning.specs.Step.{IsMade};
-ghost use Rattle.apex_meaning.specs.Waiting as meaning;
-ghost use Rattle.apex_meaning.specs.WaitingOrder.{AreQueues};
+ghost use Rattle.kernel_meaning.specs.Times.{is_duration};
+ghost use Rattle.kernel_meaning.specs.Processes as processes;
+ghost use Rattle.kernel_meaning.specs.Queues.{list_at};
+ghost use Rattle.kernel_meaning.specs.Made.{IsMade};
+ghost use Rattle.kernel_meaning.specs.Sharing as meaning;
+ghost use Rattle.kernel_laws.specs.WaitingOrder.{AreQueues};
 ghost use Rattle.process_table_base.specs.Bounds.{IsBounded};
 ghost use Rattle.process_table_base.specs.LeastNumber.{IsLeast};
 

@@ -1,9 +1,9 @@
 //! What an instruction finds in the memory that the processor is lent.
 
 ghost use Rattle.std.specs.Prelude.{◌≡◌, length, slice_get};
-ghost use Rattle.apex_meaning.specs.Operators.{element_at};
-ghost use Rattle.apex_meaning.specs.MachineControl.{word_at, element_word};
-ghost use Rattle.apex_meaning.specs.ServiceTable.{has_array_within, is_range_within};
+ghost use Rattle.engine_meaning.specs.Operators.{element_at};
+ghost use Rattle.machine_meaning.specs.MachineControl.{word_at, element_word};
+ghost use Rattle.engine_meaning.specs.Operators.{has_array_within, is_range_within};
 
 use apex_types::ArrayPlace;
 use regions::PartitionMem;

@@ -1,7 +1,7 @@
 //! The results of operators.
 
 ghost use Rattle.std.specs.Prelude.{◌≡◌};
-ghost use Rattle.apex_meaning.specs.Operators.{apply_binary, apply_unary, truth};
+ghost use Rattle.engine_meaning.specs.Operators.{apply_binary, apply_unary, truth};
 
 use apex_types::{BinaryOperator, UnaryOperator};
 

@@ -1,8 +1,8 @@
 //! Routines and services: CALL, RET and SVC.
 
 ghost use Rattle.std.specs.Prelude.{◌≡◌, ◌-◌, ◌+◌, ◌≤◌, ◌++◌, ◌∷◌, [], pos, replicate, slice_get, slice_set};
-ghost use Rattle.apex_meaning.specs.MachineControl.{popped, saved_within};
-ghost use Rattle.apex_meaning.specs.Words.{put_words};
+ghost use Rattle.machine_meaning.specs.MachineControl.{popped, saved_within};
+ghost use Rattle.engine_meaning.specs.Operators.{put_words};
 ghost use Rattle.processor.specs.Fitting.{IsFittingRoutine};
 
 use crate::access::{holds, load};
@@ -72,7 +72,7 @@ fn saved(stack: &[i64], place: usize, limit: u32) -> Option<u32>
 
 impl Registers {
     ghost use Rattle.std.specs.Prelude.{true, ◌≡◌, ◌+◌, ◌-◌, ◌<◌, ◌≤◌, ◌^◌, []};
-    ghost use Rattle.apex_meaning.specs.MachineControl.{executes, enters_at};
+    ghost use Rattle.machine_meaning.specs.MachineControl.{executes, enters_at};
     ghost use Rattle.processor.specs.Turns.{after, does, is_done};
     ghost use Rattle.apex_types.specs.declared.instruction.Instr.{Instr};
 
@@ -140,10 +140,11 @@ impl Registers {
 
 impl Context {
     ghost use Rattle.std.specs.Prelude.{◌≡◌, ◌+◌, ◌-◌, ◌<◌, ◌≤◌, ◌^◌, []};
-    ghost use Rattle.apex_meaning.specs.MachineControl.{executes, arguments, calls};
+    ghost use Rattle.machine_meaning.specs.MachineControl.{executes, arguments, calls};
     ghost use Rattle.processor.specs.Views.{control_of, outcome_of, IsChanged};
     ghost use Rattle.apex_types.specs.declared.instruction.Instr.{Instr};
-    ghost use Rattle.apex_meaning.specs.ServiceTable.{argument_words, call_of};
+    ghost use Rattle.apex_types.specs.ServiceShape.{argument_words};
+    ghost use Rattle.apex_types.specs.ServiceCalls.{call_of};
 
     /// The call that the operands on top are the arguments of.
     #[tactic(auto, using(crate::proofs::Arguments::few))]

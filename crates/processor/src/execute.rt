@@ -1,8 +1,8 @@
 //! The last tick of an instruction: operators, jumps, and the instruction table.
 
 ghost use Rattle.std.specs.Prelude.{◌≡◌, ◌≤◌, pos};
-ghost use Rattle.apex_meaning.specs.Instructions.{cost_of, cost_of_work, cost_of_service_call, is_work};
-ghost use Rattle.apex_meaning.specs.ServiceTable.{service_of};
+ghost use Rattle.machine_meaning.specs.Instructions.{cost_of, cost_of_work, cost_of_service_call, is_work};
+ghost use Rattle.apex_types.specs.ServiceShape.{service_of};
 
 use crate::arithmetic::{apply_binary, apply_unary};
 use crate::code::Code;
@@ -65,7 +65,7 @@ pub(crate) fn cost_of(instruction: Instr) -> u32
 
 impl Registers {
     ghost use Rattle.std.specs.Prelude.{true, false, ◌≡◌, ◌+◌, ◌-◌, ◌<◌, ◌≤◌, ◌^◌, [], length, slice_get, Some};
-    ghost use Rattle.apex_meaning.specs.MachineControl.{executes};
+    ghost use Rattle.machine_meaning.specs.MachineControl.{executes};
     ghost use Rattle.processor.specs.Turns.{control_in, after, does, is_done};
     ghost use Rattle.apex_types.specs.declared.instruction.Instr.{Instr};
 

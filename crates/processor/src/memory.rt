@@ -9,7 +9,7 @@ use regions::{Reach, Region};
 impl Registers {
     ghost use Rattle.std.specs.Prelude.{true, ◌≡◌, ◌+◌, ◌-◌, ◌<◌, ◌≤◌, ◌^◌, []};
     ghost use Rattle.regions.specs.Rights.{number_of};
-    ghost use Rattle.apex_meaning.specs.MachineControl.{executes, stored, changes_data, changes_stack, loads_region, stores_region};
+    ghost use Rattle.machine_meaning.specs.MachineControl.{executes, stored, changes_data, changes_stack, loads_region, stores_region};
     ghost use Rattle.processor.specs.Turns.{after, does, is_done};
     ghost use Rattle.apex_types.specs.declared.instruction.Instr.{Instr};
 

@@ -3,8 +3,8 @@ use Rattle.std.proofs.Common.{◌≡◌, ℕ, zero, suc, ◌+◌, ◌-◌, ◌<�
 use Rattle.std.specs.Prelude.{Option, Some, None, slice_get, slice_set}
 use Rattle.std.proofs.lemmas.Option.{none-some, same_Some}
 use Rattle.std.proofs.lemmas.List.{map-set}
-use Rattle.apex_meaning.specs.Engine.{Asks, Nothing}
-use Rattle.apex_meaning.specs.Partition.{control_at, ticked}
+use Rattle.engine_meaning.specs.Engine.{Asks, Nothing}
+use Rattle.kernel_meaning.specs.Partition.{control_at, ticked}
 use Rattle.bursts.specs.Bursts.{Told, Burst, later, burst, is_nothing, told_of}
 use Rattle.bursts.proofs.Until.{later_later, stops, ticked_once}
 use Rattle.partition_base.specs.Bursting.{at_place, burst_at}

@@ -4,8 +4,8 @@ use Rattle.std.specs.Prelude.{get_or, slice_get, slice_set, Option, Some, None}
 use Rattle.std.proofs.Math.Seq.{map-set_same}
 use Rattle.std.proofs.lemmas.List.{map-set, set_past}
 use Rattle.std.proofs.lemmas.Option.{slice_get-map, slice_get_past, slice_get-get_or, none-some, same_Some}
-use Rattle.apex_meaning.specs.Engine.{Asks}
-use Rattle.apex_meaning.specs.Partition.{control_at, no_control, replied}
+use Rattle.engine_meaning.specs.Engine.{Asks}
+use Rattle.kernel_meaning.specs.Partition.{control_at, no_control, replied}
 use Rattle.regions.specs.Space.{Space}
 use Rattle.scripted.specs.Plays.{script_of, laid_of}
 use Rattle.scripted.specs.Scripts.{script_engine}

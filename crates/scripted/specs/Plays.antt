@@ -1,7 +1,7 @@
 -- The parts of an executor that plays a script, as the definitions see them.
 use Rattle.std.specs.Prelude.{ℕ, ℤ, List, [], ◌∷◌, Option, map, drop, length}
 use Rattle.std.specs.Option.{option_map}
-use Rattle.apex_meaning.specs.Engine.{Engine, Asks}
+use Rattle.engine_meaning.specs.Engine.{Engine, Asks}
 use Rattle.processor.specs.Views.{asks_of}
 use Rattle.regions.specs.Space.{Space}
 use Rattle.scripted.specs.Scripts.{script_engine}

@@ -1,7 +1,7 @@
 -- A script as an engine: a control is what is left of it.
 use Rattle.std.specs.Prelude.{ℤ, List, [], ◌∷◌, get_or}
 use Rattle.apex_types.specs.Runners.{place_of}
-use Rattle.apex_meaning.specs.Engine.{Engine, Ticked, Asks, Nothing}
+use Rattle.engine_meaning.specs.Engine.{Engine, Ticked, Asks, Nothing}
 
 -- the next of what is asked; behind the last there is nothing
 abbrev pub plays : List Asks → List ℤ → Ticked (List Asks)

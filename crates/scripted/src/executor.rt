@@ -1,7 +1,7 @@
 //! The executor that plays the scripts of a partition.
 
 ghost use Rattle.std.specs.Prelude.{◌≡◌, map};
-ghost use Rattle.apex_meaning.specs.Partition.{no_control};
+ghost use Rattle.kernel_meaning.specs.Partition.{no_control};
 ghost use Rattle.scripted.specs.Plays.{control_of, script_of};
 
 use crate::part::Part;
@@ -55,7 +55,7 @@ fn stop_each(parts: &mut Vec<Part>)
 
 impl Executor for Scripted {
     ghost use Rattle.std.specs.Prelude.{List};
-    ghost use Rattle.apex_meaning.specs.Engine.{Asks};
+    ghost use Rattle.engine_meaning.specs.Engine.{Asks};
     ghost use Rattle.scripted.specs.Plays.{engine_of, controls_of, initial_of, layout_of, laid_of};
 
     type Mem = PartitionMem;

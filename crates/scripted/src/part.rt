@@ -1,7 +1,7 @@
 //! A runner with its script.
 
 ghost use Rattle.std.specs.Prelude.{◌≡◌, ◌<◌, ℤ, List, Some, None, true, length};
-ghost use Rattle.apex_meaning.specs.Partition.{ticked};
+ghost use Rattle.kernel_meaning.specs.Partition.{ticked};
 ghost use Rattle.bursts.specs.Bursts.{burst, is_nothing};
 ghost use Rattle.processor.specs.Views.{asks_of};
 ghost use Rattle.scripted.specs.Plays.{control_of, script_of};

@@ -8,13 +8,13 @@ use Rattle.apex_types.specs.declared.identity.Runner.{Runner}
 use Rattle.apex_types.specs.declared.process.ProcessStatus.{ProcessStatus}
 use Rattle.apex_types.specs.declared.service.ArrayPlace.{ArrayPlace}
 use Rattle.apex_types.specs.declared.service.Service.TheVariants as service
-use Rattle.apex_meaning.specs.BufferServices.{receives, receiver, admits, list, with_message}
-use Rattle.apex_meaning.specs.Objects.{Objects, Buffer, put_buffer}
-use Rattle.apex_meaning.specs.Processes.{Processes, released}
-use Rattle.apex_meaning.specs.Sharing.{Sharing, of_processes, answers, becomes}
-use Rattle.apex_meaning.specs.Step.{after, message}
-use Rattle.apex_meaning.specs.Waiting.{blocks, fills, first_waiting, handed_by}
-use Rattle.apex_meaning.specs.Sharing.{both}
+use Rattle.kernel_meaning.specs.BufferServices.{receives, receiver, admits, list, with_message}
+use Rattle.kernel_meaning.specs.Objects.{Objects, Buffer, put_buffer}
+use Rattle.kernel_meaning.specs.Processes.{Processes, released}
+use Rattle.kernel_meaning.specs.Sharing.{Sharing, of_processes, answers, becomes}
+use Rattle.kernel_meaning.specs.Step.{after, message}
+use Rattle.kernel_meaning.specs.Sharing.{blocks, fills, first_waiting, handed_by}
+use Rattle.kernel_meaning.specs.Sharing.{both}
 use Rattle.sync_objects.specs.Both.{delivers}
 
 -- there is none

@@ -5,11 +5,11 @@ use Rattle.apex_types.specs.declared.codes.ReturnCode.TheVariants as code
 use Rattle.apex_types.specs.declared.identity.Runner.{Runner}
 use Rattle.apex_types.specs.declared.service.ArrayPlace.{ArrayPlace}
 use Rattle.apex_types.specs.declared.service.Service.TheVariants as service
-use Rattle.apex_meaning.specs.BufferServices.{admits, list}
-use Rattle.apex_meaning.specs.Objects.{Objects, Buffer}
-use Rattle.apex_meaning.specs.Sharing.{Sharing, answers}
-use Rattle.apex_meaning.specs.Step.{Step, after}
-use Rattle.apex_meaning.specs.Waiting.{fills, first_waiting}
+use Rattle.kernel_meaning.specs.BufferServices.{admits, list}
+use Rattle.kernel_meaning.specs.Objects.{Objects, Buffer}
+use Rattle.kernel_meaning.specs.Sharing.{Sharing, answers}
+use Rattle.kernel_meaning.specs.Step.{Step, after}
+use Rattle.kernel_meaning.specs.Sharing.{fills, first_waiting}
 
 -- empty or occupied
 abbrev pub number_of_occupied : Bool → ℕ

@@ -3,12 +3,13 @@
 ghost use Rattle.std.specs.Prelude.{◌≡◌, ◌<◌, ◌≤◌, ◌+◌, ◌^◌, [], length, pos, true};
 ghost use Rattle.apex_types.specs.Room.{HasRoom, Grows};
 ghost use Rattle.apex_types.specs.declared.identity.TheConstants.{MOST_OBJECTS};
-ghost use Rattle.apex_meaning.specs.BlackboardServices as meaning;
-ghost use Rattle.apex_meaning.specs.Durations as durations;
-ghost use Rattle.apex_meaning.specs.Step.{IsMade, after};
-ghost use Rattle.apex_meaning.specs.Sharing.{answers};
+ghost use Rattle.kernel_meaning.specs.BlackboardServices as meaning;
+ghost use Rattle.kernel_meaning.specs.Times as durations;
+ghost use Rattle.kernel_meaning.specs.Made.{IsMade};
+ghost use Rattle.kernel_meaning.specs.Step.{after};
+ghost use Rattle.kernel_meaning.specs.Sharing.{answers};
 ghost use Rattle.sync_objects_base.specs.Status.{blackboard_at};
-ghost use Rattle.apex_meaning.specs.Sharing.{both};
+ghost use Rattle.kernel_meaning.specs.Sharing.{both};
 ghost use Rattle.sync_objects.specs.Both.{number_of_occupied};
 
 use apex_types::{

@@ -3,12 +3,12 @@
 ghost use Rattle.std.specs.Prelude.{◌≡◌, ◌<◌, ◌≤◌, ◌+◌, ◌^◌, length, true};
 ghost use Rattle.apex_types.specs.Room.{HasRoom, Grows};
 ghost use Rattle.apex_types.specs.declared.identity.TheConstants.{MOST_OBJECTS};
-ghost use Rattle.apex_meaning.specs.BufferServices as meaning;
-ghost use Rattle.apex_meaning.specs.Durations as durations;
-ghost use Rattle.apex_meaning.specs.Step.{IsMade};
-ghost use Rattle.apex_meaning.specs.Waiting.{first_waiting};
+ghost use Rattle.kernel_meaning.specs.BufferServices as meaning;
+ghost use Rattle.kernel_meaning.specs.Times as durations;
+ghost use Rattle.kernel_meaning.specs.Made.{IsMade};
+ghost use Rattle.kernel_meaning.specs.Sharing.{first_waiting};
 ghost use Rattle.sync_objects_base.specs.Status.{buffer_at, buffer_status};
-ghost use Rattle.apex_meaning.specs.Sharing.{both};
+ghost use Rattle.kernel_meaning.specs.Sharing.{both};
 ghost use Rattle.sync_objects.specs.Both.{delivers};
 
 use apex_types::{

@@ -2,9 +2,9 @@
 
 ghost use Rattle.std.specs.Prelude.{◌≡◌, ◌<◌, ◌≤◌, ◌+◌, ◌^◌, length, pos};
 ghost use Rattle.apex_types.specs.Room.{HasRoom, Grows};
-ghost use Rattle.apex_meaning.specs.EventServices as meaning;
-ghost use Rattle.apex_meaning.specs.Step.{IsMade};
-ghost use Rattle.apex_meaning.specs.Sharing.{both};
+ghost use Rattle.kernel_meaning.specs.EventServices as meaning;
+ghost use Rattle.kernel_meaning.specs.Made.{IsMade};
+ghost use Rattle.kernel_meaning.specs.Sharing.{both};
 
 use apex_types::{At, Discipline, ListKey, Mode, Out, ReturnCode, Runner, Service, Waiting, Words};
 use process_table_base::{ProcessTable, is_duration};

@@ -2,7 +2,7 @@
 use Rattle.std.proofs.Common.{◌≡◌, ℕ, zero, suc, ◌+◌, ◌<◌, ◌≤◌, ℤ, pos, negsuc, nat_abs, List, [], ◌∷◌, length, None, refl, ap, arith}
 use Rattle.std.proofs.lemmas.Int.{ints}
 use Rattle.std.specs.Prelude.{◌<ℤ◌, ◌≤ℤ◌, slice_get}
-use Rattle.apex_meaning.specs.Objects.{numbered_in, placed}
+use Rattle.kernel_meaning.specs.Objects.{numbered_in, placed}
 
 pub numbered-low : {X : Type 0} (xs : List X) (id : ℤ) → id <ℤ pos 1 → numbered_in xs id ≡ None
 numbered-low xs (negsuc n) h = refl

@@ -1,6 +1,6 @@
 -- Objects by their places.
 use Rattle.std.specs.Prelude.{ℕ, List, Option, Some, None, slice_get}
-use Rattle.apex_meaning.specs.Objects.{placed}
+use Rattle.kernel_meaning.specs.Objects.{placed}
 
 -- the object at a place, where there is a place
 abbrev pub placed_in : {X : Type 0} → List X → Option ℕ → Option (ℕ × X)

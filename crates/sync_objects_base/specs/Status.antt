@@ -1,7 +1,7 @@
 -- What is told of buffers and blackboards in place of their messages.
 use Rattle.std.specs.Prelude.{ℕ, length, drop, Option, Some, None, is_some, slice_index_or}
 use Rattle.apex_types.specs.declared.codes.Discipline.TheVariants as discipline
-use Rattle.apex_meaning.specs.Objects.{Objects, Buffer, Blackboard, fresh_buffer, fresh_blackboard}
+use Rattle.kernel_meaning.specs.Objects.{Objects, Buffer, Blackboard, fresh_buffer, fresh_blackboard}
 use Rattle.sync_objects_base.specs.declared.buffer.BufferStatus.{BufferStatus}
 use Rattle.sync_objects_base.specs.declared.blackboard.BlackboardStatus.{BlackboardStatus}
 

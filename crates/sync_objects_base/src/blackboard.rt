@@ -1,7 +1,7 @@
 //! Blackboards.
 
 ghost use Rattle.std.specs.Prelude.{◌≡◌, true, false, option_map};
-ghost use Rattle.apex_meaning.specs.Objects as meaning;
+ghost use Rattle.kernel_meaning.specs.Objects as meaning;
 ghost use Rattle.sync_objects_base.specs.Status.{blackboard_status};
 
 use apex_types::{BlackboardRow, Words};
@@ -16,7 +16,7 @@ pub(crate) struct Blackboard {
 }
 
 impl Model for Blackboard {
-    ghost use Rattle.apex_meaning.specs.Objects as meaning;
+    ghost use Rattle.kernel_meaning.specs.Objects as meaning;
 
     ghost Value = { meaning.Blackboard };
 

@@ -1,7 +1,7 @@
 //! Buffers of messages.
 
 ghost use Rattle.std.specs.Prelude.{◌≡◌, ◌<◌, ◌≤◌, ◌++◌, [], ◌∷◌, drop, length, slice_get, true, IfOk, IsNone, OnSome};
-ghost use Rattle.apex_meaning.specs.Objects as meaning;
+ghost use Rattle.kernel_meaning.specs.Objects as meaning;
 ghost use Rattle.sync_objects_base.specs.Status.{buffer_status};
 
 use apex_types::{BufferRow, Words};
@@ -18,7 +18,7 @@ pub(crate) struct Buffer {
 }
 
 impl Model for Buffer {
-    ghost use Rattle.apex_meaning.specs.Objects as meaning;
+    ghost use Rattle.kernel_meaning.specs.Objects as meaning;
 
     ghost Value = { meaning.Buffer };
 

@@ -1,7 +1,7 @@
 //! Events.
 
 ghost use Rattle.std.specs.Prelude.{◌≡◌, true, false};
-ghost use Rattle.apex_meaning.specs.Objects as meaning;
+ghost use Rattle.kernel_meaning.specs.Objects as meaning;
 
 use std::marker::Model;
 
@@ -13,7 +13,7 @@ pub struct Event {
 }
 
 impl Model for Event {
-    ghost use Rattle.apex_meaning.specs.Objects as meaning;
+    ghost use Rattle.kernel_meaning.specs.Objects as meaning;
 
     ghost Value = { meaning.Event };
 

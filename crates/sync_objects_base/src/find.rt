@@ -2,7 +2,7 @@
 
 ghost use Rattle.std.specs.Prelude.{◌≡◌, ◌<◌, length, IfSome};
 ghost use Rattle.sync_objects_base.specs.Found.{placed_in};
-ghost use Rattle.apex_meaning.specs.Objects.{numbered_in};
+ghost use Rattle.kernel_meaning.specs.Objects.{numbered_in};
 
 /// The place of the object with a number, from 0, where there is such an object.
 #[tactic(auto, using(crate::proofs::Numbers::numbers))]

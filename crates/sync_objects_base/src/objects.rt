@@ -2,7 +2,7 @@
 
 ghost use Rattle.std.specs.Prelude.{◌≡◌, ◌<◌, ◌≤◌, ◌++◌, [], ◌∷◌, drop, length, map, replicate, slice_get, IfOk, IfSome, IsNone, OnSome, true};
 ghost use Rattle.apex_types.specs.declared.identity.TheConstants.{MOST_OBJECTS};
-ghost use Rattle.apex_meaning.specs.Objects as meaning;
+ghost use Rattle.kernel_meaning.specs.Objects as meaning;
 ghost use Rattle.sync_objects_base.specs.Status.{buffer_at, buffer_of_status, buffer_status, blackboard_at, blackboard_of_status, blackboard_status, without_first};
 
 use crate::blackboard::{Blackboard, BlackboardStatus};
@@ -25,7 +25,7 @@ pub struct Objects {
 }
 
 impl Model for Objects {
-    ghost use Rattle.apex_meaning.specs.Objects as meaning;
+    ghost use Rattle.kernel_meaning.specs.Objects as meaning;
 
     ghost Value = { meaning.Objects };
 

@@ -1,7 +1,7 @@
 //! Semaphores.
 
 ghost use Rattle.std.specs.Prelude.{◌≡◌, true, false};
-ghost use Rattle.apex_meaning.specs.Objects as meaning;
+ghost use Rattle.kernel_meaning.specs.Objects as meaning;
 
 use apex_types::{Discipline, SemaphoreRow};
 use std::marker::Model;
@@ -15,7 +15,7 @@ pub struct Semaphore {
 }
 
 impl Model for Semaphore {
-    ghost use Rattle.apex_meaning.specs.Objects as meaning;
+    ghost use Rattle.kernel_meaning.specs.Objects as meaning;
 
     ghost Value = { meaning.Semaphore };
 

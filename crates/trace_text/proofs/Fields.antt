@@ -17,8 +17,8 @@ use Rattle.apex_types.specs.declared.codes.ReturnCode.{ReturnCode}
 use Rattle.apex_types.specs.declared.codes.ReturnCode.TheVariants as code
 use Rattle.apex_types.specs.declared.event.Subject.{Subject}
 use Rattle.apex_types.specs.declared.event.Subject.TheVariants as subject
-use Rattle.apex_meaning.specs.DeviceText.{plain_number}
-use Rattle.apex_meaning.specs.GrammarWords.{same}
+use Rattle.module_meaning.specs.DeviceText.{plain_number}
+use Rattle.engine_meaning.specs.Digits.{same}
 use Rattle.trace_text.specs.Reading.{name_of, partition_of, subject_of, culprit_of, return_codes, code_at, code_of, responses, response_of}
 use Rattle.trace_text.specs.Trace.{IsSubject, IsCulprit, IsPartition}
 use Rattle.trace_text.proofs.Pieces.{is_ink}

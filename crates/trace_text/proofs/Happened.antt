@@ -16,8 +16,8 @@ use Rattle.apex_types.specs.declared.event.EventKind.{EventKind}
 use Rattle.apex_types.specs.declared.event.EventKind.TheVariants as event
 use Rattle.apex_types.specs.declared.event.Subject.{Subject}
 use Rattle.apex_types.specs.declared.service.Service.{Service}
-use Rattle.apex_meaning.specs.DeviceText.{word, words, put_word}
-use Rattle.apex_meaning.specs.Step.{message}
+use Rattle.module_meaning.specs.DeviceText.{word, words, put_word}
+use Rattle.kernel_meaning.specs.Step.{message}
 use Rattle.trace_text.specs.declared.keyword.Keyword.{Keyword}
 use Rattle.trace_text.specs.declared.keyword.Keyword.TheVariants as keyword
 use Rattle.trace_text.specs.Reading.{both, few, words_of, keyword_text, keyword_of, state_of, service_of, code_of, error_of, response_of, subject_of, culprit_of, mode_of, name_of, state_line, return_with, return_line, mode_line, error_with, error_line, report_line, message_of, message_line, kind_by, kind_of}

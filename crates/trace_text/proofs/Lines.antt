@@ -10,7 +10,7 @@ use Rattle.apex_types.specs.declared.event.Event.{Event}
 use Rattle.apex_types.specs.declared.event.EventKind.{EventKind}
 use Rattle.apex_types.specs.declared.event.EventKind.TheVariants as event
 use Rattle.apex_types.specs.declared.identity.Ticks.{Ticks}
-use Rattle.apex_meaning.specs.DeviceText.{piece, pieces, pieces_behind_marks}
+use Rattle.module_meaning.specs.DeviceText.{piece, pieces, pieces_behind_marks}
 use Rattle.trace_text.specs.Reading.{tick_of, partition_of, kind_of, event_with, event_of, event_in}
 use Rattle.trace_text.specs.Trace.{happens_in, CanBeWritten}
 use Rattle.trace_text.proofs.Fields.{partition_spells}

@@ -2,8 +2,8 @@
 use Rattle.std.proofs.Common.{◌≡◌, ℕ, ℤ, ◌≤◌, ◌+◌, Bool, true, false, cond, List, [], ◌∷◌, ◌++◌, length, Option, Some, None, refl, sym, ap, ◌∙◌, arith, append_assoc, append-nil, length-append}
 use Rattle.std.proofs.lemmas.Bool.{lt-leb, le-leb}
 use Rattle.arrayvec.specs.ArrayVec.{ArrayVec}
-use Rattle.apex_meaning.specs.DeviceText.{piece, pieces_behind_marks, word, words, put_word}
-use Rattle.apex_meaning.specs.Step.{message}
+use Rattle.module_meaning.specs.DeviceText.{piece, pieces_behind_marks, word, words, put_word}
+use Rattle.kernel_meaning.specs.Step.{message}
 use Rattle.trace_text.specs.Reading.{pieces_of, few}
 
 -- what all words come to, where these were kept, and these are still to come

@@ -3,7 +3,7 @@ use Rattle.std.proofs.Common.{◌≡◌, ℕ, Bool, true, false, cond, List, [],
 use Rattle.std.specs.Prelude.{find}
 use Rattle.std.specs.Cmp.Lexicographic.{same_text}
 use Rattle.std.specs.List.{list_all}
-use Rattle.apex_meaning.specs.GrammarWords.{same}
+use Rattle.engine_meaning.specs.Digits.{same}
 use Rattle.trace_text.specs.Reading.{with_word}
 use Rattle.trace_text.proofs.Pieces.{is_ink}
 

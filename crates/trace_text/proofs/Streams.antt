@@ -7,7 +7,7 @@ use Rattle.std.proofs.lemmas.Bool.{and_parts, and_from, cases_lt}
 use Rattle.std.proofs.lemmas.List.{take-append-drop, take-append-le}
 use Rattle.apex_types.specs.Line.{line_of}
 use Rattle.apex_types.specs.declared.event.Event.{Event}
-use Rattle.apex_meaning.specs.DeviceText.{pieces_behind_marks}
+use Rattle.module_meaning.specs.DeviceText.{pieces_behind_marks}
 use Rattle.trace_text.specs.Stream.{NextIn, NoneIn, SeesLine}
 use Rattle.trace_text.specs.Trace.{CanBeWritten, IsNext}
 use Rattle.trace_text.proofs.Lengths.{line_short}

@@ -2,7 +2,7 @@
 use Rattle.std.proofs.Common.{◌≡◌, true, Some, refl}
 use Rattle.std.specs.List.{list_all}
 use Rattle.apex_types.specs.CodeWords.{mode_word, state_word, error_word}
-use Rattle.apex_types.specs.ServiceNumbers.{services}
+use Rattle.apex_types.specs.ServiceShape.{services}
 use Rattle.apex_types.specs.ServiceShape.{service_word}
 use Rattle.apex_types.specs.declared.codes.ErrorKind.{ErrorKind}
 use Rattle.apex_types.specs.declared.codes.ErrorKind.TheVariants as error

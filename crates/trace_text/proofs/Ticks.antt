@@ -6,8 +6,8 @@ use Rattle.std.proofs.Math.Nat.{div-div-eq-div-mul, pow-suc}
 use Rattle.std.proofs.lemmas.Bool.{and_parts, and_from, leb-true, le-leb, lt-ltb, eqb-true, cond-true}
 use Rattle.apex_types.specs.Line.{thirteen_digits}
 use Rattle.apex_types.specs.declared.identity.Ticks.{Ticks}
-use Rattle.apex_meaning.specs.DeviceText.{if_at_most}
-use Rattle.apex_meaning.specs.GrammarWords.{is_digit, decimal_value}
+use Rattle.module_meaning.specs.DeviceText.{if_at_most}
+use Rattle.engine_meaning.specs.Digits.{is_digit, decimal_value}
 use Rattle.trace_text.specs.Reading.{tick_of, tick_with}
 use Rattle.trace_text.proofs.Pieces.{is_ink}
 use Rattle.trace_text.proofs.Spells.{Spells, same_some}

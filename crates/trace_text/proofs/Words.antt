@@ -7,8 +7,8 @@ use Rattle.std.specs.List.{list_all}
 use Rattle.std.proofs.lemmas.Bool.{and_parts, and_from, leb-true, le-leb, lt-ltb, eqb-true, eqb-false, ne_eqb, not-true, not_from_false, cond-true, cond-false}
 use Rattle.std.proofs.lemmas.Fmt.{digits_decimal, digits_value-decimal, decimal-digits_value, decimal_nonempty, first_decimal, decimal_digit}
 use Rattle.std.proofs.lemmas.Str.Parse.{IsNumeralModel, numerals_by_fold}
-use Rattle.apex_meaning.specs.DeviceText.{is_plain, if_at_most, plain_number, positive, negative, word}
-use Rattle.apex_meaning.specs.GrammarWords.{is_digit, decimal_value}
+use Rattle.module_meaning.specs.DeviceText.{is_plain, if_at_most, plain_number, positive, negative, word}
+use Rattle.engine_meaning.specs.Digits.{is_digit, decimal_value}
 use Rattle.trace_text.proofs.Pieces.{is_ink}
 use Rattle.trace_text.proofs.Spells.{Spells, same_some}
 

@@ -3,7 +3,7 @@ use Rattle.std.specs.Prelude.{ℕ, ℤ, ◌&&◌, ◌==◌, nat_le, if◌then◌
 use Rattle.std.specs.List.{list_all}
 use Rattle.apex_types.specs.CodeWords.{mode_word, state_word, error_word, level_word, level_of_response, action_word}
 use Rattle.apex_types.specs.NameText.{is_name}
-use Rattle.apex_types.specs.ServiceNumbers.{services}
+use Rattle.apex_types.specs.ServiceShape.{services}
 use Rattle.apex_types.specs.ServiceShape.{service_word}
 use Rattle.apex_types.specs.declared.codes.ErrorKind.{ErrorKind}
 use Rattle.apex_types.specs.declared.codes.ErrorKind.TheVariants as error
@@ -25,9 +25,9 @@ use Rattle.apex_types.specs.declared.event.Subject.TheVariants as subject
 use Rattle.apex_types.specs.declared.identity.Ticks.{Ticks}
 use Rattle.apex_types.specs.declared.service.Service.{Service}
 use Rattle.arrayvec.specs.ArrayVec.{ArrayVec}
-use Rattle.apex_meaning.specs.DeviceText.{pieces, plain_number, if_at_most, words}
-use Rattle.apex_meaning.specs.GrammarWords.{same, is_digit, decimal_value}
-use Rattle.apex_meaning.specs.Step.{message}
+use Rattle.module_meaning.specs.DeviceText.{pieces, plain_number, if_at_most, words}
+use Rattle.engine_meaning.specs.Digits.{same, is_digit, decimal_value}
+use Rattle.kernel_meaning.specs.Step.{message}
 use Rattle.trace_text.specs.Trace.{happens_in}
 use Rattle.trace_text.specs.declared.keyword.Keyword.{Keyword}
 use Rattle.trace_text.specs.declared.keyword.Keyword.TheVariants as keyword

@@ -1,7 +1,7 @@
 -- A trace that is read from a reader.
 use Rattle.std.specs.Prelude.{◌≡◌, ◌≢◌, ◌⊎◌, ℕ, ◌+◌, ◌-◌, ◌^◌, ◌<◌, ◌≤◌, min, List, [], length, slice_range, Option, Some, None}
 use Rattle.std.specs.Io.KnownBytes.{IsAtEnd, prepend_known}
-use Rattle.apex_meaning.specs.DeviceText.{pieces_behind_marks}
+use Rattle.module_meaning.specs.DeviceText.{pieces_behind_marks}
 use Rattle.apex_types.specs.declared.event.Event.{Event}
 use Rattle.trace_text.specs.Trace.{IsNext}
 use Rattle.trace_text.specs.declared.ahead.Ahead.{Ahead}

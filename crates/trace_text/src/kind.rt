@@ -118,7 +118,7 @@ fn message_of(text: Option<&[u8]>) -> Option<(Name, Words)>
 }
 
 /// The words of a message, 1 to 16.
-#[tactic(auto, unfolding(apex_meaning::specs::DeviceText::words))]
+#[tactic(auto, unfolding(module_meaning::specs::DeviceText::words))]
 fn words_of(text: Option<&[u8]>) -> Option<Words>
     ensures { result ≡ meant.words_of (pieces_of 32 (option_copied text.entry)) }
 {

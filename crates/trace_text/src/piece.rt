@@ -1,12 +1,12 @@
 //! The pieces of a text between marks.
 
 ghost use Rattle.std.specs.Prelude.{◌≡◌, ◌<◌, length, option_map, option_copied, IfSome};
-ghost use Rattle.apex_meaning.specs.DeviceText.{piece, pieces_behind_marks};
+ghost use Rattle.module_meaning.specs.DeviceText.{piece, pieces_behind_marks};
 ghost use Rattle.trace_text.specs.Reading.{pieces_of};
 
 /// What stands before the first such byte, and what stands behind it; the whole text where there is
 /// none.
-#[tactic(auto, unfolding(apex_meaning::specs::DeviceText::pieces_behind_marks))]
+#[tactic(auto, unfolding(module_meaning::specs::DeviceText::pieces_behind_marks))]
 pub fn split_at(mark: u8, text: &[u8]) -> (&[u8], Option<&[u8]>)
     ensures front { result.0.now ≡ piece mark text.now }
     ensures behind { pieces_behind_marks mark text.now ≡ pieces_of mark (option_copied result.1) }

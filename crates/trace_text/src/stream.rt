@@ -2,7 +2,7 @@
 
 ghost use Rattle.std.specs.Prelude.{◌≡◌, ◌≢◌, ◌⊎◌, ◌<◌, ◌≤◌, [], length, true, false, IfOk, IfErr, IfSome, OnErr, OnOk, Ok, Some, None};
 ghost use Rattle.std.specs.Io.KnownBytes.{IsAtEnd, Keeps};
-ghost use Rattle.apex_meaning.specs.DeviceText.{pieces_behind_marks};
+ghost use Rattle.module_meaning.specs.DeviceText.{pieces_behind_marks};
 ghost use Rattle.trace_text.specs.Trace.{CanBeWritten};
 ghost use Rattle.trace_text.specs.Stream.{IsStreamFault, NextIn, SeesLine, ahead_bytes, left, next_number};
 ghost use Rattle.trace_text.specs.declared.stream.StreamFault.TheVariants as faults;

@@ -6,7 +6,7 @@ use Rattle.std.proofs.lemmas.Nat.{mod_below}
 use Rattle.std.proofs.lemmas.Bool.{lt-ltb, le-ltb, le-leb, lt-leb, ne_eqb}
 use Rattle.apex_types.specs.declared.identity.At.{At}
 use Rattle.apex_types.specs.declared.row.WindowRow.{WindowRow}
-use Rattle.apex_meaning.specs.Windows.{Schedule, at_tick, phase, is_within, ends_at, owner, ended}
+use Rattle.kernel_meaning.specs.Windows.{Schedule, at_tick, phase, is_within, ends_at, owner, ended}
 use Rattle.window_table.specs.Edges.{until_edge, until_edges}
 
 apart : (a b : ℕ) → (a < b) ⊎ (b ≤ a)

@@ -3,7 +3,7 @@ use Rattle.std.proofs.Common.{◌≡◌, ℕ, Bool, true, false, List, [], ◌�
 use Rattle.toml.specs.Data.{as_str}
 use Rattle.toml.specs.View.{view, members_view}
 use Rattle.toml.specs.declared.value.Value.{Value}
-use Rattle.apex_meaning.specs.TableText.{has_only, has_texts_only}
+use Rattle.module_meaning.specs.TableRules.{has_only, has_texts_only}
 
 abbrev Entry : Type 0
 Entry = String Global × Value

@@ -3,7 +3,7 @@ use Rattle.std.proofs.Common.{◌≡◌, ℕ, Bool, true, false, List, [], ◌�
 use Rattle.std.specs.Prelude.{filter, ◌||◌, if◌then◌else◌}
 use Rattle.std.specs.List.{list_any}
 use Rattle.apex_types.specs.declared.row.WindowRow.{WindowRow}
-use Rattle.apex_meaning.specs.Windows.{BeginWithin, begins_late}
+use Rattle.kernel_meaning.specs.WindowFacts.{BeginWithin, begins_late}
 
 first_not : (a b : Bool) → (a || b) ≡ false → a ≡ false
 first_not true b h = h

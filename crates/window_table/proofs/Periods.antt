@@ -4,8 +4,8 @@ use Rattle.std.proofs.Common.{mul-le-mul_right, ◌⊎◌}
 use Rattle.std.proofs.lemmas.Bool.{false≢true, le-ltb}
 use Rattle.apex_types.specs.declared.identity.At.{At}
 use Rattle.apex_types.specs.declared.row.WindowRow.{WindowRow}
-use Rattle.apex_meaning.specs.Windows.{Schedule, releases, until_start, until_one_of}
-use Rattle.apex_meaning.specs.TableRules.{offered, falls_short}
+use Rattle.kernel_meaning.specs.Windows.{Schedule, releases, until_start, until_one_of}
+use Rattle.module_meaning.specs.Table.{offered, falls_short}
 
 cond-at-most : (b : Bool) (x y frame : ℕ) → y ≤ frame → cond b (min x y) y ≤ frame
 cond-at-most true x y frame h = omega arith

@@ -5,7 +5,8 @@ use Rattle.std.proofs.lemmas.Bool.{false≢true}
 use Rattle.toml.specs.Data.{Members, as_table, as_str}
 use Rattle.toml.specs.View.{view as value_view, items_view}
 use Rattle.toml.specs.declared.value.Value.{Value}
-use Rattle.apex_meaning.specs.TableText.{◌>>=◌, tables_of, texts_of}
+use Rattle.module_meaning.specs.Table.{◌>>=◌}
+use Rattle.module_meaning.specs.TableRules.{tables_of, texts_of}
 use Rattle.window_table.specs.Answers.{Reads}
 use Rattle.window_table.specs.declared.fault.TableFault.{TableFault}
 use Rattle.window_table.specs.declared.fault.TableFault.TheVariants as fault

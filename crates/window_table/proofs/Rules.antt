@@ -5,8 +5,8 @@ use Rattle.std.specs.List.{list_any}
 use Rattle.std.proofs.lemmas.Bool.{false≢true}
 use Rattle.std.proofs.lemmas.Bool.Decides.{nat_tests}
 use Rattle.apex_types.specs.NameText.{is_name}
-use Rattle.apex_meaning.specs.TableText.{PartitionText, TableText}
-use Rattle.apex_meaning.specs.TableRules.{exceeds_partition, exceeds_times, exceeds_port, exceeds_counts, exceeds_window, is_outside, has_many_ports, is_count_outside, partition_row, exceeds_rows, exceeds_channel, has_unknown_name, is_unknown_window, has_unknown_end}
+use Rattle.module_meaning.specs.TableRules.{PartitionText, TableText}
+use Rattle.module_meaning.specs.TableRules.{exceeds_partition, exceeds_times, exceeds_port, exceeds_counts, exceeds_window, is_outside, has_many_ports, is_count_outside, partition_row, exceeds_rows, exceeds_channel, has_unknown_name, is_unknown_window, has_unknown_end}
 
 or_first : (a b : Bool) → (a || b) ≡ false → a ≡ false
 or_first true b h = h

@@ -1,13 +1,13 @@
 -- What an answer says of a text.
-use Rattle.std.specs.Prelude.{◌≡◌, ℕ, Bool, true, List, Option, Some, None, Result, Ok, Err, IsUtf8}
+use Rattle.std.specs.Prelude.{◌≡◌, ℕ, Bool, true, List, Option, Some, None, Result, Ok, Err}
 use Rattle.toml.specs.Data.{Members}
-use Rattle.toml.specs.Parse.{parse_document}
-use Rattle.apex_meaning.specs.TableRules.{Refusal, verdict}
-use Rattle.apex_meaning.specs.TableRules as rule
+use Rattle.module_meaning.specs.TableRules.{Refusal, verdict}
 use Rattle.window_table.specs.declared.fault.TableFault.{TableFault}
 use Rattle.window_table.specs.declared.fault.TableFault.TheVariants as fault
 use Rattle.window_table.specs.declared.table.ModuleTable.{ModuleTable}
+use Rattle.window_table.specs.Refusals.{IsOf, IsRefused}
 use Rattle.window_table.specs.Views.{table_of}
+use Rattle.module_meaning.specs.Accepted.{IsDocument}
 
 -- what was read of a part of a document, refused where it has not the shape; or want of memory
 abbrev pub Reads : {A B : Type 0} → (A → B) → Result A TableFault → Option B → Type 0
@@ -19,17 +19,7 @@ Reads view (Err _) read = ⊥
 -- a verdict, or want of memory
 abbrev pub Judges : {A B : Type 0} → (A → B) → Result A TableFault → Result B Refusal → Type 0
 Judges view (Ok x) judged = judged ≡ Ok (view x)
-Judges view (Err fault.Memory) judged = Unit {0}
-Judges view (Err fault.Document) judged = ⊥
-Judges view (Err fault.Shape) judged = judged ≡ Err rule.Shape
-Judges view (Err fault.Limit) judged = judged ≡ Err rule.Limit
-Judges view (Err fault.Name) judged = judged ≡ Err rule.Name
-Judges view (Err fault.Overlap) judged = judged ≡ Err rule.Overlap
-Judges view (Err fault.Period) judged = judged ≡ Err rule.Period
-Judges view (Err fault.Duration) judged = judged ≡ Err rule.Duration
-Judges view (Err fault.Release) judged = judged ≡ Err rule.Release
-Judges view (Err fault.Ends) judged = judged ≡ Err rule.Ends
-Judges view (Err fault.Health) judged = judged ≡ Err rule.Health
+Judges view (Err f) judged = IsOf f judged
 
 -- refused by one rule, where it is broken; or want of memory
 abbrev pub RefusesLimit : {A : Type 0} → Result A TableFault → Bool → Type 0
@@ -44,15 +34,10 @@ RefusesOverlap (Err fault.Memory) broken = Unit {0}
 RefusesOverlap (Err fault.Overlap) broken = broken ≡ true
 RefusesOverlap (Err _) broken = ⊥
 
--- the bytes are a TOML document with these members
-abbrev pub IsDocument : List ℕ → Members → Type 0
-IsDocument bytes ms = IsUtf8 bytes × (parse_document bytes ≡ Some ms)
-
 -- The answer to a text: no document, or the verdict on the document, or want of memory.
 abbrev pub AnswersText : List ℕ → Result ModuleTable TableFault → Type 0
-AnswersText bytes (Err fault.Memory) = Unit {0}
-AnswersText bytes (Err fault.Document) = (ms : Members) → IsDocument bytes ms → ⊥
-AnswersText bytes answer = (ms : Members) × IsDocument bytes ms × Judges table_of answer (verdict ms)
+AnswersText bytes (Err f) = IsRefused bytes f
+AnswersText bytes (Ok table) = (ms : Members) × IsDocument bytes ms × (verdict ms ≡ Ok (table_of table))
 
 -- the number of a refusal
 abbrev pub number_of : TableFault → ℕ

@@ -1,6 +1,6 @@
 -- The keys of a part of a module table.
 use Rattle.std.specs.Prelude.{ℕ, Bool, List}
-use Rattle.apex_meaning.specs.TableText.{is_table_key, is_partition_key, is_sampling_key, is_queuing_key, is_error_name, is_window_key, is_channel_key}
+use Rattle.module_meaning.specs.TableRules.{is_table_key, is_partition_key, is_sampling_key, is_queuing_key, is_error_name, is_window_key, is_channel_key}
 use Rattle.window_table.specs.declared.keys.Part.{Part}
 use Rattle.window_table.specs.declared.keys.Part.TheVariants as part
 

@@ -1,5 +1,6 @@
 pub mod Schedules
 pub mod Views
 pub mod Keys
+pub mod Refusals
 pub mod Answers
 pub mod Edges

@@ -1,5 +1,5 @@
 -- What the code's schedule stands for in the definitions.
-use Rattle.apex_meaning.specs.Windows.{Schedule}
+use Rattle.kernel_meaning.specs.Windows.{Schedule}
 use Rattle.window_table.specs.declared.schedule.Schedule as code
 
 abbrev pub schedule_of : code.Schedule → Schedule

@@ -1,7 +1,7 @@
 -- What the code's rows stand for in the definitions.
 use Rattle.std.specs.Prelude.{map}
-use Rattle.apex_meaning.specs.Image.{Table, Partition, Channel}
-use Rattle.apex_meaning.specs.TableText.{KindText, Sampling, Queuing, PortText, PartitionText, WindowText, ChannelText, TableText}
+use Rattle.module_meaning.specs.Table.{Table, Partition, Channel}
+use Rattle.module_meaning.specs.TableRules.{KindText, Sampling, Queuing, PortText, PartitionText, WindowText, ChannelText, TableText}
 use Rattle.window_table.specs.Schedules.{schedule_of}
 use Rattle.window_table.specs.declared.table.ModuleTable.{ModuleTable}
 use Rattle.window_table.specs.declared.table.PartitionRow.{PartitionRow}

@@ -2,7 +2,7 @@
 
 ghost use Rattle.std.specs.Prelude.{◌≡◌, map, flat_map, option_map, option_copied, IfOk};
 ghost use Rattle.std.specs.List.{list_any};
-ghost use Rattle.apex_meaning.specs.TableRules.{port_at, is_device, is_same_port, is_in_same_partition, is_same_kind, is_source_port, is_destination_port, is_queuing_port, is_unknown_port, has_unknown_port, differ, ends_of, is_wrong, has_wrong_direction, has_mixed_ports, sends_to_itself, has_two_devices, has_twice, has_wrong_ends};
+ghost use Rattle.module_meaning.specs.Table.{port_at, is_device, is_same_port, is_in_same_partition, is_same_kind, is_source_port, is_destination_port, is_queuing_port, is_unknown_port, has_unknown_port, differ, ends_of, is_wrong, has_wrong_direction, has_mixed_ports, sends_to_itself, has_two_devices, has_twice, has_wrong_ends};
 ghost use Rattle.window_table.specs.Views.{channel_view};
 
 use crate::row::HasRow;
@@ -194,7 +194,7 @@ fn has_device(ends: &[ChannelEnd]) -> bool
 }
 
 /// Whether the device stands at two of the ends.
-#[tactic(auto, using(std::proofs::lemmas::List::drop_more), unfolding(apex_meaning::specs::TableRules::has_two_devices))]
+#[tactic(auto, using(std::proofs::lemmas::List::drop_more), unfolding(module_meaning::specs::Table::has_two_devices))]
 fn has_two_devices(ends: &[ChannelEnd]) -> bool
     ensures { result ≡ has_two_devices ends.now }
 {
@@ -213,7 +213,7 @@ fn has_queue<P: HasRow>(partitions: &[P], ends: &[ChannelEnd]) -> bool
 }
 
 /// Whether a channel with these ends connects what does not go together.
-#[tactic(auto, unfolding(apex_meaning::specs::TableRules::is_wrong))]
+#[tactic(auto, unfolding(module_meaning::specs::Table::is_wrong))]
 fn is_wrong<P: HasRow>(partitions: &[P], channel: &ChannelRow, ends: &[ChannelEnd]) -> bool
     requires { ends.now ≡ ends_of (channel_view channel.now) }
     ensures { result ≡ is_wrong (map P.row_of partitions.now) (channel_view channel.now) }
@@ -231,7 +231,7 @@ fn has_port(end: &ChannelEnd, others: &[ChannelEnd]) -> bool
     others.iter().any(|other| is_same_port(end, other))
 }
 
-#[tactic(auto, using(std::proofs::lemmas::List::drop_more), unfolding(apex_meaning::specs::TableRules::has_twice))]
+#[tactic(auto, using(std::proofs::lemmas::List::drop_more), unfolding(module_meaning::specs::Table::has_twice))]
 fn has_same_port(ends: &[ChannelEnd]) -> bool
     ensures { result ≡ has_twice is_same_port ends.now }
 {

@@ -2,8 +2,8 @@
 
 ghost use Rattle.std.specs.Prelude.{◌≡◌, ◌≤◌, ◌<◌, ◌/◌, ◌==◌, ℕ, map, length, nat_lt, false};
 ghost use Rattle.std.specs.List.{list_any};
-ghost use Rattle.apex_meaning.specs.TableRules.{is_wrong_window, has_wrong_window, has_odd_period, has_short_period, lacks_release, common, offered, falls_short};
-ghost use Rattle.apex_meaning.specs.Windows.{has_release};
+ghost use Rattle.module_meaning.specs.Table.{is_wrong_window, has_wrong_window, has_odd_period, has_short_period, lacks_release, common, offered, falls_short};
+ghost use Rattle.kernel_meaning.specs.Windows.{has_release};
 ghost use Rattle.window_table.specs.Schedules.{schedule_of};
 
 use crate::row::HasRow;
@@ -53,7 +53,7 @@ fn common(low: Ticks, high: Ticks, window: &WindowRow) -> Ticks
 }
 
 /// Whether windows offer a partition fewer than `duration` of the ticks from `low` up to `high`.
-#[tactic(auto, using(std::proofs::lemmas::List::drop_more), unfolding(apex_meaning::specs::TableRules::offered))]
+#[tactic(auto, using(std::proofs::lemmas::List::drop_more), unfolding(module_meaning::specs::Table::offered))]
 fn offers_less(
     duration: Ticks,
     partition: PartitionId,
@@ -76,7 +76,7 @@ fn offers_less(
 }
 
 /// The windows from the first on that ends after a tick.
-#[tactic(auto, unfolding(apex_meaning::specs::TableRules::offered))]
+#[tactic(auto, unfolding(module_meaning::specs::Table::offered))]
 fn not_ended(tick: Ticks, windows: &[WindowRow]) -> &[WindowRow]
     ensures same { (p low high : ℕ) → tick.0 ≤ low → offered p low high result.now ≡ offered p low high windows.now }
 {
@@ -91,7 +91,7 @@ fn not_ended(tick: Ticks, windows: &[WindowRow]) -> &[WindowRow]
 }
 
 /// Whether the windows offer a partition less than its duration in one of its periods.
-#[tactic(auto, using(crate::proofs::Periods::period_within), unfolding(apex_meaning::specs::TableRules::falls_short))]
+#[tactic(auto, using(crate::proofs::Periods::period_within), unfolding(module_meaning::specs::Table::falls_short))]
 fn falls_short(
     frame: u32,
     number: PartitionId,
@@ -125,7 +125,7 @@ fn falls_short(
 }
 
 /// Whether a partition's windows offer less than its duration in one of its periods.
-#[tactic(auto, using(std::proofs::lemmas::List::drop_more), unfolding(apex_meaning::specs::TableRules::falls_short_from))]
+#[tactic(auto, using(std::proofs::lemmas::List::drop_more), unfolding(module_meaning::specs::Table::falls_short_from))]
 pub fn has_short_period<P: HasRow>(schedule: &Schedule, partitions: &[P]) -> bool
     requires few { length partitions.now ≤ 16 }
     requires periods { list_any (λ p. p.period == 0) (map P.row_of partitions.now) ≡ false }
@@ -153,7 +153,7 @@ fn has_release(windows: &[WindowRow], partition: PartitionId) -> bool
 }
 
 /// Whether a partition has no release window.
-#[tactic(auto, using(std::proofs::lemmas::List::drop_more), unfolding(apex_meaning::specs::TableRules::lacks_release_from))]
+#[tactic(auto, using(std::proofs::lemmas::List::drop_more), unfolding(module_meaning::specs::Table::lacks_release_from))]
 pub fn lacks_release<P: HasRow>(windows: &[WindowRow], partitions: &[P]) -> bool
     requires { length partitions.now ≤ 16 }
     ensures { result ≡ lacks_release windows.now (map P.row_of partitions.now) }

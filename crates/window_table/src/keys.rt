@@ -1,7 +1,7 @@
 //! The keys of a module table.
 
 ghost use Rattle.std.specs.Prelude.{◌≡◌, ◌∷◌, [], codes};
-ghost use Rattle.apex_meaning.specs.TableText.{is_table_key, is_partition_key, is_window_key, is_error_name, is_one_of};
+ghost use Rattle.module_meaning.specs.TableRules.{is_table_key, is_partition_key, is_window_key, is_error_name, is_one_of};
 
 /// A part of a module table, by the keys that it may have.
 #[derive(Clone, Copy)]

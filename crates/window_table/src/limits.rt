@@ -3,7 +3,7 @@
 ghost use Rattle.std.specs.Prelude.{◌≡◌, ◌||◌, map, pos, not, None, Some, IfOk, if◌then◌else◌, int_lt, false, unwrap_or};
 ghost use Rattle.std.specs.List.{list_any};
 ghost use Rattle.apex_types.specs.NameText.{is_name};
-ghost use Rattle.apex_meaning.specs.TableRules.{has_many_ports, is_outside, exceeds_kind, exceeds_port, exceeds_partition, exceeds_times, exceeds_window, exceeds_channel, exceeds_counts, exceeds_rows, kind_row, port_row, partition_row, all_ignored};
+ghost use Rattle.module_meaning.specs.TableRules.{has_many_ports, is_outside, exceeds_kind, exceeds_port, exceeds_partition, exceeds_times, exceeds_window, exceeds_channel, exceeds_counts, exceeds_rows, kind_row, port_row, partition_row, all_ignored};
 ghost use Rattle.window_table.specs.Answers.{RefusesLimit};
 ghost use Rattle.window_table.specs.Views.{kind_text, port_text, partition_text, window_text, channel_text, table_text, partition_view};
 
@@ -51,7 +51,7 @@ fn is_outside(low: i64, high: i64, number: i64) -> bool
 }
 
 /// The kind of a port, if its numbers are within their limits.
-#[tactic(auto, unfolding(apex_meaning::specs::TableRules::exceeds_kind))]
+#[tactic(auto, unfolding(module_meaning::specs::TableRules::exceeds_kind))]
 fn kind_row(kind: WrittenKind) -> Option<PortKind>
     ensures { result ≡ (if exceeds_kind (kind_text kind) then None else Some (kind_row (kind_text kind))) }
 {
@@ -77,7 +77,7 @@ fn kind_row(kind: WrittenKind) -> Option<PortKind>
 }
 
 /// The row of a port, if its name and numbers are within their limits.
-#[tactic(auto, unfolding(apex_meaning::specs::TableRules::exceeds_port))]
+#[tactic(auto, unfolding(module_meaning::specs::TableRules::exceeds_port))]
 fn port_row(port: &WrittenPort<'_>) -> Option<PortRow>
     ensures { result ≡ (if exceeds_port (port_text port.now) then None else Some (port_row (port_text port.now))) }
 {
@@ -131,7 +131,7 @@ fn exceeds_times(frame: i64, partition: &WrittenPartition<'_>) -> bool
 }
 
 /// The row of a partition, if its name, numbers and ports are within their limits.
-#[tactic(auto, unfolding(apex_meaning::specs::TableRules::exceeds_partition))]
+#[tactic(auto, unfolding(module_meaning::specs::TableRules::exceeds_partition))]
 fn partition_row(
     alloc: Global,
     frame: i64,
@@ -176,14 +176,14 @@ pub fn partition_rows(
     Ok(rows)
 }
 
-#[tactic(auto, unfolding(apex_meaning::specs::TableRules::exceeds_window))]
+#[tactic(auto, unfolding(module_meaning::specs::TableRules::exceeds_window))]
 fn exceeds_window(window: &WrittenWindow<'_>) -> bool
     ensures { result ≡ exceeds_window (window_text window.now) }
 {
     window.offset < 0 || window.length < 1
 }
 
-#[tactic(auto, unfolding(apex_meaning::specs::TableRules::exceeds_channel))]
+#[tactic(auto, unfolding(module_meaning::specs::TableRules::exceeds_channel))]
 fn exceeds_channel(channel: &WrittenChannel<'_>) -> bool
     ensures { result ≡ exceeds_channel (channel_text channel.now) }
 {
@@ -193,7 +193,7 @@ fn exceeds_channel(channel: &WrittenChannel<'_>) -> bool
 }
 
 /// Whether the frame or a count of the whole table is outside its limits.
-#[tactic(auto, unfolding(apex_meaning::specs::TableRules::exceeds_counts))]
+#[tactic(auto, unfolding(module_meaning::specs::TableRules::exceeds_counts))]
 pub fn exceeds_counts(table: &WrittenTable<'_>) -> bool
     ensures { result ≡ exceeds_counts (table_text table.now) }
 {
@@ -230,7 +230,7 @@ fn exceeds_channels(channels: &[WrittenChannel<'_>]) -> bool
 }
 
 /// Whether a number of a window, or a name or a count of a channel is outside its limits.
-#[tactic(auto, unfolding(apex_meaning::specs::TableRules::exceeds_rows))]
+#[tactic(auto, unfolding(module_meaning::specs::TableRules::exceeds_rows))]
 pub fn exceeds_rows(table: &WrittenTable<'_>) -> bool
     ensures { result ≡ exceeds_rows (table_text table.now) }
 {

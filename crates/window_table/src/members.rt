@@ -3,7 +3,7 @@
 ghost use Rattle.std.specs.Prelude.{◌≡◌, option_map, option_copied};
 ghost use Rattle.toml.specs.Data.{get_member};
 ghost use Rattle.toml.specs.View.{view as value_view, table_view, items_view};
-ghost use Rattle.apex_meaning.specs.TableText.{text_at, integer_at, boolean_at, table_at, array_at, optional_array_at, has_only, has_texts_only};
+ghost use Rattle.module_meaning.specs.TableRules.{text_at, integer_at, boolean_at, table_at, array_at, optional_array_at, has_only, has_texts_only};
 ghost use Rattle.window_table.specs.Keys.{is_key};
 
 use crate::keys::Part;

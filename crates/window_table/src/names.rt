@@ -2,8 +2,9 @@
 
 ghost use Rattle.std.specs.Prelude.{◌≡◌, ◌≤◌, ◌||◌, ◌++◌, ◌∷◌, map, option_map, length, is_none, false};
 ghost use Rattle.std.specs.List.{list_any};
-ghost use Rattle.apex_meaning.specs.TableText.{same};
-ghost use Rattle.apex_meaning.specs.TableRules.{has_twice, has_same_names, has_unknown_name, partition_number, port_number, end_of, number_from, has_many_ports, is_unknown_window, has_unknown_end};
+ghost use Rattle.module_meaning.specs.TableRules.{same};
+ghost use Rattle.module_meaning.specs.Table.{has_twice};
+ghost use Rattle.module_meaning.specs.TableRules.{has_same_names, has_unknown_name, partition_number, port_number, end_of, number_from, has_many_ports, is_unknown_window, has_unknown_end};
 ghost use Rattle.window_table.specs.Views.{port_text, partition_text, window_text, channel_text, table_text};
 
 use crate::written::{WrittenChannel, WrittenPartition, WrittenPort, WrittenTable, WrittenWindow};
@@ -21,7 +22,7 @@ fn has_port(ports: &[WrittenPort<'_>], name: &str) -> bool
     false
 }
 
-#[tactic(auto, using(std::proofs::lemmas::List::drop_more), unfolding(apex_meaning::specs::TableRules::has_twice))]
+#[tactic(auto, using(std::proofs::lemmas::List::drop_more), unfolding(module_meaning::specs::Table::has_twice))]
 fn has_same_ports(ports: &[WrittenPort<'_>]) -> bool
     ensures { result ≡ has_twice (λ a b. same a.name b.name) (map port_text ports.now) }
 {
@@ -45,7 +46,7 @@ fn has_partition(partitions: &[WrittenPartition<'_>], name: &str) -> bool
     false
 }
 
-#[tactic(auto, using(std::proofs::lemmas::List::drop_more), unfolding(apex_meaning::specs::TableRules::has_twice))]
+#[tactic(auto, using(std::proofs::lemmas::List::drop_more), unfolding(module_meaning::specs::Table::has_twice))]
 fn has_same_partitions(partitions: &[WrittenPartition<'_>]) -> bool
     ensures { result ≡ has_twice (λ a b. same a.name b.name) (map partition_text partitions.now) }
 {
@@ -69,7 +70,7 @@ fn has_channel(channels: &[WrittenChannel<'_>], name: &str) -> bool
     false
 }
 
-#[tactic(auto, using(std::proofs::lemmas::List::drop_more), unfolding(apex_meaning::specs::TableRules::has_twice))]
+#[tactic(auto, using(std::proofs::lemmas::List::drop_more), unfolding(module_meaning::specs::Table::has_twice))]
 fn has_same_channels(channels: &[WrittenChannel<'_>]) -> bool
     ensures { result ≡ has_twice (λ a b. same a.name b.name) (map channel_text channels.now) }
 {
@@ -94,7 +95,7 @@ fn has_same_ports_somewhere(partitions: &[WrittenPartition<'_>]) -> bool
 }
 
 /// Whether two partitions, two channels or two ports of a partition have the same name.
-#[tactic(auto, unfolding(apex_meaning::specs::TableRules::has_same_names))]
+#[tactic(auto, unfolding(module_meaning::specs::TableRules::has_same_names))]
 pub fn has_same_names(table: &WrittenTable<'_>) -> bool
     ensures { result ≡ has_same_names (table_text table.now) }
 {
@@ -104,7 +105,7 @@ pub fn has_same_names(table: &WrittenTable<'_>) -> bool
 }
 
 /// The number of the partition with a name, if there is one.
-#[tactic(auto, using(std::proofs::lemmas::List::drop_more), unfolding(apex_meaning::specs::TableRules::number_from))]
+#[tactic(auto, using(std::proofs::lemmas::List::drop_more), unfolding(module_meaning::specs::TableRules::number_from))]
 pub fn partition_number(partitions: &[WrittenPartition<'_>], name: &str) -> Option<PartitionId>
     requires { length partitions.now ≤ 16 }
     ensures { option_map (λ n. n.0) result ≡ partition_number (map partition_text partitions.now) name.now }
@@ -134,7 +135,7 @@ fn is_port_name(text: &str, partition: &str, port: &str) -> bool
 }
 
 /// The number of the port of a partition that a text names.
-#[tactic(auto, using(std::proofs::lemmas::List::drop_more), unfolding(apex_meaning::specs::TableRules::number_from))]
+#[tactic(auto, using(std::proofs::lemmas::List::drop_more), unfolding(module_meaning::specs::TableRules::number_from))]
 fn port_number(partition: &WrittenPartition<'_>, text: &str) -> Option<PortId>
     requires { length partition.now.ports.items ≤ 16 }
     ensures { option_map (λ n. n.0) result ≡ port_number (partition_text partition.now) text.now }
@@ -150,7 +151,7 @@ fn port_number(partition: &WrittenPartition<'_>, text: &str) -> Option<PortId>
 }
 
 /// The end of a channel that a text names: a port or the device.
-#[tactic(auto, using(std::proofs::lemmas::List::drop_more), unfolding(apex_meaning::specs::TableRules::end_of, apex_meaning::specs::TableRules::port_from))]
+#[tactic(auto, using(std::proofs::lemmas::List::drop_more), unfolding(module_meaning::specs::TableRules::end_of, module_meaning::specs::TableRules::port_from))]
 pub fn channel_end(partitions: &[WrittenPartition<'_>], text: &str) -> Option<ChannelEnd>
     requires few { length partitions.now ≤ 16 }
     requires few_ports { list_any has_many_ports (map partition_text partitions.now) ≡ false }
@@ -220,7 +221,7 @@ fn has_unknown_partition(partitions: &[WrittenPartition<'_>], windows: &[Written
 }
 
 /// Whether a window's partition or an end of a channel is not there.
-#[tactic(auto, unfolding(apex_meaning::specs::TableRules::has_unknown_name))]
+#[tactic(auto, unfolding(module_meaning::specs::TableRules::has_unknown_name))]
 pub fn has_unknown_name(table: &WrittenTable<'_>) -> bool
     requires few { length table.now.partitions.items ≤ 16 }
     requires few_ports { list_any has_many_ports (map partition_text table.now.partitions.items) ≡ false }

@@ -2,7 +2,7 @@
 
 ghost use Rattle.std.specs.Prelude.{◌≡◌, ◌≤◌, ◌||◌, ◌+ℤ◌, map, length, pos, nat_abs, option_map, int_lt, false, None, Some, IfOk, IfErr, if◌then◌else◌};
 ghost use Rattle.std.specs.List.{list_any};
-ghost use Rattle.apex_meaning.specs.TableRules.{exceeds_window, exceeds_channel, overlaps_after, window_row, channel_row, has_many_ports, is_unknown_window, has_unknown_end};
+ghost use Rattle.module_meaning.specs.TableRules.{exceeds_window, exceeds_channel, overlaps_after, window_row, channel_row, has_many_ports, is_unknown_window, has_unknown_end};
 ghost use Rattle.window_table.specs.Answers.{RefusesOverlap};
 ghost use Rattle.window_table.specs.Views.{partition_text, window_text, channel_text, channel_view};
 
@@ -15,7 +15,7 @@ use std::alloc::Global;
 
 /// Where a window ends, if it begins at or after the end of the one before it and ends within the
 /// frame.
-#[tactic(auto, using(crate::proofs::Orders::lt_true, crate::proofs::Orders::ge_false), unfolding(apex_meaning::specs::TableRules::exceeds_window))]
+#[tactic(auto, using(crate::proofs::Orders::lt_true, crate::proofs::Orders::ge_false), unfolding(module_meaning::specs::TableRules::exceeds_window))]
 fn window_end(frame: u32, end: u32, window: &WrittenWindow<'_>) -> Option<u32>
     requires { exceeds_window (window_text window.now) ≡ false }
     ensures { option_map pos result ≡ (if int_lt window.now.offset (pos end) || int_lt (pos frame) (window.now.offset +ℤ window.now.length) then None else Some (window.now.offset +ℤ window.now.length)) }
@@ -34,7 +34,7 @@ fn window_end(frame: u32, end: u32, window: &WrittenWindow<'_>) -> Option<u32>
 }
 
 /// The row of a window that ends at `end`.
-#[tactic(auto, unfolding(apex_meaning::specs::TableRules::exceeds_window))]
+#[tactic(auto, unfolding(module_meaning::specs::TableRules::exceeds_window))]
 fn placed_row(window: &WrittenWindow<'_>, end: u32, partition: PartitionId) -> WindowRow
     requires numbers { exceeds_window (window_text window.now) ≡ false }
     requires within { (window.now.offset +ℤ window.now.length) ≡ pos end }
@@ -50,7 +50,7 @@ fn placed_row(window: &WrittenWindow<'_>, end: u32, partition: PartitionId) -> W
 
 /// The rows of the windows: refused where a window begins before the end of the one before it, or
 /// ends past the frame.
-#[tactic(auto, using(std::proofs::lemmas::List::drop_more), unfolding(apex_meaning::specs::TableRules::overlaps_after))]
+#[tactic(auto, using(std::proofs::lemmas::List::drop_more), unfolding(module_meaning::specs::TableRules::overlaps_after))]
 pub fn window_rows(
     alloc: Global,
     frame: u32,
@@ -75,7 +75,7 @@ pub fn window_rows(
     Ok(rows)
 }
 
-#[tactic(auto, unfolding(apex_meaning::specs::TableRules::exceeds_channel))]
+#[tactic(auto, unfolding(module_meaning::specs::TableRules::exceeds_channel))]
 fn channel_row(
     alloc: Global,
     partitions: &[WrittenPartition<'_>],

@@ -2,7 +2,7 @@
 
 ghost use Rattle.std.specs.Prelude.{◌<◌, ◌≡◌, ◌≤◌, ◌||◌, ◌==◌, length, false, IfOk, map, is_none, pos, nat_abs};
 ghost use Rattle.std.specs.List.{list_any};
-ghost use Rattle.apex_meaning.specs.TableRules.{is_outside, exceeds_counts, exceeds_rows, exceeds_limits, exceeds_partition, has_same_names, has_unknown_name, overlaps, numbered, partition_row, has_unknown_action, judge_table, judge_text};
+ghost use Rattle.module_meaning.specs.TableRules.{is_outside, exceeds_counts, exceeds_rows, exceeds_limits, exceeds_partition, has_same_names, has_unknown_name, overlaps, numbered, partition_row, has_unknown_action, judge_table, judge_text};
 ghost use Rattle.window_table.specs.Answers.{Judges, AnswersText, RefusesLimit, RefusesOverlap};
 ghost use Rattle.window_table.specs.Views.{table_of, table_text, partition_text, partition_view};
 
@@ -43,7 +43,7 @@ fn frame_row(frame: i64) -> u32
 }
 
 /// The table of a text that is within its limits and has these rows of partitions.
-#[tactic(auto, using(crate::proofs::Rules::frame_kept, crate::proofs::Rules::few_partitions, crate::proofs::Rules::few_ports, crate::proofs::Rules::windows_within, crate::proofs::Rules::channels_within, crate::proofs::Rules::windows_known, crate::proofs::Rules::ends_known), unfolding(apex_meaning::specs::TableRules::numbered))]
+#[tactic(auto, using(crate::proofs::Rules::frame_kept, crate::proofs::Rules::few_partitions, crate::proofs::Rules::few_ports, crate::proofs::Rules::windows_within, crate::proofs::Rules::channels_within, crate::proofs::Rules::windows_known, crate::proofs::Rules::ends_known), unfolding(module_meaning::specs::TableRules::numbered))]
 fn numbered(
     alloc: Global,
     written: &WrittenTable<'_>,
@@ -89,7 +89,7 @@ fn has_unknown_action(written: &WrittenTable<'_>) -> bool
 }
 
 /// The first rule on numbered rows that a table breaks.
-#[tactic(auto, unfolding(apex_meaning::specs::TableRules::judge_table))]
+#[tactic(auto, unfolding(module_meaning::specs::TableRules::judge_table))]
 fn broken_rule(
     alloc: Global,
     written: &WrittenTable<'_>,
@@ -121,7 +121,7 @@ fn broken_rule(
 }
 
 /// The table of a text, if it keeps the rules.
-#[tactic(auto, using(crate::proofs::Rules::few_partitions, crate::proofs::Rules::few_ports, crate::proofs::Rules::periods_there), unfolding(apex_meaning::specs::TableRules::judge_text, apex_meaning::specs::TableRules::judge_table))]
+#[tactic(auto, using(crate::proofs::Rules::few_partitions, crate::proofs::Rules::few_ports, crate::proofs::Rules::periods_there), unfolding(module_meaning::specs::TableRules::judge_text, module_meaning::specs::TableRules::judge_table))]
 fn judge(alloc: Global, written: &WrittenTable<'_>) -> Result<ModuleTable, TableFault>
     ensures { Judges table_of result (judge_text (table_text written.now)) }
 {
@@ -142,7 +142,7 @@ fn judge(alloc: Global, written: &WrittenTable<'_>) -> Result<ModuleTable, Table
 /// # Errors
 ///
 /// The refusals stand in the order in which they are asked; want of memory may be told at any time.
-#[tactic(auto, unfolding(apex_meaning::specs::TableRules::verdict))]
+#[tactic(auto, unfolding(module_meaning::specs::TableRules::verdict))]
 pub fn read_table(alloc: Global, text: &[u8]) -> Result<ModuleTable, TableFault>
     ensures { AnswersText text.now result }
 {

@@ -1,7 +1,7 @@
 //! Rows of partitions, wherever they stand.
 
 ghost use Rattle.std.specs.Prelude.{◌≡◌};
-ghost use Rattle.apex_meaning.specs.Image.{Partition};
+ghost use Rattle.module_meaning.specs.Table.{Partition};
 ghost use Rattle.window_table.specs.Views.{partition_view};
 
 use crate::table::PartitionRow;

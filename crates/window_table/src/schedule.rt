@@ -2,7 +2,8 @@
 
 ghost use Rattle.std.specs.Prelude.{◌≡◌, ◌<◌, ◌==◌, ◌+◌, ◌%◌, min, IfOk, filter};
 ghost use Rattle.window_table.specs.Edges.{until_edge};
-ghost use Rattle.apex_meaning.specs.Windows.{is_within, ends_at, releases, BeginWithin};
+ghost use Rattle.kernel_meaning.specs.Windows.{is_within, ends_at, releases};
+ghost use Rattle.kernel_meaning.specs.WindowFacts.{BeginWithin};
 
 use apex_types::{At, PartitionId, Ticks, WindowRow};
 use std::alloc::{AllocError, Global};
@@ -83,7 +84,8 @@ fn own_windows(
 
 impl Schedule {
     ghost use Rattle.std.specs.Prelude.{◌≡◌, ◌≤◌, ◌<◌, ◌+◌, ◌^◌, ℕ, None, option_map, IsTrue, IfOk};
-    ghost use Rattle.apex_meaning.specs.Windows.{at_tick, schedule_of_partition, phase, owner, ended, has_release, until_start, until_one_of, next_release, IsNextRelease};
+    ghost use Rattle.kernel_meaning.specs.Windows.{at_tick, schedule_of_partition, phase, owner, ended, has_release, until_start, until_one_of, next_release};
+    ghost use Rattle.kernel_meaning.specs.WindowFacts.{IsNextRelease};
     ghost use Rattle.window_table.specs.Schedules.{schedule_of};
     ghost use Rattle.window_table.specs.Edges.{until_edges};
 

@@ -1,12 +1,12 @@
 //! The words of a module table.
 
 ghost use Rattle.std.specs.Prelude.{◌≡◌};
-ghost use Rattle.apex_meaning.specs.TableText.{direction_of, discipline_of, module_action_of, partition_action_of};
+ghost use Rattle.module_meaning.specs.TableRules.{direction_of, discipline_of, module_action_of, partition_action_of};
 
 use apex_types::{Discipline, ModuleAction, PartitionAction, PortDirection};
 
 /// The direction of a port.
-#[tactic(auto, unfolding(apex_meaning::specs::TableText::direction_of))]
+#[tactic(auto, unfolding(module_meaning::specs::TableRules::direction_of))]
 pub fn direction(word: &str) -> Option<PortDirection>
     ensures { result ≡ direction_of word.now }
 {
@@ -18,7 +18,7 @@ pub fn direction(word: &str) -> Option<PortDirection>
 }
 
 /// The order in which those who wait for a queue are released.
-#[tactic(auto, unfolding(apex_meaning::specs::TableText::discipline_of))]
+#[tactic(auto, unfolding(module_meaning::specs::TableRules::discipline_of))]
 pub fn discipline(word: &str) -> Option<Discipline>
     ensures { result ≡ discipline_of word.now }
 {
@@ -30,7 +30,7 @@ pub fn discipline(word: &str) -> Option<Discipline>
 }
 
 /// What is done on a module fault.
-#[tactic(auto, unfolding(apex_meaning::specs::TableText::module_action_of))]
+#[tactic(auto, unfolding(module_meaning::specs::TableRules::module_action_of))]
 pub fn module_action(word: &str) -> Option<ModuleAction>
     ensures { result ≡ module_action_of word.now }
 {
@@ -43,7 +43,7 @@ pub fn module_action(word: &str) -> Option<ModuleAction>
 }
 
 /// What is done on an error of partition level.
-#[tactic(auto, unfolding(apex_meaning::specs::TableText::partition_action_of))]
+#[tactic(auto, unfolding(module_meaning::specs::TableRules::partition_action_of))]
 pub fn partition_action(word: &str) -> Option<PartitionAction>
     ensures { result ≡ partition_action_of word.now }
 {

@@ -2,7 +2,7 @@
 
 ghost use Rattle.std.specs.Prelude.{◌≡◌, option_map, map};
 ghost use Rattle.toml.specs.View.{table_view, items_view};
-ghost use Rattle.apex_meaning.specs.TableText.{action_at, health_of, sampling_of, queuing_of, kind_of, port_of, partition_of, window_of, channel_of, table_text_of, tables_of, texts_of};
+ghost use Rattle.module_meaning.specs.TableRules.{action_at, health_of, sampling_of, queuing_of, kind_of, port_of, partition_of, window_of, channel_of, table_text_of, tables_of, texts_of};
 ghost use Rattle.window_table.specs.Answers.{Reads};
 ghost use Rattle.window_table.specs.Views.{kind_text, port_text, partition_text, window_text, channel_text, table_text};
 
@@ -78,7 +78,7 @@ fn action(table: &Table, error: &str) -> Option<PartitionAction>
 }
 
 /// The health table, if there are exactly the seven errors, each with a known action.
-#[tactic(auto, unfolding(apex_meaning::specs::TableText::health_of))]
+#[tactic(auto, unfolding(module_meaning::specs::TableRules::health_of))]
 fn read_health(table: &Table) -> Option<HealthTable>
     ensures { result ≡ health_of (table_view table.now) }
 {
@@ -94,7 +94,7 @@ fn read_health(table: &Table) -> Option<HealthTable>
     has_only(table, Part::Health).then_some(health)
 }
 
-#[tactic(auto, unfolding(apex_meaning::specs::TableText::sampling_of))]
+#[tactic(auto, unfolding(module_meaning::specs::TableRules::sampling_of))]
 fn read_sampling(table: &Table) -> Option<WrittenKind>
     ensures { option_map kind_text result ≡ sampling_of (table_view table.now) }
 {
@@ -102,7 +102,7 @@ fn read_sampling(table: &Table) -> Option<WrittenKind>
     has_only(table, Part::SamplingPort).then_some(WrittenKind::Sampling { refresh })
 }
 
-#[tactic(auto, unfolding(apex_meaning::specs::TableText::queuing_of))]
+#[tactic(auto, unfolding(module_meaning::specs::TableRules::queuing_of))]
 fn read_queuing(table: &Table) -> Option<WrittenKind>
     ensures { option_map kind_text result ≡ queuing_of (table_view table.now) }
 {
@@ -111,7 +111,7 @@ fn read_queuing(table: &Table) -> Option<WrittenKind>
     has_only(table, Part::QueuingPort).then_some(WrittenKind::Queuing { depth, discipline })
 }
 
-#[tactic(auto, unfolding(apex_meaning::specs::TableText::kind_of))]
+#[tactic(auto, unfolding(module_meaning::specs::TableRules::kind_of))]
 fn read_kind(table: &Table) -> Option<WrittenKind>
     ensures { option_map kind_text result ≡ kind_of (table_view table.now) }
 {
@@ -125,7 +125,7 @@ fn read_kind(table: &Table) -> Option<WrittenKind>
     }
 }
 
-#[tactic(auto, unfolding(apex_meaning::specs::TableText::port_of))]
+#[tactic(auto, unfolding(module_meaning::specs::TableRules::port_of))]
 fn read_port(table: &Table) -> Option<WrittenPort<'_>>
     ensures { option_map port_text result ≡ port_of (table_view table.now) }
 {
@@ -159,7 +159,7 @@ fn read_ports(alloc: Global, values: &[Value]) -> Result<Vec<WrittenPort<'_>>, T
     Ok(ports)
 }
 
-#[tactic(auto, unfolding(apex_meaning::specs::TableText::partition_of))]
+#[tactic(auto, unfolding(module_meaning::specs::TableRules::partition_of))]
 fn read_partition(alloc: Global, table: &Table) -> Result<WrittenPartition<'_>, TableFault>
     ensures { Reads partition_text result (partition_of (table_view table.now)) }
 {
@@ -201,7 +201,7 @@ fn read_partitions(alloc: Global, values: &[Value]) -> Result<Vec<WrittenPartiti
     Ok(partitions)
 }
 
-#[tactic(auto, unfolding(apex_meaning::specs::TableText::window_of))]
+#[tactic(auto, unfolding(module_meaning::specs::TableRules::window_of))]
 fn read_window(table: &Table) -> Option<WrittenWindow<'_>>
     ensures { option_map window_text result ≡ window_of (table_view table.now) }
 {
@@ -250,7 +250,7 @@ fn read_destinations(alloc: Global, values: &[Value]) -> Result<Vec<&str>, Table
     Ok(destinations)
 }
 
-#[tactic(auto, unfolding(apex_meaning::specs::TableText::channel_of))]
+#[tactic(auto, unfolding(module_meaning::specs::TableRules::channel_of))]
 fn read_channel(alloc: Global, table: &Table) -> Result<WrittenChannel<'_>, TableFault>
     ensures { Reads channel_text result (channel_of (table_view table.now)) }
 {
@@ -288,7 +288,7 @@ fn read_channels(alloc: Global, values: &[Value]) -> Result<Vec<WrittenChannel<'
 }
 
 /// What a document says, if its keys, types and words are those of a module table.
-#[tactic(auto, unfolding(apex_meaning::specs::TableText::table_text_of))]
+#[tactic(auto, unfolding(module_meaning::specs::TableRules::table_text_of))]
 pub fn read_written(alloc: Global, table: &Table) -> Result<WrittenTable<'_>, TableFault>
     ensures { Reads table_text result (table_text_of (table_view table.now)) }
 {

@@ -1,4 +1,4 @@
-use Rattle.apex_meaning.specs.MachineControl.{MachineControl}
+use Rattle.machine_meaning.specs.MachineControl.{MachineControl}
 use Rattle.bursts.proofs.Quiet.{jump}
 use Rattle.bursts.proofs.still_ticks_are_one_jump.Goals as goal
 

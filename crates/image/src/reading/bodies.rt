@@ -2,7 +2,7 @@
 
 ghost use Rattle.std.specs.Prelude.{◌≡◌, ◌<◌, [], nat_lt};
 ghost use Rattle.std.specs.List.{list_all};
-ghost use Rattle.apex_meaning.specs.ImageReading.{is_process, fresh_name_at, duration_at, period_at, duration_of, is_infinite_or_multiple, routine_at, body_at, process_at, items_at, list_at, handler_at, bodies_at, enter_within, handler_enters, code_at, bytes_at};
+ghost use Rattle.machine_meaning.specs.ImageReading.{is_process, fresh_name_at, duration_at, period_at, duration_of, is_infinite_or_multiple, routine_at, body_at, process_at, items_at, list_at, handler_at, bodies_at, enter_within, handler_enters, code_at, bytes_at};
 ghost use Rattle.image.specs.Views.{Gives, bodies_of};
 
 use crate::fault::ImageFault;
@@ -29,7 +29,7 @@ pub struct Bodies {
 impl Row for RoutineRow {
     ghost reads = { λ _. routine_at };
 
-    #[tactic(auto, unfolding(apex_meaning::specs::ImageReading::routine_at))]
+    #[tactic(auto, unfolding(machine_meaning::specs::ImageReading::routine_at))]
     fn read<'a>(
         _before: &[RoutineRow],
         bytes: &'a [u8],
@@ -48,7 +48,7 @@ impl Row for RoutineRow {
     }
 }
 
-#[tactic(auto, unfolding(apex_meaning::specs::ImageReading::body_at))]
+#[tactic(auto, unfolding(machine_meaning::specs::ImageReading::body_at))]
 fn body_at(bytes: &[u8]) -> Result<(BodyRow, &[u8]), ImageFault>
     ensures { Gives (λ x. (x.0, x.1.now)) result (body_at bytes.now) }
 {
@@ -78,7 +78,7 @@ fn duration_of(word: i64) -> Option<Option<u64>>
     }
 }
 
-#[tactic(auto, unfolding(apex_meaning::specs::ImageReading::duration_at))]
+#[tactic(auto, unfolding(machine_meaning::specs::ImageReading::duration_at))]
 fn duration_at(bytes: &[u8]) -> Result<(Option<u64>, &[u8]), ImageFault>
     ensures { Gives (λ x. (x.0, x.1.now)) result (duration_at bytes.now) }
 {
@@ -100,7 +100,7 @@ fn is_infinite_or_multiple(unit: u32, period: Option<u64>) -> bool
     }
 }
 
-#[tactic(auto, unfolding(apex_meaning::specs::ImageReading::period_at))]
+#[tactic(auto, unfolding(machine_meaning::specs::ImageReading::period_at))]
 fn period_at(unit: u32, bytes: &[u8]) -> Result<(Option<u64>, &[u8]), ImageFault>
     requires { 0 < unit }
     ensures { Gives (λ x. (x.0, x.1.now)) result (period_at unit bytes.now) }
@@ -118,7 +118,7 @@ fn is_process(rows: &[ProcessRow], name: &Name) -> bool
     rows.iter().any(|row| same_name(&row.name, name))
 }
 
-#[tactic(auto, unfolding(apex_meaning::specs::ImageReading::fresh_name_at))]
+#[tactic(auto, unfolding(machine_meaning::specs::ImageReading::fresh_name_at))]
 fn process_name_at<'a>(
     before: &[ProcessRow],
     bytes: &'a [u8],
@@ -131,7 +131,7 @@ fn process_name_at<'a>(
     }
 }
 
-#[tactic(auto, unfolding(apex_meaning::specs::ImageReading::process_at))]
+#[tactic(auto, unfolding(machine_meaning::specs::ImageReading::process_at))]
 fn process_at<'a>(
     unit: u32,
     before: &[ProcessRow],
@@ -180,7 +180,7 @@ fn processes_at(
     Ok((rows, rest))
 }
 
-#[tactic(auto, unfolding(apex_meaning::specs::ImageReading::list_at))]
+#[tactic(auto, unfolding(machine_meaning::specs::ImageReading::list_at))]
 fn process_list_at(
     alloc: Global,
     unit: u32,
@@ -193,7 +193,7 @@ fn process_list_at(
     processes_at(alloc, unit, count, rest)
 }
 
-#[tactic(auto, unfolding(apex_meaning::specs::ImageReading::handler_at))]
+#[tactic(auto, unfolding(machine_meaning::specs::ImageReading::handler_at))]
 fn handler_at(bytes: &[u8]) -> Result<(Option<BodyRow>, &[u8]), ImageFault>
     ensures { Gives (λ x. (x.0, x.1.now)) result (handler_at bytes.now) }
 {
@@ -206,7 +206,7 @@ fn handler_at(bytes: &[u8]) -> Result<(Option<BodyRow>, &[u8]), ImageFault>
 }
 
 /// The bodies of a partition with a period of `unit` ticks.
-#[tactic(auto, unfolding(apex_meaning::specs::ImageReading::bodies_at))]
+#[tactic(auto, unfolding(machine_meaning::specs::ImageReading::bodies_at))]
 pub fn bodies_at(alloc: Global, unit: u32, bytes: &[u8]) -> Result<(Bodies, &[u8]), ImageFault>
     requires { 0 < unit }
     ensures { Gives (λ x. (bodies_of x.0, x.1.now)) result (bodies_at unit bytes.now) }
@@ -258,7 +258,7 @@ fn enter_within(count: u32, bodies: &Bodies) -> bool
 impl Row for [u8; 16] {
     ghost reads = { λ _. bytes_at 16 };
 
-    #[tactic(auto, unfolding(apex_meaning::specs::ImageReading::bytes_at))]
+    #[tactic(auto, unfolding(machine_meaning::specs::ImageReading::bytes_at))]
     fn read<'a>(_before: &[[u8; 16]], bytes: &'a [u8]) -> Result<([u8; 16], &'a [u8]), ImageFault> {
         match bytes.split_first_chunk::<16>() {
             Some((instruction, rest)) => Ok((*instruction, rest)),
@@ -268,7 +268,7 @@ impl Row for [u8; 16] {
 }
 
 /// The code that the bodies enter: a count, which every entry is below, and the instructions.
-#[tactic(auto, unfolding(apex_meaning::specs::ImageReading::code_at))]
+#[tactic(auto, unfolding(machine_meaning::specs::ImageReading::code_at))]
 pub fn code_at<'a>(
     alloc: Global,
     bodies: &Bodies,

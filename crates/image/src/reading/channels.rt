@@ -3,7 +3,7 @@
 ghost use Rattle.std.specs.Prelude.{◌≡◌, []};
 ghost use Rattle.std.specs.List.{list_any};
 ghost use Rattle.std.specs.Str.{bytes_eq};
-ghost use Rattle.apex_meaning.specs.ImageReading.{is_channel, fresh_name_at, end_between, channel_end_at, channel_at, items_at, list_at};
+ghost use Rattle.machine_meaning.specs.ImageReading.{is_channel, fresh_name_at, end_between, channel_end_at, channel_at, items_at, list_at};
 ghost use Rattle.image.specs.Items.{channel_of, channels_of};
 ghost use Rattle.image.specs.Views.{Gives};
 
@@ -18,7 +18,7 @@ use window_table::ChannelRow;
 impl Row for ChannelEnd {
     ghost reads = { λ _. channel_end_at };
 
-    #[tactic(auto, unfolding(apex_meaning::specs::ImageReading::channel_end_at))]
+    #[tactic(auto, unfolding(machine_meaning::specs::ImageReading::channel_end_at))]
     fn read<'a>(
         _before: &[ChannelEnd],
         bytes: &'a [u8],
@@ -38,7 +38,7 @@ fn is_channel(rows: &[ChannelRow], name: &Name) -> bool
     rows.iter().any(|row| same_name(&row.name, name))
 }
 
-#[tactic(auto, using(crate::proofs::Names::channel_names), unfolding(apex_meaning::specs::ImageReading::fresh_name_at))]
+#[tactic(auto, using(crate::proofs::Names::channel_names), unfolding(machine_meaning::specs::ImageReading::fresh_name_at))]
 fn channel_name_at<'a>(
     before: &[ChannelRow],
     bytes: &'a [u8],
@@ -51,7 +51,7 @@ fn channel_name_at<'a>(
     }
 }
 
-#[tactic(auto, unfolding(apex_meaning::specs::ImageReading::channel_at))]
+#[tactic(auto, unfolding(machine_meaning::specs::ImageReading::channel_at))]
 fn channel_at<'a>(
     alloc: Global,
     before: &[ChannelRow],
@@ -94,7 +94,7 @@ fn channels_at(
 }
 
 /// Up to 64 channels.
-#[tactic(auto, unfolding(apex_meaning::specs::ImageReading::list_at))]
+#[tactic(auto, unfolding(machine_meaning::specs::ImageReading::list_at))]
 pub fn channel_list_at(alloc: Global, bytes: &[u8]) -> Result<(Vec<ChannelRow>, &[u8]), ImageFault>
     ensures { Gives (λ x. (channels_of x.0.items, x.1.now)) result (list_at 0 64 channel_at bytes.now) }
 {

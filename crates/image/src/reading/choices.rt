@@ -1,7 +1,7 @@
 //! What single bytes stand for.
 
 ghost use Rattle.std.specs.Prelude.{◌≡◌};
-ghost use Rattle.apex_meaning.specs.ImageReading.{choice_at, module_action_of, partition_action_of, discipline_of, direction_of, truth_of};
+ghost use Rattle.machine_meaning.specs.ImageReading.{choice_at, module_action_of, partition_action_of, discipline_of, direction_of, truth_of};
 ghost use Rattle.image.specs.Views.{Gives};
 
 use crate::fault::ImageFault;
@@ -61,7 +61,7 @@ fn truth_of(byte: u8) -> Option<bool>
     }
 }
 
-#[tactic(auto, unfolding(apex_meaning::specs::ImageReading::choice_at))]
+#[tactic(auto, unfolding(machine_meaning::specs::ImageReading::choice_at))]
 pub fn module_action_at(bytes: &[u8]) -> Result<(ModuleAction, &[u8]), ImageFault>
     ensures { Gives (λ x. (x.0, x.1.now)) result (choice_at module_action_of bytes.now) }
 {
@@ -72,7 +72,7 @@ pub fn module_action_at(bytes: &[u8]) -> Result<(ModuleAction, &[u8]), ImageFaul
     }
 }
 
-#[tactic(auto, unfolding(apex_meaning::specs::ImageReading::choice_at))]
+#[tactic(auto, unfolding(machine_meaning::specs::ImageReading::choice_at))]
 pub fn partition_action_at(bytes: &[u8]) -> Result<(PartitionAction, &[u8]), ImageFault>
     ensures { Gives (λ x. (x.0, x.1.now)) result (choice_at partition_action_of bytes.now) }
 {
@@ -83,7 +83,7 @@ pub fn partition_action_at(bytes: &[u8]) -> Result<(PartitionAction, &[u8]), Ima
     }
 }
 
-#[tactic(auto, unfolding(apex_meaning::specs::ImageReading::choice_at))]
+#[tactic(auto, unfolding(machine_meaning::specs::ImageReading::choice_at))]
 pub fn discipline_at(bytes: &[u8]) -> Result<(Discipline, &[u8]), ImageFault>
     ensures { Gives (λ x. (x.0, x.1.now)) result (choice_at discipline_of bytes.now) }
 {
@@ -94,7 +94,7 @@ pub fn discipline_at(bytes: &[u8]) -> Result<(Discipline, &[u8]), ImageFault>
     }
 }
 
-#[tactic(auto, unfolding(apex_meaning::specs::ImageReading::choice_at))]
+#[tactic(auto, unfolding(machine_meaning::specs::ImageReading::choice_at))]
 pub fn direction_at(bytes: &[u8]) -> Result<(PortDirection, &[u8]), ImageFault>
     ensures { Gives (λ x. (x.0, x.1.now)) result (choice_at direction_of bytes.now) }
 {
@@ -105,7 +105,7 @@ pub fn direction_at(bytes: &[u8]) -> Result<(PortDirection, &[u8]), ImageFault>
     }
 }
 
-#[tactic(auto, unfolding(apex_meaning::specs::ImageReading::choice_at))]
+#[tactic(auto, unfolding(machine_meaning::specs::ImageReading::choice_at))]
 pub fn truth_at(bytes: &[u8]) -> Result<(bool, &[u8]), ImageFault>
     ensures { Gives (λ x. (x.0, x.1.now)) result (choice_at truth_of bytes.now) }
 {

@@ -1,7 +1,7 @@
 //! All fields of an image.
 
 ghost use Rattle.std.specs.Prelude.{◌≡◌};
-ghost use Rattle.apex_meaning.specs.ImageReading.{magic_at, version_at, fields_at};
+ghost use Rattle.machine_meaning.specs.ImageReading.{magic_at, version_at, fields_at};
 ghost use Rattle.image.specs.Views.{Gives, fields_of};
 
 use crate::fault::ImageFault;
@@ -26,7 +26,7 @@ pub struct Fields {
     pub channels: Vec<ChannelRow>,
 }
 
-#[tactic(auto, unfolding(apex_meaning::specs::ImageReading::magic_at))]
+#[tactic(auto, unfolding(machine_meaning::specs::ImageReading::magic_at))]
 fn magic_at(bytes: &[u8]) -> Result<(&[u8], &[u8]), ImageFault>
     ensures { Gives (λ x. (x.0.now, x.1.now)) result (magic_at bytes.now) }
 {
@@ -37,7 +37,7 @@ fn magic_at(bytes: &[u8]) -> Result<(&[u8], &[u8]), ImageFault>
     Ok((text, rest))
 }
 
-#[tactic(auto, unfolding(apex_meaning::specs::ImageReading::version_at))]
+#[tactic(auto, unfolding(machine_meaning::specs::ImageReading::version_at))]
 fn version_at(bytes: &[u8]) -> Result<(u16, &[u8]), ImageFault>
     ensures { Gives (λ x. (x.0, x.1.now)) result (version_at bytes.now) }
 {
@@ -50,7 +50,7 @@ fn version_at(bytes: &[u8]) -> Result<(u16, &[u8]), ImageFault>
 }
 
 /// The fields of an image, and the bytes behind them.
-#[tactic(auto, unfolding(apex_meaning::specs::ImageReading::fields_at))]
+#[tactic(auto, unfolding(machine_meaning::specs::ImageReading::fields_at))]
 pub fn fields_at(alloc: Global, bytes: &[u8]) -> Result<(Fields, &[u8]), ImageFault>
     ensures { Gives (λ x. (fields_of x.0, x.1.now)) result (fields_at bytes.now) }
 {

@@ -1,7 +1,7 @@
 //! Partitions with what their sources became.
 
 ghost use Rattle.std.specs.Prelude.{◌≡◌, ◌<◌, []};
-ghost use Rattle.apex_meaning.specs.ImageReading.{section_at, item_at, items_at, list_at};
+ghost use Rattle.machine_meaning.specs.ImageReading.{section_at, item_at, items_at, list_at};
 ghost use Rattle.image.specs.Items.{section_of, item_of, items_of};
 ghost use Rattle.image.specs.Views.{Gives};
 
@@ -15,7 +15,7 @@ use apex_types::Section;
 use std::alloc::Global;
 
 /// The section of a partition with a period of `unit` ticks.
-#[tactic(auto, unfolding(apex_meaning::specs::ImageReading::section_at))]
+#[tactic(auto, unfolding(machine_meaning::specs::ImageReading::section_at))]
 fn section_at(alloc: Global, unit: u32, bytes: &[u8]) -> Result<(Section, &[u8]), ImageFault>
     requires { 0 < unit }
     ensures { Gives (λ x. (section_of x.0, x.1.now)) result (section_at unit bytes.now) }
@@ -38,7 +38,7 @@ fn section_at(alloc: Global, unit: u32, bytes: &[u8]) -> Result<(Section, &[u8])
     Ok((section, rest))
 }
 
-#[tactic(auto, unfolding(apex_meaning::specs::ImageReading::item_at))]
+#[tactic(auto, unfolding(machine_meaning::specs::ImageReading::item_at))]
 fn item_at<'a>(
     alloc: Global,
     frame: u32,
@@ -77,7 +77,7 @@ fn items_at(
 }
 
 /// 1 to 16 partitions in a major frame of `frame` ticks.
-#[tactic(auto, unfolding(apex_meaning::specs::ImageReading::list_at))]
+#[tactic(auto, unfolding(machine_meaning::specs::ImageReading::list_at))]
 pub fn item_list_at(
     alloc: Global,
     frame: u32,

@@ -3,7 +3,7 @@
 ghost use Rattle.std.specs.Prelude.{◌≡◌, ◌≤◌, length, IfOk};
 ghost use Rattle.std.specs.Str.{bytes_eq};
 ghost use Rattle.std.specs.Int.{w16, w32, w64};
-ghost use Rattle.apex_meaning.specs.ImageReading.{number_at, byte_at, word_at, limited_at, small_at, bytes_at, name_at};
+ghost use Rattle.machine_meaning.specs.ImageReading.{number_at, byte_at, word_at, limited_at, small_at, bytes_at, name_at};
 ghost use Rattle.image.specs.Views.{Gives};
 
 use crate::fault::ImageFault;
@@ -45,7 +45,7 @@ pub fn u64_at(bytes: &[u8]) -> Result<(u64, &[u8]), ImageFault>
     }
 }
 
-#[tactic(auto, unfolding(apex_meaning::specs::ImageReading::word_at))]
+#[tactic(auto, unfolding(machine_meaning::specs::ImageReading::word_at))]
 pub fn i64_at(bytes: &[u8]) -> Result<(i64, &[u8]), ImageFault>
     ensures { Gives (λ x. (x.0, x.1.now)) result (word_at bytes.now) }
 {
@@ -55,7 +55,7 @@ pub fn i64_at(bytes: &[u8]) -> Result<(i64, &[u8]), ImageFault>
     }
 }
 
-#[tactic(auto, unfolding(apex_meaning::specs::ImageReading::small_at))]
+#[tactic(auto, unfolding(machine_meaning::specs::ImageReading::small_at))]
 pub fn u8_within(bytes: &[u8], low: u8, high: u8) -> Result<(u8, &[u8]), ImageFault>
     ensures low { IfOk result (λ x. low ≤ x.0) }
     ensures high { IfOk result (λ x. x.0 ≤ high) }
@@ -68,7 +68,7 @@ pub fn u8_within(bytes: &[u8], low: u8, high: u8) -> Result<(u8, &[u8]), ImageFa
     Ok((number, rest))
 }
 
-#[tactic(auto, unfolding(apex_meaning::specs::ImageReading::limited_at))]
+#[tactic(auto, unfolding(machine_meaning::specs::ImageReading::limited_at))]
 pub fn u16_within(bytes: &[u8], low: u16, high: u16) -> Result<(u16, &[u8]), ImageFault>
     ensures low { IfOk result (λ x. low ≤ x.0) }
     ensures high { IfOk result (λ x. x.0 ≤ high) }
@@ -81,7 +81,7 @@ pub fn u16_within(bytes: &[u8], low: u16, high: u16) -> Result<(u16, &[u8]), Ima
     Ok((number, rest))
 }
 
-#[tactic(auto, unfolding(apex_meaning::specs::ImageReading::limited_at))]
+#[tactic(auto, unfolding(machine_meaning::specs::ImageReading::limited_at))]
 pub fn u32_within(bytes: &[u8], low: u32, high: u32) -> Result<(u32, &[u8]), ImageFault>
     ensures low { IfOk result (λ x. low ≤ x.0) }
     ensures high { IfOk result (λ x. x.0 ≤ high) }
@@ -94,7 +94,7 @@ pub fn u32_within(bytes: &[u8], low: u32, high: u32) -> Result<(u32, &[u8]), Ima
     Ok((number, rest))
 }
 
-#[tactic(auto, unfolding(apex_meaning::specs::ImageReading::limited_at))]
+#[tactic(auto, unfolding(machine_meaning::specs::ImageReading::limited_at))]
 pub fn u64_within(bytes: &[u8], low: u64, high: u64) -> Result<(u64, &[u8]), ImageFault>
     ensures exact { Gives (λ x. (x.0, x.1.now)) result (limited_at w64 low high bytes.now) }
 {
@@ -105,7 +105,7 @@ pub fn u64_within(bytes: &[u8], low: u64, high: u64) -> Result<(u64, &[u8]), Ima
     Ok((number, rest))
 }
 
-#[tactic(auto, unfolding(apex_meaning::specs::ImageReading::bytes_at))]
+#[tactic(auto, unfolding(machine_meaning::specs::ImageReading::bytes_at))]
 pub fn bytes_at(size: usize, bytes: &[u8]) -> Result<(&[u8], &[u8]), ImageFault>
     ensures { Gives (λ x. (x.0.now, x.1.now)) result (bytes_at size bytes.now) }
 {
@@ -116,7 +116,7 @@ pub fn bytes_at(size: usize, bytes: &[u8]) -> Result<(&[u8], &[u8]), ImageFault>
 }
 
 /// The length of a name is judged before its bytes, its form when all are there.
-#[tactic(auto, unfolding(apex_meaning::specs::ImageReading::name_at))]
+#[tactic(auto, unfolding(machine_meaning::specs::ImageReading::name_at))]
 pub fn name_at(bytes: &[u8]) -> Result<(Name, &[u8]), ImageFault>
     ensures { Gives (λ x. (x.0, x.1.now)) result (name_at bytes.now) }
 {

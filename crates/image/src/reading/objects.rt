@@ -1,7 +1,7 @@
 //! The data of a partition and its objects.
 
 ghost use Rattle.std.specs.Prelude.{◌≡◌};
-ghost use Rattle.apex_meaning.specs.ImageReading.{word_at, semaphore_at, buffer_at, blackboard_at, objects_at};
+ghost use Rattle.machine_meaning.specs.ImageReading.{word_at, semaphore_at, buffer_at, blackboard_at, objects_at};
 ghost use Rattle.image.specs.Views.{Gives, objects_of};
 
 use crate::fault::ImageFault;
@@ -32,7 +32,7 @@ impl Row for i64 {
 impl Row for SemaphoreRow {
     ghost reads = { λ _. semaphore_at };
 
-    #[tactic(auto, unfolding(apex_meaning::specs::ImageReading::semaphore_at))]
+    #[tactic(auto, unfolding(machine_meaning::specs::ImageReading::semaphore_at))]
     fn read<'a>(
         _before: &[SemaphoreRow],
         bytes: &'a [u8],
@@ -52,7 +52,7 @@ impl Row for SemaphoreRow {
 impl Row for BufferRow {
     ghost reads = { λ _. buffer_at };
 
-    #[tactic(auto, unfolding(apex_meaning::specs::ImageReading::buffer_at))]
+    #[tactic(auto, unfolding(machine_meaning::specs::ImageReading::buffer_at))]
     fn read<'a>(
         _before: &[BufferRow],
         bytes: &'a [u8],
@@ -72,7 +72,7 @@ impl Row for BufferRow {
 impl Row for BlackboardRow {
     ghost reads = { λ _. blackboard_at };
 
-    #[tactic(auto, unfolding(apex_meaning::specs::ImageReading::blackboard_at))]
+    #[tactic(auto, unfolding(machine_meaning::specs::ImageReading::blackboard_at))]
     fn read<'a>(
         _before: &[BlackboardRow],
         bytes: &'a [u8],
@@ -82,7 +82,7 @@ impl Row for BlackboardRow {
     }
 }
 
-#[tactic(auto, unfolding(apex_meaning::specs::ImageReading::objects_at))]
+#[tactic(auto, unfolding(machine_meaning::specs::ImageReading::objects_at))]
 pub fn objects_at(alloc: Global, bytes: &[u8]) -> Result<(Objects, &[u8]), ImageFault>
     ensures { Gives (λ x. (objects_of x.0, x.1.now)) result (objects_at bytes.now) }
 {

@@ -3,7 +3,7 @@
 ghost use Rattle.std.specs.Prelude.{◌≡◌, ◌≤◌, ◌<◌, IfOk};
 ghost use Rattle.std.specs.List.{list_any};
 ghost use Rattle.std.specs.Str.{bytes_eq};
-ghost use Rattle.apex_meaning.specs.ImageReading.{is_port, is_partition, fresh_name_at, health_at, sampling_at, queuing_at, kind_at, port_at, partition_at};
+ghost use Rattle.machine_meaning.specs.ImageReading.{is_port, is_partition, fresh_name_at, health_at, sampling_at, queuing_at, kind_at, port_at, partition_at};
 ghost use Rattle.image.specs.Items.{items_of, partition_of};
 ghost use Rattle.image.specs.Views.{Gives};
 
@@ -19,7 +19,7 @@ use window_table::PartitionRow;
 /// The greatest finite duration in ticks.
 const GREATEST_DURATION: u64 = 1 << 40;
 
-#[tactic(auto, unfolding(apex_meaning::specs::ImageReading::health_at))]
+#[tactic(auto, unfolding(machine_meaning::specs::ImageReading::health_at))]
 fn health_at(bytes: &[u8]) -> Result<(HealthTable, &[u8]), ImageFault>
     ensures { Gives (λ x. (x.0, x.1.now)) result (health_at bytes.now) }
 {
@@ -42,7 +42,7 @@ fn health_at(bytes: &[u8]) -> Result<(HealthTable, &[u8]), ImageFault>
     Ok((table, rest))
 }
 
-#[tactic(auto, unfolding(apex_meaning::specs::ImageReading::sampling_at))]
+#[tactic(auto, unfolding(machine_meaning::specs::ImageReading::sampling_at))]
 fn sampling_at(bytes: &[u8]) -> Result<(PortKind, &[u8]), ImageFault>
     ensures { Gives (λ x. (x.0, x.1.now)) result (sampling_at bytes.now) }
 {
@@ -52,7 +52,7 @@ fn sampling_at(bytes: &[u8]) -> Result<(PortKind, &[u8]), ImageFault>
     Ok((PortKind::Sampling { refresh }, rest))
 }
 
-#[tactic(auto, unfolding(apex_meaning::specs::ImageReading::queuing_at))]
+#[tactic(auto, unfolding(machine_meaning::specs::ImageReading::queuing_at))]
 fn queuing_at(bytes: &[u8]) -> Result<(PortKind, &[u8]), ImageFault>
     ensures { Gives (λ x. (x.0, x.1.now)) result (queuing_at bytes.now) }
 {
@@ -63,7 +63,7 @@ fn queuing_at(bytes: &[u8]) -> Result<(PortKind, &[u8]), ImageFault>
 }
 
 /// The fields of the kind of this number.
-#[tactic(auto, unfolding(apex_meaning::specs::ImageReading::kind_at))]
+#[tactic(auto, unfolding(machine_meaning::specs::ImageReading::kind_at))]
 fn kind_at(number: u8, bytes: &[u8]) -> Result<(PortKind, &[u8]), ImageFault>
     ensures { Gives (λ x. (x.0, x.1.now)) result (kind_at number bytes.now) }
 {
@@ -80,7 +80,7 @@ fn is_port(rows: &[PortRow], name: &Name) -> bool
     rows.iter().any(|row| same_name(&row.name, name))
 }
 
-#[tactic(auto, unfolding(apex_meaning::specs::ImageReading::fresh_name_at))]
+#[tactic(auto, unfolding(machine_meaning::specs::ImageReading::fresh_name_at))]
 fn port_name_at<'a>(before: &[PortRow], bytes: &'a [u8]) -> Result<(Name, &'a [u8]), ImageFault>
     ensures { Gives (λ x. (x.0, x.1.now)) result (fresh_name_at (is_port before.now) bytes.now) }
 {
@@ -93,7 +93,7 @@ fn port_name_at<'a>(before: &[PortRow], bytes: &'a [u8]) -> Result<(Name, &'a [u
 impl Row for PortRow {
     ghost reads = { port_at };
 
-    #[tactic(auto, unfolding(apex_meaning::specs::ImageReading::port_at))]
+    #[tactic(auto, unfolding(machine_meaning::specs::ImageReading::port_at))]
     fn read<'a>(before: &[PortRow], bytes: &'a [u8]) -> Result<(PortRow, &'a [u8]), ImageFault> {
         let (name, rest) = match port_name_at(before, bytes) {
             Ok(found) => found,
@@ -119,7 +119,7 @@ fn is_partition(items: &[PartitionItem], name: &Name) -> bool
     items.iter().any(|item| same_name(&item.row.name, name))
 }
 
-#[tactic(auto, using(crate::proofs::Names::partition_names), unfolding(apex_meaning::specs::ImageReading::fresh_name_at))]
+#[tactic(auto, using(crate::proofs::Names::partition_names), unfolding(machine_meaning::specs::ImageReading::fresh_name_at))]
 fn partition_name_at<'a>(
     before: &[PartitionItem],
     bytes: &'a [u8],
@@ -133,7 +133,7 @@ fn partition_name_at<'a>(
 }
 
 /// A partition's row; its period is from 1 to `frame` ticks.
-#[tactic(auto, unfolding(apex_meaning::specs::ImageReading::partition_at))]
+#[tactic(auto, unfolding(machine_meaning::specs::ImageReading::partition_at))]
 pub fn partition_at<'a>(
     alloc: Global,
     frame: u32,

@@ -2,8 +2,8 @@
 
 ghost use Rattle.std.specs.Prelude.{◌≡◌, ◌++◌, ℕ, List, [], Result, OnOk};
 ghost use Rattle.std.specs.List.{flat_map};
-ghost use Rattle.apex_meaning.specs.ImageReading.{Read, items_at, list_at};
-ghost use Rattle.apex_meaning.specs.ImageSpelling.{list};
+ghost use Rattle.machine_meaning.specs.ImageReading.{Read, items_at, list_at};
+ghost use Rattle.machine_meaning.specs.ImageSpelling.{list};
 ghost use Rattle.image.specs.Views.{Gives};
 
 use crate::fault::ImageFault;
@@ -39,7 +39,7 @@ pub fn rows_at<T: Row>(
 }
 
 /// A count from `low` to `high`, and the rows.
-#[tactic(auto, unfolding(apex_meaning::specs::ImageReading::list_at))]
+#[tactic(auto, unfolding(machine_meaning::specs::ImageReading::list_at))]
 pub fn list_at<T: Row>(
     alloc: Global,
     bytes: &[u8],

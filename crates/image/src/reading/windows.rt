@@ -1,7 +1,7 @@
 //! Windows of the major frame.
 
 ghost use Rattle.std.specs.Prelude.{◌≡◌, ◌+◌};
-ghost use Rattle.apex_meaning.specs.ImageReading.{last_end, end_of, offset_at, window_at};
+ghost use Rattle.machine_meaning.specs.ImageReading.{last_end, end_of, offset_at, window_at};
 ghost use Rattle.image.specs.Views.{Gives};
 
 use crate::fault::ImageFault;
@@ -28,7 +28,7 @@ fn last_end(rows: &[WindowRow]) -> u64
 }
 
 /// An offset that is not before the end of the windows read.
-#[tactic(auto, unfolding(apex_meaning::specs::ImageReading::offset_at))]
+#[tactic(auto, unfolding(machine_meaning::specs::ImageReading::offset_at))]
 fn offset_at(end: u64, bytes: &[u8]) -> Result<(u32, &[u8]), ImageFault>
     ensures { Gives (λ x. (x.0, x.1.now)) result (offset_at end bytes.now) }
 {
@@ -42,7 +42,7 @@ fn offset_at(end: u64, bytes: &[u8]) -> Result<(u32, &[u8]), ImageFault>
 impl Row for WindowRow {
     ghost reads = { window_at };
 
-    #[tactic(auto, unfolding(apex_meaning::specs::ImageReading::window_at))]
+    #[tactic(auto, unfolding(machine_meaning::specs::ImageReading::window_at))]
     fn read<'a>(
         before: &[WindowRow],
         bytes: &'a [u8],

@@ -1,7 +1,7 @@
 //! Partitions with what their sources became.
 
 ghost use Rattle.std.specs.Prelude.{◌≡◌, ◌++◌, OnOk};
-ghost use Rattle.apex_meaning.specs.ImageSpelling.{item};
+ghost use Rattle.machine_meaning.specs.ImageSpelling.{item};
 ghost use Rattle.image.specs.Items.{item_of};
 
 use crate::item::PartitionItem;
@@ -13,7 +13,7 @@ use std::alloc::AllocError;
 impl Spelled for PartitionItem {
     ghost spelled = { λ it. item (item_of it) };
 
-    #[tactic(auto, unfolding(apex_meaning::specs::ImageSpelling::item))]
+    #[tactic(auto, unfolding(machine_meaning::specs::ImageSpelling::item))]
     fn write(&self, out: &mut Vec<u8>) -> Result<(), AllocError> {
         put_partition(out, &self.row)?;
         put_section(out, &self.section)

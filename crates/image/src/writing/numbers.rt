@@ -1,12 +1,12 @@
 //! Numbers, names and choices.
 
 ghost use Rattle.std.specs.Prelude.{◌≡◌, ◌++◌, OnOk};
-ghost use Rattle.apex_meaning.specs.ImageSpelling.{name, u32, module_action, partition_action, discipline, direction, duration};
+ghost use Rattle.machine_meaning.specs.ImageSpelling.{name, u32, module_action, partition_action, discipline, direction, duration};
 
 use apex_types::{Discipline, ModuleAction, Name, PartitionAction, PortDirection};
 use std::alloc::AllocError;
 
-#[tactic(auto, unfolding(apex_meaning::specs::ImageSpelling::name))]
+#[tactic(auto, unfolding(machine_meaning::specs::ImageSpelling::name))]
 pub fn put_name(out: &mut Vec<u8>, text: &Name) -> Result<(), AllocError>
     ensures { OnOk result (out.new.items ≡ out.old.items ++ name text.now) }
 {
@@ -24,7 +24,7 @@ pub fn put_count(out: &mut Vec<u8>, count: usize) -> Result<(), AllocError>
 }
 
 /// The ticks of a duration, -1 for none.
-#[tactic(auto, unfolding(apex_meaning::specs::ImageSpelling::duration))]
+#[tactic(auto, unfolding(machine_meaning::specs::ImageSpelling::duration))]
 pub fn put_duration(out: &mut Vec<u8>, ticks: Option<u64>) -> Result<(), AllocError>
     ensures { OnOk result (out.new.items ≡ out.old.items ++ duration ticks) }
 {

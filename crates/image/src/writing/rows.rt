@@ -2,7 +2,7 @@
 
 ghost use Rattle.std.specs.Prelude.{◌≡◌, ◌++◌, ℕ, List, OnOk};
 ghost use Rattle.std.specs.List.{flat_map};
-ghost use Rattle.apex_meaning.specs.ImageSpelling.{list};
+ghost use Rattle.machine_meaning.specs.ImageSpelling.{list};
 
 use crate::writing::numbers::put_count;
 use std::alloc::AllocError;
@@ -26,7 +26,7 @@ fn put_rows<T: Spelled>(out: &mut Vec<u8>, rows: &[T]) -> Result<(), AllocError>
 }
 
 /// A count and the rows.
-#[tactic(auto, unfolding(apex_meaning::specs::ImageSpelling::list))]
+#[tactic(auto, unfolding(machine_meaning::specs::ImageSpelling::list))]
 pub fn put_list<T: Spelled>(out: &mut Vec<u8>, rows: &[T]) -> Result<(), AllocError>
     ensures { OnOk result (out.new.items ≡ out.old.items ++ list T.spelled rows.now) }
 {

@@ -1,7 +1,7 @@
 //! What a partition's source became.
 
 ghost use Rattle.std.specs.Prelude.{◌≡◌, ◌++◌, Option, OnOk};
-ghost use Rattle.apex_meaning.specs.ImageSpelling.{i64, semaphore, buffer, blackboard, routine, body, process, handler, instruction, objects_in, objects, bodies_in, bodies, section};
+ghost use Rattle.machine_meaning.specs.ImageSpelling.{i64, semaphore, buffer, blackboard, routine, body, process, handler, instruction, objects_in, objects, bodies_in, bodies, section};
 ghost use Rattle.image.specs.Items.{section_of};
 
 use crate::writing::numbers::{number_of_discipline, put_duration, put_name};
@@ -22,7 +22,7 @@ impl Spelled for i64 {
 impl Spelled for SemaphoreRow {
     ghost spelled = { semaphore };
 
-    #[tactic(auto, unfolding(apex_meaning::specs::ImageSpelling::semaphore))]
+    #[tactic(auto, unfolding(machine_meaning::specs::ImageSpelling::semaphore))]
     fn write(&self, out: &mut Vec<u8>) -> Result<(), AllocError> {
         out.extend_from_slice(&self.value.to_le_bytes())?;
         out.extend_from_slice(&self.maximum.to_le_bytes())?;
@@ -34,7 +34,7 @@ impl Spelled for SemaphoreRow {
 impl Spelled for BufferRow {
     ghost spelled = { buffer };
 
-    #[tactic(auto, unfolding(apex_meaning::specs::ImageSpelling::buffer))]
+    #[tactic(auto, unfolding(machine_meaning::specs::ImageSpelling::buffer))]
     fn write(&self, out: &mut Vec<u8>) -> Result<(), AllocError> {
         out.extend_from_slice(&[
             self.words,
@@ -47,7 +47,7 @@ impl Spelled for BufferRow {
 impl Spelled for BlackboardRow {
     ghost spelled = { blackboard };
 
-    #[tactic(auto, unfolding(apex_meaning::specs::ImageSpelling::blackboard))]
+    #[tactic(auto, unfolding(machine_meaning::specs::ImageSpelling::blackboard))]
     fn write(&self, out: &mut Vec<u8>) -> Result<(), AllocError> {
         out.extend_from_slice(&[self.words])
     }
@@ -56,7 +56,7 @@ impl Spelled for BlackboardRow {
 impl Spelled for RoutineRow {
     ghost spelled = { routine };
 
-    #[tactic(auto, unfolding(apex_meaning::specs::ImageSpelling::routine))]
+    #[tactic(auto, unfolding(machine_meaning::specs::ImageSpelling::routine))]
     fn write(&self, out: &mut Vec<u8>) -> Result<(), AllocError> {
         out.extend_from_slice(&self.entry.to_le_bytes())?;
         out.push(self.parameters)?;
@@ -68,7 +68,7 @@ impl Spelled for RoutineRow {
 impl Spelled for BodyRow {
     ghost spelled = { body };
 
-    #[tactic(auto, unfolding(apex_meaning::specs::ImageSpelling::body))]
+    #[tactic(auto, unfolding(machine_meaning::specs::ImageSpelling::body))]
     fn write(&self, out: &mut Vec<u8>) -> Result<(), AllocError> {
         out.extend_from_slice(&self.stack.to_le_bytes())?;
         out.extend_from_slice(&self.entry.to_le_bytes())?;
@@ -80,7 +80,7 @@ impl Spelled for BodyRow {
 impl Spelled for ProcessRow {
     ghost spelled = { process };
 
-    #[tactic(auto, unfolding(apex_meaning::specs::ImageSpelling::process))]
+    #[tactic(auto, unfolding(machine_meaning::specs::ImageSpelling::process))]
     fn write(&self, out: &mut Vec<u8>) -> Result<(), AllocError> {
         put_name(out, &self.name)?;
         out.push(self.priority.0)?;
@@ -93,13 +93,13 @@ impl Spelled for ProcessRow {
 impl Spelled for [u8; 16] {
     ghost spelled = { instruction };
 
-    #[tactic(auto, unfolding(apex_meaning::specs::ImageSpelling::instruction))]
+    #[tactic(auto, unfolding(machine_meaning::specs::ImageSpelling::instruction))]
     fn write(&self, out: &mut Vec<u8>) -> Result<(), AllocError> {
         out.extend_from_slice(self)
     }
 }
 
-#[tactic(auto, unfolding(apex_meaning::specs::ImageSpelling::handler))]
+#[tactic(auto, unfolding(machine_meaning::specs::ImageSpelling::handler))]
 fn put_handler(out: &mut Vec<u8>, row: Option<BodyRow>) -> Result<(), AllocError>
     ensures { OnOk result (out.new.items ≡ out.old.items ++ handler row) }
 {
@@ -115,7 +115,7 @@ fn put_handler(out: &mut Vec<u8>, row: Option<BodyRow>) -> Result<(), AllocError
     }
 }
 
-#[tactic(auto, unfolding(apex_meaning::specs::ImageSpelling::objects))]
+#[tactic(auto, unfolding(machine_meaning::specs::ImageSpelling::objects))]
 fn put_objects(out: &mut Vec<u8>, source: &Section) -> Result<(), AllocError>
     ensures { OnOk result (out.new.items ≡ out.old.items ++ objects (objects_in (section_of source.now))) }
 {
@@ -126,7 +126,7 @@ fn put_objects(out: &mut Vec<u8>, source: &Section) -> Result<(), AllocError>
     put_list(out, &source.blackboards)
 }
 
-#[tactic(auto, unfolding(apex_meaning::specs::ImageSpelling::bodies))]
+#[tactic(auto, unfolding(machine_meaning::specs::ImageSpelling::bodies))]
 fn put_bodies(out: &mut Vec<u8>, source: &Section) -> Result<(), AllocError>
     ensures { OnOk result (out.new.items ≡ out.old.items ++ bodies (bodies_in (section_of source.now))) }
 {
@@ -136,7 +136,7 @@ fn put_bodies(out: &mut Vec<u8>, source: &Section) -> Result<(), AllocError>
     put_handler(out, source.handler)
 }
 
-#[tactic(auto, unfolding(apex_meaning::specs::ImageSpelling::section))]
+#[tactic(auto, unfolding(machine_meaning::specs::ImageSpelling::section))]
 pub fn put_section(out: &mut Vec<u8>, source: &Section) -> Result<(), AllocError>
     ensures { OnOk result (out.new.items ≡ out.old.items ++ section (section_of source.now)) }
 {

@@ -1,7 +1,7 @@
 //! Rows of the module table.
 
 ghost use Rattle.std.specs.Prelude.{◌≡◌, ◌++◌, OnOk};
-ghost use Rattle.apex_meaning.specs.ImageSpelling.{health, port_kind, port_fields, port, partition, window, channel_end, channel};
+ghost use Rattle.machine_meaning.specs.ImageSpelling.{health, port_kind, port_fields, port, partition, window, channel_end, channel};
 ghost use Rattle.image.specs.Items.{partition_of, channel_of};
 
 use crate::writing::numbers::{
@@ -12,7 +12,7 @@ use apex_types::{ChannelEnd, HealthTable, PortKind, PortRow, WindowRow};
 use std::alloc::AllocError;
 use window_table::{ChannelRow, PartitionRow};
 
-#[tactic(auto, unfolding(apex_meaning::specs::ImageSpelling::health))]
+#[tactic(auto, unfolding(machine_meaning::specs::ImageSpelling::health))]
 fn put_health(out: &mut Vec<u8>, table: &HealthTable) -> Result<(), AllocError>
     ensures { OnOk result (out.new.items ≡ out.old.items ++ health table.now) }
 {
@@ -27,7 +27,7 @@ fn put_health(out: &mut Vec<u8>, table: &HealthTable) -> Result<(), AllocError>
     ])
 }
 
-#[tactic(auto, unfolding(apex_meaning::specs::ImageSpelling::port_fields))]
+#[tactic(auto, unfolding(machine_meaning::specs::ImageSpelling::port_fields))]
 fn put_port_fields(out: &mut Vec<u8>, kind: PortKind) -> Result<(), AllocError>
     ensures { OnOk result (out.new.items ≡ out.old.items ++ port_fields kind) }
 {
@@ -55,7 +55,7 @@ fn number_of_kind(kind: PortKind) -> u8
 impl Spelled for PortRow {
     ghost spelled = { port };
 
-    #[tactic(auto, unfolding(apex_meaning::specs::ImageSpelling::port))]
+    #[tactic(auto, unfolding(machine_meaning::specs::ImageSpelling::port))]
     fn write(&self, out: &mut Vec<u8>) -> Result<(), AllocError> {
         put_name(out, &self.name)?;
         let direction = number_of_direction(self.direction);
@@ -64,7 +64,7 @@ impl Spelled for PortRow {
     }
 }
 
-#[tactic(auto, unfolding(apex_meaning::specs::ImageSpelling::partition))]
+#[tactic(auto, unfolding(machine_meaning::specs::ImageSpelling::partition))]
 pub fn put_partition(out: &mut Vec<u8>, row: &PartitionRow) -> Result<(), AllocError>
     ensures { OnOk result (out.new.items ≡ out.old.items ++ partition (partition_of row.now)) }
 {
@@ -78,7 +78,7 @@ pub fn put_partition(out: &mut Vec<u8>, row: &PartitionRow) -> Result<(), AllocE
 impl Spelled for WindowRow {
     ghost spelled = { window };
 
-    #[tactic(auto, unfolding(apex_meaning::specs::ImageSpelling::window))]
+    #[tactic(auto, unfolding(machine_meaning::specs::ImageSpelling::window))]
     fn write(&self, out: &mut Vec<u8>) -> Result<(), AllocError> {
         out.push(self.partition.0)?;
         out.extend_from_slice(&self.offset.to_le_bytes())?;
@@ -91,7 +91,7 @@ impl Spelled for WindowRow {
 impl Spelled for ChannelEnd {
     ghost spelled = { channel_end };
 
-    #[tactic(auto, unfolding(apex_meaning::specs::ImageSpelling::channel_end))]
+    #[tactic(auto, unfolding(machine_meaning::specs::ImageSpelling::channel_end))]
     fn write(&self, out: &mut Vec<u8>) -> Result<(), AllocError> {
         match *self {
             ChannelEnd::Device => out.extend_from_slice(&[0, 0]),
@@ -103,7 +103,7 @@ impl Spelled for ChannelEnd {
 impl Spelled for ChannelRow {
     ghost spelled = { λ row. channel (channel_of row) };
 
-    #[tactic(auto, unfolding(apex_meaning::specs::ImageSpelling::channel))]
+    #[tactic(auto, unfolding(machine_meaning::specs::ImageSpelling::channel))]
     fn write(&self, out: &mut Vec<u8>) -> Result<(), AllocError> {
         put_name(out, &self.name)?;
         self.source.write(out)?;

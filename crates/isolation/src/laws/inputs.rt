@@ -2,9 +2,10 @@
 
 ghost use Rattle.std.specs.Prelude.{◌≡◌, ◌≤◌, ◌^◌, ℕ, List, Some, Ok, length};
 ghost use Rattle.apex_types.specs.declared.device.DeviceLine.{DeviceLine};
-ghost use Rattle.apex_meaning.specs.DeviceText.{verdict_for};
-ghost use Rattle.apex_meaning.specs.Image.{Image, Partition};
-ghost use Rattle.apex_meaning.specs.ImageLimits.{IsLawful};
+ghost use Rattle.machine_meaning.specs.MachineMeaning.{verdict_for};
+ghost use Rattle.machine_meaning.specs.Image.{Image};
+ghost use Rattle.module_meaning.specs.Table.{Partition};
+ghost use Rattle.machine_meaning.specs.ImageLimits.{IsLawful};
 ghost use Rattle.isolation.specs.Alone.{InputLine};
 ghost use Rattle.isolation.specs.InputText.{AreInputs, AreWritable, HasNames, replay_text};
 ghost use Rattle.isolation.specs.ReplayText.{replay_verdict};

@@ -1,5 +1,5 @@
 use Rattle.std.proofs.Common.{ℕ, ◌+◌, ap, ◌∙◌}
-use Rattle.apex_meaning.specs.ImageReading.{image_at}
+use Rattle.machine_meaning.specs.ImageReading.{image_at}
 use Rattle.command_line.specs.declared.refusal.Refusal.TheVariants.{Run, Write}
 use Rattle.command_line.proofs.Ran.{given_of, kept_run, told_as}
 use Rattle.command_line.proofs.running.run_named.Goals as goal

@@ -1,8 +1,8 @@
 use Rattle.std.proofs.Common.{◌≡◌, ap, ◌∙◌, arith}
-use Rattle.apex_meaning.specs.Cost as cost
+use Rattle.pal_meaning.specs.Program as cost
 use Rattle.pal_base.specs.ProgramView.{procedure_of, block_of}
-use Rattle.apex_meaning.proofs.Counts.{procedure_counts}
-use Rattle.apex_meaning.proofs.Operands.{block_operands}
+use Rattle.compiling_laws.proofs.Counts.{procedure_counts}
+use Rattle.compiling_laws.proofs.Operands.{block_operands}
 use Rattle.compiler.proofs.bodies.emit_procedure.Goals as goal
 
 pub overflow_cast-frame : goal.overflow_cast-frame

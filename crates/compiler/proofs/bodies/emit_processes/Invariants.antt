@@ -1,6 +1,6 @@
 use Rattle.std.proofs.Common.{◌≡◌, ◌+◌, ◌≤◌, drop, map, length, ◌++◌}
-use Rattle.apex_meaning.specs.Cost as cost
-use Rattle.apex_meaning.specs.CompiledCode as code_of
+use Rattle.pal_meaning.specs.Program as cost
+use Rattle.compiling_laws.specs.CompiledCode as code_of
 use Rattle.pal_base.specs.ProgramView.{process_of}
 use Rattle.std.specs.List.{sum_by}
 use Rattle.compiler.proofs.bodies.emit_processes.Given as goal

@@ -1,5 +1,5 @@
 use Rattle.std.proofs.Common.{◌++◌, ◌∷◌, [], sym, ap, ◌∙◌, append_assoc}
-use Rattle.apex_meaning.specs.CompiledCode as code_of
+use Rattle.compiling_laws.specs.CompiledCode as code_of
 use Rattle.pal_base.specs.ProgramView.{expr_of, exprs_of, links_of}
 use Rattle.pal_base.proofs.ProgramRows.{seen_apply, seen_chain}
 use Rattle.compiler.proofs.Emitted.{on_ok}

@@ -1,5 +1,5 @@
 use Rattle.std.proofs.Common.{◌≡◌, drop, ◌++◌}
-use Rattle.apex_meaning.specs.CompiledCode as code_of
+use Rattle.compiling_laws.specs.CompiledCode as code_of
 use Rattle.pal_base.specs.ProgramView.{exprs_of, links_of}
 use Rattle.compiler.proofs.emit.+emit_expr.Given as goal
 

@@ -1,11 +1,11 @@
 use Rattle.std.proofs.Common.{◌≡◌, suc, ◌+◌, ◌++◌, ◌∷◌, length, min, refl, sym, ap, ◌∙◌, arith, drop, drop-cons, get_or}
-use Rattle.apex_meaning.specs.Cost as cost
-use Rattle.apex_meaning.specs.CompiledCode as code_of
+use Rattle.pal_meaning.specs.Program as cost
+use Rattle.compiling_laws.specs.CompiledCode as code_of
 use Rattle.pal_base.specs.ProgramView.{expr_of, stmt_of, block_of}
 use Rattle.pal_base.proofs.ProgramRows.{seen_if, seen_if_else, seen_while}
-use Rattle.apex_meaning.proofs.Counts.{if_size, if_else_size, while_size, more_stmts_size}
+use Rattle.compiling_laws.proofs.Counts.{if_size, if_else_size, while_size, more_stmts_size}
 use Rattle.compiler.proofs.Emitted.{on_ok, block_step, block_done, none_left, if_emitted, if_else_emitted, while_emitted, next_index}
-use Rattle.apex_meaning.proofs.Operands.{expr_some}
+use Rattle.compiling_laws.proofs.Operands.{expr_some}
 use Rattle.compiler.proofs.Views.{item_size}
 use Rattle.compiler.proofs.emit.+emit_stmt.Goals as goal
 

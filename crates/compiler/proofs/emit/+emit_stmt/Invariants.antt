@@ -1,6 +1,6 @@
 use Rattle.std.proofs.Common.{◌≡◌, ◌+◌, ◌≤◌, drop, length, ◌++◌}
-use Rattle.apex_meaning.specs.Cost as cost
-use Rattle.apex_meaning.specs.CompiledCode as code_of
+use Rattle.pal_meaning.specs.Program as cost
+use Rattle.compiling_laws.specs.CompiledCode as code_of
 use Rattle.pal_base.specs.ProgramView.{stmt_of, block_of}
 use Rattle.compiler.proofs.emit.+emit_stmt.Given as goal
 

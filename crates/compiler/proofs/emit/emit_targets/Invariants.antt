@@ -1,5 +1,5 @@
 use Rattle.std.proofs.Common.{◌≡◌, drop, map, ◌++◌}
-use Rattle.apex_meaning.specs.CompiledCode as code_of
+use Rattle.compiling_laws.specs.CompiledCode as code_of
 use Rattle.compiler.proofs.emit.emit_targets.Given as goal
 
 abbrev pub invariant-loop-target : goal.invariant-loop-target

@@ -1,6 +1,6 @@
 use Rattle.std.proofs.Common.{◌+◌, length, ap, ◌∙◌, arith, length-append}
-use Rattle.apex_meaning.specs.CompiledCode as code_of
-use Rattle.apex_meaning.proofs.Sizes.{expr_size}
+use Rattle.compiling_laws.specs.CompiledCode as code_of
+use Rattle.compiling_laws.proofs.Sizes.{expr_size}
 use Rattle.pal_base.specs.ProgramView.{expr_of}
 use Rattle.compiler.proofs.emit.emit_test.Goals as goal
 

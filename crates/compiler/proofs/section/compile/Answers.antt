@@ -1,5 +1,5 @@
 use Rattle.std.proofs.Common.{rules, ◌≤◌}
-use Rattle.apex_meaning.specs.Cost as cost
+use Rattle.pal_meaning.specs.Program as cost
 use Rattle.pal_base.specs.ProgramView.{program_of}
 use Rattle.compiler.proofs.Accepted.{accepted_fits}
 use Rattle.compiler.proofs.section.compile.Goals as goal

@@ -1,4 +1,4 @@
-use Rattle.apex_meaning.specs.Instructions.{bytes_of}
+use Rattle.machine_meaning.specs.Instructions.{bytes_of}
 use Rattle.std.proofs.Common.{map, Some}
 use Rattle.compiler.proofs.Emitted.{encode_at, read_at}
 use Rattle.compiler.proofs.section.encoded.Goals as goal

@@ -1,5 +1,5 @@
 use Rattle.std.proofs.Common.{◌≡◌, ◌++◌, map, drop, Some}
-use Rattle.apex_meaning.specs.Instructions.{bytes_of, reading}
+use Rattle.machine_meaning.specs.Instructions.{bytes_of, reading}
 use Rattle.compiler.proofs.section.encoded.Given as goal
 
 abbrev pub invariant-loop-instr : goal.invariant-loop-instr

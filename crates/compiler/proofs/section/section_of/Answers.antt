@@ -1,13 +1,13 @@
 use Rattle.std.proofs.Common.{◌≡◌, Some, ◌++◌, length, map, ap, ◌∙◌, arith, length-append}
 use Rattle.std.specs.List.{sum_by}
 use Rattle.std.proofs.lemmas.List.{length-map}
-use Rattle.apex_meaning.specs.Cost as cost
-use Rattle.apex_meaning.specs.CompiledCode as code_of
-use Rattle.apex_meaning.proofs.Sizes.{body_size, handler_size, processes_size, code_size}
+use Rattle.pal_meaning.specs.Program as cost
+use Rattle.compiling_laws.specs.CompiledCode as code_of
+use Rattle.compiling_laws.proofs.Sizes.{body_size, handler_size, processes_size, code_size}
 use Rattle.pal_base.specs.ProgramView.{body_of, procedure_of, process_of}
 use Rattle.compiler.proofs.Meaning.{faithful}
 use Rattle.std.specs.Option.{option_map}
-use Rattle.apex_meaning.specs.Instructions.{bytes_of}
+use Rattle.machine_meaning.specs.Instructions.{bytes_of}
 use Rattle.pal_base.specs.ProgramView.{program_of}
 use Rattle.compiler.proofs.section.section_of.Goals as goal
 

@@ -1,5 +1,5 @@
 use Rattle.std.proofs.Common.{◌≡◌, ◌+◌, ◌≤◌, min, drop, map}
-use Rattle.apex_meaning.specs.Cost as cost
+use Rattle.pal_meaning.specs.Program as cost
 use Rattle.pal_base.specs.ProgramView.{procedure_of}
 use Rattle.std.specs.List.{sum_by}
 use Rattle.compiler.proofs.size.size_of_procedures.Given as goal

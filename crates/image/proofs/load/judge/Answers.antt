@@ -1,5 +1,5 @@
 use Rattle.std.proofs.Common.{◌≡◌, Bool, true, false, rules, ◌∙◌}
-use Rattle.apex_meaning.specs.ImageReading.{keeps_table_rules}
+use Rattle.machine_meaning.specs.ImageReading.{keeps_table_rules}
 use Rattle.image.specs.Views.{fields_of}
 use Rattle.image.proofs.Limits.{windows_begin, periods_within, kept_is, refused}
 use Rattle.image.proofs.load.judge.Goals as goal

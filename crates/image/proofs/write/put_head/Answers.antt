@@ -1,5 +1,6 @@
 use Rattle.std.proofs.Common.{rules}
-use Rattle.apex_meaning.specs.ImageSpelling.{magic, u8, u16, u32, version, module_action, head}
+use Rattle.machine_meaning.specs.Image.{magic, version}
+use Rattle.machine_meaning.specs.ImageSpelling.{u8, u16, u32, module_action, head}
 use Rattle.image.proofs.Lists.{four}
 use Rattle.image.proofs.write.put_head.Goals as goal
 

@@ -1,5 +1,5 @@
 use Rattle.std.proofs.Common.{◌≡◌, ◌≤◌, ◌-◌, ◌++◌, length, take, drop}
-use Rattle.apex_meaning.specs.Entries.{behind_equals}
+use Rattle.kernel_meaning.specs.Queues.{behind_equals}
 use Rattle.links.proofs.entries.enter.Given as goal
 
 abbrev pub invariant-loop-place : goal.invariant-loop-place

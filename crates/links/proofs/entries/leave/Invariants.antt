@@ -1,5 +1,5 @@
 use Rattle.std.proofs.Common.{◌≡◌, ◌≤◌, ◌-◌, ◌++◌, length, take, drop}
-use Rattle.apex_meaning.specs.Entries.{without}
+use Rattle.kernel_meaning.specs.Queues.{without}
 use Rattle.links.proofs.entries.leave.Given as goal
 
 abbrev pub invariant-loop-place : goal.invariant-loop-place

@@ -1,6 +1,6 @@
 use Rattle.std.proofs.Common.{◌≡◌, ◌≤◌, length, Some, arith, ap, sym, ◌∙◌}
 use Rattle.std.specs.Option.{option_map}
-use Rattle.apex_meaning.specs.Instructions.{name_of_opcode}
+use Rattle.machine_meaning.specs.Instructions.{name_of_opcode}
 use Rattle.listing.proofs.OpcodeNames.{name_is_short}
 use Rattle.listing.proofs.code.push_opcode.Goals as goal
 

@@ -1,5 +1,5 @@
 use Rattle.std.proofs.Common.{◌≡◌, drop}
-use Rattle.apex_meaning.specs.Module.{channel_from}
+use Rattle.module_meaning.specs.Module.{channel_from}
 use Rattle.image.specs.Items.{channels_of}
 use Rattle.lone_partition.proofs.channels.channel_from.Given as goal
 

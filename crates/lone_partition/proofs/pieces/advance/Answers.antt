@@ -1,5 +1,5 @@
 use Rattle.std.proofs.Common.{◌≤◌, ◌<◌, ◌+◌, Ok, subst, arith}
-use Rattle.apex_meaning.specs.Kernel.{Kernel}
+use Rattle.kernel_meaning.specs.Kernel.{Kernel}
 use Rattle.bursts.specs.Quiet.{IsStill}
 use Rattle.partition.specs.Members.{member_of}
 use Rattle.lone_partition.specs.Around.{around}

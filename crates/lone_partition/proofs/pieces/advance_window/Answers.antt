@@ -1,5 +1,5 @@
 use Rattle.std.proofs.Common.{◌≡◌, ◌≤◌, ◌+◌, Some, None, Ok, arith, rules}
-use Rattle.apex_meaning.specs.Windows.{ended, owner}
+use Rattle.kernel_meaning.specs.Windows.{ended, owner}
 use Rattle.partition.specs.Members.{member_of}
 use Rattle.lone_partition.specs.Around.{around}
 use Rattle.lone_partition.proofs.Bursts.{from_lower, is_within, run_empty, run_fewer}

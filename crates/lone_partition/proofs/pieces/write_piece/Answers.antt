@@ -1,6 +1,6 @@
 use Rattle.std.proofs.Common.{rules, ◌≡◌, ◌≤◌, ◌-◌, ◌+◌, ◌∙◌, ℕ, Ok, Err, subst, arith}
 use Rattle.apex_types.specs.declared.identity.At.{At}
-use Rattle.apex_meaning.specs.Windows.{at_tick}
+use Rattle.kernel_meaning.specs.Windows.{at_tick}
 use Rattle.partition.specs.Members.{member_of}
 use Rattle.lone_partition.specs.Pieces.{HasAdvancedWritten, HasRun}
 use Rattle.lone_partition.proofs.Bursts.{run_piece}

@@ -2,8 +2,8 @@ use Rattle.std.proofs.Common.{rules, ◌≡◌, ◌≤◌, ℕ, suc, ◌+◌, �
 use Rattle.apex_types.proofs.Writing.{IsUnderWay, under_way_start}
 use Rattle.apex_types.specs.Line.{text_of}
 use Rattle.apex_types.specs.declared.identity.At.{At}
-use Rattle.apex_meaning.specs.Module.{first_tick, next_tick}
-use Rattle.apex_meaning.specs.Windows.{at_tick}
+use Rattle.module_meaning.specs.Module.{first_tick, next_tick}
+use Rattle.kernel_meaning.specs.Windows.{at_tick}
 use Rattle.isolation.specs.Alone.{alone_from}
 use Rattle.partition.specs.Members.{member_of}
 use Rattle.lone_partition.specs.Around.{around}

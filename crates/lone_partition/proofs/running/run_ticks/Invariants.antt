@@ -1,7 +1,7 @@
 use Rattle.std.proofs.Common.{◌≡◌, ◌≤◌, ◌+◌, [], Some}
 use Rattle.apex_types.proofs.Writing.{IsUnderWay}
 use Rattle.apex_types.specs.Line.{text_of}
-use Rattle.apex_meaning.specs.Module.{first_tick}
+use Rattle.module_meaning.specs.Module.{first_tick}
 use Rattle.isolation.specs.Alone.{alone_from}
 use Rattle.partition.specs.Members.{member_of}
 use Rattle.lone_partition.specs.Around.{around}

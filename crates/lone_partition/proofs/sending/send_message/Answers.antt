@@ -1,5 +1,5 @@
 use Rattle.std.proofs.Common.{◌≡◌, Some, None, rules}
-use Rattle.apex_meaning.specs.Partition.{leaving}
+use Rattle.kernel_meaning.specs.Partition.{leaving}
 use Rattle.partition.specs.Members.{member_of}
 use Rattle.lone_partition.specs.Around.{around}
 use Rattle.lone_partition.proofs.Sent.{send_cut_off, none_sent, one_sent}

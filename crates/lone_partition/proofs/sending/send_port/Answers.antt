@@ -1,7 +1,7 @@
 use Rattle.std.proofs.Common.{◌≡◌, ℕ, Option, Some, ap, rules}
-use Rattle.apex_meaning.specs.Image.{at_number}
-use Rattle.apex_meaning.specs.Module.{ports_of}
-use Rattle.apex_meaning.specs.Partition.{admits, messages_to_move}
+use Rattle.module_meaning.specs.Table.{at_number}
+use Rattle.module_meaning.specs.Module.{ports_of}
+use Rattle.kernel_meaning.specs.Partition.{admits, messages_to_move}
 use Rattle.isolation.specs.Alone.{goes, sends_so_many}
 use Rattle.partition.specs.Members.{member_of}
 use Rattle.lone_partition.specs.Around.{around}

@@ -1,7 +1,7 @@
 use Rattle.std.proofs.Common.{◌≡◌, Bool, Option, Some, None, refl, sym, ap, ◌∙◌}
 use Rattle.std.specs.Prelude.{is_some, option_map}
 use Rattle.apex_types.specs.declared.identity.PartitionId.{PartitionId}
-use Rattle.apex_meaning.specs.Windows.{owner, ended}
+use Rattle.kernel_meaning.specs.Windows.{owner, ended}
 use Rattle.isolation.specs.Alone.{and_then, sends_ended, ticks_own}
 use Rattle.partition.specs.Members.{member_of}
 use Rattle.lone_partition.specs.Around.{around}

@@ -2,7 +2,8 @@ use Rattle.std.proofs.Common.{rules, ◌≡◌, ◌+◌, ◌++◌, ◌∷◌, []
 use Rattle.std.specs.Prelude.{Some}
 use Rattle.std.proofs.lemmas.List.{drop_more, take_more, map-append}
 use Rattle.std.proofs.lemmas.Option.{slice_get-get_or}
-use Rattle.apex_meaning.specs.TwoMeanings.{fixed_of, machine_member, machine_members}
+use Rattle.module_meaning.specs.Table.{fixed_of}
+use Rattle.machine_meaning.specs.MachineMeaning.{machine_member, machine_members}
 use Rattle.image.specs.Items.{item_of, items_of, partition_of, section_of}
 use Rattle.image.specs.declared.item.PartitionItem.{PartitionItem}
 use Rattle.partition.specs.Members.{member_of}

@@ -1,5 +1,5 @@
 use Rattle.std.proofs.Common.{◌≡◌, ◌+◌, ◌++◌, drop, length, map, take}
-use Rattle.apex_meaning.specs.TwoMeanings.{machine_members}
+use Rattle.machine_meaning.specs.MachineMeaning.{machine_members}
 use Rattle.image.specs.Items.{items_of}
 use Rattle.partition_base.specs.contracts.machine.MachineExecutor.TheImpl.{ghosts as machine}
 use Rattle.window_table.specs.Schedules.{schedule_of}

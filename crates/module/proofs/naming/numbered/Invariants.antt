@@ -1,6 +1,6 @@
 use Rattle.std.proofs.Common.{◌≡◌, ◌+◌, drop}
-use Rattle.apex_meaning.specs.DeviceText.{first_from}
-use Rattle.apex_meaning.specs.GrammarWords.{same}
+use Rattle.module_meaning.specs.DeviceText.{first_from}
+use Rattle.engine_meaning.specs.Digits.{same}
 use Rattle.image.specs.Items.{items_of}
 use Rattle.image.specs.Views.{image_of}
 use Rattle.isolation.specs.Replays.{numbered}

@@ -1,9 +1,9 @@
 use Rattle.std.proofs.Common.{rules, ◌≡◌, ◌≤◌, ◌^◌, ℕ, Some, option_map}
-use Rattle.apex_meaning.specs.Image.{Item}
-use Rattle.apex_meaning.specs.ImageReading.{image_at}
+use Rattle.machine_meaning.specs.Image.{Item}
+use Rattle.machine_meaning.specs.ImageReading.{image_at}
 use Rattle.image.specs.Views.{image_of}
 use Rattle.isolation.specs.Replays.{numbered}
-use Rattle.module.specs.Promises.{Replays}
+use Rattle.module.specs.Replays.{Replays}
 use Rattle.module.proofs.Replayed.{replay_isolated, replayed}
 use Rattle.module.proofs.replaying.replay.Goals as goal
 

@@ -8,7 +8,7 @@ use Rattle.isolation.specs.ReplayText.{replay_verdict}
 use Rattle.isolation.specs.Slices.{Slice, slice, slice_of}
 use Rattle.isolation.specs.declared.input.InputLine.{InputLine}
 use Rattle.lone_partition.specs.Lone.{alone_of}
-use Rattle.module.specs.Promises.{ReplaysSlice, fault_of_text}
+use Rattle.module.specs.Running.{ReplaysSlice, fault_of_text}
 use Rattle.module.specs.declared.fault.RunFault.{RunFault}
 use Rattle.module.specs.declared.fault.RunFault.TheVariants.{Write}
 use Rattle.module.proofs.Named.{for_slice, has_ports}

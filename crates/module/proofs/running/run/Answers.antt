@@ -1,7 +1,7 @@
 use Rattle.std.proofs.Common.{rules}
-use Rattle.apex_meaning.specs.ImageReading.{image_at}
+use Rattle.machine_meaning.specs.ImageReading.{image_at}
 use Rattle.image.specs.Views.{image_of}
-use Rattle.module.specs.Promises.{Runs}
+use Rattle.module.specs.Runs.{Runs}
 use Rattle.module.proofs.Isolated.{run_isolated}
 use Rattle.module.proofs.running.run.Goals as goal
 

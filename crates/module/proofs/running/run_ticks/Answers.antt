@@ -1,5 +1,5 @@
 use Rattle.std.proofs.Common.{rules, ◌≡◌, ◌+◌, ◌-◌, suc, refl, sym, ap, subst, ◌∙◌, arith}
-use Rattle.apex_meaning.specs.Module.{of_tick}
+use Rattle.module_meaning.specs.Module.{of_tick}
 use Rattle.module.specs.Machines.{Machine, machine_of}
 use Rattle.module.specs.Written.{AreFrom}
 use Rattle.module.proofs.Machines.{begins_with, goes_on, ends_early, only_write, run_fails, nothing_left, shut_down}

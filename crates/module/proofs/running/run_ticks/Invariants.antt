@@ -1,7 +1,7 @@
 use Rattle.std.proofs.Common.{◌≡◌, ◌≤◌, ◌+◌, ◌^◌, false}
 use Rattle.apex_types.proofs.Writing.{IsUnderWay}
 use Rattle.apex_types.specs.Line.{text_of}
-use Rattle.apex_meaning.specs.TwoMeanings.{machine_module, machine_trace}
+use Rattle.machine_meaning.specs.MachineMeaning.{machine_module, machine_trace}
 use Rattle.module.specs.Machines.{machine_of}
 use Rattle.module.specs.Standing.{lines_of}
 use Rattle.module.specs.Written.{AreFrom}

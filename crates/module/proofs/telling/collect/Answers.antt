@@ -1,11 +1,11 @@
 use Rattle.std.proofs.Common.{rules, ◌≡◌, ◌+◌, ◌-◌, ◌++◌, ℕ, suc, List, [], map, refl, sym, ap, subst, ◌∙◌, arith}
-use Rattle.apex_meaning.specs.Module.{Plan}
-use Rattle.apex_meaning.specs.TwoMeanings.{machine_module}
+use Rattle.module_meaning.specs.Module.{Plan}
+use Rattle.machine_meaning.specs.MachineMeaning.{machine_module}
 use Rattle.image.specs.Views.{image_of}
 use Rattle.isolation.specs.Brought.{line_in}
 use Rattle.isolation.specs.Slices.{machine_inputs}
 use Rattle.isolation.specs.declared.input.InputLine.{InputLine}
-use Rattle.apex_meaning.specs.MachineControl.{MachineControl}
+use Rattle.machine_meaning.specs.MachineControl.{MachineControl}
 use Rattle.image.specs.declared.value.Image as code
 use Rattle.partition_base.specs.contracts.machine.MachineExecutor.TheImpl.{ghosts as machine}
 use Rattle.module.specs.Collecting.{brought_next, brought_of}

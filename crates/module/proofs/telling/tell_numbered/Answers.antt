@@ -2,10 +2,11 @@ use Rattle.std.proofs.Common.{rules, ◌≡◌, ◌-◌, ◌≤◌, ℕ, length,
 use Rattle.std.proofs.lemmas.Option.{slice_get-get_or}
 use Rattle.std.specs.Prelude.{slice_get}
 use Rattle.std.specs.Io.KnownBytes.{Appends}
-use Rattle.apex_types.specs.Sink.{TakesBeginning}
+use Rattle.apex_types.specs.Line.{TakesBeginning}
 use Rattle.apex_types.specs.declared.device.DeviceLine.{DeviceLine}
-use Rattle.apex_meaning.specs.DeviceText.{verdict_for}
-use Rattle.apex_meaning.specs.Image.{Image, Partition}
+use Rattle.machine_meaning.specs.MachineMeaning.{verdict_for}
+use Rattle.machine_meaning.specs.Image.{Image}
+use Rattle.module_meaning.specs.Table.{Partition}
 use Rattle.image.specs.Items.{partition_of}
 use Rattle.image.specs.Views.{image_of}
 use Rattle.image.specs.declared.value.Image as code

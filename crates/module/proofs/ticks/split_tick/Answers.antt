@@ -1,5 +1,5 @@
 use Rattle.std.proofs.Common.{ap, subst, sym, ◌∙◌, ◌+◌}
-use Rattle.apex_meaning.specs.Module.{of_tick}
+use Rattle.module_meaning.specs.Module.{of_tick}
 use Rattle.module.specs.Written.{AreFrom}
 use Rattle.module.proofs.DeviceLines.{of_tick_again}
 use Rattle.module.proofs.ticks.split_tick.Goals as goal

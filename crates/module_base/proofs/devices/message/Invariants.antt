@@ -1,6 +1,6 @@
 use Rattle.std.proofs.Common.{◌≡◌, map, drop}
-use Rattle.apex_meaning.specs.DeviceText.{first_from}
-use Rattle.apex_meaning.specs.GrammarWords.{same}
+use Rattle.module_meaning.specs.DeviceText.{first_from}
+use Rattle.engine_meaning.specs.Digits.{same}
 use Rattle.image.specs.Items.{channel_of}
 use Rattle.module_base.specs.Views.{channels_in}
 use Rattle.module_base.proofs.devices.message.Given as goal

@@ -1,6 +1,7 @@
 use Rattle.std.proofs.Common.{◌≡◌, ◌+◌, map, drop}
-use Rattle.apex_meaning.specs.DeviceText.{first_from, row_of_item}
-use Rattle.apex_meaning.specs.GrammarWords.{same}
+use Rattle.module_meaning.specs.DeviceText.{first_from}
+use Rattle.machine_meaning.specs.MachineMeaning.{row_of_item}
+use Rattle.engine_meaning.specs.Digits.{same}
 use Rattle.image.specs.Items.{items_of}
 use Rattle.module_base.specs.Views.{rows_in}
 use Rattle.module_base.proofs.devices.partition_fault.Given as goal

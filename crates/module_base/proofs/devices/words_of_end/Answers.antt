@@ -1,7 +1,7 @@
 use Rattle.std.proofs.Common.{rules, ap, sym, ◌∙◌, List, length, ◌<◌}
 use Rattle.apex_types.specs.declared.row.PortRow.{PortRow}
-use Rattle.apex_meaning.specs.DeviceText.{words_of_port}
-use Rattle.apex_meaning.specs.Image.{at_number}
+use Rattle.module_meaning.specs.DeviceText.{words_of_port}
+use Rattle.module_meaning.specs.Table.{at_number}
 use Rattle.module_base.proofs.Lawful.{words_at, words_past}
 use Rattle.module_base.proofs.devices.words_of_end.Goals as goal
 

@@ -1,5 +1,5 @@
 use Rattle.std.proofs.Common.{◌≡◌, ◌≤◌, option_map, option_copied, length}
-use Rattle.apex_meaning.specs.DeviceText.{words, pieces}
+use Rattle.module_meaning.specs.DeviceText.{words, pieces}
 use Rattle.module_base.specs.Seen.{pieces_of, fitting}
 use Rattle.module_base.proofs.LineWords.{read_on, rest_length}
 use Rattle.module_base.proofs.line.words.Given as goal

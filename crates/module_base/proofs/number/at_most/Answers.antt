@@ -1,8 +1,8 @@
 use Rattle.std.proofs.Common.{ℕ, ◌+◌, ◌-◌, ◌*◌, drop, get_or, sym, ap, ◌∙◌}
 use Rattle.std.specs.Prelude.{fold}
 use Rattle.std.proofs.lemmas.List.{drop_more}
-use Rattle.apex_meaning.specs.GrammarWords.{decimal_value}
-use Rattle.apex_meaning.specs.DeviceText.{if_at_most}
+use Rattle.engine_meaning.specs.Digits.{decimal_value}
+use Rattle.module_meaning.specs.DeviceText.{if_at_most}
 use Rattle.module_base.proofs.Decimals.{stays_above}
 use Rattle.module_base.proofs.number.at_most.Goals as goal
 

@@ -1,7 +1,7 @@
 use Rattle.std.proofs.Common.{◌≡◌, ◌+◌, length}
 use Rattle.std.specs.Prelude.{not, ◌==◌}
 use Rattle.std.specs.List.{prefix_len}
-use Rattle.apex_meaning.specs.DeviceText.{pieces_behind_marks}
+use Rattle.module_meaning.specs.DeviceText.{pieces_behind_marks}
 use Rattle.module_base.proofs.piece.split_at.Given as goal
 
 abbrev pub invariant-loop-byte : goal.invariant-loop-byte

@@ -1,4 +1,5 @@
-use Rattle.apex_meaning.specs.TwoMeanings.{machine_module, source_module}
+use Rattle.machine_meaning.specs.MachineMeaning.{machine_module}
+use Rattle.module_meaning.specs.SourceMeaning.{source_module}
 use Rattle.order.proofs.Fresh.{machine_ordered, source_ordered}
 use Rattle.order.proofs.Law.{run_goes, state_has_order}
 use Rattle.order.proofs.laws.order_in_every_state.Goals as goal

@@ -2,7 +2,7 @@ use Rattle.std.proofs.Common.{◌∙◌, ap, sym}
 use Rattle.pal.specs.Scopes.{names_of, sees}
 use Rattle.pal.proofs.Tests.{then_of, stops_at, is_not_ok}
 use Rattle.pal.proofs.SyntaxRows.{seen_apply, seen_chain}
-use Rattle.apex_meaning.specs.WellFormed.{fits_expr, is_procedure}
+use Rattle.pal_meaning.specs.WellFormed.{fits_expr, is_procedure}
 use Rattle.pal_base.specs.View.{name_of}
 use Rattle.pal.proofs.Counted.{counted}
 use Rattle.pal.proofs.kinds.+kinds_expression.Goals as goal

@@ -1,7 +1,7 @@
 use Rattle.std.proofs.Common.{◌≡◌, drop}
 use Rattle.pal_base.specs.View.{exprs_of, links_of}
 use Rattle.pal.specs.Scopes.{names_of, sees}
-use Rattle.apex_meaning.specs.WellFormed.{fits_exprs, fits_links}
+use Rattle.pal_meaning.specs.WellFormed.{fits_exprs, fits_links}
 use Rattle.pal.proofs.kinds.+kinds_expression.Given as goal
 
 abbrev pub invariant-check_expressions-loop-expression : goal.invariant-check_expressions-loop-expression

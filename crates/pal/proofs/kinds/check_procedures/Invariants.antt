@@ -3,7 +3,7 @@ use Rattle.std.specs.List.{list_all}
 use Rattle.pal_base.specs.View as view
 use Rattle.pal_base.specs.View.{texts, name_of, expr_of, exprs_of, links_of, stmt_of, block_of}
 use Rattle.pal.specs.Tables.{entries_of}
-use Rattle.apex_meaning.specs.WellFormed.{kinds_hold_in_body, holds_of_procedure}
+use Rattle.pal_meaning.specs.WellFormed.{kinds_hold_in_body, holds_of_procedure}
 use Rattle.pal.proofs.kinds.check_procedures.Given as goal
 
 abbrev pub invariant-loop-declaration : goal.invariant-loop-declaration

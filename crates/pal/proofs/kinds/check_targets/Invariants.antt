@@ -2,7 +2,7 @@ use Rattle.std.proofs.Common.{◌≡◌, map, drop}
 use Rattle.std.specs.List.{list_all}
 use Rattle.pal_base.specs.View.{name_of}
 use Rattle.pal.specs.Scopes.{names_of, sees}
-use Rattle.apex_meaning.specs.WellFormed.{is_scalar}
+use Rattle.pal_meaning.specs.WellFormed.{is_scalar}
 use Rattle.pal.proofs.kinds.check_targets.Given as goal
 
 abbrev pub invariant-loop-target : goal.invariant-loop-target

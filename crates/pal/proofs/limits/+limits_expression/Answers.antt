@@ -2,7 +2,7 @@ use Rattle.std.proofs.Common.{◌∙◌, ap, sym}
 use Rattle.pal_base.specs.View.{texts}
 use Rattle.pal.proofs.Tests.{then_of}
 use Rattle.pal.proofs.SyntaxRows.{seen_apply, seen_chain}
-use Rattle.apex_meaning.specs.WellFormed.{keeps_expr}
+use Rattle.pal_meaning.specs.WellFormed.{keeps_expr}
 use Rattle.pal.proofs.limits.+limits_expression.Goals as goal
 
 pub check_expression-returns-in_ok-check_name_form-in-Apply : goal.check_expression-returns-in_ok-check_name_form-in-Apply

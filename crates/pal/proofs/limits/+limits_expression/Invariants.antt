@@ -1,6 +1,6 @@
 use Rattle.std.proofs.Common.{◌≡◌, drop}
 use Rattle.pal_base.specs.View.{texts, exprs_of, links_of}
-use Rattle.apex_meaning.specs.WellFormed.{keeps_exprs, keeps_links}
+use Rattle.pal_meaning.specs.WellFormed.{keeps_exprs, keeps_links}
 use Rattle.pal.proofs.limits.+limits_expression.Given as goal
 
 abbrev pub invariant-check_expressions-loop-expression : goal.invariant-check_expressions-loop-expression

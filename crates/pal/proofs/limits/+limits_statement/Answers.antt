@@ -2,7 +2,7 @@ use Rattle.std.proofs.Common.{◌∙◌, ap, refl, sym}
 use Rattle.pal_base.specs.View.{texts}
 use Rattle.pal.proofs.Tests.{then_of, stops_at, is_not_ok}
 use Rattle.pal.proofs.SyntaxRows.{seen_if, seen_if_else, seen_while}
-use Rattle.apex_meaning.specs.WellFormed.{keeps_stmt}
+use Rattle.pal_meaning.specs.WellFormed.{keeps_stmt}
 use Rattle.pal.proofs.limits.+limits_statement.Goals as goal
 
 pub check_statement-returns-in_ok-check_expression-in-If : goal.check_statement-returns-in_ok-check_expression-in-If

@@ -1,5 +1,5 @@
 use Rattle.std.proofs.Common.{[], map, is_ok}
-use Rattle.apex_meaning.specs.Resolve.{no_counts, declaration_entries, process_entries}
+use Rattle.pal_meaning.specs.Resolve.{no_counts, declaration_entries, process_entries}
 use Rattle.pal_base.specs.View.{texts, declaration_of, process_of}
 use Rattle.pal.specs.Tables.{entries_of}
 use Rattle.pal.proofs.Tables.{both_fresh}

@@ -1,5 +1,5 @@
 use Rattle.std.proofs.Common.{◌≡◌, ◌∙◌, ◌+◌, ◌&&◌, [], map, drop, ap, is_ok}
-use Rattle.apex_meaning.specs.Resolve.{Entry, no_counts, declaration_entries, after}
+use Rattle.pal_meaning.specs.Resolve.{Entry, no_counts, declaration_entries, after}
 use Rattle.pal_base.specs.View.{texts, declaration_of, declared_of}
 use Rattle.pal.specs.Tables.{entries_of, counts_of}
 use Rattle.pal.proofs.Tables.{fresh_step, list_step, declaration_left, counts_next, and_unit}

@@ -2,8 +2,8 @@ use Rattle.std.proofs.Common.{◌≡◌, ◌&&◌, true, List, [], ◌++◌, map
 use Rattle.pal_base.specs.View as view
 use Rattle.pal_base.specs.View.{texts, name_of, expr_of, exprs_of, links_of, stmt_of, block_of}
 use Rattle.pal.specs.Tables.{entries_of, counts_of}
-use Rattle.apex_meaning.specs.WellFormed.{are_new}
-use Rattle.apex_meaning.specs.Resolve.{no_counts, Entry, declaration_entries}
+use Rattle.pal_meaning.specs.WellFormed.{are_new}
+use Rattle.pal_meaning.specs.Resolve.{no_counts, Entry, declaration_entries}
 use Rattle.pal.proofs.meanings.enter_declarations.Given as goal
 
 abbrev pub invariant-loop-declaration : goal.invariant-loop-declaration

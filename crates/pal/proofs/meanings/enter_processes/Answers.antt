@@ -2,7 +2,7 @@ use Rattle.std.proofs.Common.{◌≡◌, ◌∙◌, ◌+◌, ◌&&◌, [], map, 
 use Rattle.std.specs.Option.{unwrap_or}
 use Rattle.apex_types.specs.declared.denotation.Denotation.TheVariants.{Object}
 use Rattle.apex_types.specs.declared.denotation.ObjectKind.TheVariants as object
-use Rattle.apex_meaning.specs.Resolve.{Entry, process_entries}
+use Rattle.pal_meaning.specs.Resolve.{Entry, process_entries}
 use Rattle.pal_base.specs.View.{texts, process_of}
 use Rattle.pal.specs.Tables.{entries_of}
 use Rattle.pal.proofs.Tables.{fresh_step, list_step, process_left, and_unit}

@@ -4,7 +4,7 @@ use Rattle.pal_base.specs.View as view
 use Rattle.pal_base.specs.View.{texts, name_of, expr_of, exprs_of, links_of, stmt_of, block_of}
 use Rattle.pal.specs.Tables.{entries_of}
 use Rattle.pal.specs.Parts.{names_hold_of}
-use Rattle.apex_meaning.specs.WellFormed.{holds_of_procedure}
+use Rattle.pal_meaning.specs.WellFormed.{holds_of_procedure}
 use Rattle.pal.proofs.names.check_procedures.Given as goal
 
 abbrev pub invariant-loop-declaration : goal.invariant-loop-declaration

@@ -1,5 +1,5 @@
 use Rattle.std.proofs.Common.{◌≡◌, ◌++◌, map, drop}
-use Rattle.apex_meaning.specs.Bounds.{AreProceduresHeld}
+use Rattle.compiling_laws.specs.Bounds.{AreProceduresHeld}
 use Rattle.pal_base.specs.ProgramView.{procedure_of}
 use Rattle.pal.specs.Costs.{cost_of_procedure}
 use Rattle.pal.proofs.report.report_procedures.Given as goal

@@ -1,5 +1,5 @@
 use Rattle.std.proofs.Common.{◌≡◌, ◌++◌, map, drop}
-use Rattle.apex_meaning.specs.Bounds.{AreProcessesHeld}
+use Rattle.compiling_laws.specs.Bounds.{AreProcessesHeld}
 use Rattle.pal_base.specs.ProgramView.{process_of}
 use Rattle.pal.specs.Costs.{cost_of_process}
 use Rattle.pal.proofs.report.report_processes.Given as goal

@@ -1,4 +1,4 @@
-use Rattle.apex_meaning.specs.Resolve.{resolve_arguments}
+use Rattle.pal_meaning.specs.Resolve.{resolve_arguments}
 use Rattle.pal_base.specs.View as view
 use Rattle.pal.specs.Scopes.{names_of, sees}
 use Rattle.pal.proofs.Resolved.{no_arguments, no_kinds, none_behind}

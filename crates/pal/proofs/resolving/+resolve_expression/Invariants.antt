@@ -1,5 +1,5 @@
 use Rattle.std.proofs.Common.{◌≡◌, drop}
-use Rattle.apex_meaning.specs.Resolve as meant
+use Rattle.pal_meaning.specs.Resolve as meant
 use Rattle.pal_base.specs.View as view
 use Rattle.pal_base.specs.View.{texts, name_of, integer_of, declaration_of}
 use Rattle.pal.specs.Scopes.{names_of, sees}

@@ -1,6 +1,6 @@
 use Rattle.std.proofs.Common.{◌∙◌, ap, sym}
-use Rattle.apex_meaning.specs.Program as tree
-use Rattle.apex_meaning.specs.Resolve.{resolve_expr, resolve_stmt, resolve_block}
+use Rattle.pal_meaning.specs.Program as tree
+use Rattle.pal_meaning.specs.Resolve.{resolve_expr, resolve_stmt, resolve_block}
 use Rattle.pal_base.specs.View as view
 use Rattle.pal_base.specs.ProgramView.{block_of}
 use Rattle.pal.specs.Scopes.{names_of, sees}

@@ -1,5 +1,5 @@
 use Rattle.std.proofs.Common.{◌≡◌, ℕ, List, map, drop}
-use Rattle.apex_meaning.specs.Resolve as meant
+use Rattle.pal_meaning.specs.Resolve as meant
 use Rattle.pal_base.specs.View.{declaration_of}
 use Rattle.pal.specs.Tables.{counts_of}
 use Rattle.pal.proofs.resolving.events_of.Given as goal

@@ -1,6 +1,6 @@
 use Rattle.std.proofs.Common.{◌∙◌, ap, sym}
-use Rattle.apex_meaning.specs.Program as tree
-use Rattle.apex_meaning.specs.Resolve.{resolve_argument, named, array_size_of}
+use Rattle.pal_meaning.specs.Program as tree
+use Rattle.pal_meaning.specs.Resolve.{resolve_argument, named, array_size_of}
 use Rattle.pal_base.specs.View as view
 use Rattle.pal.specs.Parts.{exprs_onto}
 use Rattle.pal.specs.Scopes.{names_of, sees}

@@ -1,5 +1,5 @@
 use Rattle.std.proofs.Common.{◌≡◌, ◌++◌, map, drop}
-use Rattle.apex_meaning.specs.Resolve as meant
+use Rattle.pal_meaning.specs.Resolve as meant
 use Rattle.pal_base.specs.View.{integer_of}
 use Rattle.pal.proofs.resolving.push_values.Given as goal
 

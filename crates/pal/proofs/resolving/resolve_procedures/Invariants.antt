@@ -1,7 +1,7 @@
 use Rattle.std.proofs.Common.{◌≡◌, ◌++◌, map, drop, filter_map, true}
 use Rattle.std.specs.List.{list_all}
-use Rattle.apex_meaning.specs.Resolve as meant
-use Rattle.apex_meaning.specs.WellFormed.{keeps_declaration}
+use Rattle.pal_meaning.specs.Resolve as meant
+use Rattle.pal_meaning.specs.WellFormed.{keeps_declaration}
 use Rattle.pal_base.specs.View.{texts, declaration_of}
 use Rattle.pal_base.specs.ProgramView as shown
 use Rattle.pal.specs.ProcedureNames.{names_of_procedures, procedure_names}

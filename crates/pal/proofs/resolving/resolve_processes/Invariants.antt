@@ -1,7 +1,7 @@
 use Rattle.std.proofs.Common.{◌≡◌, ◌++◌, map, drop, true}
 use Rattle.std.specs.List.{list_all}
-use Rattle.apex_meaning.specs.WellFormed.{keeps_process}
-use Rattle.apex_meaning.specs.Resolve as meant
+use Rattle.pal_meaning.specs.WellFormed.{keeps_process}
+use Rattle.pal_meaning.specs.Resolve as meant
 use Rattle.pal_base.specs.View as view
 use Rattle.pal_base.specs.View.{texts, name_of, integer_of, declaration_of}
 use Rattle.pal_base.specs.ProgramView as shown

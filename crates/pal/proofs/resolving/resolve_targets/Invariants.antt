@@ -1,5 +1,5 @@
 use Rattle.std.proofs.Common.{◌≡◌, ◌++◌, map, drop}
-use Rattle.apex_meaning.specs.Resolve as meant
+use Rattle.pal_meaning.specs.Resolve as meant
 use Rattle.pal_base.specs.View.{name_of}
 use Rattle.pal.specs.Scopes.{names_of, sees}
 use Rattle.pal.proofs.resolving.resolve_targets.Given as goal

@@ -1,6 +1,6 @@
 use Rattle.std.proofs.Common.{◌∙◌, [], length, map, is_ok, ap, sym}
-use Rattle.apex_meaning.specs.Resolve.{own_entries, scope_of}
-use Rattle.apex_meaning.specs.WellFormed.{are_new}
+use Rattle.pal_meaning.specs.Resolve.{own_entries, scope_of}
+use Rattle.pal_meaning.specs.WellFormed.{are_new}
 use Rattle.pal_base.specs.View.{texts, name_of}
 use Rattle.pal.specs.Tables.{entries_of}
 use Rattle.pal.proofs.Tables.{both_fresh, same_scope, own_both}

@@ -1,7 +1,7 @@
 use Rattle.std.proofs.Common.{◌≡◌, ◌∙◌, ◌+◌, ◌&&◌, not, map, drop, ap, is_ok, is_some}
 use Rattle.apex_types.specs.declared.place.Place.TheVariants.{Slot}
 use Rattle.apex_types.specs.declared.denotation.Denotation.TheVariants.{Scalar}
-use Rattle.apex_meaning.specs.Resolve.{Entry, own_entries, find}
+use Rattle.pal_meaning.specs.Resolve.{Entry, own_entries, find}
 use Rattle.pal_base.specs.View.{texts, name_of}
 use Rattle.pal.specs.Tables.{entries_of}
 use Rattle.pal.proofs.Tables.{sees_step, fresh_step, own_left, flipped}

@@ -1,6 +1,6 @@
 use Rattle.std.proofs.Common.{◌≡◌, ℕ, ◌+◌, ◌&&◌, List, ◌++◌, map, drop, is_ok}
-use Rattle.apex_meaning.specs.Resolve.{Entry, find, own_entries}
-use Rattle.apex_meaning.specs.WellFormed.{are_new}
+use Rattle.pal_meaning.specs.Resolve.{Entry, find, own_entries}
+use Rattle.pal_meaning.specs.WellFormed.{are_new}
 use Rattle.pal_base.specs.View.{texts, name_of}
 use Rattle.pal.specs.Tables.{entries_of}
 use Rattle.pal.proofs.scope.enter_names.Given as goal

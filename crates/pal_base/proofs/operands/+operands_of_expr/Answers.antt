@@ -1,5 +1,5 @@
 use Rattle.std.proofs.Common.{ap, arith}
-use Rattle.apex_meaning.specs.Cost as cost
+use Rattle.pal_meaning.specs.Program as cost
 use Rattle.pal_base.proofs.ProgramRows.{seen_apply, seen_chain}
 use Rattle.pal_base.proofs.operands.+operands_of_expr.Goals as goal
 

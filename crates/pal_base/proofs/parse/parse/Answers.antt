@@ -1,6 +1,6 @@
 use Rattle.std.proofs.Common.{◌≡◌, map, ap, ◌∙◌}
 use Rattle.std.proofs.lemmas.Result.{err_from_is_err_and}
-use Rattle.apex_meaning.specs.GrammarWords as grammar
+use Rattle.pal_meaning.specs.Grammar as grammar
 use Rattle.pal_base.specs.View.{texts}
 use Rattle.pal_base.specs.WordView.{token_of}
 use Rattle.pal_base.proofs.Refusals.{refused_words, written_so}

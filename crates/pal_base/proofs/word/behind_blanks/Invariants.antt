@@ -1,5 +1,5 @@
 use Rattle.std.proofs.Common.{◌≡◌, false, length}
-use Rattle.apex_meaning.specs.GrammarWords.{behind_blanks}
+use Rattle.pal_meaning.specs.Grammar.{behind_blanks}
 use Rattle.pal_base.proofs.word.behind_blanks.Given as goal
 
 abbrev pub invariant-loop-byte : goal.invariant-loop-byte

@@ -1,6 +1,7 @@
 use Rattle.std.proofs.Common.{◌≡◌, ℕ, List, length, map}
 use Rattle.std.specs.Prelude.{find}
-use Rattle.apex_meaning.specs.GrammarWords.{same, grammar_words}
+use Rattle.engine_meaning.specs.Digits.{same}
+use Rattle.pal_meaning.specs.Grammar.{grammar_words}
 use Rattle.pal_base.specs.Marks.{mark_text}
 use Rattle.pal_base.proofs.word.grammar_word.Given as goal
 

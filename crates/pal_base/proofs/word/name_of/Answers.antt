@@ -1,7 +1,7 @@
 use Rattle.std.proofs.Common.{ap, ◌∙◌}
 use Rattle.std.proofs.lemmas.Str.{IsUtf8-from_ascii}
 use Rattle.std.specs.String.{string_eq}
-use Rattle.apex_meaning.specs.GrammarWords as grammar
+use Rattle.pal_meaning.specs.Grammar as grammar
 use Rattle.pal_base.specs.View.{texts}
 use Rattle.pal_base.proofs.Names.{stored_text, inserted}
 use Rattle.pal_base.proofs.word.name_of.Goals as goal

@@ -1,7 +1,8 @@
 use Rattle.std.proofs.Common.{ℕ, ◌+◌, ◌-◌, ◌*◌, drop, get_or, sym, ap, ◌∙◌}
 use Rattle.std.specs.Prelude.{fold}
 use Rattle.std.proofs.lemmas.List.{drop_more}
-use Rattle.apex_meaning.specs.GrammarWords.{within, decimal_value}
+use Rattle.pal_meaning.specs.Grammar.{within}
+use Rattle.engine_meaning.specs.Digits.{decimal_value}
 use Rattle.pal_base.proofs.Decimals.{stays_too_large}
 use Rattle.pal_base.proofs.word.natural.Goals as goal
 

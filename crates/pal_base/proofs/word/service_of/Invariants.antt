@@ -1,8 +1,8 @@
 use Rattle.std.proofs.Common.{◌≡◌, length}
 use Rattle.std.specs.Prelude.{find}
 use Rattle.apex_types.specs.ServiceShape.{service_word}
-use Rattle.apex_types.specs.ServiceNumbers.{services}
-use Rattle.apex_meaning.specs.GrammarWords.{same}
+use Rattle.apex_types.specs.ServiceShape.{services}
+use Rattle.engine_meaning.specs.Digits.{same}
 use Rattle.pal_base.proofs.word.service_of.Given as goal
 
 abbrev pub invariant-loop-service : goal.invariant-loop-service

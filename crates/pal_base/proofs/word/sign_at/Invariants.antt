@@ -1,7 +1,7 @@
 use Rattle.std.proofs.Common.{◌≡◌, ℕ, List, length, map, nat_eq}
 use Rattle.std.specs.Prelude.{find}
 use Rattle.std.specs.List.{starts_with}
-use Rattle.apex_meaning.specs.GrammarWords.{signs}
+use Rattle.pal_meaning.specs.Grammar.{signs}
 use Rattle.pal_base.specs.Marks.{mark_text}
 use Rattle.pal_base.proofs.word.sign_at.Given as goal
 

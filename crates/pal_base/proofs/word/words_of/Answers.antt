@@ -1,7 +1,7 @@
 use Rattle.std.proofs.Common.{◌≡◌, ℕ, ◌<◌, List, [], ◌∷◌, ◌++◌, length, map, ap, sym, ◌∙◌, arith, rules, subst, append-nil, false}
-use Rattle.apex_meaning.specs.GrammarWords as grammar
-use Rattle.apex_meaning.specs.GrammarWords.{behind_blanks, word_at, words_from}
-use Rattle.apex_meaning.proofs.WordsOf.{next_short, words_from_next, words_from_empty}
+use Rattle.pal_meaning.specs.Grammar as grammar
+use Rattle.pal_meaning.specs.Grammar.{behind_blanks, word_at, words_from}
+use Rattle.pal_laws.proofs.WordsOf.{next_short, words_from_next, words_from_empty}
 use Rattle.pal_base.specs.declared.word.Token.{Token}
 use Rattle.pal_base.specs.View.{texts}
 use Rattle.pal_base.specs.WordView.{token_of}

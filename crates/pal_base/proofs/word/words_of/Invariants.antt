@@ -1,5 +1,5 @@
 use Rattle.std.proofs.Common.{◌≡◌, ◌++◌, length, map}
-use Rattle.apex_meaning.specs.GrammarWords.{words_of, words_from}
+use Rattle.pal_meaning.specs.Grammar.{words_of, words_from}
 use Rattle.pal_base.specs.View.{texts}
 use Rattle.pal_base.specs.WordView.{token_of}
 use Rattle.pal_base.proofs.Names.{AreKnown}

@@ -1,5 +1,5 @@
 use Rattle.std.proofs.Common.{◌≡◌, ◌≤◌, ◌+◌, ◌++◌, length, take}
-use Rattle.apex_meaning.specs.Partition.{told}
+use Rattle.kernel_meaning.specs.Partition.{told}
 use Rattle.partition.proofs.acting.tell.Given as goal
 
 -- what happened so far is told

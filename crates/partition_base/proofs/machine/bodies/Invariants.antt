@@ -1,5 +1,5 @@
 use Rattle.std.proofs.Common.{◌≡◌, map, take}
-use Rattle.apex_meaning.specs.TwoMeanings.{body_of_row}
+use Rattle.machine_meaning.specs.MachineMeaning.{body_of_row}
 use Rattle.partition_base.proofs.machine.bodies.Given as goal
 
 abbrev pub invariant-loop-row : goal.invariant-loop-row

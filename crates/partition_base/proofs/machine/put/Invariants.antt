@@ -1,5 +1,5 @@
 use Rattle.std.proofs.Common.{◌≡◌, ◌+◌, drop}
-use Rattle.apex_meaning.specs.Words.{put_words}
+use Rattle.engine_meaning.specs.Operators.{put_words}
 use Rattle.regions.specs.Space.{put}
 use Rattle.partition_base.proofs.machine.put.Given as goal
 

@@ -1,5 +1,5 @@
 use Rattle.std.proofs.Common.{◌≡◌, ◌∷◌, map, take}
-use Rattle.apex_meaning.specs.TwoMeanings.{body_of_row}
+use Rattle.machine_meaning.specs.MachineMeaning.{body_of_row}
 use Rattle.partition_base.specs.Slots.{stack_of_body}
 use Rattle.partition_base.proofs.machine.stack_sizes.Given as goal
 

@@ -1,9 +1,9 @@
 use Rattle.std.proofs.Common.{◌≡◌, ◌<◌, ◌≤◌, length, slice_set, ap, sym, ◌∙◌, rules, arith}
 use Rattle.std.specs.Prelude.{ℤ, List, Option, slice_get, Some}
 use Rattle.std.proofs.lemmas.Bool.{ltb-false}
-use Rattle.apex_meaning.specs.Engine.{Asks, Nothing}
-use Rattle.apex_meaning.specs.MachineControl.{MachineControl, machine_engine}
-use Rattle.apex_meaning.specs.Partition.{control_at, ticked}
+use Rattle.engine_meaning.specs.Engine.{Asks, Nothing}
+use Rattle.machine_meaning.specs.MachineControl.{MachineControl, machine_engine}
+use Rattle.kernel_meaning.specs.Partition.{control_at, ticked}
 use Rattle.bursts.specs.Bursts.{Burst, burst}
 use Rattle.processor.specs.Views.{asks_of}
 use Rattle.regions.specs.Space.{Space, seen, stacks_of}

@@ -1,5 +1,5 @@
 use Rattle.std.proofs.Common.{◌≡◌, map, take, drop, ◌++◌}
-use Rattle.apex_meaning.specs.Partition.{no_control}
+use Rattle.kernel_meaning.specs.Partition.{no_control}
 use Rattle.partition_base.specs.Slots.{alone}
 use Rattle.partition_base.proofs.slot.stop_each.Given as goal
 

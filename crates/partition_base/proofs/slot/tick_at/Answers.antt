@@ -1,7 +1,7 @@
 use Rattle.std.proofs.Common.{◌≡◌, ◌<◌, length, slice_set, ap, sym, ◌∙◌, rules}
 use Rattle.std.specs.Prelude.{slice_get, Some}
-use Rattle.apex_meaning.specs.MachineControl.{machine_engine}
-use Rattle.apex_meaning.specs.Partition.{control_at, ticked}
+use Rattle.machine_meaning.specs.MachineControl.{machine_engine}
+use Rattle.kernel_meaning.specs.Partition.{control_at, ticked}
 use Rattle.regions.specs.Space.{Space, seen, stacks_of}
 use Rattle.partition_base.specs.Slots.{controls_from, control_of_slot}
 use Rattle.partition_base.proofs.Places.{put_stacks, put_one, same_lengths, there, views}

@@ -1,5 +1,5 @@
 use Rattle.std.proofs.Common.{◌≡◌, ◌≤◌, ◌++◌, length, map, take, drop}
-use Rattle.apex_meaning.specs.Ports.{cleared_port}
+use Rattle.kernel_meaning.specs.Objects.{cleared_port}
 use Rattle.ports.proofs.ports.clear_ports.Given as goal
 
 abbrev pub invariant-loop-port : goal.invariant-loop-port

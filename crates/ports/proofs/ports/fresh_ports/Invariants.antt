@@ -1,5 +1,5 @@
 use Rattle.std.proofs.Common.{◌≡◌, map, take}
-use Rattle.apex_meaning.specs.Ports.{fresh_port}
+use Rattle.kernel_meaning.specs.Objects.{fresh_port}
 use Rattle.ports.proofs.ports.fresh_ports.Given as goal
 
 abbrev pub invariant-loop-row : goal.invariant-loop-row

@@ -1,8 +1,8 @@
 use Rattle.std.proofs.Common.{◌≡◌, true, refl, rules, subst, sym}
 use Rattle.std.specs.Prelude.{Some}
-use Rattle.apex_meaning.specs.Ports.{Port, queuing}
-use Rattle.apex_meaning.specs.Sharing.{both}
-use Rattle.apex_meaning.specs.Step.{IsMade}
+use Rattle.kernel_meaning.specs.Objects.{Port, queuing}
+use Rattle.kernel_meaning.specs.Sharing.{both}
+use Rattle.kernel_meaning.specs.Made.{IsMade}
 use Rattle.ports.specs.Status.{placed_port}
 use Rattle.ports.proofs.Telling.{told}
 use Rattle.ports.proofs.queuing.get_queuing_port_status.Goals as goal

@@ -1,5 +1,5 @@
 use Rattle.std.proofs.Common.{◌≡◌, ◌≤◌, ◌++◌, length, map, take, drop}
-use Rattle.apex_meaning.specs.PartitionServices.{forgotten}
+use Rattle.kernel_meaning.specs.PartitionServices.{forgotten}
 use Rattle.process_table_base.proofs.records.forget_all.Given as goal
 
 abbrev pub invariant-loop-row : goal.invariant-loop-row

@@ -1,5 +1,6 @@
 use Rattle.std.proofs.Common.{◌≡◌, ◌∷◌, map, take}
-use Rattle.apex_meaning.specs.TwoMeanings.{init_row, handler_row, machine_row}
+use Rattle.kernel_meaning.specs.Fresh.{init_row, handler_row}
+use Rattle.machine_meaning.specs.MachineMeaning.{machine_row}
 use Rattle.process_table_base.proofs.records.fresh_rows.Given as goal
 
 abbrev pub invariant-loop-process : goal.invariant-loop-process

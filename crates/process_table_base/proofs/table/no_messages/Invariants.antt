@@ -1,5 +1,6 @@
 use Rattle.std.proofs.Common.{◌≡◌, map, take}
-use Rattle.apex_meaning.specs.TwoMeanings.{machine_row, no_message}
+use Rattle.machine_meaning.specs.MachineMeaning.{machine_row}
+use Rattle.kernel_meaning.specs.Fresh.{no_message}
 use Rattle.process_table_base.proofs.table.no_messages.Given as goal
 
 abbrev pub invariant-loop : goal.invariant-loop

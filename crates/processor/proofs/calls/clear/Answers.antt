@@ -1,5 +1,5 @@
 use Rattle.std.proofs.Common.{◌≡◌, ◌-◌, ◌+◌, arith, ap, sym, ◌∙◌, pos, replicate}
-use Rattle.apex_meaning.specs.Words.{put_words}
+use Rattle.engine_meaning.specs.Operators.{put_words}
 use Rattle.processor.proofs.Stack.{put_zero}
 use Rattle.processor.proofs.calls.clear.Goals as goal
 

@@ -1,5 +1,5 @@
 use Rattle.std.proofs.Common.{◌≡◌, ◌-◌, pos, replicate}
-use Rattle.apex_meaning.specs.Words.{put_words}
+use Rattle.engine_meaning.specs.Operators.{put_words}
 use Rattle.processor.proofs.calls.clear.Given as goal
 
 abbrev pub invariant-loop-place : goal.invariant-loop-place

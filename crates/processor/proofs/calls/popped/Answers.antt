@@ -1,5 +1,5 @@
 use Rattle.std.proofs.Common.{rules, ◌≡◌, ◌-◌, ◌+◌, ◌++◌, ◌∷◌, [], arith, ap, sym, ◌∙◌, length, length-append, to_z, of_z, w64}
-use Rattle.apex_meaning.specs.MachineControl.{popped, word}
+use Rattle.machine_meaning.specs.MachineControl.{popped, word}
 use Rattle.processor.proofs.Stack.{popped_more}
 use Rattle.processor.proofs.calls.popped.Goals as goal
 

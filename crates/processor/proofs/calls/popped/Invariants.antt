@@ -1,5 +1,5 @@
 use Rattle.std.proofs.Common.{◌≡◌, ◌-◌, ◌≤◌, [], length}
-use Rattle.apex_meaning.specs.MachineControl.{popped}
+use Rattle.machine_meaning.specs.MachineControl.{popped}
 use Rattle.processor.proofs.calls.popped.Given as goal
 
 abbrev pub invariant-loop-place : goal.invariant-loop-place

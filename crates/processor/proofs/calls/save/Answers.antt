@@ -1,6 +1,6 @@
 use Rattle.std.proofs.Common.{◌≡◌, ◌-◌, ◌+◌, ◌++◌, ◌∷◌, [], arith, ap, sym, ◌∙◌, pos, replicate, slice_set, to_z, of_z, w64}
 use Rattle.std.proofs.lemmas.Int.{ints}
-use Rattle.apex_meaning.specs.Words.{put_words}
+use Rattle.engine_meaning.specs.Operators.{put_words}
 use Rattle.processor.proofs.Stack.{put_saved}
 use Rattle.processor.proofs.calls.save.Goals as goal
 

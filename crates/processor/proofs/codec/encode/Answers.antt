@@ -1,7 +1,7 @@
 use Rattle.std.proofs.Common.{◌≡◌, ◌<◌, ◌^◌, subst, ap, ◌∙◌, rules}
 use Rattle.std.specs.Prelude.{FitsSigned}
 use Rattle.std.specs.Int.{w64}
-use Rattle.apex_meaning.specs.Instructions.{HasBytes, bytes_of, reading}
+use Rattle.machine_meaning.specs.Instructions.{HasBytes, bytes_of, reading}
 use Rattle.processor.proofs.Spelling.{reads_back}
 use Rattle.processor.proofs.codec.encode.Goals as goal
 

@@ -1,5 +1,5 @@
 use Rattle.std.proofs.Common.{◌≡◌, map, take, drop, ◌++◌}
-use Rattle.apex_meaning.specs.Partition.{no_control}
+use Rattle.kernel_meaning.specs.Partition.{no_control}
 use Rattle.scripted.specs.Plays.{control_of, script_of}
 use Rattle.scripted.proofs.executor.stop_each.Given as goal
 

@@ -1,5 +1,5 @@
 use Rattle.std.proofs.Common.{◌≡◌, ◌≤◌, ◌++◌, length, map, take, drop}
-use Rattle.apex_meaning.specs.Objects.{cleared_blackboard}
+use Rattle.kernel_meaning.specs.Objects.{cleared_blackboard}
 use Rattle.sync_objects_base.proofs.objects.clear_blackboards.Given as goal
 
 abbrev pub invariant-loop-blackboard : goal.invariant-loop-blackboard

@@ -1,5 +1,5 @@
 use Rattle.std.proofs.Common.{◌≡◌, ◌≤◌, ◌++◌, length, map, take, drop}
-use Rattle.apex_meaning.specs.Objects.{cleared_event}
+use Rattle.kernel_meaning.specs.Objects.{cleared_event}
 use Rattle.sync_objects_base.proofs.objects.clear_events.Given as goal
 
 abbrev pub invariant-loop-event : goal.invariant-loop-event

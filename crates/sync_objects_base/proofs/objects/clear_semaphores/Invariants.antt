@@ -1,5 +1,5 @@
 use Rattle.std.proofs.Common.{◌≡◌, ◌≤◌, ◌++◌, length, map, take, drop}
-use Rattle.apex_meaning.specs.Objects.{cleared_semaphore}
+use Rattle.kernel_meaning.specs.Objects.{cleared_semaphore}
 use Rattle.sync_objects_base.proofs.objects.clear_semaphores.Given as goal
 
 abbrev pub invariant-loop-semaphore : goal.invariant-loop-semaphore

@@ -1,5 +1,5 @@
 use Rattle.std.proofs.Common.{◌≡◌, map, take}
-use Rattle.apex_meaning.specs.Objects.{fresh_blackboard}
+use Rattle.kernel_meaning.specs.Objects.{fresh_blackboard}
 use Rattle.sync_objects_base.proofs.objects.fresh_blackboards.Given as goal
 
 abbrev pub invariant-loop-row : goal.invariant-loop-row

@@ -1,5 +1,5 @@
 use Rattle.std.proofs.Common.{◌≡◌, replicate}
-use Rattle.apex_meaning.specs.Objects.{fresh_event}
+use Rattle.kernel_meaning.specs.Objects.{fresh_event}
 use Rattle.sync_objects_base.proofs.objects.fresh_events.Given as goal
 
 abbrev pub invariant-loop-number : goal.invariant-loop-number

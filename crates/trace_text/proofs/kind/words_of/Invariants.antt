@@ -1,5 +1,5 @@
 use Rattle.std.proofs.Common.{◌≡◌, ◌≤◌, option_copied, length}
-use Rattle.apex_meaning.specs.DeviceText.{words}
+use Rattle.module_meaning.specs.DeviceText.{words}
 use Rattle.trace_text.specs.Reading.{pieces_of, words_of}
 use Rattle.trace_text.proofs.MessageWords.{few_behind, rest_length}
 use Rattle.trace_text.proofs.kind.words_of.Given as goal

@@ -1,6 +1,6 @@
 use Rattle.std.proofs.Common.{◌≡◌, ℕ, ◌+◌, ◌-◌, ◌*◌, ◌≤◌, drop}
 use Rattle.std.specs.Prelude.{fold}
-use Rattle.apex_meaning.specs.GrammarWords.{decimal_value}
+use Rattle.engine_meaning.specs.Digits.{decimal_value}
 use Rattle.trace_text.proofs.number.at_most.Given as goal
 
 abbrev pub invariant-loop-digit : goal.invariant-loop-digit

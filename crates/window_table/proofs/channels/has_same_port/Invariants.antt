@@ -1,5 +1,5 @@
 use Rattle.std.proofs.Common.{◌≡◌, drop}
-use Rattle.apex_meaning.specs.TableRules.{has_twice, is_same_port}
+use Rattle.module_meaning.specs.Table.{has_twice, is_same_port}
 use Rattle.window_table.proofs.channels.has_same_port.Given as goal
 
 abbrev pub invariant-loop-place : goal.invariant-loop-place

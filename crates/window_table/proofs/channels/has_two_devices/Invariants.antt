@@ -1,5 +1,5 @@
 use Rattle.std.proofs.Common.{◌≡◌, drop}
-use Rattle.apex_meaning.specs.TableRules.{has_two_devices}
+use Rattle.module_meaning.specs.Table.{has_two_devices}
 use Rattle.window_table.proofs.channels.has_two_devices.Given as goal
 
 abbrev pub invariant-loop-place : goal.invariant-loop-place

@@ -1,6 +1,6 @@
 use Rattle.std.proofs.Common.{◌≡◌, map, drop}
 use Rattle.std.specs.List.{list_any}
-use Rattle.apex_meaning.specs.TableRules.{is_unknown_port, ends_of}
+use Rattle.module_meaning.specs.Table.{is_unknown_port, ends_of}
 use Rattle.window_table.specs.Views.{channel_view}
 use Rattle.window_table.proofs.channels.has_unknown_port.Given as goal
 

@@ -1,6 +1,6 @@
 use Rattle.std.proofs.Common.{◌≡◌, ◌++◌, ◌||◌, map, drop, flat_map}
 use Rattle.std.specs.List.{list_any}
-use Rattle.apex_meaning.specs.TableRules.{is_wrong, ends_of}
+use Rattle.module_meaning.specs.Table.{is_wrong, ends_of}
 use Rattle.window_table.specs.Views.{channel_view}
 use Rattle.window_table.proofs.channels.has_wrong_ends.Given as goal
 

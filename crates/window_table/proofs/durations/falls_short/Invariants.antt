@@ -1,5 +1,5 @@
 use Rattle.std.proofs.Common.{◌≡◌, ◌≤◌, ◌*◌, ℕ, false}
-use Rattle.apex_meaning.specs.TableRules.{falls_short, offered}
+use Rattle.module_meaning.specs.Table.{falls_short, offered}
 use Rattle.window_table.proofs.durations.falls_short.Given as goal
 
 abbrev pub invariant-loop : goal.invariant-loop

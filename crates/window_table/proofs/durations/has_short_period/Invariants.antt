@@ -1,6 +1,6 @@
 use Rattle.std.proofs.Common.{◌≡◌, ◌+◌, ◌==◌, false, map, drop}
 use Rattle.std.specs.List.{list_any}
-use Rattle.apex_meaning.specs.TableRules.{falls_short_from}
+use Rattle.module_meaning.specs.Table.{falls_short_from}
 use Rattle.window_table.specs.Schedules.{schedule_of}
 use Rattle.window_table.proofs.durations.has_short_period.Given as goal
 

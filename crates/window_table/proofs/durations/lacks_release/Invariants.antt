@@ -1,5 +1,5 @@
 use Rattle.std.proofs.Common.{◌≡◌, ◌+◌, map, drop}
-use Rattle.apex_meaning.specs.TableRules.{lacks_release_from}
+use Rattle.module_meaning.specs.Table.{lacks_release_from}
 use Rattle.window_table.proofs.durations.lacks_release.Given as goal
 
 abbrev pub invariant-loop : goal.invariant-loop

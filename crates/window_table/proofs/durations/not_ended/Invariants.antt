@@ -1,5 +1,5 @@
 use Rattle.std.proofs.Common.{◌≡◌, ◌≤◌, ℕ, length}
-use Rattle.apex_meaning.specs.TableRules.{offered}
+use Rattle.module_meaning.specs.Table.{offered}
 use Rattle.window_table.proofs.durations.not_ended.Given as goal
 
 abbrev pub invariant-loop-window : goal.invariant-loop-window

@@ -1,5 +1,5 @@
 use Rattle.std.proofs.Common.{◌≡◌, nat_lt, drop}
-use Rattle.apex_meaning.specs.TableRules.{offered}
+use Rattle.module_meaning.specs.Table.{offered}
 use Rattle.window_table.proofs.durations.offers_less.Given as goal
 
 abbrev pub invariant-loop-window : goal.invariant-loop-window

@@ -1,6 +1,6 @@
 use Rattle.std.proofs.Common.{◌≡◌, map, drop}
 use Rattle.std.specs.List.{list_any}
-use Rattle.apex_meaning.specs.TableRules.{exceeds_channel}
+use Rattle.module_meaning.specs.TableRules.{exceeds_channel}
 use Rattle.window_table.specs.Views.{channel_text}
 use Rattle.window_table.proofs.limits.exceeds_channels.Given as goal
 

@@ -1,6 +1,6 @@
 use Rattle.std.proofs.Common.{◌≡◌, map, drop}
 use Rattle.std.specs.List.{list_any}
-use Rattle.apex_meaning.specs.TableRules.{exceeds_window}
+use Rattle.module_meaning.specs.TableRules.{exceeds_window}
 use Rattle.window_table.specs.Views.{window_text}
 use Rattle.window_table.proofs.limits.exceeds_windows.Given as goal
 

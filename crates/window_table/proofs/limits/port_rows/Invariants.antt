@@ -1,6 +1,6 @@
 use Rattle.std.proofs.Common.{◌≡◌, ◌++◌, map, drop}
 use Rattle.std.specs.List.{list_any}
-use Rattle.apex_meaning.specs.TableRules.{exceeds_port, port_row}
+use Rattle.module_meaning.specs.TableRules.{exceeds_port, port_row}
 use Rattle.window_table.specs.Views.{port_text}
 use Rattle.window_table.proofs.limits.port_rows.Given as goal
 

@@ -1,6 +1,6 @@
 use Rattle.std.proofs.Common.{◌≡◌}
 use Rattle.toml.specs.View.{table_view, members_view}
-use Rattle.apex_meaning.specs.TableText.{has_only}
+use Rattle.module_meaning.specs.TableRules.{has_only}
 use Rattle.window_table.specs.Keys.{is_key}
 use Rattle.window_table.proofs.members.has_only.Given as goal
 

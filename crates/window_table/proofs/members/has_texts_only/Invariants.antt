@@ -1,6 +1,6 @@
 use Rattle.std.proofs.Common.{◌≡◌}
 use Rattle.toml.specs.View.{table_view, members_view}
-use Rattle.apex_meaning.specs.TableText.{has_texts_only}
+use Rattle.module_meaning.specs.TableRules.{has_texts_only}
 use Rattle.window_table.proofs.members.has_texts_only.Given as goal
 
 abbrev pub invariant-loop-value : goal.invariant-loop-value

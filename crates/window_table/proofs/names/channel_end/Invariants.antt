@@ -1,6 +1,6 @@
 use Rattle.std.proofs.Common.{◌≡◌, ◌+◌, map, drop, false}
 use Rattle.std.specs.List.{list_any}
-use Rattle.apex_meaning.specs.TableRules.{port_from, has_many_ports}
+use Rattle.module_meaning.specs.TableRules.{port_from, has_many_ports}
 use Rattle.window_table.specs.Views.{partition_text}
 use Rattle.window_table.proofs.names.channel_end.Given as goal
 

@@ -1,6 +1,6 @@
 use Rattle.std.proofs.Common.{◌≡◌, map, drop}
-use Rattle.apex_meaning.specs.TableText.{same}
-use Rattle.apex_meaning.specs.TableRules.{has_twice}
+use Rattle.module_meaning.specs.TableRules.{same}
+use Rattle.module_meaning.specs.Table.{has_twice}
 use Rattle.window_table.specs.Views.{port_text}
 use Rattle.window_table.proofs.names.has_same_ports.Given as goal
 

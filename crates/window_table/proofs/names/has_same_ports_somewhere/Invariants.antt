@@ -1,7 +1,7 @@
 use Rattle.std.proofs.Common.{◌≡◌, map, drop}
 use Rattle.std.specs.List.{list_any}
-use Rattle.apex_meaning.specs.TableText.{same}
-use Rattle.apex_meaning.specs.TableRules.{has_twice}
+use Rattle.module_meaning.specs.TableRules.{same}
+use Rattle.module_meaning.specs.Table.{has_twice}
 use Rattle.window_table.specs.Views.{partition_text}
 use Rattle.window_table.proofs.names.has_same_ports_somewhere.Given as goal
 

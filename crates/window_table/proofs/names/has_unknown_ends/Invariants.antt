@@ -1,6 +1,6 @@
 use Rattle.std.proofs.Common.{◌≡◌, map, drop}
 use Rattle.std.specs.List.{list_any}
-use Rattle.apex_meaning.specs.TableRules.{has_unknown_end}
+use Rattle.module_meaning.specs.TableRules.{has_unknown_end}
 use Rattle.window_table.specs.Views.{partition_text, channel_text}
 use Rattle.window_table.proofs.names.has_unknown_ends.Given as goal
 

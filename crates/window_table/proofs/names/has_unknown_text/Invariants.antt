@@ -1,6 +1,6 @@
 use Rattle.std.proofs.Common.{◌≡◌, map, drop, is_none}
 use Rattle.std.specs.List.{list_any}
-use Rattle.apex_meaning.specs.TableRules.{end_of}
+use Rattle.module_meaning.specs.TableRules.{end_of}
 use Rattle.window_table.specs.Views.{partition_text}
 use Rattle.window_table.proofs.names.has_unknown_text.Given as goal
 

@@ -1,6 +1,6 @@
 use Rattle.std.proofs.Common.{◌≡◌, ◌+◌, map, drop}
-use Rattle.apex_meaning.specs.TableText.{same}
-use Rattle.apex_meaning.specs.TableRules.{number_from}
+use Rattle.module_meaning.specs.TableRules.{same}
+use Rattle.module_meaning.specs.TableRules.{number_from}
 use Rattle.window_table.specs.Views.{partition_text}
 use Rattle.window_table.proofs.names.partition_number.Given as goal
 

@@ -1,6 +1,6 @@
 use Rattle.std.proofs.Common.{◌≡◌, ◌++◌, map, drop, false, unwrap_or, is_none}
 use Rattle.std.specs.List.{list_any}
-use Rattle.apex_meaning.specs.TableRules.{end_of}
+use Rattle.module_meaning.specs.TableRules.{end_of}
 use Rattle.apex_types.specs.declared.row.ChannelEnd.TheVariants as ends
 use Rattle.window_table.specs.Views.{partition_text}
 use Rattle.window_table.proofs.numbered.channel_row.Given as goal

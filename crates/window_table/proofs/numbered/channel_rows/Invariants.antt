@@ -1,6 +1,6 @@
 use Rattle.std.proofs.Common.{◌≡◌, ◌++◌, map, drop, false}
 use Rattle.std.specs.List.{list_any}
-use Rattle.apex_meaning.specs.TableRules.{exceeds_channel, has_unknown_end, channel_row}
+use Rattle.module_meaning.specs.TableRules.{exceeds_channel, has_unknown_end, channel_row}
 use Rattle.window_table.specs.Views.{partition_text, channel_text, channel_view}
 use Rattle.window_table.proofs.numbered.channel_rows.Given as goal
 

@@ -1,6 +1,6 @@
 use Rattle.std.proofs.Common.{◌≡◌, ◌++◌, map, drop, false, pos}
 use Rattle.std.specs.List.{list_any}
-use Rattle.apex_meaning.specs.TableRules.{exceeds_window, is_unknown_window, overlaps_after, window_row}
+use Rattle.module_meaning.specs.TableRules.{exceeds_window, is_unknown_window, overlaps_after, window_row}
 use Rattle.window_table.specs.Views.{partition_text, window_text}
 use Rattle.window_table.proofs.numbered.window_rows.Given as goal
 

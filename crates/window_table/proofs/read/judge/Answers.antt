@@ -1,6 +1,6 @@
 use Rattle.std.proofs.Common.{map}
 use Rattle.std.proofs.lemmas.List.{length-map}
-use Rattle.apex_meaning.specs.TableRules.{partition_row}
+use Rattle.module_meaning.specs.TableRules.{partition_row}
 use Rattle.window_table.specs.Views.{table_text, partition_text, partition_view}
 use Rattle.window_table.proofs.Rules.{few_partitions, periods_there, rows_few}
 use Rattle.window_table.proofs.read.judge.Goals as goal

@@ -1,6 +1,6 @@
 use Rattle.std.proofs.Common.{◌≡◌, false, sym, ◌∙◌, arith}
 use Rattle.std.proofs.lemmas.Int.{ints, to_z-of_z}
-use Rattle.apex_meaning.specs.TableRules.{exceeds_counts}
+use Rattle.module_meaning.specs.TableRules.{exceeds_counts}
 use Rattle.window_table.specs.Views.{table_text}
 use Rattle.window_table.proofs.Rules.{frame_kept}
 use Rattle.window_table.proofs.read.limited.Goals as goal

@@ -2,9 +2,9 @@ use Rattle.std.proofs.Common.{◌≡◌, false, map, subst, arith}
 use Rattle.std.specs.List.{list_any}
 use Rattle.std.proofs.lemmas.Int.{ints, to_z-of_z}
 use Rattle.std.proofs.lemmas.List.{length-map}
-use Rattle.apex_meaning.specs.TableRules.{exceeds_window}
-use Rattle.apex_meaning.specs.Windows.{BeginWithin}
-use Rattle.apex_meaning.proofs.AcceptedTable.{windows_begin}
+use Rattle.module_meaning.specs.TableRules.{exceeds_window}
+use Rattle.kernel_meaning.specs.WindowFacts.{BeginWithin}
+use Rattle.kernel_laws.proofs.TableWindows.{windows_begin}
 use Rattle.window_table.specs.Views.{partition_text, window_text, table_text}
 use Rattle.window_table.proofs.Rules.{frame_kept, few_partitions, few_ports, channels_within, windows_within, windows_known, ends_known}
 use Rattle.window_table.proofs.read.numbered.Goals as goal

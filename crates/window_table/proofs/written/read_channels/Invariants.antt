@@ -1,6 +1,6 @@
 use Rattle.std.proofs.Common.{◌≡◌, drop, map}
 use Rattle.toml.specs.View.{items_view}
-use Rattle.apex_meaning.specs.TableText.{tables_of, channel_of}
+use Rattle.module_meaning.specs.TableRules.{tables_of, channel_of}
 use Rattle.window_table.specs.Views.{channel_text}
 use Rattle.window_table.proofs.Reading.{behind}
 use Rattle.window_table.proofs.written.read_channels.Given as goal

@@ -1,6 +1,6 @@
 use Rattle.std.proofs.Common.{rules, Vec, Global, map}
 use Rattle.window_table.specs.declared.written.WrittenPartition.{WrittenPartition}
-use Rattle.apex_meaning.specs.TableText.{partition_of}
+use Rattle.module_meaning.specs.TableRules.{partition_of}
 use Rattle.window_table.specs.Views.{partition_text}
 use Rattle.window_table.proofs.Reading.{no-table, row-fault, one-row, no-rows-left, next-value, all-seen}
 use Rattle.window_table.proofs.written.read_partitions.Goals as goal

@@ -1,5 +1,5 @@
 use Rattle.std.proofs.Common.{rules, sym}
-use Rattle.apex_meaning.specs.TableText.{window_of}
+use Rattle.module_meaning.specs.TableRules.{window_of}
 use Rattle.window_table.specs.Views.{window_text}
 use Rattle.window_table.proofs.Reading.{no-table, no-row, one-row, no-rows-left, next-value, all-seen}
 use Rattle.window_table.proofs.written.read_windows.Goals as goal

@@ -1,6 +1,6 @@
 use Rattle.std.proofs.Common.{◌≡◌, ◌<◌, ◌≤◌, ◌-◌, ◌⊎◌, inl, inr, subst, sym, arith, Option}
 use Rattle.std.specs.Prelude.{slice_get, IsNone}
-use Rattle.apex_types.specs.ServiceNumbers.{services}
+use Rattle.apex_types.specs.ServiceShape.{services}
 use Rattle.apex_types.specs.declared.service.Service.{Service}
 use Rattle.apex_types.proofs.Numbers.{past_when_none, none_when_past}
 use Rattle.apex_types.proofs.service.Service.from_number.Goals as goal

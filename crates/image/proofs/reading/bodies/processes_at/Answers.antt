@@ -1,6 +1,6 @@
 use Rattle.std.proofs.Common.{[]}
-use Rattle.apex_meaning.specs.ImageReading.{items_at, process_at}
-use Rattle.image.specs.Views.{named}
+use Rattle.machine_meaning.specs.ImageReading.{items_at, process_at}
+use Rattle.image.specs.Named.{named}
 use Rattle.image.proofs.Loop.{goes_on, stops, is_done}
 use Rattle.image.proofs.reading.bodies.processes_at.Goals as goal
 

@@ -1,5 +1,5 @@
 use Rattle.std.proofs.Common.{◌≡◌, ◌-◌, []}
-use Rattle.apex_meaning.specs.ImageReading.{process_at, items_at}
+use Rattle.machine_meaning.specs.ImageReading.{process_at, items_at}
 use Rattle.image.proofs.reading.bodies.processes_at.Given as goal
 
 abbrev pub invariant-loop : goal.invariant-loop

@@ -1,5 +1,5 @@
 use Rattle.std.proofs.Common.{◌≡◌, true, ◌∙◌, sym}
-use Rattle.apex_meaning.specs.ImageReading.{is_channel}
+use Rattle.machine_meaning.specs.ImageReading.{is_channel}
 use Rattle.image.specs.Items.{channels_of}
 use Rattle.image.proofs.Names.{channel_names, used}
 use Rattle.image.proofs.reading.channels.channel_name_at.Goals as goal

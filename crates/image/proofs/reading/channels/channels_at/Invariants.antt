@@ -1,5 +1,5 @@
 use Rattle.std.proofs.Common.{◌≡◌, ◌-◌, []}
-use Rattle.apex_meaning.specs.ImageReading.{channel_at, items_at}
+use Rattle.machine_meaning.specs.ImageReading.{channel_at, items_at}
 use Rattle.image.specs.Items.{channels_of}
 use Rattle.image.proofs.reading.channels.channels_at.Given as goal
 

@@ -1,8 +1,8 @@
 use Rattle.std.proofs.Common.{[], ◌∙◌, ap}
 use Rattle.std.proofs.lemmas.List.{map_push}
-use Rattle.apex_meaning.specs.ImageReading.{items_at, item_at}
+use Rattle.machine_meaning.specs.ImageReading.{items_at, item_at}
 use Rattle.image.specs.Items.{item_of, items_of}
-use Rattle.image.specs.Views.{named}
+use Rattle.image.specs.Named.{named}
 use Rattle.image.proofs.Loop.{goes_on, stops, is_done}
 use Rattle.image.proofs.reading.items.items_at.Goals as goal
 

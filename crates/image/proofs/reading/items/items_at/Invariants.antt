@@ -1,5 +1,5 @@
 use Rattle.std.proofs.Common.{◌≡◌, ◌-◌, []}
-use Rattle.apex_meaning.specs.ImageReading.{item_at, items_at}
+use Rattle.machine_meaning.specs.ImageReading.{item_at, items_at}
 use Rattle.image.specs.Items.{items_of}
 use Rattle.image.proofs.reading.items.items_at.Given as goal
 

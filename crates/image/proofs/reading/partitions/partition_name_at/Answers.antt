@@ -1,5 +1,5 @@
 use Rattle.std.proofs.Common.{◌≡◌, true, ◌∙◌, sym}
-use Rattle.apex_meaning.specs.ImageReading.{is_partition}
+use Rattle.machine_meaning.specs.ImageReading.{is_partition}
 use Rattle.image.specs.Items.{items_of}
 use Rattle.image.proofs.Names.{partition_names, used}
 use Rattle.image.proofs.reading.partitions.partition_name_at.Goals as goal

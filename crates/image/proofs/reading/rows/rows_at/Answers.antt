@@ -1,7 +1,7 @@
 use Rattle.std.proofs.Common.{[]}
 use Rattle.std.proofs.lemmas.Result.{err_from_is_err_and}
-use Rattle.apex_meaning.specs.ImageReading.{items_at}
-use Rattle.image.specs.Views.{named}
+use Rattle.machine_meaning.specs.ImageReading.{items_at}
+use Rattle.image.specs.Named.{named}
 use Rattle.image.proofs.Loop.{goes_on, stops, is_done}
 use Rattle.image.proofs.reading.rows.rows_at.Goals as goal
 

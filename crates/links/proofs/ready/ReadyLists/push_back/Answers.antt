@@ -1,7 +1,7 @@
 use Rattle.std.proofs.Common.{◌≡◌, ◌+◌, ◌-◌, ◌<◌, ◌++◌, ◌∷◌, [], length, ◌∙◌, ap, arith, length-set}
-use Rattle.apex_meaning.specs.Queues.{list_in}
+use Rattle.kernel_meaning.specs.Queues.{list_in}
 use Rattle.links.specs.Lists.{put_in, without_in_each}
-use Rattle.apex_meaning.specs.Ready.{times_listed}
+use Rattle.kernel_laws.specs.Ready.{times_listed}
 use Rattle.links.specs.Levels.{in_order}
 use Rattle.links.proofs.Levels.{all_absent, in_order_put, levels_put, without_gone}
 use Rattle.links.proofs.Bits.{marked_push}

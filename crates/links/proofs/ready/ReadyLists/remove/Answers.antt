@@ -1,8 +1,8 @@
 use Rattle.std.proofs.Common.{◌≡◌, ℕ, nat_lt, nat_eq, cond, sym, ◌∙◌, ap}
 use Rattle.std.proofs.lemmas.List.{length-map}
-use Rattle.apex_meaning.specs.Queues.{list_in}
+use Rattle.kernel_meaning.specs.Queues.{list_in}
 use Rattle.links.specs.Lists.{without_in_each}
-use Rattle.apex_meaning.specs.Ready.{times_listed}
+use Rattle.kernel_laws.specs.Ready.{times_listed}
 use Rattle.links.specs.Levels.{one_if_any}
 use Rattle.links.proofs.Levels.{in_order_without, levels_without}
 use Rattle.links.proofs.Bits.{marked_leave, marked_of, elsewhere_absent, nowhere_absent}

@@ -2,10 +2,10 @@ use Rattle.std.proofs.Common.{rules, ◌≡◌, ◌-◌, List, suc, Some, ap, �
 use Rattle.std.specs.Prelude.{slice_get}
 use Rattle.std.proofs.lemmas.Option.{slice_get-get_or}
 use Rattle.apex_types.specs.declared.row.PortRow.{PortRow}
-use Rattle.apex_meaning.specs.TwoMeanings.{machine_module}
+use Rattle.machine_meaning.specs.MachineMeaning.{machine_module}
 use Rattle.image.specs.Items.{item_of}
 use Rattle.image.specs.Views.{image_of}
-use Rattle.isolation.specs.Slices.{surroundings_of}
+use Rattle.isolation.specs.Surrounded.{surroundings_of}
 use Rattle.partition.specs.Members.{member_of}
 use Rattle.partition.specs.View.{fixed_of as view}
 use Rattle.partition_base.specs.contracts.machine.MachineExecutor.TheImpl.{ghosts as machine}

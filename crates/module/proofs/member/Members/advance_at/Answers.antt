@@ -1,7 +1,7 @@
 use Rattle.std.proofs.Common.{◌≡◌, ◌≤◌, ◌<◌, length, Option, Some, None, slice_get, slice_set, [], ◌++◌, refl, ap, sym, subst, ◌∙◌, arith, rules}
 use Rattle.std.proofs.lemmas.Option.{slice_get-get_or}
 use Rattle.apex_types.specs.Line.{text_of}
-use Rattle.apex_meaning.specs.Partition.{Member}
+use Rattle.kernel_meaning.specs.Partition.{Member}
 use Rattle.partition.specs.Members.{member_of}
 use Rattle.module.specs.Members.{members_of}
 use Rattle.module.specs.Pieces.{HasMovedTelling}

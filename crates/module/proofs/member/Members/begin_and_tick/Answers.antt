@@ -1,4 +1,4 @@
-use Rattle.apex_meaning.specs.Module.{module_tick}
+use Rattle.module_meaning.specs.Module.{module_tick}
 use Rattle.module.specs.Views.{members_in, plan_of}
 use Rattle.module.proofs.Written.{then_runs_written}
 use Rattle.module.proofs.member.Members.begin_and_tick.Goals as goal

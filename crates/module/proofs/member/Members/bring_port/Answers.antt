@@ -1,7 +1,7 @@
 use Rattle.std.proofs.Common.{rules, ◌≡◌, ◌<◌, ◌+◌, ◌++◌, drop, length, Option, Some, Err, sym, ap, ◌∙◌, arith}
-use Rattle.apex_meaning.specs.Image.{Channel, at_number}
-use Rattle.apex_meaning.specs.Module.{channel_from, ports_from}
-use Rattle.apex_meaning.specs.Partition.{messages_to_move}
+use Rattle.module_meaning.specs.Table.{Channel, at_number}
+use Rattle.module_meaning.specs.Module.{channel_from, ports_from}
+use Rattle.kernel_meaning.specs.Partition.{messages_to_move}
 use Rattle.image.specs.Items.{channels_of}
 use Rattle.ports.specs.Held.{message_behind}
 use Rattle.module.specs.Collecting.{brought_found}

@@ -1,6 +1,6 @@
 use Rattle.std.proofs.Common.{drop}
-use Rattle.apex_meaning.specs.Image.{at_number}
-use Rattle.apex_meaning.specs.Module.{channel_from, ports_from}
+use Rattle.module_meaning.specs.Table.{at_number}
+use Rattle.module_meaning.specs.Module.{channel_from, ports_from}
 use Rattle.image.specs.Items.{channels_of}
 use Rattle.module.specs.Collecting.{held_found}
 use Rattle.module.specs.Views.{members_in}

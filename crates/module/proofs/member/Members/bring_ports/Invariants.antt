@@ -1,5 +1,5 @@
 use Rattle.std.proofs.Common.{◌+◌, drop}
-use Rattle.apex_meaning.specs.Module.{ports_from}
+use Rattle.module_meaning.specs.Module.{ports_from}
 use Rattle.image.specs.Items.{channels_of}
 use Rattle.isolation.specs.Brought.{held_ports}
 use Rattle.module.specs.Views.{members_in}

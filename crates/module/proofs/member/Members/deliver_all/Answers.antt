@@ -2,7 +2,7 @@ use Rattle.std.proofs.Common.{◌+◌, List, drop, ap, rules}
 use Rattle.std.proofs.lemmas.List.{drop_more}
 use Rattle.apex_types.specs.declared.row.ChannelEnd.{ChannelEnd}
 use Rattle.apex_types.specs.declared.row.ChannelEnd.TheVariants.{Device}
-use Rattle.apex_meaning.specs.Module.{delivers_all}
+use Rattle.module_meaning.specs.Module.{delivers_all}
 use Rattle.image.specs.Items.{channel_of}
 use Rattle.module.specs.Views.{members_in}
 use Rattle.module.proofs.Written.{goes_on, cut_off, written_err}

@@ -1,5 +1,5 @@
 use Rattle.std.proofs.Common.{◌≡◌, [], drop}
-use Rattle.apex_meaning.specs.Module.{delivers_all}
+use Rattle.module_meaning.specs.Module.{delivers_all}
 use Rattle.image.specs.Items.{channel_of}
 use Rattle.module.specs.Views.{members_in}
 use Rattle.module.proofs.Written.{IsUnderWay}

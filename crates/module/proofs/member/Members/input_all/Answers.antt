@@ -1,7 +1,7 @@
 use Rattle.std.proofs.Common.{◌≡◌, ◌+◌, ◌∷◌, ◌∙◌, List, Some, drop, sym, ap, subst, rules}
 use Rattle.std.proofs.lemmas.List.{drop_more}
 use Rattle.apex_types.specs.declared.device.DeviceLine.{DeviceLine}
-use Rattle.apex_meaning.specs.Module.{inputs, inputs_all}
+use Rattle.module_meaning.specs.Module.{inputs, inputs_all}
 use Rattle.module.specs.Views.{members_in, plan_of}
 use Rattle.module.specs.Written.{IsOfTick}
 use Rattle.module.proofs.Written.{runs_on, course_cut_off, course_err}

@@ -1,5 +1,5 @@
 use Rattle.std.proofs.Common.{◌≡◌, ◌≤◌, [], drop}
-use Rattle.apex_meaning.specs.Module.{inputs_all}
+use Rattle.module_meaning.specs.Module.{inputs_all}
 use Rattle.module.specs.Views.{members_in, plan_of}
 use Rattle.module.proofs.Written.{IsCourseUnderWay}
 use Rattle.module.proofs.member.Members.input_all.Given as goal

@@ -1,7 +1,7 @@
 use Rattle.std.proofs.Common.{◌≡◌, ℕ, List, Option, sym, ap, ◌∙◌}
-use Rattle.apex_meaning.specs.Image.{Channel}
-use Rattle.apex_meaning.specs.Module.{then_goes, moves_ended, ticks_owner}
-use Rattle.apex_meaning.specs.Windows.{owner}
+use Rattle.module_meaning.specs.Table.{Channel}
+use Rattle.module_meaning.specs.Module.{then_goes, moves_ended, ticks_owner}
+use Rattle.kernel_meaning.specs.Windows.{owner}
 use Rattle.image.specs.Items.{channels_of}
 use Rattle.std.specs.Prelude.{option_map}
 use Rattle.module.specs.Views.{members_in, plan_of}

@@ -1,7 +1,7 @@
 use Rattle.std.proofs.Common.{◌≡◌, Some, None, rules}
-use Rattle.apex_meaning.specs.Image.{at_number}
-use Rattle.apex_meaning.specs.Module.{of_member}
-use Rattle.apex_meaning.specs.Partition.{leaving}
+use Rattle.module_meaning.specs.Table.{at_number}
+use Rattle.module_meaning.specs.Module.{of_member}
+use Rattle.kernel_meaning.specs.Partition.{leaving}
 use Rattle.image.specs.Items.{channels_of}
 use Rattle.module.specs.Views.{members_in}
 use Rattle.module.proofs.Moves.{move_cut_off, none_moved, one_moved}

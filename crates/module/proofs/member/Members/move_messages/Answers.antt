@@ -1,5 +1,5 @@
 use Rattle.std.proofs.Common.{◌≡◌, ℕ, suc, ◌+◌, ◌-◌, ap, subst, rules, arith}
-use Rattle.apex_meaning.specs.Module.{moves_messages}
+use Rattle.module_meaning.specs.Module.{moves_messages}
 use Rattle.image.specs.Items.{channels_of}
 use Rattle.module.specs.Views.{members_in}
 use Rattle.module.proofs.Written.{IsUnderWay, starts_out, goes_on, cut_off, written_err}

@@ -1,5 +1,5 @@
 use Rattle.std.proofs.Common.{◌≡◌, ◌-◌, []}
-use Rattle.apex_meaning.specs.Module.{moves_messages}
+use Rattle.module_meaning.specs.Module.{moves_messages}
 use Rattle.image.specs.Items.{channels_of}
 use Rattle.module.specs.Views.{members_in}
 use Rattle.module.proofs.Written.{IsUnderWay}

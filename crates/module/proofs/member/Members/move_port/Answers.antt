@@ -1,7 +1,7 @@
 use Rattle.std.proofs.Common.{◌≡◌, ℕ, Option, Some, ap, rules}
-use Rattle.apex_meaning.specs.Image.{at_number}
-use Rattle.apex_meaning.specs.Module.{steps, moves_so_many, ports_from}
-use Rattle.apex_meaning.specs.Partition.{admits, messages_to_move}
+use Rattle.module_meaning.specs.Table.{at_number}
+use Rattle.module_meaning.specs.Module.{steps, moves_so_many, ports_from}
+use Rattle.kernel_meaning.specs.Partition.{admits, messages_to_move}
 use Rattle.image.specs.Items.{channels_of}
 use Rattle.module.specs.Views.{members_in}
 use Rattle.module.proofs.Written.{then_cut_off, then_made, written_err}

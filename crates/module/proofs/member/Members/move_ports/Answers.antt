@@ -1,5 +1,5 @@
 use Rattle.std.proofs.Common.{◌≡◌, ℕ, suc, ◌+◌, ◌-◌, ap, rules, arith}
-use Rattle.apex_meaning.specs.Module.{moves_ports}
+use Rattle.module_meaning.specs.Module.{moves_ports}
 use Rattle.image.specs.Items.{channels_of}
 use Rattle.module.specs.Views.{members_in}
 use Rattle.module.proofs.Written.{goes_on, cut_off, written_err}

@@ -1,6 +1,6 @@
 use Rattle.std.proofs.Common.{refl, rules}
 use Rattle.apex_types.specs.declared.codes.StartCondition.TheVariants.{HmModuleRestart}
-use Rattle.apex_meaning.specs.Module.{as_origin, starts_all}
+use Rattle.module_meaning.specs.Module.{as_origin, starts_all}
 use Rattle.module.specs.Views.{members_in}
 use Rattle.module.proofs.Written.{first_cut_off, then_cut_off, written_err}
 use Rattle.module.proofs.member.Members.reset.Goals as goal

@@ -1,8 +1,8 @@
 use Rattle.std.proofs.Common.{rules, ◌≤◌, length, ◌∙◌}
 use Rattle.apex_types.specs.Line.{text_of}
-use Rattle.apex_types.specs.Sink.{TakesBeginning}
+use Rattle.apex_types.specs.Line.{TakesBeginning}
 use Rattle.apex_types.proofs.Writing.{under_way_more, under_way_end, under_way_fails}
-use Rattle.apex_meaning.specs.Module as meaning
+use Rattle.module_meaning.specs.Module as meaning
 use Rattle.module.specs.Views.{members_in}
 use Rattle.module.proofs.Starting.{within_members, past_members, all_past, none_past, step_members, step_text}
 use Rattle.module.proofs.Written.{written_err}

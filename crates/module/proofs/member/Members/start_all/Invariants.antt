@@ -2,7 +2,7 @@ use Rattle.std.proofs.Common.{◌≡◌, ◌-◌, [], length, drop}
 use Rattle.std.specs.List.{flat_map}
 use Rattle.apex_types.proofs.Writing.{IsUnderWay}
 use Rattle.apex_types.specs.Line.{text_of}
-use Rattle.apex_meaning.specs.Module.{start_lines}
+use Rattle.module_meaning.specs.Module.{start_lines}
 use Rattle.module.specs.Views.{members_in}
 use Rattle.module.proofs.Starting.{started_to}
 use Rattle.module.proofs.member.Members.start_all.Given as goal

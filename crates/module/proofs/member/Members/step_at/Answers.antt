@@ -1,8 +1,8 @@
 use Rattle.std.proofs.Common.{◌≡◌, ◌≤◌, ◌<◌, length, Option, Some, None, slice_get, slice_set, ap, sym, ◌∙◌, arith, rules}
 use Rattle.std.proofs.lemmas.Option.{slice_get-get_or}
 use Rattle.apex_types.specs.Line.{text_of}
-use Rattle.apex_meaning.specs.Partition.{Member}
-use Rattle.apex_meaning.specs.Module.{steps_member, of_member}
+use Rattle.kernel_meaning.specs.Partition.{Member}
+use Rattle.module_meaning.specs.Module.{steps_member, of_member}
 use Rattle.partition.specs.Members.{member_of}
 use Rattle.module.specs.Members.{members_of}
 use Rattle.module.specs.Written.{step_of, leaving_in}

@@ -1,8 +1,8 @@
 use Rattle.std.proofs.Common.{◌≡◌, ◌++◌, ◌∷◌, [], List, ℕ, refl, ap, subst, ◌∙◌, rules}
 use Rattle.std.specs.Io.KnownBytes.{Appends}
 use Rattle.apex_types.specs.Line.{text_of}
-use Rattle.apex_types.specs.Sink.{TakesBeginning}
-use Rattle.apex_meaning.specs.Module.{fault_line}
+use Rattle.apex_types.specs.Line.{TakesBeginning}
+use Rattle.module_meaning.specs.Module.{fault_line}
 use Rattle.module.proofs.Written.{written_err}
 use Rattle.module.proofs.member.Members.tell_fault.Goals as goal
 

@@ -1,6 +1,6 @@
 use Rattle.std.proofs.Common.{◌≡◌, List, Some, refl, sym, ap, ◌∙◌, rules}
 use Rattle.apex_types.specs.declared.device.DeviceLine.{DeviceLine}
-use Rattle.apex_meaning.specs.Module.{then_runs, inputs_all, moves_and_ticks, module_tick}
+use Rattle.module_meaning.specs.Module.{then_runs, inputs_all, moves_and_ticks, module_tick}
 use Rattle.module.specs.Views.{members_in, plan_of}
 use Rattle.module.proofs.Written.{course_starts_out, runs_on, course_cut_off, course_ends_with, course_ends_cut_off, course_err}
 use Rattle.module.proofs.member.Members.tick.Goals as goal

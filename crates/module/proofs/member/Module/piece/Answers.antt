@@ -1,7 +1,7 @@
 use Rattle.std.proofs.Common.{rules, ◌≡◌, ◌≤◌, ◌+◌, ◌-◌, ℕ, List, [], Option, Result, Ok, Err, Some, None, suc, ap, sym, subst, ◌∙◌, arith}
 use Rattle.apex_types.specs.declared.device.DeviceLine.{DeviceLine}
 use Rattle.apex_types.specs.declared.identity.Ticks.{Ticks}
-use Rattle.apex_meaning.specs.Windows.{tick_from, owner, ended}
+use Rattle.kernel_meaning.specs.Windows.{tick_from, owner, ended}
 use Rattle.image.specs.declared.value.Image.{Image}
 use Rattle.module.specs.Pieces.{HasRun, HasRunSome, IsBrokenOff}
 use Rattle.module.specs.Views.{plan_of, standing_of}

@@ -1,9 +1,9 @@
 use Rattle.std.proofs.Common.{◌≡◌, ◌<◌, ◌-◌, length, map, ap, sym, ◌∙◌, arith, rules, Some, ◌++◌}
 use Rattle.std.specs.Prelude.{codes}
 use Rattle.std.proofs.lemmas.Result.{err_from_is_err_and}
-use Rattle.apex_meaning.specs.GrammarReading as reading
-use Rattle.apex_meaning.specs.GrammarReading.{◌>>=◌}
-use Rattle.apex_meaning.specs.Syntax as tree
+use Rattle.pal_laws.specs.GrammarReading as reading
+use Rattle.pal_laws.specs.GrammarReading.{◌>>=◌}
+use Rattle.pal_meaning.specs.Syntax as tree
 use Rattle.pal_base.specs.declared.syntax.Link.{Link}
 use Rattle.pal_base.specs.Reads.{and_more, listed, arguments_read, arguments_within}
 use Rattle.pal_base.specs.Rows.{pair_of}

@@ -1,6 +1,6 @@
 use Rattle.std.proofs.Common.{◌<◌, length, map, ap, sym, ◌∙◌, arith, Some, ◌++◌}
 use Rattle.std.specs.Prelude.{codes}
-use Rattle.apex_meaning.specs.GrammarReading as reading
+use Rattle.pal_laws.specs.GrammarReading as reading
 use Rattle.pal_base.specs.Reads.{up_to, stmt_read}
 use Rattle.pal_base.specs.Seen.{seen, names_of}
 use Rattle.pal_base.specs.View.{expr_of, stmt_of, block_of}

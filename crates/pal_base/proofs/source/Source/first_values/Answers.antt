@@ -1,5 +1,5 @@
 use Rattle.std.proofs.Common.{map, ◌++◌, length}
-use Rattle.apex_meaning.specs.GrammarReading as reading
+use Rattle.pal_laws.specs.GrammarReading as reading
 use Rattle.pal_base.specs.Reads.{integers_read}
 use Rattle.pal_base.specs.Seen.{seen}
 use Rattle.pal_base.specs.View.{integer_of}

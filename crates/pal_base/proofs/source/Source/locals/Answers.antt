@@ -1,7 +1,7 @@
 use Rattle.std.proofs.Common.{arith, length, ◌<◌, ◌++◌}
 use Rattle.std.specs.Prelude.{codes}
-use Rattle.apex_meaning.specs.GrammarReading as reading
-use Rattle.apex_meaning.specs.GrammarReading.{locals_at}
+use Rattle.pal_laws.specs.GrammarReading as reading
+use Rattle.pal_laws.specs.GrammarReading.{locals_at}
 use Rattle.pal_base.specs.Reads.{listed}
 use Rattle.pal_base.specs.Seen.{seen, names_of}
 use Rattle.pal_base.specs.View.{name_of}

@@ -1,8 +1,8 @@
 use Rattle.std.proofs.Common.{◌≡◌, ◌≤◌, length, map, List, ◌++◌, ◌<◌}
 use Rattle.std.specs.Prelude.{codes}
-use Rattle.apex_meaning.specs.GrammarReading as reading
-use Rattle.apex_meaning.specs.GrammarWords.{Word}
-use Rattle.apex_meaning.proofs.Repeats.{after}
+use Rattle.pal_laws.specs.GrammarReading as reading
+use Rattle.pal_meaning.specs.Grammar.{Word}
+use Rattle.pal_laws.proofs.Repeats.{after}
 use Rattle.pal_base.specs.Reads.{and_more, up_to}
 use Rattle.pal_base.specs.Seen.{seen}
 use Rattle.pal_base.specs.View.{integer_of}

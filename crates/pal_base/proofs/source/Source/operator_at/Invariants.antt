@@ -1,6 +1,6 @@
 use Rattle.std.proofs.Common.{◌≡◌, ◌<◌, List, ◌++◌, length}
-use Rattle.apex_meaning.specs.GrammarReading.{one_of, operator_at}
-use Rattle.apex_meaning.specs.GrammarWords.{Word}
+use Rattle.pal_laws.specs.GrammarReading.{one_of, operator_at}
+use Rattle.pal_meaning.specs.Grammar.{Word}
 use Rattle.pal_base.specs.Seen.{seen, rank_of}
 use Rattle.pal_base.proofs.source.Source.operator_at.Given as goal
 

@@ -1,8 +1,8 @@
 use Rattle.std.proofs.Common.{◌≡◌, ◌≤◌, length, map, List, ◌++◌, ◌<◌}
 use Rattle.std.specs.Prelude.{codes}
-use Rattle.apex_meaning.specs.GrammarReading as reading
-use Rattle.apex_meaning.specs.GrammarWords.{Word}
-use Rattle.apex_meaning.proofs.Repeats.{after}
+use Rattle.pal_laws.specs.GrammarReading as reading
+use Rattle.pal_meaning.specs.Grammar.{Word}
+use Rattle.pal_laws.proofs.Repeats.{after}
 use Rattle.pal_base.specs.Reads.{listed}
 use Rattle.pal_base.specs.Seen.{seen, names_of}
 use Rattle.pal_base.specs.View.{process_of}

@@ -1,5 +1,5 @@
 use Rattle.std.proofs.Common.{◌≡◌, length, map, option_map, arith, ◌∙◌, ◌++◌, ◌<◌}
-use Rattle.apex_meaning.specs.GrammarReading as reading
+use Rattle.pal_laws.specs.GrammarReading as reading
 use Rattle.pal_base.specs.Seen.{seen, names_of}
 use Rattle.pal_base.specs.View.{declaration_of, stack_body_of, process_of}
 use Rattle.pal_base.specs.WordView.{token_of}

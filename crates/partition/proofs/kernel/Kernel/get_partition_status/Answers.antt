@@ -1,9 +1,9 @@
 use Rattle.std.proofs.Common.{subst, sym, ◌∙◌, ap}
 use Rattle.apex_types.specs.declared.codes.ReturnCode.TheVariants as code
 use Rattle.apex_types.specs.declared.service.Service.TheVariants as service
-use Rattle.apex_meaning.specs.PartitionServices.{status_of}
-use Rattle.apex_meaning.specs.Processes.{answers}
-use Rattle.apex_meaning.specs.Step.{IsTold}
+use Rattle.kernel_meaning.specs.PartitionServices.{status_of}
+use Rattle.kernel_meaning.specs.Processes.{answers}
+use Rattle.kernel_meaning.specs.Made.{IsTold}
 use Rattle.partition.proofs.kernel.Kernel.get_partition_status.Goals as goal
 
 pub returns-clause-step : goal.returns-clause-step

@@ -1,8 +1,8 @@
 use Rattle.std.proofs.Common.{rules}
 use Rattle.apex_types.specs.declared.codes.ErrorKind.TheVariants.{ApplicationError}
-use Rattle.apex_meaning.specs.HealthServices.{raise_application_error}
-use Rattle.apex_meaning.specs.Kernel.{with_errors}
-use Rattle.apex_meaning.specs.Step.{IsMade}
+use Rattle.kernel_meaning.specs.HealthServices.{raise_application_error}
+use Rattle.kernel_meaning.specs.Kernel.{with_errors}
+use Rattle.kernel_meaning.specs.Made.{IsMade}
 use Rattle.partition.proofs.Leaving.{then_acted}
 use Rattle.partition.proofs.kernel.Kernel.raise_application_error.Goals as goal
 

@@ -1,6 +1,6 @@
 use Rattle.std.proofs.Common.{ℕ, ◌+◌, ◌-◌, ◌++◌, ap, ◌∙◌}
-use Rattle.apex_meaning.specs.Partition.{Member, Moved, given, moved, treats_asked, with_world}
-use Rattle.apex_meaning.specs.Windows.{tick_from}
+use Rattle.kernel_meaning.specs.Partition.{Member, Moved, given, moved, treats_asked, with_world}
+use Rattle.kernel_meaning.specs.Windows.{tick_from}
 use Rattle.processor.specs.Views.{asks_of}
 use Rattle.bursts.specs.Running.{burst_of, with_control}
 use Rattle.bursts.proofs.Running.{goes_as}

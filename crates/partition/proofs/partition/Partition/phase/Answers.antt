@@ -1,6 +1,6 @@
 use Rattle.std.proofs.Common.{◌≡◌, [], refl, ap, sym, rules, arith}
 use Rattle.std.specs.Prelude.{None}
-use Rattle.apex_meaning.specs.Partition.{Member, advances}
+use Rattle.kernel_meaning.specs.Partition.{Member, advances}
 use Rattle.bursts.proofs.Running.{goes_idle, goes_once}
 use Rattle.partition.specs.Members.{member_of}
 use Rattle.partition.proofs.Told.{tells_none}

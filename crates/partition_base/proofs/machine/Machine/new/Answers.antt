@@ -1,6 +1,6 @@
 use Rattle.std.proofs.Common.{◌≡◌, ◌∷◌, length, map, ap, sym, ◌∙◌}
-use Rattle.apex_meaning.specs.SourceControl.{or_init}
-use Rattle.apex_meaning.specs.TwoMeanings.{body_of_row}
+use Rattle.engine_meaning.specs.Engine.{or_init}
+use Rattle.machine_meaning.specs.MachineMeaning.{body_of_row}
 use Rattle.partition_base.specs.Sections.{runners_of}
 use Rattle.regions.specs.Space.{zeros}
 use Rattle.partition_base.specs.Slots.{stack_of_body}

@@ -1,5 +1,5 @@
 use Rattle.std.proofs.Common.{ap, ◌∙◌}
-use Rattle.apex_meaning.specs.SourceControl.{body_at}
+use Rattle.engine_meaning.specs.Engine.{body_at}
 use Rattle.partition_base.specs.Bursting.{burst_at}
 use Rattle.partition_base.specs.Machines.{controls_of, engine_of}
 use Rattle.partition_base.proofs.machine.MachineExecutor.advance.Goals as goal

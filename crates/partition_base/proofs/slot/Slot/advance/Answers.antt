@@ -1,8 +1,8 @@
 use Rattle.std.proofs.Common.{◌≡◌, length, ap, sym, ◌∙◌}
 use Rattle.std.specs.Prelude.{ℕ, ℤ, List, Option, None}
-use Rattle.apex_meaning.specs.Engine.{Asks, Nothing}
-use Rattle.apex_meaning.specs.MachineControl.{MachineControl, machine_engine}
-use Rattle.apex_meaning.specs.Partition.{ticked}
+use Rattle.engine_meaning.specs.Engine.{Asks, Nothing}
+use Rattle.machine_meaning.specs.MachineControl.{MachineControl, machine_engine}
+use Rattle.kernel_meaning.specs.Partition.{ticked}
 use Rattle.bursts.specs.Bursts.{Burst, burst}
 use Rattle.processor.specs.Views.{asks_of, control_of}
 use Rattle.partition_base.specs.Slots.{control_of_slot, control_on, control_while}

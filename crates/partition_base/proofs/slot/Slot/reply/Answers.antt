@@ -1,6 +1,6 @@
 use Rattle.std.proofs.Common.{length, ap, ◌∙◌}
-use Rattle.apex_meaning.proofs.StackLength.{reply_keeps}
-use Rattle.apex_meaning.specs.MachineControl.{MachineControl}
+use Rattle.machine_laws.proofs.StackLength.{reply_keeps}
+use Rattle.machine_meaning.specs.MachineControl.{MachineControl}
 use Rattle.processor.specs.Views.{control_of}
 use Rattle.partition_base.proofs.slot.Slot.reply.Goals as goal
 

@@ -1,6 +1,6 @@
 use Rattle.std.proofs.Common.{length, ap, ◌∙◌}
-use Rattle.apex_meaning.proofs.StackLength.{tick_keeps_stack, tick_keeps_words}
-use Rattle.apex_meaning.specs.MachineControl.{MachineControl}
+use Rattle.machine_laws.proofs.StackLength.{tick_keeps_stack, tick_keeps_words}
+use Rattle.machine_meaning.specs.MachineControl.{MachineControl}
 use Rattle.processor.specs.Views.{control_of}
 use Rattle.regions.specs.Space.{Space}
 use Rattle.partition_base.proofs.slot.Slot.tick.Goals as goal

@@ -3,8 +3,8 @@ use Rattle.std.specs.Prelude.{Option}
 use Rattle.apex_types.specs.declared.identity.Runner.{Runner}
 use Rattle.apex_types.specs.declared.identity.Runner.TheVariants as runner
 use Rattle.apex_types.specs.declared.process.ProcessStatus.{ProcessStatus}
-use Rattle.apex_meaning.specs.Processes.{Processes, row_of}
-use Rattle.apex_meaning.specs.Queues.{list_at}
+use Rattle.kernel_meaning.specs.Processes.{Processes, row_of}
+use Rattle.kernel_meaning.specs.Queues.{list_at}
 use Rattle.process_table_base.proofs.Released.{first_is_least}
 use Rattle.process_table_base.specs.LeastNumber.{IsLeast}
 use Rattle.process_table_base.proofs.table.ProcessTable.first_waiting.Goals as goal

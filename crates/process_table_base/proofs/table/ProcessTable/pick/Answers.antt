@@ -1,8 +1,8 @@
 use Rattle.std.proofs.Common.{rules, ◌≡◌, ◌↔◌, Option, Some, sym, subst}
 use Rattle.apex_types.specs.declared.identity.Runner.{Runner}
-use Rattle.apex_meaning.specs.Choice.{Picks}
-use Rattle.apex_meaning.specs.Partition.{pick}
-use Rattle.apex_meaning.proofs.Choosing.{chosen}
+use Rattle.kernel_laws.specs.Choice.{Picks}
+use Rattle.kernel_meaning.specs.Partition.{pick}
+use Rattle.kernel_laws.proofs.Choosing.{chosen}
 use Rattle.process_table_base.proofs.table.ProcessTable.pick.Goals as goal
 
 pub returns-else-is_ready-clause-picks : goal.returns-else-is_ready-clause-picks

@@ -1,6 +1,6 @@
 use Rattle.std.proofs.Common.{Some, sym, subst}
-use Rattle.apex_meaning.specs.Processes.{Processes}
-use Rattle.apex_meaning.specs.WaitingOrder.{AreQueues}
+use Rattle.kernel_meaning.specs.Processes.{Processes}
+use Rattle.kernel_laws.specs.WaitingOrder.{AreQueues}
 use Rattle.process_table_base.proofs.Released.{release_keeps}
 use Rattle.process_table_base.proofs.table.ProcessTable.release.Goals as goal
 

@@ -1,5 +1,5 @@
 use Rattle.std.proofs.Common.{arith, ◌∙◌}
-use Rattle.apex_meaning.proofs.Steps.{start_part, start_lines, start_actions}
+use Rattle.kernel_laws.proofs.Steps.{start_part, start_lines, start_actions}
 use Rattle.process_table_base.proofs.table.ProcessTable.start_all_waiting.Goals as goal
 
 pub loop-left-preserved : goal.loop-left-preserved

@@ -1,5 +1,5 @@
 use Rattle.std.proofs.Common.{◌≡◌, ◌+◌, ◌≤◌, ◌++◌, length}
-use Rattle.apex_meaning.specs.Starts.{start_from, start_all_waiting}
+use Rattle.kernel_meaning.specs.Times.{start_from, start_all_waiting}
 use Rattle.process_table_base.proofs.table.ProcessTable.start_all_waiting.Given as goal
 
 abbrev pub invariant-loop-left : goal.invariant-loop-left

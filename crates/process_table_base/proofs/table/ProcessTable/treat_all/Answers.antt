@@ -1,7 +1,7 @@
 use Rattle.std.proofs.Common.{◌≡◌, ◌+◌, ◌-◌, ◌<◌, ◌++◌, ◌∙◌, sym, ap, subst, arith}
-use Rattle.apex_meaning.specs.Due.{Treated}
-use Rattle.apex_meaning.specs.Processes.{Processes}
-use Rattle.apex_meaning.proofs.Steps.{goes_on, due_ends, due_rest}
+use Rattle.kernel_meaning.specs.Times.{Treated}
+use Rattle.kernel_meaning.specs.Processes.{Processes}
+use Rattle.kernel_laws.proofs.Steps.{goes_on, due_ends, due_rest}
 use Rattle.process_table_base.specs.DueMask.{IsFirstOf}
 use Rattle.process_table_base.proofs.Treating.{IsLeft, ended, first_is_left, first_left, next_left}
 use Rattle.process_table_base.proofs.table.ProcessTable.treat_all.Goals as goal

@@ -1,4 +1,4 @@
-use Rattle.apex_meaning.specs.Due as meaning
+use Rattle.kernel_meaning.specs.Times as meaning
 use Rattle.process_table_base.proofs.Treating.{IsUnderWay}
 use Rattle.process_table_base.proofs.table.ProcessTable.treat_all.Given as goal
 

@@ -1,5 +1,5 @@
 use Rattle.std.proofs.Common.{rules, arith, ◌∙◌}
-use Rattle.apex_meaning.specs.Partition.{ticked}
+use Rattle.kernel_meaning.specs.Partition.{ticked}
 use Rattle.bursts.specs.Bursts.{burst}
 use Rattle.processor.specs.Views.{asks_of}
 use Rattle.scripted.specs.Plays.{control_of}

@@ -1,6 +1,6 @@
 use Rattle.std.proofs.Common.{◌≡◌, ◌≤◌, ◌-◌, List, ℤ}
-use Rattle.apex_meaning.specs.Engine.{Asks}
-use Rattle.apex_meaning.specs.Partition.{ticked}
+use Rattle.engine_meaning.specs.Engine.{Asks}
+use Rattle.kernel_meaning.specs.Partition.{ticked}
 use Rattle.bursts.specs.Bursts.{burst, later}
 use Rattle.scripted.specs.Plays.{control_of, script_of}
 use Rattle.scripted.specs.Scripts.{script_engine}

@@ -1,5 +1,5 @@
 use Rattle.std.proofs.Common.{◌≡◌, find, drop}
-use Rattle.apex_meaning.specs.Windows.{ends_at}
+use Rattle.kernel_meaning.specs.Windows.{ends_at}
 use Rattle.window_table.proofs.schedule.Schedule.ended.Given as goal
 
 abbrev pub invariant-loop-window : goal.invariant-loop-window

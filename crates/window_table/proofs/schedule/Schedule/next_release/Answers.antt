@@ -1,6 +1,6 @@
 use Rattle.std.proofs.Common.{sym, subst}
-use Rattle.apex_meaning.specs.Windows.{IsNextRelease}
-use Rattle.apex_meaning.proofs.NextRelease.{is_next_release}
+use Rattle.kernel_meaning.specs.WindowFacts.{IsNextRelease}
+use Rattle.kernel_laws.proofs.NextRelease.{is_next_release}
 use Rattle.window_table.specs.Schedules.{schedule_of}
 use Rattle.window_table.proofs.schedule.Schedule.next_release.Goals as goal
 

@@ -1,5 +1,5 @@
 use Rattle.std.proofs.Common.{◌≡◌, ◌≤◌, min, drop}
-use Rattle.apex_meaning.specs.Windows.{until_one_of}
+use Rattle.kernel_meaning.specs.Windows.{until_one_of}
 use Rattle.window_table.specs.Schedules.{schedule_of}
 use Rattle.window_table.proofs.schedule.Schedule.until_release.Given as goal
 

@@ -1,5 +1,0 @@
-use Rattle.apex_meaning.proofs.ProgramCosts.{accepted_size, accepted_costs}
-use Rattle.apex_meaning.proofs.laws.checking.accepted_program_is_short.Goals as goal
-
-pub returns : goal.returns
-returns c = record { size = accepted_size; costs = accepted_costs }

@@ -1,5 +1,0 @@
-use Rattle.apex_meaning.proofs.AcceptedImage.{accepted_image as law}
-use Rattle.apex_meaning.proofs.laws.tables.accepted_table_is_lawful.Goals as goal
-
-pub returns : goal.returns
-returns c = law

@@ -1,0 +1,16 @@
+pub mod Counts
+pub mod Sizes
+pub mod Placed
+pub mod Front
+pub mod Stack
+pub mod Ticks
+pub mod Starts
+pub mod Lifting
+pub mod WellFormedFits
+pub mod WellFormedObjects
+pub mod WellFormedSection
+pub mod FitsFact
+pub mod Operands
+pub mod ProgramSizes
+pub mod ProgramCosts
+pub mod Constructs

@@ -1,0 +1,33 @@
+//! What the checker accepts is fit for the compiler and for an image.
+
+ghost use Rattle.std.specs.Prelude.{◌≡◌, ℕ, ◌*◌, ◌≤◌, List, length, Ok, All, FitsSigned};
+ghost use Rattle.std.specs.Int.{w64};
+ghost use Rattle.apex_types.specs.declared.row.PortRow.{PortRow};
+ghost use Rattle.pal_meaning.specs.Syntax as written;
+ghost use Rattle.pal_meaning.specs.Program as program;
+ghost use Rattle.pal_meaning.specs.WellFormed.{verdict};
+ghost use Rattle.compiling_laws.specs.Bounds.{AreCostsHeld};
+ghost use Rattle.compiling_laws.specs.Fits.{Fits};
+ghost use Rattle.pal_meaning.specs.Grammar.{IsWritten};
+ghost use Rattle.pal_meaning.specs.Grammar.{words_of};
+ghost use Rattle.pal_meaning.specs.Program.{size_of};
+ghost use Rattle.compiling_laws.specs.CompiledCode.{section_of};
+ghost use Rattle.machine_meaning.specs.ImageLimits.{IsSection};
+
+/// What is accepted keeps to all on which its compiled code depends, if that code is not too long.
+pub fn accepted_program_fits()
+    ensures { (ports : List PortRow) (period : ℕ) (p : written.Program) (r : program.Program) → verdict ports period p ≡ Ok r → size_of r ≤ 65_536 → Fits r }
+{}
+
+/// What is accepted has at most twice as many constructs as its text has bytes, and what its bodies come
+/// to, where that text may be a source, has 64 bits.
+pub fn accepted_program_is_short()
+    ensures size { (ports : List PortRow) (period : ℕ) (text : List ℕ) (p : written.Program) (r : program.Program) → IsWritten (words_of text) p → verdict ports period p ≡ Ok r → size_of r ≤ 2 * length text }
+    ensures costs { (ports : List PortRow) (period : ℕ) (text : List ℕ) (p : written.Program) (r : program.Program) → IsWritten (words_of text) p → length text ≤ 1_048_576 → verdict ports period p ≡ Ok r → AreCostsHeld r }
+{}
+
+/// What is accepted and has words as its data becomes a section that an image may have, in a partition
+/// of that period.
+pub fn accepted_section_is_lawful()
+    ensures { (ports : List PortRow) (period : ℕ) (p : written.Program) (r : program.Program) → verdict ports period p ≡ Ok r → size_of r ≤ 65_536 → All (FitsSigned w64) r.initial → IsSection period (section_of r) }
+{}

@@ -1,0 +1,11 @@
+//! Laws over compilation: a compiled program is its source to everyone outside.
+
+ghost use Rattle.pal_meaning.specs.Program.{Program};
+ghost use Rattle.compiling_laws.specs.Fits.{Fits};
+ghost use Rattle.compiling_laws.specs.Related.{CompiledCorrectly};
+
+/// The processor over the section of a program that fits cannot be told apart from the program's
+/// source: at each start of a body, by each tick over any data, and by each answer.
+pub fn compiled_correctly()
+    ensures { (program : Program) → Fits program → CompiledCorrectly program }
+{}

@@ -1,0 +1,19 @@
+//! What the constructs of a body cost is what they spend.
+
+ghost use Rattle.std.specs.Prelude.{◌≡◌, ◌∷◌, ◌++◌, List, length, map, sum};
+ghost use Rattle.pal_meaning.specs.Program.{Body, Procedure};
+ghost use Rattle.pal_meaning.specs.SourceControl.{Part, front_of, cost_of_simple, parts_of_body, parts_of_procedure};
+ghost use Rattle.pal_meaning.specs.Program.{costs_of_body, costs_of_procedure};
+ghost use Rattle.compiling_laws.specs.Constructs.{constructs_of, with_held};
+
+/// What is to do has the constructs of its front, and of what is to do after it.
+pub fn each_construct_is_unfolded_once()
+    ensures { (part : Part) (rest : List Part) → constructs_of (part ∷ rest) ≡ with_held (front_of (part ∷ rest)).construct ++ constructs_of (front_of (part ∷ rest)).rest }
+{}
+
+/// The costs that are counted are the ticks that the simple constructs of a body take, each once, and its
+/// end among them.
+pub fn costs_are_what_constructs_spend()
+    ensures body { (b : Body) → costs_of_body b ≡ map cost_of_simple (constructs_of (parts_of_body b)) }
+    ensures procedure { (p : Procedure) → costs_of_procedure p ≡ map cost_of_simple (constructs_of (parts_of_procedure p)) }
+{}

@@ -1,0 +1,6 @@
+//! The compiled code of a program, and the laws over it: it cannot be told apart from the program's source.
+#![tactic(auto)]
+
+pub mod checking;
+pub mod compilation;
+pub mod costs;

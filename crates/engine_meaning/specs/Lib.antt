@@ -1,0 +1,4 @@
+pub mod Digits
+pub mod Operators
+pub mod Engine
+pub mod Simulates

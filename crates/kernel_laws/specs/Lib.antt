@@ -1,0 +1,3 @@
+pub mod Choice
+pub mod WaitingOrder
+pub mod Ready

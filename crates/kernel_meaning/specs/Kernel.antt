@@ -1,0 +1,100 @@
+-- The state of a partition that is no control and no data, in parts with an owner each; the errors that wait for its error handler.
+use Rattle.std.specs.Prelude.{Bool, List, [], ◌∷◌, ◌++◌, length, nat_lt, if◌then◌else◌, ℕ}
+use Rattle.apex_types.specs.declared.identity.TheConstants.{MOST_ERRORS}
+use Rattle.apex_types.specs.declared.process.WaitingError.{WaitingError}
+use Rattle.apex_types.specs.declared.codes.Mode.{Mode}
+use Rattle.apex_types.specs.declared.codes.StartCondition.{StartCondition}
+use Rattle.apex_types.specs.declared.row.HealthTable.{HealthTable}
+use Rattle.kernel_meaning.specs.Objects.{Objects, Ports}
+use Rattle.kernel_meaning.specs.Processes.{Processes}
+use Rattle.kernel_meaning.specs.Sharing.{Sharing}
+use Rattle.kernel_meaning.specs.Step.{Step, lifted}
+use Rattle.kernel_meaning.specs.Windows.{Schedule}
+
+-- The errors that wait for the error handler of a partition.
+
+pub record Errors : Type 0 where
+  -- whether the source has an error handler
+  pub has_handler : Bool
+  -- those that wait for it, the oldest first
+  pub waiting : List WaitingError
+
+-- before the first start of a partition
+abbrev pub fresh_errors : Bool → Errors
+fresh_errors has_handler = record { has_handler = has_handler; waiting = [] }
+
+-- one more waits, where there is room
+abbrev pub queued : Errors → WaitingError → Errors
+queued s e = if nat_lt (length s.waiting) MOST_ERRORS then record s { waiting = s.waiting ++ e ∷ [] } else s
+
+-- none waits
+abbrev pub emptied_errors : Errors → Errors
+emptied_errors s = record s { waiting = [] }
+
+-- The state of a partition that is no control and no data, in parts with an owner each.
+
+-- what no tick changes: the partition's row of the module table, its number, and the major
+-- frame with its own windows
+pub record Fixed : Type 0 where
+  pub name : List ℕ
+  pub number : ℕ
+  pub period : ℕ
+  pub duration : ℕ
+  pub schedule : Schedule
+  pub health : HealthTable
+
+pub record Kernel : Type 0 where
+  pub fixed : Fixed
+  pub mode : Mode
+  pub condition : StartCondition
+  pub processes : Processes
+  pub objects : Objects
+  pub ports : Ports
+  pub errors : Errors
+
+abbrev pub with_processes : Kernel → Processes → Kernel
+with_processes k s = record k { processes = s }
+
+-- a step of the processes is one of the partition
+abbrev pub of_processes : Kernel → Step Processes → Step Kernel
+of_processes k s = lifted (with_processes k) s
+
+-- the processes and the objects
+abbrev pub with_objects : Kernel → Sharing Objects
+with_objects k = record { processes = k.processes; shared = k.objects }
+
+abbrev pub put_objects : Kernel → Sharing Objects → Kernel
+put_objects k b = record k { processes = b.processes; objects = b.shared }
+
+-- a step of the processes and the objects is one of the partition
+abbrev pub of_objects : Kernel → Step (Sharing Objects) → Step Kernel
+of_objects k s = lifted (put_objects k) s
+
+-- the processes and the ports
+abbrev pub with_ports : Kernel → Sharing Ports
+with_ports k = record { processes = k.processes; shared = k.ports }
+
+abbrev pub put_ports : Kernel → Sharing Ports → Kernel
+put_ports k b = record k { processes = b.processes; ports = b.shared }
+
+-- a step of the processes and the ports is one of the partition
+abbrev pub of_ports : Kernel → Step (Sharing Ports) → Step Kernel
+of_ports k s = lifted (put_ports k) s
+
+abbrev pub put_only_ports : Kernel → Ports → Kernel
+put_only_ports k o = record k { ports = o }
+
+-- a step of the ports alone is one of the partition
+abbrev pub of_ports_alone : Kernel → Step Ports → Step Kernel
+of_ports_alone k s = lifted (put_only_ports k) s
+
+-- the processes and the errors
+abbrev pub with_errors : Kernel → Sharing Errors
+with_errors k = record { processes = k.processes; shared = k.errors }
+
+abbrev pub put_errors : Kernel → Sharing Errors → Kernel
+put_errors k b = record k { processes = b.processes; errors = b.shared }
+
+-- a step of the processes and the errors is one of the partition
+abbrev pub of_errors : Kernel → Step (Sharing Errors) → Step Kernel
+of_errors k s = lifted (put_errors k) s

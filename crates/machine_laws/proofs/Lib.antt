@@ -1,0 +1,14 @@
+pub mod StackLength
+pub mod ImageFields
+pub mod ImageNumbers
+pub mod ImageNames
+pub mod ImageLists
+pub mod ImageChoices
+pub mod ImageObjects
+pub mod ImageBodies
+pub mod ImageTables
+pub mod ImageLaws
+pub mod AcceptedTable
+pub mod KnownPorts
+pub mod AcceptedImage
+pub mod Releases

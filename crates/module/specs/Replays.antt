@@ -1,0 +1,37 @@
+-- What replaying one partition of an image promises.
+use Rattle.std.specs.Prelude.{◌≡◌, ℕ, ◌^◌, ◌<◌, ◌≤◌, List, Option, Some, None, Result, Ok, Err}
+use Rattle.std.specs.Io.KnownBytes.{Appends}
+use Rattle.apex_types.specs.Line.{text_of, TakesBeginning}
+use Rattle.apex_types.specs.declared.device.DeviceFault.{DeviceFault}
+use Rattle.machine_meaning.specs.ImageReading.{Fault}
+use Rattle.machine_meaning.specs.Image.{Image, Item}
+use Rattle.isolation.specs.declared.input.InputLine.{InputLine}
+use Rattle.isolation.specs.ReplayText.{replay_verdict}
+use Rattle.isolation.specs.Replays.{IsReplay, numbered}
+use Rattle.isolation.specs.Slices.{Slice, slice_trace}
+use Rattle.module.specs.declared.fault.RunFault.{RunFault}
+use Rattle.module.specs.declared.fault.RunFault.TheVariants.{Ticks, Image as NoImage, Partition as NoPartition, Device, Memory, Write, Failed}
+use Rattle.module.specs.Runs.{IsImageRefusal}
+
+-- the image has no partition of this name
+abbrev pub LacksPartition : Result Image Fault → List ℕ → Type 0
+LacksPartition (Err fault) name = ⊥
+LacksPartition (Ok image) name = numbered image name ≡ None
+
+-- the replay text is refused for the partition of this name
+abbrev pub IsInputRefusal : Result Image Fault → List ℕ → List ℕ → DeviceFault → Type 0
+IsInputRefusal (Err fault) name inputs f = ⊥
+IsInputRefusal (Ok image) name inputs f = (found : ℕ × Item) × (numbered image name ≡ Some found) × (replay_verdict found.1.partition inputs ≡ Err f)
+
+-- What a replay of one partition of an image has written between two states of its sink: the text of the
+-- partition's trace of n ticks alone, from its slice of the image and the replay text's inputs; a beginning of
+-- that text where the sink failed; nothing where the replay is refused.
+abbrev pub Replays : Result Image Fault → List ℕ → List ℕ → ℕ → Option (List ℕ) → Option (List ℕ) → Result (Unit {0}) RunFault → Type 0
+Replays read name inputs n old new (Ok _) = (s : Slice) × (lines : List InputLine) × IsReplay read name inputs n s lines × Appends old new (text_of (slice_trace s lines n))
+Replays read name inputs n old new (Err Write) = (s : Slice) × (lines : List InputLine) × IsReplay read name inputs n s lines × TakesBeginning old new (text_of (slice_trace s lines n))
+Replays read name inputs n old new (Err Ticks) = (2 ^ 40 < n) × (new ≡ old)
+Replays read name inputs n old new (Err (NoImage f)) = (n ≤ 2 ^ 40) × IsImageRefusal read f × (new ≡ old)
+Replays read name inputs n old new (Err NoPartition) = (n ≤ 2 ^ 40) × LacksPartition read name × (new ≡ old)
+Replays read name inputs n old new (Err (Device f)) = (n ≤ 2 ^ 40) × IsInputRefusal read name inputs f × (new ≡ old)
+Replays read name inputs n old new (Err Memory) = new ≡ old
+Replays read name inputs n old new (Err Failed) = ⊥

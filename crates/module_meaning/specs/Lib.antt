@@ -1,0 +1,6 @@
+pub mod Table
+pub mod TableRules
+pub mod Accepted
+pub mod DeviceText
+pub mod Module
+pub mod SourceMeaning

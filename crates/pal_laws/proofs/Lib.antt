@@ -1,0 +1,12 @@
+pub mod Levels
+pub mod Loops
+pub mod Repeats
+pub mod WordsOf
+pub mod Spelled
+pub mod Shaped
+pub mod Longer
+pub mod Followed
+pub mod ReadSteps
+pub mod ReadExpressions
+pub mod ReadStatements
+pub mod ReadPrograms

@@ -1,0 +1,23 @@
+//! Programs and their words.
+
+ghost use Rattle.std.specs.Prelude.{◌≡◌, List, Some};
+ghost use Rattle.pal_meaning.specs.Grammar.{IsWritten};
+ghost use Rattle.pal_laws.specs.GrammarReading.{program_at};
+ghost use Rattle.pal_meaning.specs.Grammar.{Word};
+ghost use Rattle.pal_meaning.specs.Syntax.{Program};
+
+/// What is read as a program is written so: the words are those of the program, its operators stand
+/// in the order of their ranks, and it opens at most 64 levels.
+pub fn program_is_written_so()
+    ensures { (words : List Word) (program : Program) → program_at words ≡ Some program → IsWritten words program }
+{}
+
+/// What is written as a program is read as it.
+pub fn written_program_is_read()
+    ensures { (words : List Word) (program : Program) → IsWritten words program → program_at words ≡ Some program }
+{}
+
+/// Words are written as one program at most.
+pub fn words_are_of_one_program()
+    ensures { (words : List Word) (first second : Program) → IsWritten words first → IsWritten words second → first ≡ second }
+{}

@@ -1,0 +1,208 @@
+-- A program with its names resolved; the costs of its constructs in ticks, and the words that a body takes of its stack.
+use Rattle.std.specs.Prelude.{ℕ, ℤ, List, Option, ◌+◌, [], ◌∷◌, ◌++◌, length, map, Some, None, max}
+use Rattle.apex_types.specs.declared.instruction.BinaryOperator.{BinaryOperator}
+use Rattle.apex_types.specs.declared.instruction.UnaryOperator.{UnaryOperator}
+use Rattle.apex_types.specs.declared.place.Place.{Place}
+use Rattle.apex_types.specs.declared.row.SemaphoreRow.{SemaphoreRow}
+use Rattle.apex_types.specs.declared.row.BufferRow.{BufferRow}
+use Rattle.apex_types.specs.declared.row.BlackboardRow.{BlackboardRow}
+use Rattle.apex_types.specs.declared.service.Service.{Service}
+use Rattle.std.specs.List.{sum, sum_by}
+use Rattle.apex_types.specs.declared.cost.TheConstants.{LITERAL_COST, SCALAR_COST, ELEMENT_COST, UNARY_COST, BRANCH_COST, JUMP_COST, CALL_COST, RETURN_COST, END_COST}
+use Rattle.engine_meaning.specs.Operators.{cost_of_binary}
+use Rattle.apex_types.specs.ServiceShape.{cost_of_service, answer_words}
+
+-- A partition's program with its names resolved: scalars to places, arrays to the place of their
+-- first word and their size, objects, processes and procedures to numbers.
+
+-- An expression. A chain is a first operand, then operators with their right operands, which act
+-- from left to right.
+mutual
+  pub data Expr : Type 0 where
+    Literal : (value : ℤ) → Expr
+    Read : (place : Place) → Expr
+    Element : (place : ℕ) (size : ℤ) (index : Expr) → Expr
+    Unary : (operator : UnaryOperator) (operand : Expr) → Expr
+    Chain : (first : Expr) (rest : Links) → Expr
+    Apply : (procedure : ℕ) (arguments : Exprs) → Expr
+
+  pub data Links : Type 0 where
+    NoLink : Links
+    MoreLinks : (operator : BinaryOperator) (operand : Expr) (rest : Links) → Links
+
+  pub data Exprs : Type 0 where
+    NoExpr : Exprs
+    MoreExprs : (first : Expr) (rest : Exprs) → Exprs
+
+-- A statement. Among the arguments of a service a name is the literal of its number, an array the
+-- two literals of its place and its size.
+mutual
+  pub data Stmt : Type 0 where
+    Assign : (place : Place) (value : Expr) → Stmt
+    AssignElement : (place : ℕ) (size : ℤ) (index value : Expr) → Stmt
+    If : (test : Expr) (then : Block) → Stmt
+    IfElse : (test : Expr) (then other : Block) → Stmt
+    While : (test : Expr) (block : Block) → Stmt
+    Work : (ticks : ℕ) → Stmt
+    Return : (value : Expr) → Stmt
+    CallService : (service : Service) (arguments : Exprs) (targets : List Place) → Stmt
+
+  pub data Block : Type 0 where
+    NoStmt : Block
+    MoreStmts : (first : Stmt) (rest : Block) → Block
+
+pub record Procedure : Type 0 where
+  pub parameters : ℕ
+  pub locals : ℕ
+  pub block : Block
+
+-- the body of INIT, of the handler or of a process, and the words of its stack
+pub record Body : Type 0 where
+  pub stack : ℕ
+  pub locals : ℕ
+  pub block : Block
+
+-- without a period a process is aperiodic, without a time capacity it has no deadline
+pub record Process : Type 0 where
+  pub name : List ℕ
+  pub priority : ℕ
+  pub period : Option ℕ
+  pub capacity : Option ℕ
+  pub body : Body
+
+pub record Program : Type 0 where
+  pub initial : List ℤ
+  pub semaphores : List SemaphoreRow
+  pub events : ℕ
+  pub buffers : List BufferRow
+  pub blackboards : List BlackboardRow
+  pub procedures : List Procedure
+  pub init : Body
+  pub handler : Option Body
+  pub processes : List Process
+
+-- What a program's constructs cost in ticks, how many instructions they are, and how many words of
+-- stack a body needs. Each construct is one instruction, and its cost does not depend on what
+-- stands around it.
+
+-- the costs of the constructs of an expression, in the order in which they take effect
+abbrev mutual
+  pub costs_of_expr : Expr → List ℕ
+  costs_of_expr (Literal value) = LITERAL_COST ∷ []
+  costs_of_expr (Read place) = SCALAR_COST ∷ []
+  costs_of_expr (Element place size index) = costs_of_expr index ++ (ELEMENT_COST ∷ [])
+  costs_of_expr (Unary operator operand) = costs_of_expr operand ++ (UNARY_COST ∷ [])
+  costs_of_expr (Chain first rest) = costs_of_expr first ++ costs_of_links rest
+  costs_of_expr (Apply procedure arguments) = costs_of_exprs arguments ++ (CALL_COST ∷ [])
+
+  pub costs_of_links : Links → List ℕ
+  costs_of_links NoLink = []
+  costs_of_links (MoreLinks operator operand rest) = costs_of_expr operand ++ (cost_of_binary operator ∷ costs_of_links rest)
+
+  pub costs_of_exprs : Exprs → List ℕ
+  costs_of_exprs NoExpr = []
+  costs_of_exprs (MoreExprs first rest) = costs_of_expr first ++ costs_of_exprs rest
+
+-- The same for a statement. A service costs by its kind, and writing a target as much as a scalar.
+abbrev mutual
+  pub costs_of_stmt : Stmt → List ℕ
+  costs_of_stmt (Assign place value) = costs_of_expr value ++ (SCALAR_COST ∷ [])
+  costs_of_stmt (AssignElement place size index value) = costs_of_expr index ++ costs_of_expr value ++ (ELEMENT_COST ∷ [])
+  costs_of_stmt (If test then) = costs_of_expr test ++ (BRANCH_COST ∷ costs_of_block then)
+  costs_of_stmt (IfElse test then other) = costs_of_expr test ++ (BRANCH_COST ∷ costs_of_block then) ++ (JUMP_COST ∷ costs_of_block other)
+  costs_of_stmt (While test block) = costs_of_expr test ++ (BRANCH_COST ∷ costs_of_block block) ++ (JUMP_COST ∷ [])
+  costs_of_stmt (Work ticks) = ticks ∷ []
+  costs_of_stmt (Return value) = costs_of_expr value ++ (RETURN_COST ∷ [])
+  costs_of_stmt (CallService service arguments targets) = costs_of_exprs arguments ++ (cost_of_service service ∷ map (λ _. SCALAR_COST) targets)
+
+  pub costs_of_block : Block → List ℕ
+  costs_of_block NoStmt = []
+  costs_of_block (MoreStmts first rest) = costs_of_stmt first ++ costs_of_block rest
+
+-- a procedure closes with a literal 0 and a return
+abbrev pub costs_of_procedure : Procedure → List ℕ
+costs_of_procedure p = costs_of_block p.block ++ (LITERAL_COST ∷ RETURN_COST ∷ [])
+
+abbrev pub costs_of_body : Body → List ℕ
+costs_of_body b = costs_of_block b.block ++ (END_COST ∷ [])
+
+-- Their number, which is that of the instructions, and the sum of their costs.
+abbrev pub size_of_expr : Expr → ℕ
+size_of_expr e = length (costs_of_expr e)
+
+abbrev pub size_of_links : Links → ℕ
+size_of_links ls = length (costs_of_links ls)
+
+abbrev pub size_of_exprs : Exprs → ℕ
+size_of_exprs es = length (costs_of_exprs es)
+
+abbrev pub size_of_stmt : Stmt → ℕ
+size_of_stmt s = length (costs_of_stmt s)
+
+abbrev pub size_of_block : Block → ℕ
+size_of_block b = length (costs_of_block b)
+
+abbrev pub size_of_procedure : Procedure → ℕ
+size_of_procedure p = length (costs_of_procedure p)
+
+abbrev pub cost_of_procedure : Procedure → ℕ
+cost_of_procedure p = sum (costs_of_procedure p)
+
+abbrev pub size_of_body : Body → ℕ
+size_of_body b = length (costs_of_body b)
+
+abbrev pub cost_of_body : Body → ℕ
+cost_of_body b = sum (costs_of_body b)
+
+abbrev pub size_of_handler : Option Body → ℕ
+size_of_handler None = 0
+size_of_handler (Some b) = size_of_body b
+
+abbrev pub size_of_process : Process → ℕ
+size_of_process p = size_of_body p.body
+
+-- the number of instructions of a program
+abbrev pub size_of : Program → ℕ
+size_of p = size_of_body p.init + size_of_handler p.handler + sum_by size_of_process p.processes + sum_by size_of_procedure p.procedures
+
+-- the most operands of an expression that wait at once: an argument waits while those behind it
+-- are evaluated, and the result of a call is an operand
+abbrev mutual
+  pub operands_of_expr : Expr → ℕ
+  operands_of_expr (Literal value) = 1
+  operands_of_expr (Read place) = 1
+  operands_of_expr (Element place size index) = operands_of_expr index
+  operands_of_expr (Unary operator operand) = operands_of_expr operand
+  operands_of_expr (Chain first rest) = max (operands_of_expr first) (operands_of_links rest)
+  operands_of_expr (Apply procedure arguments) = max 1 (operands_of_exprs arguments)
+
+  pub operands_of_links : Links → ℕ
+  operands_of_links NoLink = 0
+  operands_of_links (MoreLinks operator operand rest) = max (1 + operands_of_expr operand) (operands_of_links rest)
+
+  pub operands_of_exprs : Exprs → ℕ
+  operands_of_exprs NoExpr = 0
+  operands_of_exprs (MoreExprs first rest) = max (operands_of_expr first) (1 + operands_of_exprs rest)
+
+abbrev mutual
+  pub operands_of_stmt : Stmt → ℕ
+  operands_of_stmt (Assign place value) = operands_of_expr value
+  operands_of_stmt (AssignElement place size index value) = max (operands_of_expr index) (1 + operands_of_expr value)
+  operands_of_stmt (If test then) = max (operands_of_expr test) (operands_of_block then)
+  operands_of_stmt (IfElse test then other) = max (operands_of_expr test) (max (operands_of_block then) (operands_of_block other))
+  operands_of_stmt (While test block) = max (operands_of_expr test) (operands_of_block block)
+  operands_of_stmt (Work ticks) = 0
+  operands_of_stmt (Return value) = operands_of_expr value
+  operands_of_stmt (CallService service arguments targets) = max (answer_words service) (operands_of_exprs arguments)
+
+  pub operands_of_block : Block → ℕ
+  operands_of_block NoStmt = 0
+  operands_of_block (MoreStmts first rest) = max (operands_of_stmt first) (operands_of_block rest)
+
+-- The words of stack of a body: its parameters, its locals, its operands (the 0 with which a
+-- procedure closes is one), and two for the place and the frame to come back to.
+abbrev pub frame_of_procedure : Procedure → ℕ
+frame_of_procedure p = p.parameters + p.locals + max 1 (operands_of_block p.block) + 2
+
+abbrev pub frame_of_body : Body → ℕ
+frame_of_body b = b.locals + operands_of_block b.block + 2
