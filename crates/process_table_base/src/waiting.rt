@@ -17,7 +17,10 @@ ghost use Rattle.process_table_base.specs.LeastNumber.{IsLeast};
 use crate::change::zeros;
 use crate::duration::time_out;
 use crate::table::ProcessTable;
-use apex_types::{Action, ArrayPlace, At, Entry, ListKey, MOST_PROCESSES, MOST_RUNNERS, Out, ProcessIndex, ProcessStatus, ReturnCode, Runner, Wait, Waiting, Words, copied};
+use apex_types::{
+    Action, ArrayPlace, At, Entry, ListKey, MOST_PROCESSES, MOST_RUNNERS, Out, ProcessIndex,
+    ProcessStatus, ReturnCode, Runner, Wait, Waiting, Words, copied,
+};
 use links::Entries;
 
 /// Puts a message in the place of a process, where there is one.
