@@ -1,6 +1,7 @@
 //! Numbers with a meaning of their own.
 
-ghost use Rattle.std.specs.Prelude.{◌≡◌};
+ghost use Rattle.std.specs.Prelude.{◌≡◌, ◌≤◌};
+ghost use Rattle.apex_types.specs.declared.limits.TheConstants.{MOST_TICKS};
 
 /// A count of processor ticks, or the tick of that number. Ticks of a run are below 2^40.
 #[derive(Clone, Copy, Debug, PartialEq, Eq, PartialOrd, Ord)]
@@ -11,6 +12,14 @@ pub struct Ticks(pub u64);
 pub struct At {
     pub now: Ticks,
     pub origin: Ticks,
+}
+
+/// A tick that a run can have, and the tick of the module's last start, which is not after it.
+#[derive(Clone, Copy, Debug, PartialEq, Eq)]
+pub struct Moment {
+    pub at: At,
+    pub ghost past: { at.origin.0 ≤ at.now.0 },
+    pub ghost within: { at.now.0 ≤ MOST_TICKS },
 }
 
 /// A partition by its place in the module table, from 1.
@@ -24,12 +33,6 @@ pub struct PortId(pub u8);
 /// A channel by its place in the module table, from 0.
 #[derive(Clone, Copy, Debug, PartialEq, Eq)]
 pub struct ChannelIndex(pub u8);
-
-/// The most processes of a partition, beside INIT and the error handler.
-pub const MOST_PROCESSES: u8 = 31;
-
-/// The most that run in a partition: INIT, the error handler and the processes.
-pub const MOST_RUNNERS: u8 = MOST_PROCESSES + 2;
 
 /// A process by its place in its partition's source text, from 0. The number that programs use is
 /// one more.
@@ -59,12 +62,6 @@ impl Runner {
         }
     }
 }
-
-/// The most objects of a kind in a partition, and the most ports.
-pub const MOST_OBJECTS: u8 = 16;
-
-/// The most errors that wait for an error handler.
-pub const MOST_ERRORS: u8 = 64;
 
 /// A waiting list of a partition: that of an object or a port, by its kind and its place from 0.
 #[derive(Clone, Copy, Debug, PartialEq, Eq)]

@@ -11,6 +11,7 @@ pub mod device;
 pub mod event;
 pub mod identity;
 pub mod instruction;
+pub mod limits;
 pub mod log;
 pub mod name;
 pub mod out;
@@ -36,10 +37,10 @@ pub use denotation::{Denotation, ObjectKind};
 pub use device::{DeviceFault, DeviceInput, DeviceLine};
 pub use event::{Event, EventKind, Events, Subject, Words, copied};
 pub use identity::{
-    At, ChannelIndex, ListKey, MOST_ERRORS, MOST_OBJECTS, MOST_PROCESSES, MOST_RUNNERS,
-    PartitionId, PortId, Priority, ProcessIndex, Runner, Ticks,
+    At, ChannelIndex, ListKey, Moment, PartitionId, PortId, Priority, ProcessIndex, Runner, Ticks,
 };
 pub use instruction::{BinaryOperator, Instr, UnaryOperator};
+pub use limits::{MOST_ERRORS, MOST_OBJECTS, MOST_PROCESSES, MOST_RUNNERS, MOST_TICKS};
 pub use log::EventLog;
 pub use name::Name;
 pub use out::{Actions, Happenings, Out};

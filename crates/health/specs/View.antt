@@ -1,6 +1,6 @@
 -- How the fields of the errors are seen, and what always holds of them.
 use Rattle.std.specs.Prelude.{◌≤◌, length}
-use Rattle.apex_types.specs.declared.identity.TheConstants.{MOST_ERRORS}
+use Rattle.apex_types.specs.declared.limits.TheConstants.{MOST_ERRORS}
 use Rattle.kernel_meaning.specs.Kernel as meaning
 use Rattle.health.specs.declared.errors.Errors.TheInside as errors
 

@@ -1,6 +1,6 @@
 -- How a list of those for whom something is due is seen, and what always holds of it.
 use Rattle.std.specs.Prelude.{ℕ, ◌≤◌, List}
-use Rattle.apex_types.specs.declared.identity.TheConstants.{MOST_PROCESSES}
+use Rattle.apex_types.specs.declared.limits.TheConstants.{MOST_PROCESSES}
 use Rattle.links.specs.declared.dues.DueEntry.{DueEntry}
 use Rattle.links.specs.declared.due_list.DueList.TheInside.{Inside}
 use Rattle.links.specs.DueOrder.{AreInOrder, AreDueBelow, times_due}

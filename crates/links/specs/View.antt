@@ -1,6 +1,6 @@
 -- How the waiting lists are seen, and what always holds of them.
 use Rattle.std.specs.Prelude.{◌≡◌, List, length, map}
-use Rattle.apex_types.specs.declared.identity.TheConstants.{MOST_PROCESSES}
+use Rattle.apex_types.specs.declared.limits.TheConstants.{MOST_PROCESSES}
 use Rattle.apex_types.specs.declared.process.Entry.{Entry}
 use Rattle.links.specs.OneHome.{entries_of, IsHomed}
 use Rattle.links.specs.declared.links.Links.TheInside.{Inside}

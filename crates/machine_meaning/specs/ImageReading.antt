@@ -4,7 +4,7 @@ use Rattle.std.specs.Prelude.{ℕ, zero, suc, ◌+◌, ◌-◌, ◌%◌, ◌^◌
 use Rattle.std.specs.List.{list_all, list_any}
 use Rattle.std.specs.Str.{bytes_eq}
 use Rattle.std.specs.Int.{Width, w16, w32, w64, byte_len, from_le_bytes, cast_signed}
-use Rattle.apex_types.specs.declared.identity.TheConstants.{MOST_PROCESSES}
+use Rattle.apex_types.specs.declared.limits.TheConstants.{MOST_PROCESSES}
 use Rattle.apex_types.specs.NameText.{is_name}
 use Rattle.module_meaning.specs.Table.{keeps_rules}
 use Rattle.apex_types.specs.declared.codes.Discipline.{Discipline}

@@ -8,7 +8,7 @@ use Rattle.apex_types.specs.declared.identity.ListKey.{ListKey}
 use Rattle.apex_types.specs.declared.identity.ListKey.TheVariants as key
 use Rattle.apex_types.specs.declared.identity.Priority.{Priority}
 use Rattle.apex_types.specs.declared.identity.Runner.TheVariants as runner
-use Rattle.apex_types.specs.declared.identity.TheConstants.{MOST_OBJECTS}
+use Rattle.apex_types.specs.declared.limits.TheConstants.{MOST_OBJECTS}
 use Rattle.apex_types.specs.declared.process.Entry.{Entry}
 use Rattle.apex_types.specs.declared.process.ProcessStatus.{ProcessStatus}
 use Rattle.machine_meaning.specs.Image.{Item, Image}

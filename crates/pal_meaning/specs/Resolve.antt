@@ -1,7 +1,7 @@
 -- What the names of a program stand for, and the program with its names resolved. The resolution is
 -- made for every program: what makes a program not well formed stands as 0 in it.
 use Rattle.std.specs.Prelude.{ℕ, ◌+◌, ◌-◌, ◌^◌, ℤ, pos, ◌-ℤ◌, nat_le, nat_lt, if◌then◌else◌, List, [], ◌∷◌, ◌++◌, map, length, take, replicate, flat_map, filter_map, position, Option, Some, None, option_map, unwrap_or, bytes_eq}
-use Rattle.apex_types.specs.declared.identity.TheConstants.{MOST_PROCESSES}
+use Rattle.apex_types.specs.declared.limits.TheConstants.{MOST_PROCESSES}
 use Rattle.apex_types.specs.declared.place.Place.{Place}
 use Rattle.apex_types.specs.declared.place.Place.TheVariants.{Data, Slot}
 use Rattle.apex_types.specs.declared.denotation.Denotation.{Denotation}

@@ -1,6 +1,6 @@
 -- What the processor of a partition counts on in a loaded section, and how it is seen.
 use Rattle.std.specs.Prelude.{◌≤◌, List, ◌∷◌, map, length}
-use Rattle.apex_types.specs.declared.identity.TheConstants.{MOST_PROCESSES}
+use Rattle.apex_types.specs.declared.limits.TheConstants.{MOST_PROCESSES}
 use Rattle.apex_types.specs.declared.row.BodyRow.{BodyRow}
 use Rattle.apex_types.specs.declared.row.Section.{Section}
 use Rattle.engine_meaning.specs.Engine.{Engine}

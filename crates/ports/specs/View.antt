@@ -1,6 +1,6 @@
 -- How the fields of ports are seen, and what always holds of them.
 use Rattle.std.specs.Prelude.{◌≤◌, ◌^◌, length}
-use Rattle.apex_types.specs.declared.identity.TheConstants.{MOST_OBJECTS}
+use Rattle.apex_types.specs.declared.limits.TheConstants.{MOST_OBJECTS}
 use Rattle.kernel_meaning.specs.Objects as meaning
 use Rattle.ports.specs.declared.port.Port.TheInside as port
 use Rattle.ports.specs.declared.ports.Ports.TheInside as ports

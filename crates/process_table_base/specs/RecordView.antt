@@ -1,6 +1,6 @@
 -- How the records are seen, and what always holds of them.
 use Rattle.std.specs.Prelude.{◌≤◌, List, length}
-use Rattle.apex_types.specs.declared.identity.TheConstants.{MOST_RUNNERS}
+use Rattle.apex_types.specs.declared.limits.TheConstants.{MOST_RUNNERS}
 use Rattle.apex_types.specs.declared.process.ProcessStatus.{ProcessStatus}
 use Rattle.process_table_base.specs.Bounds.{AreAllBounded}
 use Rattle.process_table_base.specs.Timed.{AreTimed}

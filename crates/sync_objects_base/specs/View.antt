@@ -1,6 +1,6 @@
 -- How the fields of the objects are seen, and what always holds of them.
 use Rattle.std.specs.Prelude.{◌≤◌, length}
-use Rattle.apex_types.specs.declared.identity.TheConstants.{MOST_OBJECTS}
+use Rattle.apex_types.specs.declared.limits.TheConstants.{MOST_OBJECTS}
 use Rattle.kernel_meaning.specs.Objects as meaning
 use Rattle.sync_objects_base.specs.declared.semaphore.Semaphore.TheInside as semaphore
 use Rattle.sync_objects_base.specs.declared.event.Event.TheInside as event

@@ -1,0 +1,94 @@
+//! The limits of a module, of its programs and of a run, and what follows from them.
+//!
+//! Each limit stands here alone. Code, definitions and proofs name it from here.
+
+/// The most ticks of a run. No tick, duration, period, time capacity, delay, time-out or refresh period
+/// is greater.
+pub const MOST_TICKS: u64 = 1 << 40;
+
+/// The latest tick of a release point, which comes at most a major frame after a tick of the run.
+pub const LATEST_RELEASE_POINT: u64 = 2 * MOST_TICKS;
+
+/// The most ticks of a major frame.
+pub const MOST_FRAME_TICKS: u32 = 1 << 24;
+
+/// The most bytes of a name.
+pub const MOST_NAME_BYTES: u8 = 30;
+
+/// The most partitions of a module.
+pub const MOST_PARTITIONS: u8 = 16;
+
+/// The most windows of a major frame.
+pub const MOST_WINDOWS: u8 = 64;
+
+/// The most channels of a module.
+pub const MOST_CHANNELS: u8 = 64;
+
+/// The most destinations of a channel.
+pub const MOST_DESTINATIONS: u8 = 16;
+
+/// The most ports of a partition.
+pub const MOST_PORTS: u8 = 16;
+
+/// The most processes of a partition, beside INIT and the error handler.
+pub const MOST_PROCESSES: u8 = 31;
+
+/// The most that run in a partition: INIT, the error handler and the processes.
+pub const MOST_RUNNERS: u8 = MOST_PROCESSES + 2;
+
+/// The most objects of a kind in a partition.
+pub const MOST_OBJECTS: u8 = 16;
+
+/// The greatest priority of a process; the least is 1.
+pub const GREATEST_PRIORITY: u8 = 239;
+
+/// The greatest level of the preemption lock.
+pub const MOST_LOCK_LEVEL: u8 = 16;
+
+/// The most errors that wait for an error handler.
+pub const MOST_ERRORS: u8 = 64;
+
+/// The most words of a message.
+pub const MOST_WORDS: u8 = 16;
+
+/// The most messages that a buffer or a queuing port holds.
+pub const MOST_DEPTH: u8 = 32;
+
+/// The greatest value of a semaphore.
+pub const MOST_SEMAPHORE_VALUE: u32 = 1_000_000;
+
+/// The fewest words of a stack.
+pub const LEAST_STACK_WORDS: u16 = 16;
+
+/// The most words of a stack, and so of a frame on it.
+pub const MOST_STACK_WORDS: u16 = 4_096;
+
+/// The most parameters of a procedure.
+pub const MOST_PARAMETERS: u8 = 8;
+
+/// The most locals of a body.
+pub const MOST_LOCALS: u8 = 64;
+
+/// The most slots of a frame: its parameters and its locals.
+pub const MOST_SLOTS: u16 = MOST_PARAMETERS as u16 + MOST_LOCALS as u16;
+
+/// The most procedures of a program.
+pub const MOST_PROCEDURES: u16 = 256;
+
+/// The most instructions of a program.
+pub const MOST_INSTRUCTIONS: u32 = 65_536;
+
+/// The most words of a program's data.
+pub const MOST_DATA_WORDS: u32 = 65_536;
+
+/// The most ticks of a `work` statement.
+pub const MOST_WORK_TICKS: u32 = 1_000_000;
+
+/// The most bytes of a source.
+pub const MOST_SOURCE_BYTES: u32 = 1_048_576;
+
+/// The most levels of expressions, statements and argument lists that are open at once in a source.
+pub const MOST_LEVELS: u32 = 64;
+
+/// The most lines of a device text or of a replay text.
+pub const MOST_DEVICE_LINES: u32 = 65_536;
