@@ -1,4 +1,4 @@
--- The text of a name is ASCII, and a text that lies in thirty bytes with zeros behind it is stored.
+-- The text of a name is ASCII, and a text that lies in the bytes of a name with zeros behind it is stored.
 use Rattle.std.proofs.Common.{◌≡◌, ℕ, ◌<◌, List, [], ◌∷◌, ◌++◌, length, take, drop, replicate, true, sym, ap, arith}
 use Rattle.std.proofs.lemmas.Bool.{and_parts}
 use Rattle.std.proofs.lemmas.Bool.Decides.{nat_tests}
@@ -8,6 +8,7 @@ use Rattle.std.proofs.lemmas.Str.{IsUtf8-from_ascii}
 use Rattle.std.proofs.lemmas.Str.Ascii.{IsAscii-nil, IsAscii-cons}
 use Rattle.std.specs.List.{list_all}
 use Rattle.std.specs.Str.{IsAscii, IsUtf8}
+use Rattle.apex_types.specs.declared.limits.TheConstants.{MOST_NAME_BYTES}
 use Rattle.apex_types.specs.NameText.{is_lower_case, is_name, is_name_byte}
 use Rattle.apex_types.specs.StoredName.{IsStored}
 
@@ -33,12 +34,12 @@ name_IsAscii (c ∷ cs) h =
 pub name_IsUtf8 : (text : List ℕ) → is_name text ≡ true → IsUtf8 text
 name_IsUtf8 text h = IsUtf8-from_ascii text (name_IsAscii text h)
 
--- what lies in thirty bytes with zeros behind it
-pub name_IsStored : (text : List ℕ) → is_name text ≡ true → IsStored (text ++ drop (length text) (replicate 30 0)) (length text)
+-- what lies in the bytes of a name with zeros behind it
+pub name_IsStored : (text : List ℕ) → is_name text ≡ true → IsStored (text ++ drop (length text) (replicate MOST_NAME_BYTES 0)) (length text)
 name_IsStored text h =
-    let front : take (length text) (text ++ drop (length text) (replicate 30 0)) ≡ text = take-append_seam text (drop (length text) (replicate 30 0)) in
+    let front : take (length text) (text ++ drop (length text) (replicate MOST_NAME_BYTES 0)) ≡ text = take-append_seam text (drop (length text) (replicate MOST_NAME_BYTES 0)) in
     record {
       form = rw front h;
-      rest = rw front (ap (λ zeros. text ++ zeros) (sym (drop-replicate (length text) 30 0)));
+      rest = rw front (ap (λ zeros. text ++ zeros) (sym (drop-replicate (length text) MOST_NAME_BYTES 0)));
       len_is = ap length front;
     }

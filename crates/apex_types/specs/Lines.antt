@@ -1,15 +1,16 @@
--- The lines of a step, as a buffer of a trace holds them: at most 256, of at most 512 bytes each.
+-- The lines of a step, as a buffer of a trace holds them.
 use Rattle.std.specs.Prelude.{◌≡◌, ℕ, ◌-◌, ◌/◌, ◌≤◌, Bool, true, false, List, [], ◌∷◌, ◌++◌, length}
 use Rattle.std.proofs.Common.{refl, ap, sym, subst}
 use Rattle.std.proofs.Math.Nat.{le_refl}
 use Rattle.std.proofs.lemmas.Bool.{true≢false}
 use Rattle.std.proofs.lemmas.List.Concat.{flat_map-append}
+use Rattle.apex_types.specs.declared.limits.TheConstants.{MOST_EVENTS, MOST_LINE_BYTES, MOST_STEP_BYTES}
 use Rattle.apex_types.specs.Line.{line_of, text_of}
 use Rattle.apex_types.specs.declared.event.Event.{Event}
 
 -- for how many lines more there is room behind this text
 abbrev pub lines_left : List ℕ → ℕ
-lines_left text = (131072 - length text) / 512
+lines_left text = (MOST_STEP_BYTES - length text) / MOST_LINE_BYTES
 
 -- ---- what a log of events keeps to
 
@@ -25,9 +26,9 @@ pub no_text : (events : List Event) → text_of events ≡ [] → events ≡ []
 no_text [] none = refl
 no_text (e ∷ es) none = absurd (true≢false (ap is_some_text none))
 
--- without lines there is room for 256
-pub whole_room : (text : List ℕ) → text ≡ [] → 256 ≤ lines_left text
-whole_room text none = subst (λ t. 256 ≤ lines_left t) (sym none) (le_refl 256)
+-- without lines there is room for those of a phase
+pub whole_room : (text : List ℕ) → text ≡ [] → MOST_EVENTS ≤ lines_left text
+whole_room text none = subst (λ t. MOST_EVENTS ≤ lines_left t) (sym none) (le_refl MOST_EVENTS)
 
-pub room_of_none : (events : List Event) → events ≡ [] → 256 ≤ 256 - length events
-room_of_none events none = subst (λ l. 256 ≤ 256 - length l) (sym none) (le_refl 256)
+pub room_of_none : (events : List Event) → events ≡ [] → MOST_EVENTS ≤ MOST_EVENTS - length events
+room_of_none events none = subst (λ l. MOST_EVENTS ≤ MOST_EVENTS - length l) (sym none) (le_refl MOST_EVENTS)

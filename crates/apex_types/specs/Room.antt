@@ -1,10 +1,11 @@
 -- The room that a step has for its lines and actions.
 use Rattle.std.specs.Prelude.{◌≡◌, ℕ, ◌+◌, ◌≤◌, [], length}
+use Rattle.apex_types.specs.declared.limits.TheConstants.{MOST_ACTIONS, MOST_EVENTS}
 use Rattle.apex_types.specs.declared.out.Out.{Out}
 
 -- room for so many lines and so many actions more
 abbrev pub HasRoom : ℕ → Out → Type 0
-HasRoom n out = (length out.lines.items + n ≤ 256) × (length out.actions.items + n ≤ 128)
+HasRoom n out = (length out.lines.items + n ≤ MOST_EVENTS) × (length out.actions.items + n ≤ MOST_ACTIONS)
 
 -- no line and no action yet
 abbrev pub IsEmpty : Out → Type 0

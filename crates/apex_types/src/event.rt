@@ -4,15 +4,16 @@ ghost use Rattle.std.specs.Prelude.{◌≡◌};
 
 use crate::codes::{ErrorKind, Mode, ProcessState, Response, ReturnCode};
 use crate::identity::Ticks;
+use crate::limits::{MOST_EVENTS, MOST_WORDS};
 use crate::name::Name;
 use crate::service::Service;
 use arrayvec::ArrayVec;
 
-/// The words of one message, at most 16.
-pub type Words = ArrayVec<i64, 16>;
+/// The words of one message.
+pub type Words = ArrayVec<i64, MOST_WORDS>;
 
-/// The events of one phase, in order. 256 are enough for each phase.
-pub type Events = ArrayVec<Event, 256>;
+/// The events of one phase, in order.
+pub type Events = ArrayVec<Event, MOST_EVENTS>;
 
 /// Who an event of a process is about.
 #[derive(Clone, Copy, PartialEq, Eq, Debug)]

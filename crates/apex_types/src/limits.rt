@@ -13,7 +13,7 @@ pub const LATEST_RELEASE_POINT: u64 = 2 * MOST_TICKS;
 pub const MOST_FRAME_TICKS: u32 = 1 << 24;
 
 /// The most bytes of a name.
-pub const MOST_NAME_BYTES: u8 = 30;
+pub const MOST_NAME_BYTES: usize = 30;
 
 /// The most partitions of a module.
 pub const MOST_PARTITIONS: u8 = 16;
@@ -49,7 +49,7 @@ pub const MOST_LOCK_LEVEL: u8 = 16;
 pub const MOST_ERRORS: u8 = 64;
 
 /// The most words of a message.
-pub const MOST_WORDS: u8 = 16;
+pub const MOST_WORDS: usize = 16;
 
 /// The most messages that a buffer or a queuing port holds.
 pub const MOST_DEPTH: u8 = 32;
@@ -92,3 +92,25 @@ pub const MOST_LEVELS: u32 = 64;
 
 /// The most lines of a device text or of a replay text.
 pub const MOST_DEVICE_LINES: u32 = 65_536;
+
+/// The most words of an application message, and of the message of an error.
+pub const MOST_REPORT_WORDS: u8 = 16;
+
+/// The most events of a phase of a tick, and the most lines of a step: each process may be released, miss
+/// its deadline and change its state once, and the choice and the end of a service tell a few more.
+pub const MOST_EVENTS: usize = 256;
+
+/// The most that a phase of a tick asks of the processor, the data and the error queue.
+pub const MOST_ACTIONS: usize = 128;
+
+/// The most bytes of a word in a line: its digits, its sign and the space before it.
+pub const MOST_WORD_BYTES: usize = 21;
+
+/// The most bytes that a line has beside the words of a message: a tick, two names, and what happened.
+pub const MOST_HEAD_BYTES: usize = 176;
+
+/// The most bytes of a line of a trace.
+pub const MOST_LINE_BYTES: usize = MOST_HEAD_BYTES + MOST_WORD_BYTES * MOST_WORDS;
+
+/// The most bytes of the lines of a step.
+pub const MOST_STEP_BYTES: usize = MOST_EVENTS * MOST_LINE_BYTES;

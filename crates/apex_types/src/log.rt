@@ -12,6 +12,7 @@ use crate::name::Name;
 /// bytes of their lines. No call takes memory.
 pub trait EventLog {
     ghost use Rattle.apex_types.specs.declared.event.Event.{Event};
+    ghost use Rattle.apex_types.specs.declared.limits.TheConstants.{MOST_EVENTS};
 
     ghost Piece: { Type 0 };
 
@@ -40,13 +41,14 @@ pub trait EventLog {
 
     ghost silent: { (events : List Event) → pieces events ≡ [] → events ≡ [] };
 
-    ghost empty: { (log : Self) → held log ≡ [] → 256 ≤ room log };
+    ghost empty: { (log : Self) → held log ≡ [] → MOST_EVENTS ≤ room log };
 }
 
 impl EventLog for Events {
     ghost use Rattle.std.proofs.Common.{refl};
     ghost use Rattle.apex_types.specs.Lines.{room_of_none};
     ghost use Rattle.apex_types.specs.declared.event.Event.{Event};
+    ghost use Rattle.apex_types.specs.declared.limits.TheConstants.{MOST_EVENTS};
 
     ghost Piece = { Event };
 
@@ -54,7 +56,7 @@ impl EventLog for Events {
 
     ghost pieces = { λ events. events };
 
-    ghost room = { λ log. 256 - length log.items };
+    ghost room = { λ log. MOST_EVENTS - length log.items };
 
     ghost none = { refl };
 

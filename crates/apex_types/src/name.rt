@@ -1,17 +1,20 @@
 //! Names of partitions, processes, ports and channels.
 
+ghost use Rattle.apex_types.specs.declared.limits.TheConstants.{MOST_NAME_BYTES};
 ghost use Rattle.apex_types.specs.NameText.{is_lower_case, is_name, is_name_byte};
 ghost use Rattle.std.specs.List.{list_all};
 ghost use Rattle.std.specs.Prelude.{◌≡◌, ◌≤◌, ◌↔◌, length, IfSome, IsSome, IsTrue};
 
+use crate::limits::MOST_NAME_BYTES;
 use std::marker::Model;
 use std::str;
 
-/// A name: a lower-case letter, then lower-case letters, digits or `_`, 1 to 30 characters.
+/// A name: a lower-case letter, then lower-case letters, digits or `_`, at most
+/// [`MOST_NAME_BYTES`] in all.
 /// A contract sees it as the list of its bytes.
 #[derive(Clone, Copy, PartialEq, Eq, Debug)]
 pub struct Name {
-    text: [u8; 30],
+    text: [u8; MOST_NAME_BYTES],
     len: u8,
 }
 
@@ -38,7 +41,7 @@ impl Name {
         if !has_name_form(text) {
             return None;
         }
-        let mut stored = [0; 30];
+        let mut stored = [0; MOST_NAME_BYTES];
         stored[..text.len()].copy_from_slice(text);
         Some(Name {
             text: stored,
@@ -46,11 +49,11 @@ impl Name {
         })
     }
 
-    /// The text of the name, 1 to 30 bytes.
+    /// The text of the name, at least one byte.
     pub fn as_bytes(&self) -> &[u8]
         ensures text { result.now ≡ self.now }
         ensures form { IsTrue (is_name result.now) }
-        ensures short { length result.now ≤ 30 }
+        ensures short { length result.now ≤ MOST_NAME_BYTES }
     {
         let (text, _) = self.text.split_at(self.len as usize);
         text
@@ -60,7 +63,7 @@ impl Name {
     #[tactic(auto, using(crate::proofs::NameText::name_IsUtf8))]
     pub fn as_str(&self) -> &str
         ensures text { result.now ≡ self.now }
-        ensures short { length result.now ≤ 30 }
+        ensures short { length result.now ≤ MOST_NAME_BYTES }
     {
         str::from_utf8(self.as_bytes()).unwrap()
     }
@@ -89,7 +92,7 @@ fn has_name_form(text: &[u8]) -> bool
 {
     match text.split_first() {
         Some((first, rest)) => {
-            is_lower_case_letter(*first) && are_in_name(rest) && rest.len() <= 29
+            is_lower_case_letter(*first) && are_in_name(rest) && rest.len() < MOST_NAME_BYTES
         }
         None => false,
     }

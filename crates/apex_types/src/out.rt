@@ -1,14 +1,15 @@
 //! What a step of the kernel gives beside its new state.
 
 use crate::event::EventKind;
+use crate::limits::{MOST_ACTIONS, MOST_EVENTS};
 use crate::process::Action;
 use arrayvec::ArrayVec;
 
-/// What happens in one phase, in order. 256 are enough for each phase.
-pub type Happenings = ArrayVec<EventKind, 256>;
+/// What happens in one phase, in order.
+pub type Happenings = ArrayVec<EventKind, MOST_EVENTS>;
 
 /// What is asked of the processor, the data and the error queue, in order.
-pub type Actions = ArrayVec<Action, 128>;
+pub type Actions = ArrayVec<Action, MOST_ACTIONS>;
 
 /// What happens in a step, and what it asks for.
 #[derive(Drop)]

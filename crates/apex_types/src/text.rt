@@ -6,10 +6,12 @@ ghost use Rattle.std.specs.Io.KnownBytes.{Appends};
 ghost use Rattle.arrayvec.specs.ArrayVec.{array_vec_len};
 ghost use Rattle.apex_types.specs.Line.{culprit_text, kind_text, line_of, partition_text, subject_text, text_of, thirteen_digits, words_text};
 ghost use Rattle.apex_types.specs.Line.{TakesBeginning};
+ghost use Rattle.apex_types.specs.declared.limits.TheConstants.{MOST_LINE_BYTES, MOST_NAME_BYTES, MOST_WORD_BYTES, MOST_WORDS};
 
 use crate::codes::{ErrorKind, Response, ReturnCode};
 use crate::event::{Event, EventKind, Subject};
 use crate::identity::Ticks;
+use crate::limits::{MOST_LINE_BYTES, MOST_STEP_BYTES};
 use crate::log::EventLog;
 use crate::name::Name;
 use crate::service::Service;
@@ -17,12 +19,11 @@ use crate::sink::{Sink, SinkFault, put_all};
 use arrayvec::ArrayVec;
 use std::marker::Model;
 
-/// The bytes of one line. The longest has a tick of 13, two names of 30, a word of 6 and 16
-/// words of at most 20 bytes with a space before each.
-type Line = ArrayVec<u8, 512>;
+/// The bytes of one line.
+type Line = ArrayVec<u8, MOST_LINE_BYTES>;
 
-/// The bytes of the lines of a step, which are at most 256.
-type Lines = ArrayVec<u8, 131_072>;
+/// The bytes of the lines of a step.
+type Lines = ArrayVec<u8, MOST_STEP_BYTES>;
 
 /// A tick with its digits, which the lines of this tick share. A contract sees it as the tick.
 #[derive(Drop)]
@@ -171,9 +172,9 @@ fn push_line<const N: usize>(
     partition: &Option<Name>,
     kind: &EventKind,
 )
-    requires { array_vec_len line.old + 512 ≤ N }
+    requires { array_vec_len line.old + MOST_LINE_BYTES ≤ N }
     ensures items { line.new.items ≡ line.old.items ++ (digits.now ++ codes " " ++ partition_text partition.now ++ codes " " ++ kind_text kind.now ++ 10 ∷ []) }
-    ensures len { array_vec_len line.new ≤ array_vec_len line.old + 512 }
+    ensures len { array_vec_len line.new ≤ array_vec_len line.old + MOST_LINE_BYTES }
 {
     push_bytes(line, digits);
     push_text(line, " ");
@@ -237,9 +238,9 @@ fn put_last_digits(digits: &mut [u8; 13], number: u64)
 }
 
 fn push_partition<const N: usize>(line: &mut ArrayVec<u8, N>, partition: &Option<Name>)
-    requires { array_vec_len line.old + 30 ≤ N }
+    requires { array_vec_len line.old + MOST_NAME_BYTES ≤ N }
     ensures items { line.new.items ≡ line.old.items ++ partition_text partition.now }
-    ensures len { array_vec_len line.new ≤ array_vec_len line.old + 30 }
+    ensures len { array_vec_len line.new ≤ array_vec_len line.old + MOST_NAME_BYTES }
 {
     match partition {
         Some(name) => push_bytes(line, name.as_bytes()),
@@ -248,9 +249,9 @@ fn push_partition<const N: usize>(line: &mut ArrayVec<u8, N>, partition: &Option
 }
 
 fn push_subject<const N: usize>(line: &mut ArrayVec<u8, N>, who: &Subject)
-    requires { array_vec_len line.old + 30 ≤ N }
+    requires { array_vec_len line.old + MOST_NAME_BYTES ≤ N }
     ensures items { line.new.items ≡ line.old.items ++ subject_text who.now }
-    ensures len { array_vec_len line.new ≤ array_vec_len line.old + 30 }
+    ensures len { array_vec_len line.new ≤ array_vec_len line.old + MOST_NAME_BYTES }
 {
     match who {
         Subject::Init => push_text(line, "INIT"),
@@ -260,9 +261,9 @@ fn push_subject<const N: usize>(line: &mut ArrayVec<u8, N>, who: &Subject)
 }
 
 fn push_culprit<const N: usize>(line: &mut ArrayVec<u8, N>, who: &Option<Subject>)
-    requires { array_vec_len line.old + 30 ≤ N }
+    requires { array_vec_len line.old + MOST_NAME_BYTES ≤ N }
     ensures items { line.new.items ≡ line.old.items ++ culprit_text who.now }
-    ensures len { array_vec_len line.new ≤ array_vec_len line.old + 30 }
+    ensures len { array_vec_len line.new ≤ array_vec_len line.old + MOST_NAME_BYTES }
 {
     match who {
         Some(who) => push_subject(line, who),
@@ -271,9 +272,9 @@ fn push_culprit<const N: usize>(line: &mut ArrayVec<u8, N>, who: &Option<Subject
 }
 
 fn push_word<const N: usize>(line: &mut ArrayVec<u8, N>, word: i64)
-    requires { array_vec_len line.old + 21 ≤ N }
+    requires { array_vec_len line.old + MOST_WORD_BYTES ≤ N }
     ensures items { line.new.items ≡ line.old.items ++ 32 ∷ signed_decimal word }
-    ensures len { array_vec_len line.new ≤ array_vec_len line.old + 21 }
+    ensures len { array_vec_len line.new ≤ array_vec_len line.old + MOST_WORD_BYTES }
 {
     let mut buffer = itoa::Buffer::new();
     push_text(line, " ");
@@ -281,9 +282,9 @@ fn push_word<const N: usize>(line: &mut ArrayVec<u8, N>, word: i64)
 }
 
 fn push_words<const N: usize>(line: &mut ArrayVec<u8, N>, words: &[i64])
-    requires { array_vec_len line.old + 21 * length words.now ≤ N }
+    requires { array_vec_len line.old + MOST_WORD_BYTES * length words.now ≤ N }
     ensures items { line.new.items ≡ line.old.items ++ words_text words.now }
-    ensures len { array_vec_len line.new ≤ array_vec_len line.old + 21 * length words.now }
+    ensures len { array_vec_len line.new ≤ array_vec_len line.old + MOST_WORD_BYTES * length words.now }
 {
     for word in words {
         push_word(line, *word);
@@ -292,9 +293,9 @@ fn push_words<const N: usize>(line: &mut ArrayVec<u8, N>, words: &[i64])
 
 /// The name of a port or channel, and the words of its message.
 fn push_message<const N: usize>(line: &mut ArrayVec<u8, N>, name: &Name, words: &[i64])
-    requires { array_vec_len line.old + 30 + 21 * length words.now ≤ N }
+    requires { array_vec_len line.old + MOST_NAME_BYTES + MOST_WORD_BYTES * length words.now ≤ N }
     ensures items { line.new.items ≡ line.old.items ++ name.now ++ words_text words.now }
-    ensures len { array_vec_len line.new ≤ array_vec_len line.old + 30 + 21 * length words.now }
+    ensures len { array_vec_len line.new ≤ array_vec_len line.old + MOST_NAME_BYTES + MOST_WORD_BYTES * length words.now }
 {
     push_bytes(line, name.as_bytes());
     push_words(line, words);
@@ -306,9 +307,9 @@ fn push_return<const N: usize>(
     service: Service,
     code: ReturnCode,
 )
-    requires { array_vec_len line.old + 100 ≤ N }
+    requires { array_vec_len line.old + 70 + MOST_NAME_BYTES ≤ N }
     ensures items { line.new.items ≡ line.old.items ++ kind_text (EventKind.Return who.now service code) }
-    ensures len { array_vec_len line.new ≤ array_vec_len line.old + 100 }
+    ensures len { array_vec_len line.new ≤ array_vec_len line.old + 70 + MOST_NAME_BYTES }
 {
     let mut buffer = itoa::Buffer::new();
     push_text(line, "RET ");
@@ -325,9 +326,9 @@ fn push_error<const N: usize>(
     who: &Option<Subject>,
     response: Response,
 )
-    requires { array_vec_len line.old + 100 ≤ N }
+    requires { array_vec_len line.old + 70 + MOST_NAME_BYTES ≤ N }
     ensures items { line.new.items ≡ line.old.items ++ kind_text (EventKind.Error error who.now response) }
-    ensures len { array_vec_len line.new ≤ array_vec_len line.old + 100 }
+    ensures len { array_vec_len line.new ≤ array_vec_len line.old + 70 + MOST_NAME_BYTES }
 {
     push_text(line, "HM ");
     push_text(line, error.word());
@@ -340,9 +341,9 @@ fn push_error<const N: usize>(
 }
 
 fn push_kind<const N: usize>(line: &mut ArrayVec<u8, N>, kind: &EventKind)
-    requires { array_vec_len line.old + 400 ≤ N }
+    requires { array_vec_len line.old + 70 + MOST_NAME_BYTES + MOST_WORD_BYTES * MOST_WORDS ≤ N }
     ensures items { line.new.items ≡ line.old.items ++ kind_text kind.now }
-    ensures len { array_vec_len line.new ≤ array_vec_len line.old + 400 }
+    ensures len { array_vec_len line.new ≤ array_vec_len line.old + 70 + MOST_NAME_BYTES + MOST_WORD_BYTES * MOST_WORDS }
 {
     match kind {
         EventKind::State(who, state) => {

@@ -2,6 +2,7 @@
 use Rattle.std.proofs.Common.{◌≡◌, ◌≢◌, ℕ, ◌≤◌, ◌<◌, ◌+◌, ◌-◌, ◌^◌, List, [], ◌∷◌, Option, Result, Ok, Err, refl, sym, subst, arith, min}
 use Rattle.std.specs.Io.KnownBytes.{Keeps}
 use Rattle.std.proofs.KnownBytes.{Appends-kept}
+use Rattle.apex_types.specs.declared.limits.TheConstants.{MOST_TICKS}
 use Rattle.apex_types.specs.Line.{text_of}
 use Rattle.machine_meaning.specs.Image.{Image}
 use Rattle.machine_meaning.specs.ImageReading.{Fault}
@@ -34,18 +35,18 @@ kept_first table sources devices n old mid new (t, programs, lines, r, out) kept
 
 -- ---- the number of a word, and what 64 bits hold of it
 
-pub few_same : (n v : ℕ) → n ≡ min v (2 ^ 64 - 1) → n ≤ 2 ^ 40 → n ≡ v
+pub few_same : (n v : ℕ) → n ≡ min v (2 ^ 64 - 1) → n ≤ MOST_TICKS → n ≡ v
 few_same n v is few = omega (arith, is, few)
 
-pub many_same : (n v : ℕ) → n ≡ min v (2 ^ 64 - 1) → 2 ^ 40 < n → 2 ^ 40 < v
+pub many_same : (n v : ℕ) → n ≡ min v (2 ^ 64 - 1) → MOST_TICKS < n → MOST_TICKS < v
 many_same n v is many = omega (arith, is, many)
 
 pub runs_by : (read : Result Image Fault) (devices : List ℕ) (n v : ℕ) (old new : Option (List ℕ)) (answer : Result (Unit {0}) RunFault) → n ≡ min v (2 ^ 64 - 1) → Runs read devices n old new answer → Runs read devices v old new answer
 runs_by read devices n v old new (Ok x) is h = subst (λ k. Runs read devices k old new (Ok x)) (few_same n v is h.2.few) h
 runs_by read devices n v old new (Err Write) is h = subst (λ k. Runs read devices k old new (Err Write)) (few_same n v is h.2.few) h
 runs_by read devices n v old new (Err Ticks) is h = (many_same n v is h.0, h.1)
-runs_by read devices n v old new (Err (Device f)) is h = (subst (λ k. k ≤ 2 ^ 40) (few_same n v is h.0) h.0, h.1, h.2)
-runs_by read devices n v old new (Err (NoImage f)) is h = (subst (λ k. k ≤ 2 ^ 40) (few_same n v is h.0) h.0, h.1, h.2)
+runs_by read devices n v old new (Err (Device f)) is h = (subst (λ k. k ≤ MOST_TICKS) (few_same n v is h.0) h.0, h.1, h.2)
+runs_by read devices n v old new (Err (NoImage f)) is h = (subst (λ k. k ≤ MOST_TICKS) (few_same n v is h.0) h.0, h.1, h.2)
 runs_by read devices n v old new (Err Partition) is h = absurd h
 runs_by read devices n v old new (Err Memory) is h = h
 runs_by read devices n v old new (Err Failed) is h = h

@@ -2,6 +2,7 @@
 use Rattle.std.proofs.Common.{◌≡◌, ℕ, ◌≤◌, min, arith}
 use Rattle.std.proofs.Math.Logic.{∥∥₁_elim}
 use Rattle.std.specs.Coded.{le_prop}
+use Rattle.apex_types.specs.declared.limits.TheConstants.{MOST_INSTRUCTIONS}
 use Rattle.pal_meaning.specs.Program.{size_of}
 use Rattle.compiling_laws.specs.Fits.{Fits}
 use Rattle.compiling_laws.proofs.FitsFact.{fits_prop}
@@ -12,7 +13,7 @@ use Rattle.pal_base.specs.ProgramView.{program_of}
 use Rattle.pal_base.specs.declared.program.Program.{Program}
 
 -- it fits the compiler, if its code is not too long
-pub accepted_fits : (p : Program) → ∥ IsAccepted (program_of p) ∥₁ → size_of (program_of p) ≤ 65_536 → Fits (program_of p)
+pub accepted_fits : (p : Program) → ∥ IsAccepted (program_of p) ∥₁ → size_of (program_of p) ≤ MOST_INSTRUCTIONS → Fits (program_of p)
 accepted_fits p a small = ∥∥₁_elim a (fits_prop (program_of p)) (λ h. well_formed_fits h.ports h.period h.tree (program_of p) h.judged small)
 
 -- its size has 32 bits

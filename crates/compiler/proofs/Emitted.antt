@@ -1,5 +1,6 @@
 -- Pieces of code that were written one after the other are the code of the whole.
 use Rattle.std.proofs.Common.{◌≡◌, ℕ, suc, ◌+◌, ◌≤◌, ◌<◌, get_or, drop-cons, List, [], ◌∷◌, ◌++◌, length, map, drop, sym, ap, ◌∙◌, arith, append_assoc, length-append}
+use Rattle.apex_types.specs.declared.limits.TheConstants.{MOST_INSTRUCTIONS}
 use Rattle.apex_types.specs.declared.instruction.Instr.{Instr}
 use Rattle.apex_types.specs.declared.instruction.Instr.TheVariants.{Jump, JumpIfZero}
 use Rattle.pal_meaning.specs.Program.{Expr, Stmt, Block, If, IfElse, While, MoreStmts, NoStmt}
@@ -59,11 +60,11 @@ on_ok (Ok v) f h = f h
 on_ok (Err e) f h = tt
 
 -- one statement of a block
-pub block_step : (c1 c2 x : List Instr) (slots : ℕ) (s : Stmt) (rest all : Block) → all ≡ MoreStmts s rest → c1 ++ block_code slots (length c1) all ≡ x → length c1 + size_of_block all ≤ 65536 → c2 ≡ c1 ++ stmt_code slots (length c1) s → (c2 ++ block_code slots (length c2) rest ≡ x) × (length c2 + size_of_block rest ≤ 65536)
+pub block_step : (c1 c2 x : List Instr) (slots : ℕ) (s : Stmt) (rest all : Block) → all ≡ MoreStmts s rest → c1 ++ block_code slots (length c1) all ≡ x → length c1 + size_of_block all ≤ MOST_INSTRUCTIONS → c2 ≡ c1 ++ stmt_code slots (length c1) s → (c2 ++ block_code slots (length c2) rest ≡ x) × (length c2 + size_of_block rest ≤ MOST_INSTRUCTIONS)
 block_step c1 c2 x slots s rest all e same fits written =
     let long : length c2 ≡ length c1 + size_of_stmt s = ap length written ∙ length-append c1 (stmt_code slots (length c1) s) ∙ ap (λ n. length c1 + n) (stmt_size s slots (length c1)) in
     let whole : size_of_block all ≡ size_of_stmt s + size_of_block rest = ap size_of_block e ∙ more_stmts_size s rest in
-    let left : length c2 + size_of_block rest ≤ 65536 = omega arith in
+    let left : length c2 + size_of_block rest ≤ MOST_INSTRUCTIONS = omega arith in
     (ap (λ n. c2 ++ block_code slots n rest) long ∙ ap (λ c. c ++ block_code slots (length c1 + size_of_stmt s) rest) written ∙ append_assoc c1 (stmt_code slots (length c1) s) (block_code slots (length c1 + size_of_stmt s) rest) ∙ ap (λ b. c1 ++ block_code slots (length c1) b) (sym e) ∙ same, left)
 
 pub block_done : (c1 c0 : List Instr) (slots n : ℕ) (rest all : Block) → rest ≡ NoStmt → c1 ++ block_code slots n rest ≡ c0 ++ block_code slots (length c0) all → length c1 ≡ length c0 + size_of_block all
@@ -79,23 +80,23 @@ pub next_index : (i : ℕ) → suc i ≡ i + 1
 next_index i = omega arith
 
 -- one procedure, and one process, with their rows
-pub procedure_step : (c1 c2 x : List Instr) (r1 r2 y : List RoutineRow) (row : RoutineRow) (p : Procedure) (rest all : List Procedure) → all ≡ p ∷ rest → c1 ++ procedures_code (length c1) all ≡ x → r1 ++ routine_rows (length c1) all ≡ y → length c1 + sum_by size_of_procedure all ≤ 65536 → c2 ≡ c1 ++ procedure_code (length c1) p → row ≡ routine_row (length c1) p → r2 ≡ r1 ++ row ∷ [] → (c2 ++ procedures_code (length c2) rest ≡ x) × (r2 ++ routine_rows (length c2) rest ≡ y) × (length c2 + sum_by size_of_procedure rest ≤ 65536)
+pub procedure_step : (c1 c2 x : List Instr) (r1 r2 y : List RoutineRow) (row : RoutineRow) (p : Procedure) (rest all : List Procedure) → all ≡ p ∷ rest → c1 ++ procedures_code (length c1) all ≡ x → r1 ++ routine_rows (length c1) all ≡ y → length c1 + sum_by size_of_procedure all ≤ MOST_INSTRUCTIONS → c2 ≡ c1 ++ procedure_code (length c1) p → row ≡ routine_row (length c1) p → r2 ≡ r1 ++ row ∷ [] → (c2 ++ procedures_code (length c2) rest ≡ x) × (r2 ++ routine_rows (length c2) rest ≡ y) × (length c2 + sum_by size_of_procedure rest ≤ MOST_INSTRUCTIONS)
 procedure_step c1 c2 x r1 r2 y row p rest all e same rows fits written is added =
     let at = length c1 + size_of_procedure p in
     let long : length c2 ≡ at = ap length written ∙ length-append c1 (procedure_code (length c1) p) ∙ ap (λ n. length c1 + n) (procedure_size p (length c1)) in
     let whole = ap (λ l. sum_by size_of_procedure l) e in
-    let left : length c2 + sum_by size_of_procedure rest ≤ 65536 = omega (arith, sum_by-cons size_of_procedure p rest) in (
+    let left : length c2 + sum_by size_of_procedure rest ≤ MOST_INSTRUCTIONS = omega (arith, sum_by-cons size_of_procedure p rest) in (
       ap (λ n. c2 ++ procedures_code n rest) long ∙ ap (λ c. c ++ procedures_code at rest) written ∙ append_assoc c1 (procedure_code (length c1) p) (procedures_code at rest) ∙ ap (λ l. c1 ++ procedures_code (length c1) l) (sym e) ∙ same,
       ap (λ n. r2 ++ routine_rows n rest) long ∙ ap (λ r. r ++ routine_rows at rest) (added ∙ ap (λ w. r1 ++ w ∷ []) is) ∙ append_assoc r1 (routine_row (length c1) p ∷ []) (routine_rows at rest) ∙ ap (λ l. r1 ++ routine_rows (length c1) l) (sym e) ∙ rows,
       left,
     )
 
-pub process_step : (c1 c2 x : List Instr) (r1 r2 y : List ProcessRow) (row : ProcessRow) (p : Process) (rest all : List Process) → all ≡ p ∷ rest → c1 ++ processes_code (length c1) all ≡ x → r1 ++ process_rows (length c1) all ≡ y → length c1 + sum_by size_of_process all ≤ 65536 → c2 ≡ c1 ++ body_code (length c1) p.body → row ≡ process_row (length c1) p → r2 ≡ r1 ++ row ∷ [] → (c2 ++ processes_code (length c2) rest ≡ x) × (r2 ++ process_rows (length c2) rest ≡ y) × (length c2 + sum_by size_of_process rest ≤ 65536)
+pub process_step : (c1 c2 x : List Instr) (r1 r2 y : List ProcessRow) (row : ProcessRow) (p : Process) (rest all : List Process) → all ≡ p ∷ rest → c1 ++ processes_code (length c1) all ≡ x → r1 ++ process_rows (length c1) all ≡ y → length c1 + sum_by size_of_process all ≤ MOST_INSTRUCTIONS → c2 ≡ c1 ++ body_code (length c1) p.body → row ≡ process_row (length c1) p → r2 ≡ r1 ++ row ∷ [] → (c2 ++ processes_code (length c2) rest ≡ x) × (r2 ++ process_rows (length c2) rest ≡ y) × (length c2 + sum_by size_of_process rest ≤ MOST_INSTRUCTIONS)
 process_step c1 c2 x r1 r2 y row p rest all e same rows fits written is added =
     let at = length c1 + size_of_process p in
     let long : length c2 ≡ at = ap length written ∙ length-append c1 (body_code (length c1) p.body) ∙ ap (λ n. length c1 + n) (body_size p.body (length c1)) in
     let whole = ap (λ l. sum_by size_of_process l) e in
-    let left : length c2 + sum_by size_of_process rest ≤ 65536 = omega (arith, sum_by-cons size_of_process p rest) in (
+    let left : length c2 + sum_by size_of_process rest ≤ MOST_INSTRUCTIONS = omega (arith, sum_by-cons size_of_process p rest) in (
       ap (λ n. c2 ++ processes_code n rest) long ∙ ap (λ c. c ++ processes_code at rest) written ∙ append_assoc c1 (body_code (length c1) p.body) (processes_code at rest) ∙ ap (λ l. c1 ++ processes_code (length c1) l) (sym e) ∙ same,
       ap (λ n. r2 ++ process_rows n rest) long ∙ ap (λ r. r ++ process_rows at rest) (added ∙ ap (λ w. r1 ++ w ∷ []) is) ∙ append_assoc r1 (process_row (length c1) p ∷ []) (process_rows at rest) ∙ ap (λ l. r1 ++ process_rows (length c1) l) (sym e) ∙ rows,
       left,

@@ -2,6 +2,7 @@
 
 ghost use Rattle.std.specs.Prelude.{◌≡◌, ◌+◌, ◌≤◌, [], ◌∷◌, ◌++◌, length, map, option_map, OnOk, IfOk};
 ghost use Rattle.std.specs.List.{sum_by};
+ghost use Rattle.apex_types.specs.declared.limits.TheConstants.{MOST_INSTRUCTIONS};
 ghost use Rattle.pal_meaning.specs.Program as cost;
 ghost use Rattle.compiling_laws.specs.CompiledCode as code_of;
 ghost use Rattle.pal_base.specs.ProgramView.{body_of, procedure_of, process_of};
@@ -14,7 +15,7 @@ use std::alloc::{AllocError, Global};
 
 /// The body of INIT, of the handler or of a process, closed with END, and its row.
 pub fn emit_body(code: &mut Vec<Instr>, body: &Body) -> Result<BodyRow, AllocError>
-    requires { length code.old.items + cost.size_of_body (body_of body.now) ≤ 65_536 }
+    requires { length code.old.items + cost.size_of_body (body_of body.now) ≤ MOST_INSTRUCTIONS }
     ensures code { OnOk result (code.new.items ≡ code.old.items ++ code_of.body_code (length code.old.items) (body_of body.now)) }
     ensures row { IfOk result (λ row. row ≡ code_of.body_row (length code.old.items) (body_of body.now)) }
 {
@@ -36,7 +37,7 @@ pub fn emit_handler(
     code: &mut Vec<Instr>,
     handler: &Option<Body>,
 ) -> Result<Option<BodyRow>, AllocError>
-    requires { length code.old.items + cost.size_of_handler (option_map body_of handler.now) ≤ 65_536 }
+    requires { length code.old.items + cost.size_of_handler (option_map body_of handler.now) ≤ MOST_INSTRUCTIONS }
     ensures code { OnOk result (code.new.items ≡ code.old.items ++ code_of.handler_code (length code.old.items) (option_map body_of handler.now)) }
     ensures row { IfOk result (λ row. row ≡ option_map (code_of.body_row (length code.old.items)) (option_map body_of handler.now)) }
 {
@@ -52,7 +53,7 @@ pub fn emit_processes(
     code: &mut Vec<Instr>,
     processes: &[Process],
 ) -> Result<Vec<ProcessRow>, AllocError>
-    requires { length code.old.items + sum_by cost.size_of_process (map process_of processes.now) ≤ 65_536 }
+    requires { length code.old.items + sum_by cost.size_of_process (map process_of processes.now) ≤ MOST_INSTRUCTIONS }
     ensures code { OnOk result (code.new.items ≡ code.old.items ++ code_of.processes_code (length code.old.items) (map process_of processes.now)) }
     ensures rows { IfOk result (λ rows. rows.items ≡ code_of.process_rows (length code.old.items) (map process_of processes.now)) }
 {
@@ -78,7 +79,7 @@ fn slots_of(parameters: u8, locals: u8) -> u16
 
 /// A procedure, closed with `return 0`, and its row.
 fn emit_procedure(code: &mut Vec<Instr>, procedure: &Procedure) -> Result<RoutineRow, AllocError>
-    requires { length code.old.items + cost.size_of_procedure (procedure_of procedure.now) ≤ 65_536 }
+    requires { length code.old.items + cost.size_of_procedure (procedure_of procedure.now) ≤ MOST_INSTRUCTIONS }
     ensures code { OnOk result (code.new.items ≡ code.old.items ++ code_of.procedure_code (length code.old.items) (procedure_of procedure.now)) }
     ensures row { IfOk result (λ row. row ≡ code_of.routine_row (length code.old.items) (procedure_of procedure.now)) }
 {
@@ -102,7 +103,7 @@ pub fn emit_procedures(
     code: &mut Vec<Instr>,
     procedures: &[Procedure],
 ) -> Result<Vec<RoutineRow>, AllocError>
-    requires { length code.old.items + sum_by cost.size_of_procedure (map procedure_of procedures.now) ≤ 65_536 }
+    requires { length code.old.items + sum_by cost.size_of_procedure (map procedure_of procedures.now) ≤ MOST_INSTRUCTIONS }
     ensures code { OnOk result (code.new.items ≡ code.old.items ++ code_of.procedures_code (length code.old.items) (map procedure_of procedures.now)) }
     ensures rows { IfOk result (λ rows. rows.items ≡ code_of.routine_rows (length code.old.items) (map procedure_of procedures.now)) }
 {

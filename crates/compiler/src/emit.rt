@@ -1,6 +1,7 @@
 //! The instructions of expressions and statements, one for each construct.
 
 ghost use Rattle.std.specs.Prelude.{◌≡◌, ◌+◌, ◌≤◌, [], ◌∷◌, ◌++◌, length, map, OnOk, IfOk};
+ghost use Rattle.apex_types.specs.declared.limits.TheConstants.{MOST_INSTRUCTIONS};
 ghost use Rattle.pal_meaning.specs.Program.{size_of_expr, size_of_stmt, size_of_block};
 ghost use Rattle.apex_types.specs.ServiceShape.{number_of};
 ghost use Rattle.compiling_laws.specs.CompiledCode as code_of;
@@ -98,7 +99,7 @@ fn emit_targets(code: &mut Vec<Instr>, targets: &[Place]) -> Result<(), AllocErr
 
 /// A test, and the place of the branch behind it.
 fn emit_test(code: &mut Vec<Instr>, test: &Expr) -> Result<u32, AllocError>
-    requires { length code.old.items + size_of_expr (expr_of test.now) ≤ 65_536 }
+    requires { length code.old.items + size_of_expr (expr_of test.now) ≤ MOST_INSTRUCTIONS }
     ensures code { OnOk result (code.new.items ≡ code.old.items ++ code_of.expr_code (expr_of test.now)) }
     ensures size { OnOk result (length code.new.items ≡ length code.old.items + size_of_expr (expr_of test.now)) }
     ensures place { IfOk result (λ place. place ≡ length code.new.items) }
@@ -125,7 +126,7 @@ fn emit_service_call(
 /// before it is written, so the jump past it can be written first.
 #[cycle(emit_stmt)]
 fn emit_stmt(code: &mut Vec<Instr>, slots: u16, stmt: &Stmt) -> Result<(), AllocError>
-    requires { length code.old.items + size_of_stmt (stmt_of stmt.now) ≤ 65_536 }
+    requires { length code.old.items + size_of_stmt (stmt_of stmt.now) ≤ MOST_INSTRUCTIONS }
     ensures { OnOk result (code.new.items ≡ code.old.items ++ code_of.stmt_code slots (length code.old.items) (stmt_of stmt.now)) }
 {
     match stmt {
@@ -175,7 +176,7 @@ fn emit_stmt(code: &mut Vec<Instr>, slots: u16, stmt: &Stmt) -> Result<(), Alloc
 /// The instructions of a block.
 #[cycle(emit_stmt)]
 pub fn emit_block(code: &mut Vec<Instr>, slots: u16, block: &[Stmt]) -> Result<(), AllocError>
-    requires room { length code.old.items + size_of_block (block_of block.now) ≤ 65_536 }
+    requires room { length code.old.items + size_of_block (block_of block.now) ≤ MOST_INSTRUCTIONS }
     ensures code { OnOk result (code.new.items ≡ code.old.items ++ code_of.block_code slots (length code.old.items) (block_of block.now)) }
     ensures size { OnOk result (length code.new.items ≡ length code.old.items + size_of_block (block_of block.now)) }
 {

@@ -10,5 +10,5 @@ mod section;
 mod size;
 
 pub use fault::CompileFault;
-pub use section::{MOST_INSTRUCTIONS, compile};
+pub use section::compile;
 pub use size::size_of_program;

@@ -2,6 +2,7 @@
 
 ghost use Rattle.std.specs.Prelude.{◌≡◌, ◌≤◌, ◌<◌, ◌↔◌, ◌++◌, length, map, All, FitsSigned, IfOk, Err, Some};
 ghost use Rattle.std.specs.Int.{w64};
+ghost use Rattle.apex_types.specs.declared.limits.TheConstants.{MOST_INSTRUCTIONS};
 ghost use Rattle.pal_meaning.specs.Program as cost;
 ghost use Rattle.compiling_laws.specs.CompiledCode as code_of;
 ghost use Rattle.machine_meaning.specs.Instructions.{bytes_of, reading};
@@ -13,21 +14,19 @@ ghost use Rattle.compiler.specs.SectionView.{section_view};
 use crate::bodies::{emit_body, emit_handler, emit_procedures, emit_processes};
 use crate::fault::CompileFault;
 use crate::size::size_of_program;
+use apex_types::limits::MOST_INSTRUCTIONS;
 use apex_types::{Instr, Section};
 use pal_base::checked::Checked;
 use pal_base::program::Program;
 use processor::encode;
 use std::alloc::{AllocError, Global};
 
-/// The most instructions that a partition's code has.
-pub const MOST_INSTRUCTIONS: u32 = 65_536;
-
 /// The section of a program. Its code has one instruction for each construct, and the processor over
 /// it cannot be told apart from the program's source.
 ///
 /// # Errors
 ///
-/// `TooLong` if the code would have more than 65,536 instructions; otherwise `Memory` if there is
+/// `TooLong` if the code would have more than [`MOST_INSTRUCTIONS`]; otherwise `Memory` if there is
 /// no memory for the section.
 pub fn compile(alloc: Global, checked: &Checked) -> Result<Section, CompileFault>
     ensures section { IfOk result (λ section. section_view section ≡ code_of.section_of (program_of checked.now.program)) }
@@ -35,7 +34,7 @@ pub fn compile(alloc: Global, checked: &Checked) -> Result<Section, CompileFault
     ensures words { IfOk result (λ section. All (FitsSigned w64) section.initial.items) }
     ensures size { IfOk result (λ section. length section.code.items ≡ cost.size_of (program_of checked.now.program)) }
     ensures means { IfOk result (λ section. IsFaithful (section_view section) (program_of checked.now.program)) }
-    ensures too_long { result ≡ Err CompileFault.TooLong ↔ 65_536 < cost.size_of (program_of checked.now.program) }
+    ensures too_long { result ≡ Err CompileFault.TooLong ↔ MOST_INSTRUCTIONS < cost.size_of (program_of checked.now.program) }
 {
     if size_of_program(checked) > MOST_INSTRUCTIONS {
         return Err(CompileFault::TooLong);
@@ -47,7 +46,7 @@ pub fn compile(alloc: Global, checked: &Checked) -> Result<Section, CompileFault
 }
 
 fn section_of(alloc: Global, program: &Program) -> Result<Section, AllocError>
-    requires { cost.size_of (program_of program.now) ≤ 65_536 }
+    requires { cost.size_of (program_of program.now) ≤ MOST_INSTRUCTIONS }
     ensures section { IfOk result (λ section. section_view section ≡ code_of.section_of (program_of program.now)) }
     ensures reads_back { IfOk result (λ section. map reading section.code.items ≡ map Some (code_of.code_of (program_of program.now))) }
     ensures words { IfOk result (λ section. All (FitsSigned w64) section.initial.items) }

@@ -4,6 +4,7 @@ use Rattle.std.specs.Prelude.{nat_le, filter_map, option_map}
 use Rattle.std.specs.List.{cons_option, sum, sum_by}
 use Rattle.std.proofs.lemmas.Bool.{cond_both, leb-true}
 use Rattle.std.proofs.lemmas.List.Sums.{sum_by-append, sum_by-cons}
+use Rattle.apex_types.specs.declared.limits.TheConstants.{MOST_LOCALS, MOST_PARAMETERS, MOST_WORK_TICKS}
 use Rattle.apex_types.specs.declared.cost.TheConstants.{SCALAR_COST, ELEMENT_COST, UNARY_COST, BRANCH_COST, JUMP_COST, CALL_COST, RETURN_COST, LITERAL_COST, END_COST}
 use Rattle.apex_types.specs.declared.instruction.BinaryOperator.{BinaryOperator}
 use Rattle.apex_types.specs.declared.instruction.BinaryOperator.TheVariants.{Multiply, Divide, Remainder}
@@ -31,9 +32,9 @@ use Rattle.compiling_laws.proofs.WellFormedFits.{accepted}
 -- ---- a construct costs at most a million ticks
 
 abbrev AreCheap : List ℕ → Type 0
-AreCheap costs = sum costs ≤ 1000000 * length costs
+AreCheap costs = sum costs ≤ MOST_WORK_TICKS * length costs
 
-more : (c : ℕ) (costs : List ℕ) → c ≤ 1000000 → AreCheap costs → AreCheap (c ∷ costs)
+more : (c : ℕ) (costs : List ℕ) → c ≤ MOST_WORK_TICKS → AreCheap costs → AreCheap (c ∷ costs)
 more c costs h a = omega (arith, sum_by-cons (λ x. x) c costs)
 
 both : (xs ys : List ℕ) → AreCheap xs → AreCheap ys → AreCheap (xs ++ ys)
@@ -42,23 +43,23 @@ both xs ys a b = omega (arith, sum_by-append (λ x. x) xs ys, length-append xs y
 none : AreCheap []
 none = omega arith
 
-binary_cheap : (operator : BinaryOperator) → cost_of_binary operator ≤ 1000000
+binary_cheap : (operator : BinaryOperator) → cost_of_binary operator ≤ MOST_WORK_TICKS
 binary_cheap Multiply = omega arith
 binary_cheap Divide = omega arith
 binary_cheap Remainder = omega arith
 binary_cheap _ = omega arith
 
-class_cheap : (c : ServiceClass) → cost_of_class c ≤ 1000000
+class_cheap : (c : ServiceClass) → cost_of_class c ≤ MOST_WORK_TICKS
 class_cheap Creation = omega arith
 class_cheap WithArray = omega arith
 class_cheap Other = omega arith
 
-service_cheap : (s : Service) → cost_of_service s ≤ 1000000
+service_cheap : (s : Service) → cost_of_service s ≤ MOST_WORK_TICKS
 service_cheap s = class_cheap (class_of s)
 
-work_cheap : (ticks : Option ℕ) → within 1000000 ticks ≤ 1000000
+work_cheap : (ticks : Option ℕ) → within MOST_WORK_TICKS ticks ≤ MOST_WORK_TICKS
 work_cheap None = omega arith
-work_cheap (Some t) = cond_both (nat_le t 1000000) t 0 (λ x. x ≤ 1000000) (λ e. leb-true t 1000000 e) (λ e. omega arith)
+work_cheap (Some t) = cond_both (nat_le t MOST_WORK_TICKS) t 0 (λ x. x ≤ MOST_WORK_TICKS) (λ e. leb-true t MOST_WORK_TICKS e) (λ e. omega arith)
 
 mutual
   expr_cheap : (e : program.Expr) → AreCheap (costs_of_expr e)
@@ -104,7 +105,7 @@ module _ (scope : Scope) where
         let t = resolve_expr scope test in
         let b = costs_of_block (resolve_block scope block) in
         both (costs_of_expr t ++ (BRANCH_COST ∷ b)) (JUMP_COST ∷ []) (both (costs_of_expr t) (BRANCH_COST ∷ b) (expr_cheap t) (more BRANCH_COST b (omega arith) (block_cheap block))) (more JUMP_COST [] (omega arith) none)
-    stmt_cheap (written.Work ticks) = more (within 1000000 ticks) [] (work_cheap ticks) none
+    stmt_cheap (written.Work ticks) = more (within MOST_WORK_TICKS ticks) [] (work_cheap ticks) none
     stmt_cheap (written.Return value) =
         let v = resolve_expr scope value in
         both (costs_of_expr v) (RETURN_COST ∷ []) (expr_cheap v) (more RETURN_COST [] (omega arith) none)
@@ -127,15 +128,15 @@ module _ (declared : List Entry) where
   body_held stack b few =
       let made = resolve_body declared stack b in
       let costs : AreCheap (costs_of_body made) = both (costs_of_block made.block) (END_COST ∷ []) (block_cheap (scope_of (own_entries 0 ([] ++ b.locals)) declared) b.block) (more END_COST [] (omega arith) none) in
-      (omega arith, omega arith, omega (arith, body_counts made, block_operands made.block, few_counted 64 (length b.locals)))
+      (omega arith, omega arith, omega (arith, body_counts made, block_operands made.block, few_counted MOST_LOCALS (length b.locals)))
 
   procedure_held : (parameters : List (List ℕ)) (b : written.Body) (p : program.Procedure)
-      → p ≡ record { parameters = count_within 8 (length parameters); locals = count_within 64 (length b.locals); block = resolve_body_block declared parameters b } → size_of_procedure p ≤ 2097152 → IsProcedureHeld p
+      → p ≡ record { parameters = count_within MOST_PARAMETERS (length parameters); locals = count_within MOST_LOCALS (length b.locals); block = resolve_body_block declared parameters b } → size_of_procedure p ≤ 2097152 → IsProcedureHeld p
   procedure_held parameters b p is few =
       let block : AreCheap (costs_of_block p.block) = subst (λ (q : program.Procedure). AreCheap (costs_of_block q.block)) (sym is) (block_cheap (scope_of (own_entries 0 (parameters ++ b.locals)) declared) b.block) in
       let costs : AreCheap (costs_of_procedure p) = both (costs_of_block p.block) (LITERAL_COST ∷ RETURN_COST ∷ []) block (more LITERAL_COST (RETURN_COST ∷ []) (omega arith) (more RETURN_COST [] (omega arith) none)) in
-      let own : p.parameters ≤ 8 = subst (λ (q : program.Procedure). q.parameters ≤ 8) (sym is) (few_counted 8 (length parameters)) in
-      let locals : p.locals ≤ 64 = subst (λ (q : program.Procedure). q.locals ≤ 64) (sym is) (few_counted 64 (length b.locals)) in
+      let own : p.parameters ≤ MOST_PARAMETERS = subst (λ (q : program.Procedure). q.parameters ≤ MOST_PARAMETERS) (sym is) (few_counted MOST_PARAMETERS (length parameters)) in
+      let locals : p.locals ≤ MOST_LOCALS = subst (λ (q : program.Procedure). q.locals ≤ MOST_LOCALS) (sym is) (few_counted MOST_LOCALS (length b.locals)) in
       (omega arith, omega arith, omega (arith, procedure_counts p, block_operands p.block))
 
   handler_held : (h : Option written.StackBody) → size_of_handler (option_map (resolve_stack_body declared) h) ≤ 2097152 → IsHandlerHeld (option_map (resolve_stack_body declared) h)
@@ -150,7 +151,7 @@ module _ (declared : List Entry) where
 
   kind_held : (k : written.Kind) (ps : List program.Procedure) → sum_by size_of_procedure (cons_option (procedure_of declared k) ps) ≤ 2097152 → (sum_by size_of_procedure ps ≤ 2097152 → AreProceduresHeld ps) → AreProceduresHeld (cons_option (procedure_of declared k) ps)
   kind_held (written.Procedure parameters b) ps few others =
-      let made : program.Procedure = record { parameters = count_within 8 (length parameters); locals = count_within 64 (length b.locals); block = resolve_body_block declared parameters b } in
+      let made : program.Procedure = record { parameters = count_within MOST_PARAMETERS (length parameters); locals = count_within MOST_LOCALS (length b.locals); block = resolve_body_block declared parameters b } in
       let all = sum_by-cons size_of_procedure made ps in
       (procedure_held parameters b made refl (omega arith), others (omega arith))
   kind_held (written.Variable value) ps few others = others few

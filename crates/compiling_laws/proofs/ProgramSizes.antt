@@ -5,6 +5,7 @@ use Rattle.std.specs.Prelude.{codes, filter_map, option_map}
 use Rattle.std.specs.List.{cons_option, sum_by}
 use Rattle.std.proofs.lemmas.List.{length-map}
 use Rattle.std.proofs.lemmas.List.Sums.{sum_by-cons}
+use Rattle.apex_types.specs.declared.limits.TheConstants.{MOST_LOCALS, MOST_PARAMETERS}
 use Rattle.apex_types.specs.declared.shape.ArgumentKind.{ArgumentKind}
 use Rattle.apex_types.specs.declared.shape.ArgumentKind.TheVariants as argument
 use Rattle.apex_types.specs.declared.row.PortRow.{PortRow}
@@ -165,7 +166,7 @@ module _ (declared : List Entry) where
   kind_few x (written.Blackboard words) ps rest = omega arith
   kind_few x written.Port ps rest = omega arith
   kind_few x (written.Procedure parameters b) ps rest =
-      let made : program.Procedure = record { parameters = count_within 8 (length parameters); locals = count_within 64 (length b.locals); block = resolve_body_block declared parameters b } in
+      let made : program.Procedure = record { parameters = count_within MOST_PARAMETERS (length parameters); locals = count_within MOST_LOCALS (length b.locals); block = resolve_body_block declared parameters b } in
       omega (arith, sum_by-cons size_of_procedure made ps, procedure_counts made, inside_few parameters b rest, names_long parameters (Mark (codes ")") ∷ body_words b rest))
 
   declarations_few : (ds : List written.Declaration) (rest : List Word) → sum_by size_of_procedure (filter_map (λ (d : written.Declaration). procedure_of declared d.kind) ds) + 2 * length rest ≤ 2 * length (all_words declaration_words ds rest)

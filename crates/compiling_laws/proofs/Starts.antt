@@ -3,6 +3,7 @@ use Rattle.std.proofs.Common.{◌≡◌, ℕ, zero, suc, ◌+◌, ◌-◌, ◌�
 use Rattle.std.specs.Prelude.{slice_get, get_or}
 use Rattle.std.specs.Option.{option_map}
 use Rattle.std.proofs.lemmas.List.{length-map, length-replicate}
+use Rattle.apex_types.specs.declared.limits.TheConstants.{MOST_INSTRUCTIONS}
 use Rattle.apex_types.specs.declared.instruction.Instr.TheVariants as instr
 use Rattle.apex_types.specs.declared.row.RoutineRow.{RoutineRow}
 use Rattle.apex_types.specs.declared.row.BodyRow.{BodyRow}
@@ -142,7 +143,7 @@ correct_over program fits code e =
     let all = parts code program has in
     let size = fits.size in
     let long : length code ≡ size_of program = ap length e ∙ length-map (code_of program) (λ i. Some i) ∙ code_size program in
-    let short : length code ≤ 65_536 = omega arith in
+    let short : length code ≤ MOST_INSTRUCTIONS = omega arith in
     let placed : Placed code program (section_of program).routines = record { short = short; routine = procedures_placed code program.procedures program.procedures (procedures_place program) fits.procedures all.procedures } in
     record {
       start = starts_by code program fits all;

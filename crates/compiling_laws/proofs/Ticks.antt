@@ -4,6 +4,7 @@ use Rattle.std.specs.Prelude.{slice_get, slice_set, if◌then◌else◌}
 use Rattle.std.proofs.lemmas.Bool.{lt-ltb, le-ltb, le-leb, leb-true, leb-false, eqb-true, eq-eqb, ne_eqb}
 use Rattle.std.proofs.lemmas.List.{set-append_left, length-set, length-drop, length-take-le, length-replicate}
 use Rattle.std.proofs.lemmas.Option.{slice_get_within}
+use Rattle.apex_types.specs.declared.limits.TheConstants.{MOST_INSTRUCTIONS, MOST_WORK_TICKS}
 use Rattle.apex_types.specs.declared.codes.ErrorKind.{ErrorKind}
 use Rattle.apex_types.specs.declared.codes.ErrorKind.TheVariants as error
 use Rattle.apex_types.specs.declared.instruction.Instr.{Instr}
@@ -35,8 +36,8 @@ use Rattle.apex_types.proofs.Numbers.{service_of_number}
 use Rattle.compiling_laws.proofs.Front.{unfolded, moved, block_goes, front_goes}
 use Rattle.compiling_laws.proofs.Stack.{onto_length, onto_split, onto_parts, word_at_top, set_at_top, get_within, set_within, put_over, pushed_onto, popped_values, onto_reverse, base, base_length, below_length}
 
-work_allowed : (t : ℕ) → IsWork t → (nat_le 1 t && nat_le t 1000000) ≡ true
-work_allowed t h = ap (λ b. b && nat_le t 1000000) (le-leb 1 t h.0) ∙ le-leb t 1000000 h.1
+work_allowed : (t : ℕ) → IsWork t → (nat_le 1 t && nat_le t MOST_WORK_TICKS) ≡ true
+work_allowed t h = ap (λ b. b && nat_le t MOST_WORK_TICKS) (le-leb 1 t h.0) ∙ le-leb t MOST_WORK_TICKS h.1
 
 same_element : (words : List ℤ) (o : Option ℕ) → element_word words o ≡ source.word_at words o
 same_element words None = refl
@@ -57,7 +58,7 @@ pub record Stands (code : Code) (ps : List Procedure) (p : Procedure) (r : Routi
   pub goes : Goes code ps (limits_of p) r.entry 0 (parts_of_procedure p)
 
 pub record Placed (code : Code) (program : Program) (rs : List RoutineRow) : Type 0 where
-  pub short : length code ≤ 65_536
+  pub short : length code ≤ MOST_INSTRUCTIONS
   pub routine : (f : ℕ) (p : Procedure) → slice_get program.procedures f ≡ Some p → (r : RoutineRow) × (slice_get rs f ≡ Some r) × Stands code program.procedures p r
 
 abbrev pub Same : Code → Program → Ticked SourceControl → Ticked MachineControl → Type 0
@@ -455,7 +456,7 @@ module _ (code : Code) (program : Program) (rs : List RoutineRow) (c : SourceCon
   abbrev place_of_call : Procedure → List ℤ → ℕ
   place_of_call p vs = taken (calls_of k.laid) + length c.slots + 2 + length (drop p.parameters vs)
 
-  enters_same : (p : Procedure) (r : RoutineRow) (rest : List Part) (vs : List ℤ) → Stands code program.procedures p r → c.values ≡ vs → p.parameters ≤ length vs → length (drop p.parameters vs) < k.limits.room → m.pc + 1 ≤ 65_536 → Goes code program.procedures k.limits (m.pc + 1) (length (drop p.parameters vs) + 1) rest → place_of_call p vs + frame_of_procedure p ≤ c.stack → Same code program (entered p rest vs) (entered_machine r)
+  enters_same : (p : Procedure) (r : RoutineRow) (rest : List Part) (vs : List ℤ) → Stands code program.procedures p r → c.values ≡ vs → p.parameters ≤ length vs → length (drop p.parameters vs) < k.limits.room → m.pc + 1 ≤ MOST_INSTRUCTIONS → Goes code program.procedures k.limits (m.pc + 1) (length (drop p.parameters vs) + 1) rest → place_of_call p vs + frame_of_procedure p ≤ c.stack → Same code program (entered p rest vs) (entered_machine r)
   enters_same p r rest vs stands e handed room back goes fits =
       let a = p.parameters in
       let under_a = take a vs in
@@ -530,7 +531,7 @@ module _ (code : Code) (program : Program) (rs : List RoutineRow) (c : SourceCon
       let over : length m.stack < u = omega arith in
       by_machine code program _ _ (refuses error.StackOverflow m words) (ap (λ b. if b then refuses error.StackOverflow m words else entered_machine r) (lt-ltb (length m.stack) u over)) (stays_same (Faults error.StackOverflow))
 
-  opens_same : (p : Procedure) (r : RoutineRow) (rest : List Part) (n : ℕ) (vs : List ℤ) → Stands code program.procedures p r → c.values ≡ vs → n ≡ length vs → p.parameters ≤ n → n - p.parameters < k.limits.room → m.pc + 1 ≤ 65_536 → Goes code program.procedures k.limits (m.pc + 1) (n - p.parameters + 1) rest → Same code program (opens (Some p) c rest vs words) (enters (Some r) m words)
+  opens_same : (p : Procedure) (r : RoutineRow) (rest : List Part) (n : ℕ) (vs : List ℤ) → Stands code program.procedures p r → c.values ≡ vs → n ≡ length vs → p.parameters ≤ n → n - p.parameters < k.limits.room → m.pc + 1 ≤ MOST_INSTRUCTIONS → Goes code program.procedures k.limits (m.pc + 1) (n - p.parameters + 1) rest → Same code program (opens (Some p) c rest vs words) (enters (Some r) m words)
   opens_same p r rest n vs stands e en handed room back goes =
       let caller : OpenCall = record { parts = rest; values = drop p.parameters vs; slots = c.slots } in
       let sp = k.sp in
@@ -557,7 +558,7 @@ module _ (code : Code) (program : Program) (rs : List RoutineRow) (c : SourceCon
       let found = placed.routine f p g.1.1 in
       let short = placed.short in
       let inside : m.pc < length code = slice_get_within code m.pc (Some (instr.Call f)) g.0 in
-      let back : m.pc + 1 ≤ 65_536 = omega arith in
+      let back : m.pc + 1 ≤ MOST_INSTRUCTIONS = omega arith in
       by_machine code program _ _ (enters (Some found.0) m words) (ap (λ o. enters o m words) found.1)
       (by_source code program _ (opens (Some p) c rest vs words) _ (ap (λ o. opens o c rest vs words) g.1.1)
       (opens_same p found.0 rest n vs found.2 e en g.1.2 g.1.3 back g.1.4))
@@ -567,7 +568,7 @@ module _ (code : Code) (program : Program) (rs : List RoutineRow) (c : SourceCon
   returns [] v vs e fetch has r w callers fp st = absurd (subst (λ b. HasCaller b []) r has)
   returns (l ∷ ls) v vs e fetch has r w callers fp st =
       let x = k.limits.slots in
-      let back_le : l.back ≤ 65_536 = w.1 in
+      let back_le : l.back ≤ MOST_INSTRUCTIONS = w.1 in
       let values_room : length l.call.values < l.limits.room = w.2 in
       let body : InProgress c.stack l.limits ls l.call.slots = w.3 in
       let body_slots = body.slots in
@@ -588,7 +589,7 @@ module _ (code : Code) (program : Program) (rs : List RoutineRow) (c : SourceCon
       let second : slice_get m.stack (m.fp + x + 1) ≡ Some (pos old_fp) = ap (λ q. slice_get q (m.fp + x + 1)) st ∙ ap (λ p. slice_get ((under ++ row) ++ over) p) at_next ∙ get_within under row over (x + 1) within_next ∙ ap (λ p. slice_get row (p + 1)) (sym slots) ∙ saved_second c.slots (pos l.back) (pos old_fp) in
       let fp_le : old_fp ≤ m.fp = omega arith in
       let there_is : 1 ≤ length (v ∷ vs) = omega arith in
-      let pc_is : saved_within code_limit (slice_get m.stack (m.fp + x)) ≡ Some l.back = ap (λ o. saved_within code_limit o) first ∙ ap (λ b. if b then Some l.back else None) (le-leb l.back 65_536 back_le) in
+      let pc_is : saved_within code_limit (slice_get m.stack (m.fp + x)) ≡ Some l.back = ap (λ o. saved_within code_limit o) first ∙ ap (λ b. if b then Some l.back else None) (le-leb l.back MOST_INSTRUCTIONS back_le) in
       let fp_is : saved_within m.fp (slice_get m.stack (m.fp + x + 1)) ≡ Some old_fp = ap (λ o. saved_within m.fp o) second ∙ ap (λ b. if b then Some old_fp else None) (le-leb old_fp m.fp fp_le) in
       let whole : m.stack ≡ under ++ (row ++ over) = st ∙ append_assoc under row over in
       let one : length (v ∷ []) ≤ length (row ++ over) = omega (arith, length-append row over) in

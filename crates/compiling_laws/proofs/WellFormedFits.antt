@@ -5,6 +5,7 @@ use Rattle.std.specs.List.{list_all, cons_option, sum_by}
 use Rattle.std.proofs.lemmas.Bool.{and_parts, leb-true, eqb-true, cond_both, cond-true, le-leb}
 use Rattle.std.proofs.lemmas.List.{length-map}
 use Rattle.std.proofs.lemmas.List.Sums.{sum_by-cons}
+use Rattle.apex_types.specs.declared.limits.TheConstants.{LEAST_STACK_WORDS, MOST_INSTRUCTIONS, MOST_LOCALS, MOST_PARAMETERS, MOST_PROCEDURES, MOST_STACK_WORDS, MOST_WORK_TICKS}
 use Rattle.apex_types.specs.declared.denotation.Denotation.{Denotation}
 use Rattle.apex_types.specs.declared.denotation.Denotation.TheVariants as denotation
 use Rattle.apex_types.specs.declared.shape.ArgumentKind.{ArgumentKind}
@@ -141,9 +142,9 @@ procedures_after declared c n (written.Buffer words messages discipline) h = sam
 procedures_after declared c n (written.Blackboard words) h = same_procedures _ _ n c.procedures (λ x. refl) h
 procedures_after declared c n written.Port h = same_procedures _ _ n c.procedures (λ x. refl) h
 procedures_after declared c n (written.Procedure parameters body) h =
-    let m = mapped_some _ (counted 256 c.procedures 1) n h in
+    let m = mapped_some _ (counted MOST_PROCEDURES c.procedures 1) n h in
     let e : n.procedures ≡ m.0 = sym (ap (λ (c : Counts). c.procedures) m.2) in
-    let g : m.0 ≡ 1 + c.procedures = counted_is 256 c.procedures 1 m.0 m.1 in
+    let g : m.0 ≡ 1 + c.procedures = counted_is MOST_PROCEDURES c.procedures 1 m.0 m.1 in
     omega (arith, e, g)
 
 pub count_is : (limit n : ℕ) → n ≤ limit → count_within limit n ≡ n
@@ -164,7 +165,7 @@ declared_procedure ports declared c name (written.Blackboard words) before rest 
 declared_procedure ports declared c name written.Port before rest at keeps = tt
 declared_procedure ports declared c name (written.Procedure parameters b) before rest at keeps =
     let few = and_parts _ _ (and_parts _ _ (and_parts _ _ keeps).0).0 in
-    ap (option_map (λ (q : program.Procedure). q.parameters)) (at_seam before _ rest c.procedures at) ∙ ap Some (count_is 8 (length parameters) (leb-true (length parameters) 8 few.0))
+    ap (option_map (λ (q : program.Procedure). q.parameters)) (at_seam before _ rest c.procedures at) ∙ ap Some (count_is MOST_PARAMETERS (length parameters) (leb-true (length parameters) MOST_PARAMETERS few.0))
 
 declaration_procedures : (ports : List PortRow) (declared : List Entry) (c : Counts) (before : List program.Procedure) (ds : List written.Declaration) → length before ≡ c.procedures → keeps_counts c ds ≡ true → list_all (keeps_declaration declared) ds ≡ true
     → EachEntry (NamesProcedure (before ++ filter_map (λ d. procedure_of declared d.kind) ds)) (declaration_entries ports c ds)
@@ -249,12 +250,12 @@ module _ (scope : Scope) (procedures : List program.Procedure) (n : ℕ) (slots 
   targets_fit [] = tt
   targets_fit (x ∷ xs) = (slots x, targets_fit xs)
 
-  work_fits : (ticks : Option ℕ) → is_between 1 1000000 ticks ≡ true → IsWork (within 1000000 ticks)
+  work_fits : (ticks : Option ℕ) → is_between 1 MOST_WORK_TICKS ticks ≡ true → IsWork (within MOST_WORK_TICKS ticks)
   work_fits None h = absurd cc
   work_fits (Some t) h =
       let parts = and_parts _ _ h in
-      let most : t ≤ 1000000 = leb-true t 1000000 parts.1 in
-      subst IsWork (sym (cond-true (nat_le t 1000000) t 0 parts.1)) (leb-true 1 t parts.0, most)
+      let most : t ≤ MOST_WORK_TICKS = leb-true t MOST_WORK_TICKS parts.1 in
+      subst IsWork (sym (cond-true (nat_le t MOST_WORK_TICKS) t 0 parts.1)) (leb-true 1 t parts.0, most)
 
   mutual
     stmt_fits : (returns : Bool) (s : written.Stmt) → fits_stmt scope returns s ≡ true → keeps_stmt s ≡ true → FitsStmt procedures n returns (resolve_stmt scope s)
@@ -294,14 +295,14 @@ module _ (ports : List PortRow) (p : written.Program) (procedures : List program
       let own = parameters ++ b.locals in
       block_fits (scope_of (own_entries 0 own) (declared_entries ports p)) procedures n (slots_in_scope ports p n own room) (λ name. called name own) returns b.block kinds (and_parts _ _ keeps).1
 
-  few_locals : (b : written.Body) → keeps_body b ≡ true → length b.locals ≤ 64
-  few_locals b keeps = leb-true (length b.locals) 64 (and_parts _ _ (and_parts _ _ keeps).0).0
+  few_locals : (b : written.Body) → keeps_body b ≡ true → length b.locals ≤ MOST_LOCALS
+  few_locals b keeps = leb-true (length b.locals) MOST_LOCALS (and_parts _ _ (and_parts _ _ keeps).0).0
 
-  stack_holds : (stack : Option ℕ) (b : written.Body) → is_between 16 4096 stack ≡ true → fits_stack (declared_entries ports p) stack b ≡ true → frame_of_body (resolve_body (declared_entries ports p) stack b) ≤ within 4096 stack
+  stack_holds : (stack : Option ℕ) (b : written.Body) → is_between LEAST_STACK_WORDS MOST_STACK_WORDS stack ≡ true → fits_stack (declared_entries ports p) stack b ≡ true → frame_of_body (resolve_body (declared_entries ports p) stack b) ≤ within MOST_STACK_WORDS stack
   stack_holds None b h fits = absurd cc
   stack_holds (Some words) b h fits =
-      let parts = and_parts (nat_le 16 words) (nat_le words 4096) h in
-      let is : within 4096 (Some words) ≡ words = cond-true (nat_le words 4096) words 0 parts.1 in
+      let parts = and_parts (nat_le LEAST_STACK_WORDS words) (nat_le words MOST_STACK_WORDS) h in
+      let is : within MOST_STACK_WORDS (Some words) ≡ words = cond-true (nat_le words MOST_STACK_WORDS) words 0 parts.1 in
       let room = leb-true (frame_of_body (resolve_body (declared_entries ports p) (Some words) b)) words fits in
       subst (λ n. frame_of_body (resolve_body (declared_entries ports p) (Some words) b) ≤ n) (sym is) room
 
@@ -310,9 +311,9 @@ module _ (ports : List PortRow) (p : written.Program) (procedures : List program
   body_fits stack b kinds keeps =
       let kept = and_parts _ _ keeps in
       let held = and_parts _ _ kept.0 in
-      let is = count_is 64 (length b.locals) (few_locals b kept.1) in
+      let is = count_is MOST_LOCALS (length b.locals) (few_locals b kept.1) in
       record {
-        block = block_of_body false [] b (count_within 64 (length b.locals)) (omega (arith, is)) kinds kept.1;
+        block = block_of_body false [] b (count_within MOST_LOCALS (length b.locals)) (omega (arith, is)) kinds kept.1;
         frame = stack_holds stack b held.0 held.1;
       }
 
@@ -337,15 +338,15 @@ module _ (ports : List PortRow) (p : written.Program) (procedures : List program
       let kept = and_parts _ _ keeps in
       let body = and_parts _ _ kept.0 in
       let few = and_parts _ _ body.0 in
-      let at_most : length parameters ≤ 8 = leb-true (length parameters) 8 few.0 in
-      let locals = count_is 64 (length b.locals) (few_locals b body.1) in
-      let taken = count_is 8 (length parameters) at_most in
-      let n = count_within 8 (length parameters) + count_within 64 (length b.locals) in
-      let resolved : program.Procedure = record { parameters = count_within 8 (length parameters); locals = count_within 64 (length b.locals); block = resolve_body_block (declared_entries ports p) parameters b } in
+      let at_most : length parameters ≤ MOST_PARAMETERS = leb-true (length parameters) MOST_PARAMETERS few.0 in
+      let locals = count_is MOST_LOCALS (length b.locals) (few_locals b body.1) in
+      let taken = count_is MOST_PARAMETERS (length parameters) at_most in
+      let n = count_within MOST_PARAMETERS (length parameters) + count_within MOST_LOCALS (length b.locals) in
+      let resolved : program.Procedure = record { parameters = count_within MOST_PARAMETERS (length parameters); locals = count_within MOST_LOCALS (length b.locals); block = resolve_body_block (declared_entries ports p) parameters b } in
       let is : resolved ≡ r = cc in
       let made : FitsProcedure procedures resolved = record {
         block = block_of_body true parameters b n (omega (arith, locals, taken, length-append parameters b.locals)) kinds body.1;
-        frame = leb-true _ 4096 kept.1;
+        frame = leb-true _ MOST_STACK_WORDS kept.1;
       } in
       subst (FitsProcedure procedures) is made
 
@@ -381,7 +382,7 @@ procedures_in_scope ports p counts keeps name own =
     in_scope (NamesProcedure procedures) (own_entries 0 own) (declared_entries ports p) tt (own_no_procedures procedures 0 own)
     (both_entries (NamesProcedure procedures) (declaration_entries ports no_counts p.declarations) (process_entries 0 p.processes) declarations (processes_no_procedures procedures 0 p.processes)) name
 
-resolved_fits : (ports : List PortRow) (p : written.Program) → kinds_hold ports p ≡ true → limits_hold ports p ≡ true → size_of (resolve ports p) ≤ 65_536 → Fits (resolve ports p)
+resolved_fits : (ports : List PortRow) (p : written.Program) → kinds_hold ports p ≡ true → limits_hold ports p ≡ true → size_of (resolve ports p) ≤ MOST_INSTRUCTIONS → Fits (resolve ports p)
 resolved_fits ports p kinds limits small =
     let k1 = and_parts _ _ kinds in
     let k2 = and_parts _ _ k1.0 in
@@ -402,7 +403,7 @@ resolved_fits ports p kinds limits small =
     }
 
 -- What the verdict accepts fits the compiler, if its code is not too long.
-pub well_formed_fits : (ports : List PortRow) (period : ℕ) (p : written.Program) (r : program.Program) → verdict ports period p ≡ Ok r → size_of r ≤ 65_536 → Fits r
+pub well_formed_fits : (ports : List PortRow) (period : ℕ) (p : written.Program) (r : program.Program) → verdict ports period p ≡ Ok r → size_of r ≤ MOST_INSTRUCTIONS → Fits r
 well_formed_fits ports period p r h small =
     let a = accepted ports period p r h in
-    subst Fits a.is (resolved_fits ports p a.kinds a.limits (subst (λ (q : program.Program). size_of q ≤ 65_536) (sym a.is) small))
+    subst Fits a.is (resolved_fits ports p a.kinds a.limits (subst (λ (q : program.Program). size_of q ≤ MOST_INSTRUCTIONS) (sym a.is) small))

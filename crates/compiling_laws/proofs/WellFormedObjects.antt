@@ -7,6 +7,7 @@ use Rattle.std.proofs.lemmas.Bool.{and_parts, leb-true, cond-true, cond_both, le
 use Rattle.std.proofs.lemmas.Int.{ints}
 use Rattle.std.proofs.lemmas.Option.{cond_some}
 use Rattle.std.proofs.lemmas.List.{length-map, length-replicate}
+use Rattle.apex_types.specs.declared.limits.TheConstants.{MOST_DATA_WORDS, MOST_DEPTH, MOST_OBJECTS, MOST_PORTS, MOST_PROCEDURES, MOST_SEMAPHORE_VALUE, MOST_WORDS}
 use Rattle.apex_types.specs.NameText.{is_name}
 use Rattle.apex_types.specs.declared.row.SemaphoreRow.{SemaphoreRow}
 use Rattle.apex_types.specs.declared.row.PortRow.{PortRow}
@@ -55,125 +56,125 @@ events_of _ = 0
 
 -- the counts after a declaration
 record Grows (declared : List Entry) (c n : Counts) (k : written.Kind) : Type 0 where
-  words : Step 65536 c.words n.words (length (words_of k))
-  semaphores : Step 16 c.semaphores n.semaphores (length (one_or_none (semaphore_of k)))
-  events : Step 16 c.events n.events (events_of k)
-  buffers : Step 16 c.buffers n.buffers (length (one_or_none (buffer_of k)))
-  blackboards : Step 16 c.blackboards n.blackboards (length (one_or_none (blackboard_of k)))
-  procedures : Step 256 c.procedures n.procedures (length (one_or_none (procedure_of declared k)))
+  words : Step MOST_DATA_WORDS c.words n.words (length (words_of k))
+  semaphores : Step MOST_OBJECTS c.semaphores n.semaphores (length (one_or_none (semaphore_of k)))
+  events : Step MOST_OBJECTS c.events n.events (events_of k)
+  buffers : Step MOST_OBJECTS c.buffers n.buffers (length (one_or_none (buffer_of k)))
+  blackboards : Step MOST_OBJECTS c.blackboards n.blackboards (length (one_or_none (blackboard_of k)))
+  procedures : Step MOST_PROCEDURES c.procedures n.procedures (length (one_or_none (procedure_of declared k)))
 
 one_word : (value : Option written.Integer) → length (words_of (written.Variable value)) ≡ 1
 one_word None = refl
 one_word (Some i) = refl
 
-array_length : (size : Option ℕ) (values : List written.Integer) → value_at_most (Some (length values)) size ≡ true → value_or_zero size ≤ 65536 → length (array_words (within 65536 size) values) ≡ value_or_zero size
+array_length : (size : Option ℕ) (values : List written.Integer) → value_at_most (Some (length values)) size ≡ true → value_or_zero size ≤ MOST_DATA_WORDS → length (array_words (within MOST_DATA_WORDS size) values) ≡ value_or_zero size
 array_length None values h small = absurd cc
 array_length (Some n) values h small =
-    let is : within 65536 (Some n) ≡ n = cond-true (nat_le n 65536) n 0 (le-leb n 65536 small) in
+    let is : within MOST_DATA_WORDS (Some n) ≡ n = cond-true (nat_le n MOST_DATA_WORDS) n 0 (le-leb n MOST_DATA_WORDS small) in
     let least : length values ≤ n = leb-true (length values) n h in
-    let rest = replicate (within 65536 (Some n) - length values) (pos 0) in
-    let zeros : length rest ≡ within 65536 (Some n) - length values = length-replicate (within 65536 (Some n) - length values) (pos 0) in
+    let rest = replicate (within MOST_DATA_WORDS (Some n) - length values) (pos 0) in
+    let zeros : length rest ≡ within MOST_DATA_WORDS (Some n) - length values = length-replicate (within MOST_DATA_WORDS (Some n) - length values) (pos 0) in
     omega (arith, is, zeros, length-append (map signed_word values) rest, length-map values signed_word)
 
 grows : (declared : List Entry) (c n : Counts) (k : written.Kind) → after c k ≡ Some n → keeps_kind declared k ≡ true → Grows declared c n k
 grows declared c n (written.Variable value) h keeps =
-    let m = mapped_some _ (counted 65536 c.words 1) n h in
+    let m = mapped_some _ (counted MOST_DATA_WORDS c.words 1) n h in
     subst (λ (n : Counts). Grows declared c n (written.Variable value)) m.2 (record {
-      words = goes 65536 c.words 1 m.0 _ m.1 (one_word value);
-      semaphores = stays 16 c.semaphores;
-      events = stays 16 c.events;
-      buffers = stays 16 c.buffers;
-      blackboards = stays 16 c.blackboards;
-      procedures = stays 256 c.procedures;
+      words = goes MOST_DATA_WORDS c.words 1 m.0 _ m.1 (one_word value);
+      semaphores = stays MOST_OBJECTS c.semaphores;
+      events = stays MOST_OBJECTS c.events;
+      buffers = stays MOST_OBJECTS c.buffers;
+      blackboards = stays MOST_OBJECTS c.blackboards;
+      procedures = stays MOST_PROCEDURES c.procedures;
     })
 grows declared c n (written.Array size values) h keeps =
-    let m = mapped_some _ (counted 65536 c.words (value_or_zero size)) n h in
-    let room : value_or_zero size ≤ 65536 = omega (arith, (counted_most 65536 c.words (value_or_zero size) m.0 m.1).1) in
+    let m = mapped_some _ (counted MOST_DATA_WORDS c.words (value_or_zero size)) n h in
+    let room : value_or_zero size ≤ MOST_DATA_WORDS = omega (arith, (counted_most MOST_DATA_WORDS c.words (value_or_zero size) m.0 m.1).1) in
     subst (λ (n : Counts). Grows declared c n (written.Array size values)) m.2 (record {
-      words = goes 65536 c.words (value_or_zero size) m.0 _ m.1 (array_length size values (and_parts (value_at_most (Some (length values)) size) _ keeps).0 room);
-      semaphores = stays 16 c.semaphores;
-      events = stays 16 c.events;
-      buffers = stays 16 c.buffers;
-      blackboards = stays 16 c.blackboards;
-      procedures = stays 256 c.procedures;
+      words = goes MOST_DATA_WORDS c.words (value_or_zero size) m.0 _ m.1 (array_length size values (and_parts (value_at_most (Some (length values)) size) _ keeps).0 room);
+      semaphores = stays MOST_OBJECTS c.semaphores;
+      events = stays MOST_OBJECTS c.events;
+      buffers = stays MOST_OBJECTS c.buffers;
+      blackboards = stays MOST_OBJECTS c.blackboards;
+      procedures = stays MOST_PROCEDURES c.procedures;
     })
 grows declared c n (written.Semaphore first maximum discipline) h keeps =
-    let m = mapped_some _ (counted 16 c.semaphores 1) n h in
+    let m = mapped_some _ (counted MOST_OBJECTS c.semaphores 1) n h in
     subst (λ (n : Counts). Grows declared c n (written.Semaphore first maximum discipline)) m.2 (record {
-      words = stays 65536 c.words;
-      semaphores = goes 16 c.semaphores 1 m.0 _ m.1 refl;
-      events = stays 16 c.events;
-      buffers = stays 16 c.buffers;
-      blackboards = stays 16 c.blackboards;
-      procedures = stays 256 c.procedures;
+      words = stays MOST_DATA_WORDS c.words;
+      semaphores = goes MOST_OBJECTS c.semaphores 1 m.0 _ m.1 refl;
+      events = stays MOST_OBJECTS c.events;
+      buffers = stays MOST_OBJECTS c.buffers;
+      blackboards = stays MOST_OBJECTS c.blackboards;
+      procedures = stays MOST_PROCEDURES c.procedures;
     })
 grows declared c n written.Event h keeps =
-    let m = mapped_some _ (counted 16 c.events 1) n h in
+    let m = mapped_some _ (counted MOST_OBJECTS c.events 1) n h in
     subst (λ (n : Counts). Grows declared c n written.Event) m.2 (record {
-      words = stays 65536 c.words;
-      semaphores = stays 16 c.semaphores;
-      events = goes 16 c.events 1 m.0 _ m.1 refl;
-      buffers = stays 16 c.buffers;
-      blackboards = stays 16 c.blackboards;
-      procedures = stays 256 c.procedures;
+      words = stays MOST_DATA_WORDS c.words;
+      semaphores = stays MOST_OBJECTS c.semaphores;
+      events = goes MOST_OBJECTS c.events 1 m.0 _ m.1 refl;
+      buffers = stays MOST_OBJECTS c.buffers;
+      blackboards = stays MOST_OBJECTS c.blackboards;
+      procedures = stays MOST_PROCEDURES c.procedures;
     })
 grows declared c n (written.Buffer words messages discipline) h keeps =
-    let m = mapped_some _ (counted 16 c.buffers 1) n h in
+    let m = mapped_some _ (counted MOST_OBJECTS c.buffers 1) n h in
     subst (λ (n : Counts). Grows declared c n (written.Buffer words messages discipline)) m.2 (record {
-      words = stays 65536 c.words;
-      semaphores = stays 16 c.semaphores;
-      events = stays 16 c.events;
-      buffers = goes 16 c.buffers 1 m.0 _ m.1 refl;
-      blackboards = stays 16 c.blackboards;
-      procedures = stays 256 c.procedures;
+      words = stays MOST_DATA_WORDS c.words;
+      semaphores = stays MOST_OBJECTS c.semaphores;
+      events = stays MOST_OBJECTS c.events;
+      buffers = goes MOST_OBJECTS c.buffers 1 m.0 _ m.1 refl;
+      blackboards = stays MOST_OBJECTS c.blackboards;
+      procedures = stays MOST_PROCEDURES c.procedures;
     })
 grows declared c n (written.Blackboard words) h keeps =
-    let m = mapped_some _ (counted 16 c.blackboards 1) n h in
+    let m = mapped_some _ (counted MOST_OBJECTS c.blackboards 1) n h in
     subst (λ (n : Counts). Grows declared c n (written.Blackboard words)) m.2 (record {
-      words = stays 65536 c.words;
-      semaphores = stays 16 c.semaphores;
-      events = stays 16 c.events;
-      buffers = stays 16 c.buffers;
-      blackboards = goes 16 c.blackboards 1 m.0 _ m.1 refl;
-      procedures = stays 256 c.procedures;
+      words = stays MOST_DATA_WORDS c.words;
+      semaphores = stays MOST_OBJECTS c.semaphores;
+      events = stays MOST_OBJECTS c.events;
+      buffers = stays MOST_OBJECTS c.buffers;
+      blackboards = goes MOST_OBJECTS c.blackboards 1 m.0 _ m.1 refl;
+      procedures = stays MOST_PROCEDURES c.procedures;
     })
 grows declared c n written.Port h keeps =
-    let m = mapped_some _ (counted 16 c.ports 1) n h in
+    let m = mapped_some _ (counted MOST_PORTS c.ports 1) n h in
     subst (λ (n : Counts). Grows declared c n written.Port) m.2 (record {
-      words = stays 65536 c.words;
-      semaphores = stays 16 c.semaphores;
-      events = stays 16 c.events;
-      buffers = stays 16 c.buffers;
-      blackboards = stays 16 c.blackboards;
-      procedures = stays 256 c.procedures;
+      words = stays MOST_DATA_WORDS c.words;
+      semaphores = stays MOST_OBJECTS c.semaphores;
+      events = stays MOST_OBJECTS c.events;
+      buffers = stays MOST_OBJECTS c.buffers;
+      blackboards = stays MOST_OBJECTS c.blackboards;
+      procedures = stays MOST_PROCEDURES c.procedures;
     })
 grows declared c n (written.Procedure parameters body) h keeps =
-    let m = mapped_some _ (counted 256 c.procedures 1) n h in
+    let m = mapped_some _ (counted MOST_PROCEDURES c.procedures 1) n h in
     subst (λ (n : Counts). Grows declared c n (written.Procedure parameters body)) m.2 (record {
-      words = stays 65536 c.words;
-      semaphores = stays 16 c.semaphores;
-      events = stays 16 c.events;
-      buffers = stays 16 c.buffers;
-      blackboards = stays 16 c.blackboards;
-      procedures = goes 256 c.procedures 1 m.0 _ m.1 refl;
+      words = stays MOST_DATA_WORDS c.words;
+      semaphores = stays MOST_OBJECTS c.semaphores;
+      events = stays MOST_OBJECTS c.events;
+      buffers = stays MOST_OBJECTS c.buffers;
+      blackboards = stays MOST_OBJECTS c.blackboards;
+      procedures = goes MOST_PROCEDURES c.procedures 1 m.0 _ m.1 refl;
     })
 
 record AreWithin (c : Counts) : Type 0 where
-  words : c.words ≤ 65536
-  semaphores : c.semaphores ≤ 16
-  events : c.events ≤ 16
-  buffers : c.buffers ≤ 16
-  blackboards : c.blackboards ≤ 16
-  procedures : c.procedures ≤ 256
+  words : c.words ≤ MOST_DATA_WORDS
+  semaphores : c.semaphores ≤ MOST_OBJECTS
+  events : c.events ≤ MOST_OBJECTS
+  buffers : c.buffers ≤ MOST_OBJECTS
+  blackboards : c.blackboards ≤ MOST_OBJECTS
+  procedures : c.procedures ≤ MOST_PROCEDURES
 
 -- what is declared after so much is declared
 pub record Totals (declared : List Entry) (c : Counts) (ds : List written.Declaration) : Type 0 where
-  pub words : c.words + length (flat_map (λ (d : written.Declaration). words_of d.kind) ds) ≤ 65536
-  pub semaphores : c.semaphores + length (filter_map (λ (d : written.Declaration). semaphore_of d.kind) ds) ≤ 16
-  pub events : (counts_of c ds).events ≤ 16
-  pub buffers : c.buffers + length (filter_map (λ (d : written.Declaration). buffer_of d.kind) ds) ≤ 16
-  pub blackboards : c.blackboards + length (filter_map (λ (d : written.Declaration). blackboard_of d.kind) ds) ≤ 16
-  pub procedures : c.procedures + length (filter_map (λ (d : written.Declaration). procedure_of declared d.kind) ds) ≤ 256
+  pub words : c.words + length (flat_map (λ (d : written.Declaration). words_of d.kind) ds) ≤ MOST_DATA_WORDS
+  pub semaphores : c.semaphores + length (filter_map (λ (d : written.Declaration). semaphore_of d.kind) ds) ≤ MOST_OBJECTS
+  pub events : (counts_of c ds).events ≤ MOST_OBJECTS
+  pub buffers : c.buffers + length (filter_map (λ (d : written.Declaration). buffer_of d.kind) ds) ≤ MOST_OBJECTS
+  pub blackboards : c.blackboards + length (filter_map (λ (d : written.Declaration). blackboard_of d.kind) ds) ≤ MOST_OBJECTS
+  pub procedures : c.procedures + length (filter_map (λ (d : written.Declaration). procedure_of declared d.kind) ds) ≤ MOST_PROCEDURES
 
 totals : (declared : List Entry) (c : Counts) (ds : List written.Declaration) → AreWithin c → keeps_counts c ds ≡ true → list_all (keeps_declaration declared) ds ≡ true → Totals declared c ds
 totals declared c [] room counts keeps = record {
@@ -201,7 +202,7 @@ totals declared c (d ∷ ds) room counts keeps =
     record {
       words = omega (arith, g.words.is, t.words, length-append (words_of d.kind) (flat_map (λ (e : written.Declaration). words_of e.kind) ds));
       semaphores = omega (arith, g.semaphores.is, t.semaphores, longer_by (semaphore_of d.kind) (filter_map (λ (e : written.Declaration). semaphore_of e.kind) ds));
-      events = subst (λ (n : Counts). (counts_of n ds).events ≤ 16) is t.events;
+      events = subst (λ (n : Counts). (counts_of n ds).events ≤ MOST_OBJECTS) is t.events;
       buffers = omega (arith, g.buffers.is, t.buffers, longer_by (buffer_of d.kind) (filter_map (λ (e : written.Declaration). buffer_of e.kind) ds));
       blackboards = omega (arith, g.blackboards.is, t.blackboards, longer_by (blackboard_of d.kind) (filter_map (λ (e : written.Declaration). blackboard_of e.kind) ds));
       procedures = omega (arith, g.procedures.is, t.procedures, longer_by (procedure_of declared d.kind) (filter_map (λ (e : written.Declaration). procedure_of declared e.kind) ds));
@@ -216,20 +217,20 @@ between_is : (low limit : ℕ) (o : Option ℕ) → is_between low limit o ≡ t
 between_is low limit o h = let k = keeps_within low limit o h in record { least = omega (arith, k.4, k.2); most = omega (arith, k.4, k.3) }
 
 -- a first value of at most the maximum
-first_most : (first : Option ℕ) (maximum : ℕ) → value_at_most first (Some maximum) ≡ true → maximum ≤ 1000000 → within 1000000 first ≤ maximum
+first_most : (first : Option ℕ) (maximum : ℕ) → value_at_most first (Some maximum) ≡ true → maximum ≤ MOST_SEMAPHORE_VALUE → within MOST_SEMAPHORE_VALUE first ≤ maximum
 first_most None maximum h small = absurd cc
 first_most (Some n) maximum h small =
     let least : n ≤ maximum = leb-true n maximum h in
-    let is : within 1000000 (Some n) ≡ n = cond-true (nat_le n 1000000) n 0 (le-leb n 1000000 (omega arith)) in
+    let is : within MOST_SEMAPHORE_VALUE (Some n) ≡ n = cond-true (nat_le n MOST_SEMAPHORE_VALUE) n 0 (le-leb n MOST_SEMAPHORE_VALUE (omega arith)) in
     omega (arith, is)
 
-semaphore_is : (first maximum : Option ℕ) (row : SemaphoreRow) → is_between 1 1000000 maximum ≡ true → value_at_most first maximum ≡ true → row.value ≡ within 1000000 first → row.maximum ≡ within 1000000 maximum → IsSemaphore row
+semaphore_is : (first maximum : Option ℕ) (row : SemaphoreRow) → is_between 1 MOST_SEMAPHORE_VALUE maximum ≡ true → value_at_most first maximum ≡ true → row.value ≡ within MOST_SEMAPHORE_VALUE first → row.maximum ≡ within MOST_SEMAPHORE_VALUE maximum → IsSemaphore row
 semaphore_is first None row h k v m = absurd cc
 semaphore_is first (Some n) row h k v m =
-    let w = keeps_within 1 1000000 (Some n) h in
+    let w = keeps_within 1 MOST_SEMAPHORE_VALUE (Some n) h in
     let same : n ≡ w.0 = cc in
-    let small : n ≤ 1000000 = omega (arith, w.3, same) in
-    let is : within 1000000 (Some n) ≡ n = cond-true (nat_le n 1000000) n 0 (le-leb n 1000000 small) in
+    let small : n ≤ MOST_SEMAPHORE_VALUE = omega (arith, w.3, same) in
+    let is : within MOST_SEMAPHORE_VALUE (Some n) ≡ n = cond-true (nat_le n MOST_SEMAPHORE_VALUE) n 0 (le-leb n MOST_SEMAPHORE_VALUE small) in
     let first_small = first_most first n k small in
     record {
       value = record { least = omega arith; most = omega (arith, v, first_small, small) };
@@ -246,13 +247,13 @@ objects_are : (declared : List Entry) (k : written.Kind) → keeps_kind declared
 objects_are declared (written.Variable value) h = record { semaphores = tt; buffers = tt; blackboards = tt }
 objects_are declared (written.Array size values) h = record { semaphores = tt; buffers = tt; blackboards = tt }
 objects_are declared (written.Semaphore first maximum discipline) h =
-    let parts = and_parts (is_between 1 1000000 maximum) (value_at_most first maximum) h in
+    let parts = and_parts (is_between 1 MOST_SEMAPHORE_VALUE maximum) (value_at_most first maximum) h in
     record { semaphores = (semaphore_is first maximum _ parts.0 parts.1 refl refl, tt); buffers = tt; blackboards = tt }
 objects_are declared written.Event h = record { semaphores = tt; buffers = tt; blackboards = tt }
 objects_are declared (written.Buffer words messages discipline) h =
-    let parts = and_parts (is_between 1 16 words) (is_between 1 32 messages) h in
-    record { semaphores = tt; buffers = (record { words = between_is 1 16 words parts.0; depth = between_is 1 32 messages parts.1 }, tt); blackboards = tt }
-objects_are declared (written.Blackboard words) h = record { semaphores = tt; buffers = tt; blackboards = (record { words = between_is 1 16 words h }, tt) }
+    let parts = and_parts (is_between 1 MOST_WORDS words) (is_between 1 MOST_DEPTH messages) h in
+    record { semaphores = tt; buffers = (record { words = between_is 1 MOST_WORDS words parts.0; depth = between_is 1 MOST_DEPTH messages parts.1 }, tt); blackboards = tt }
+objects_are declared (written.Blackboard words) h = record { semaphores = tt; buffers = tt; blackboards = (record { words = between_is 1 MOST_WORDS words h }, tt) }
 objects_are declared written.Port h = record { semaphores = tt; buffers = tt; blackboards = tt }
 objects_are declared (written.Procedure parameters body) h = record { semaphores = tt; buffers = tt; blackboards = tt }
 
@@ -338,7 +339,7 @@ zeros_are (suc n) = (word_is false None tt, zeros_are n)
 kind_words : (k : written.Kind) → HasWords k → AllByRecursion (FitsSigned w64) (words_of k)
 kind_words (written.Variable None) h = (word_is false None tt, tt)
 kind_words (written.Variable (Some i)) h = (word_is i.negative i.magnitude h, tt)
-kind_words (written.Array size values) h = each_append (FitsSigned w64) (map signed_word values) _ (words_are values h) (zeros_are (within 65536 size - length values))
+kind_words (written.Array size values) h = each_append (FitsSigned w64) (map signed_word values) _ (words_are values h) (zeros_are (within MOST_DATA_WORDS size - length values))
 kind_words (written.Semaphore first maximum discipline) h = tt
 kind_words written.Event h = tt
 kind_words (written.Buffer words messages discipline) h = tt

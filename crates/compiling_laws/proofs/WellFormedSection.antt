@@ -7,6 +7,7 @@ use Rattle.std.proofs.lemmas.Bool.{and_parts, and_from, not-true, or_from, leb-t
 use Rattle.std.proofs.lemmas.List.{length-map, append-nil}
 use Rattle.std.proofs.lemmas.List.Sums.{sum_by-cons}
 use Rattle.std.proofs.lemmas.List.Folds.{list_any-append}
+use Rattle.apex_types.specs.declared.limits.TheConstants.{GREATEST_PRIORITY, LEAST_STACK_WORDS, MOST_INSTRUCTIONS, MOST_LOCALS, MOST_PARAMETERS, MOST_STACK_WORDS, MOST_TICKS}
 use Rattle.apex_types.specs.NameText.{is_name}
 use Rattle.apex_types.specs.declared.denotation.Denotation.{Denotation}
 use Rattle.apex_types.specs.declared.row.ProcessRow.{ProcessRow}
@@ -40,8 +41,8 @@ each_of_places P (x ∷ xs) h = (h 0 x refl, each_of_places P xs (λ i y e. h (s
 -- ---- procedures
 
 record IsSmall (p : program.Procedure) : Type 0 where
-  parameters : p.parameters ≤ 8
-  locals : p.locals ≤ 64
+  parameters : p.parameters ≤ MOST_PARAMETERS
+  locals : p.locals ≤ MOST_LOCALS
 
 procedure_small : (declared : List Entry) (k : written.Kind) → AllByRecursion IsSmall (one_or_none (procedure_of declared k))
 procedure_small declared (written.Variable value) = tt
@@ -51,13 +52,13 @@ procedure_small declared written.Event = tt
 procedure_small declared (written.Buffer words messages discipline) = tt
 procedure_small declared (written.Blackboard words) = tt
 procedure_small declared written.Port = tt
-procedure_small declared (written.Procedure parameters b) = (record { parameters = count_small 8 (length parameters); locals = count_small 64 (length b.locals) }, tt)
+procedure_small declared (written.Procedure parameters b) = (record { parameters = count_small MOST_PARAMETERS (length parameters); locals = count_small MOST_LOCALS (length b.locals) }, tt)
 
 procedures_small : (declared : List Entry) (ds : List written.Declaration) → AllByRecursion IsSmall (filter_map (λ (d : written.Declaration). procedure_of declared d.kind) ds)
 procedures_small declared [] = tt
 procedures_small declared (d ∷ ds) = each_option IsSmall (procedure_of declared d.kind) _ (procedure_small declared d.kind) (procedures_small declared ds)
 
-routine_is : (all : List program.Procedure) (at : ℕ) (p : program.Procedure) → IsSmall p → FitsProcedure all p → at ≤ 65536 → IsRoutine (routine_row at p)
+routine_is : (all : List program.Procedure) (at : ℕ) (p : program.Procedure) → IsSmall p → FitsProcedure all p → at ≤ MOST_INSTRUCTIONS → IsRoutine (routine_row at p)
 routine_is all at p small fits room = record {
   entry = omega arith;
   parameters = record { least = omega arith; most = small.parameters };
@@ -65,7 +66,7 @@ routine_is all at p small fits room = record {
   frame = record { least = omega arith; most = fits.frame };
 }
 
-routines_are : (all : List program.Procedure) (at : ℕ) (ps : List program.Procedure) → AllByRecursion IsSmall ps → AllByRecursion (FitsProcedure all) ps → at + sum_by size_of_procedure ps ≤ 65536 → AllByRecursion IsRoutine (routine_rows at ps)
+routines_are : (all : List program.Procedure) (at : ℕ) (ps : List program.Procedure) → AllByRecursion IsSmall ps → AllByRecursion (FitsProcedure all) ps → at + sum_by size_of_procedure ps ≤ MOST_INSTRUCTIONS → AllByRecursion IsRoutine (routine_rows at ps)
 routines_are all at [] small fits room = tt
 routines_are all at (p ∷ ps) small fits room =
     let more = sum_by-cons size_of_procedure p ps in
@@ -83,10 +84,10 @@ routine_count at (p ∷ ps) = ap suc (routine_count (at + size_of_procedure p) p
 
 -- ---- bodies
 
-body_is : (declared : List Entry) (procedures : List program.Procedure) (at : ℕ) (stack : Option ℕ) (b : written.Body) → FitsBody procedures (resolve_body declared stack b) → is_between 16 4096 stack ≡ true → at ≤ 65536 → IsBody (body_row at (resolve_body declared stack b))
+body_is : (declared : List Entry) (procedures : List program.Procedure) (at : ℕ) (stack : Option ℕ) (b : written.Body) → FitsBody procedures (resolve_body declared stack b) → is_between LEAST_STACK_WORDS MOST_STACK_WORDS stack ≡ true → at ≤ MOST_INSTRUCTIONS → IsBody (body_row at (resolve_body declared stack b))
 body_is declared procedures at stack b fits held room =
-    let k = keeps_within 16 4096 stack held in
-    let few = count_small 64 (length b.locals) in
+    let k = keeps_within LEAST_STACK_WORDS MOST_STACK_WORDS stack held in
+    let few = count_small MOST_LOCALS (length b.locals) in
     record {
       stack = record { least = omega (arith, k.4, k.2); most = omega (arith, k.4, k.3) };
       entry = omega arith;
@@ -94,10 +95,10 @@ body_is declared procedures at stack b fits held room =
       frame = record { least = omega arith; most = fits.frame };
     }
 
-stack_between : (declared : List Entry) (stack : Option ℕ) (b : written.Body) → keeps_stack_body declared stack b ≡ true → is_between 16 4096 stack ≡ true
-stack_between declared stack b h = (and_parts (is_between 16 4096 stack) _ (and_parts _ _ h).0).0
+stack_between : (declared : List Entry) (stack : Option ℕ) (b : written.Body) → keeps_stack_body declared stack b ≡ true → is_between LEAST_STACK_WORDS MOST_STACK_WORDS stack ≡ true
+stack_between declared stack b h = (and_parts (is_between LEAST_STACK_WORDS MOST_STACK_WORDS stack) _ (and_parts _ _ h).0).0
 
-handler_is : (declared : List Entry) (procedures : List program.Procedure) (at : ℕ) (h : Option written.StackBody) → FitsHandler procedures (option_map (resolve_stack_body declared) h) → keeps_handler declared h ≡ true → at ≤ 65536
+handler_is : (declared : List Entry) (procedures : List program.Procedure) (at : ℕ) (h : Option written.StackBody) → FitsHandler procedures (option_map (resolve_stack_body declared) h) → keeps_handler declared h ≡ true → at ≤ MOST_INSTRUCTIONS
     → IsHandler (option_map (body_row at) (option_map (resolve_stack_body declared) h))
 handler_is declared procedures at None fits keeps room = tt
 handler_is declared procedures at (Some b) fits keeps room = body_is declared procedures at b.stack b.body fits (stack_between declared b.stack b.body keeps) room
@@ -108,16 +109,16 @@ handler_enters_within at total (Some b) room = lt-ltb at total (omega (arith, bo
 
 -- ---- processes
 
-duration_is : (negative : Bool) (m : Option ℕ) → cond negative (is_between 1 1 m) (is_between 1 (2 ^ 40) m) ≡ true → IsDuration (cond negative None (Some (within (2 ^ 40) m)))
+duration_is : (negative : Bool) (m : Option ℕ) → cond negative (is_between 1 1 m) (is_between 1 MOST_TICKS m) ≡ true → IsDuration (cond negative None (Some (within MOST_TICKS m)))
 duration_is true m h = tt
-duration_is false m h = let k = keeps_within 1 (2 ^ 40) m h in record { least = omega (arith, k.4, k.2); most = omega (arith, k.4, k.3) }
+duration_is false m h = let k = keeps_within 1 MOST_TICKS m h in record { least = omega (arith, k.4, k.2); most = omega (arith, k.4, k.3) }
 
-multiple_is : (unit : ℕ) (negative : Bool) (m : Option ℕ) → cond negative (is_between 1 1 m) (is_between 1 (2 ^ 40) m) ≡ true → cond negative true (is_written_multiple unit m) ≡ true → is_infinite_or_multiple unit (cond negative None (Some (within (2 ^ 40) m))) ≡ true
+multiple_is : (unit : ℕ) (negative : Bool) (m : Option ℕ) → cond negative (is_between 1 1 m) (is_between 1 MOST_TICKS m) ≡ true → cond negative true (is_written_multiple unit m) ≡ true → is_infinite_or_multiple unit (cond negative None (Some (within MOST_TICKS m))) ≡ true
 multiple_is unit true m h k = refl
 multiple_is unit false None h k = absurd cc
 multiple_is unit false (Some n) h k =
-    let parts = and_parts (nat_le 1 n) (nat_le n (2 ^ 40)) h in
-    let is : within (2 ^ 40) (Some n) ≡ n = cond-true (nat_le n (2 ^ 40)) n 0 parts.1 in
+    let parts = and_parts (nat_le 1 n) (nat_le n MOST_TICKS) h in
+    let is : within MOST_TICKS (Some n) ≡ n = cond-true (nat_le n MOST_TICKS) n 0 parts.1 in
     ap (λ x. nat_eq (x % unit) 0) is ∙ (and_parts (nat_lt 0 unit) (nat_eq (n % unit) 0) k).1
 
 -- what no entry is named, no row is named
@@ -149,14 +150,14 @@ new_behind before (x ∷ xs) ys h =
     subst (λ (b : List Entry). are_new [] b ys ≡ true) (append_assoc before (x ∷ []) xs) rest
 
 module _ (unit : ℕ) (declared : List Entry) (procedures : List program.Procedure) where
-  process_is : (at : ℕ) (rows : List ProcessRow) (q : written.Process) → FitsBody procedures (resolve_body declared q.stack q.body) → keeps_process declared q ≡ true → keeps_period unit q ≡ true → is_process rows q.name ≡ false → at ≤ 65536
+  process_is : (at : ℕ) (rows : List ProcessRow) (q : written.Process) → FitsBody procedures (resolve_body declared q.stack q.body) → keeps_process declared q ≡ true → keeps_period unit q ≡ true → is_process rows q.name ≡ false → at ≤ MOST_INSTRUCTIONS
       → IsProcess unit rows (process_row at (resolve_process declared q))
   process_is at rows q fits keeps period fresh room =
       let k1 = and_parts _ (keeps_stack_body declared q.stack q.body) keeps in
       let k2 = and_parts _ _ k1.0 in
       let k3 = and_parts _ _ k2.0 in
-      let k4 = and_parts (is_name q.name) (is_between 1 239 q.priority) k3.0 in
-      let priority = keeps_within 1 239 q.priority k4.1 in
+      let k4 = and_parts (is_name q.name) (is_between 1 GREATEST_PRIORITY q.priority) k3.0 in
+      let priority = keeps_within 1 GREATEST_PRIORITY q.priority k4.1 in
       record {
         name = k4.0;
         fresh = fresh;
@@ -168,7 +169,7 @@ module _ (unit : ℕ) (declared : List Entry) (procedures : List program.Procedu
       }
 
   processes_are : (at count : ℕ) (entries : List Entry) (rows : List ProcessRow) (qs : List written.Process) → Covers entries rows → are_new [] entries (process_entries count qs) ≡ true → AllByRecursion (λ (q : program.Process). FitsBody procedures q.body) (map (resolve_process declared) qs) → list_all (keeps_process declared) qs ≡ true → list_all (keeps_period unit) qs ≡ true
-      → at + sum_by size_of_process (map (resolve_process declared) qs) ≤ 65536 → EachBeside (IsProcess unit) rows (process_rows at (map (resolve_process declared) qs))
+      → at + sum_by size_of_process (map (resolve_process declared) qs) ≤ MOST_INSTRUCTIONS → EachBeside (IsProcess unit) rows (process_rows at (map (resolve_process declared) qs))
   processes_are at count entries rows [] covers new fits keeps periods room = tt
   processes_are at count entries rows (q ∷ qs) covers new fits keeps periods room =
       let r = resolve_process declared q in
@@ -221,7 +222,7 @@ bodies_lawful ports period p names limits periods fits =
       handler = handler_is declared r.procedures (handler_place r) p.handler fits.handler l3.1 (omega (arith, small));
     }
 
-code_lawful : (r : program.Program) → size_of r ≤ 65_536 → IsCode (bodies_in (section_of r)) (section_of r).code
+code_lawful : (r : program.Program) → size_of r ≤ MOST_INSTRUCTIONS → IsCode (bodies_in (section_of r)) (section_of r).code
 code_lawful r small =
     let total = length (section_of r).code in
     let size : total ≡ size_of r = length-map (code_of r) bytes_of ∙ code_size r in
@@ -249,7 +250,7 @@ section_lawful ports period p names limits periods words fits =
     }
 
 -- The section of an accepted program whose data are words, if its code is not too long.
-pub accepted_section : (ports : List PortRow) (period : ℕ) (p : written.Program) (r : program.Program) → verdict ports period p ≡ Ok r → size_of r ≤ 65_536 → All (FitsSigned w64) r.initial → IsSection period (section_of r)
+pub accepted_section : (ports : List PortRow) (period : ℕ) (p : written.Program) (r : program.Program) → verdict ports period p ≡ Ok r → size_of r ≤ MOST_INSTRUCTIONS → All (FitsSigned w64) r.initial → IsSection period (section_of r)
 accepted_section ports period p r h small words =
     let a = accepted ports period p r h in
     let fits = well_formed_fits ports period p r h small in
@@ -258,7 +259,7 @@ accepted_section ports period p r h small words =
     (section_lawful ports period p a.names a.limits a.periods (subst (λ (q : program.Program). All (FitsSigned w64) q.initial) back words) (subst Fits back fits))
 
 -- the same where the first values in the tree are numbers as a text gives them
-pub well_formed_section : (ports : List PortRow) (period : ℕ) (p : written.Program) (r : program.Program) → AreWords p → verdict ports period p ≡ Ok r → size_of r ≤ 65_536 → IsSection period (section_of r)
+pub well_formed_section : (ports : List PortRow) (period : ℕ) (p : written.Program) (r : program.Program) → AreWords p → verdict ports period p ≡ Ok r → size_of r ≤ MOST_INSTRUCTIONS → IsSection period (section_of r)
 well_formed_section ports period p r words h small =
     let a = accepted ports period p r h in
     accepted_section ports period p r h small (subst (λ (q : program.Program). All (FitsSigned w64) q.initial) a.is (initial_words ports p words))

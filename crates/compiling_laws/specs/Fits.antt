@@ -1,5 +1,6 @@
 -- What a checked program keeps to, as far as its compiled code depends on it.
 use Rattle.std.specs.Prelude.{◌≡◌, ℕ, ◌+◌, ◌≤◌, ◌<◌, Bool, true, false, List, [], ◌∷◌, Option, Some, None, length, slice_get, option_map}
+use Rattle.apex_types.specs.declared.limits.TheConstants.{MOST_INSTRUCTIONS, MOST_STACK_WORDS, MOST_WORK_TICKS}
 use Rattle.apex_types.specs.declared.place.Place.{Place}
 use Rattle.apex_types.specs.declared.place.Place.TheVariants.{Data, Slot}
 use Rattle.pal_meaning.specs.Program.{Program, Procedure, Body, Process, Expr, Links, Exprs, Stmt, Block}
@@ -47,7 +48,7 @@ abbrev mutual
 
 -- the ticks of one work
 abbrev pub IsWork : ℕ → Type 0
-IsWork ticks = (1 ≤ ticks) × (ticks ≤ 1_000_000)
+IsWork ticks = (1 ≤ ticks) × (ticks ≤ MOST_WORK_TICKS)
 
 -- the same for statements; only procedures have a return, and a service has as many arguments and
 -- targets as its row says
@@ -68,7 +69,7 @@ abbrev mutual
 
 pub record FitsProcedure (procedures : List Procedure) (p : Procedure) : Type 0 where
   pub block : FitsBlock procedures (slots_of p) true p.block
-  pub frame : frame_of_procedure p ≤ 4_096
+  pub frame : frame_of_procedure p ≤ MOST_STACK_WORDS
 
 -- the body of INIT, of the handler or of a process: its frame is within its stack
 pub record FitsBody (procedures : List Procedure) (b : Body) : Type 0 where
@@ -85,4 +86,4 @@ pub record Fits (program : Program) : Type 0 where
   pub handler : FitsHandler program.procedures program.handler
   pub processes : (i : ℕ) (p : Process) → slice_get program.processes i ≡ Some p → FitsBody program.procedures p.body
   pub procedures : (f : ℕ) (p : Procedure) → slice_get program.procedures f ≡ Some p → FitsProcedure program.procedures p
-  pub size : size_of program ≤ 65_536
+  pub size : size_of program ≤ MOST_INSTRUCTIONS

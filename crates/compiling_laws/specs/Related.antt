@@ -3,6 +3,7 @@
 -- saved words are the open calls, and as many ticks are spent. Nothing is said of the data, so that
 -- it holds while others change them.
 use Rattle.std.specs.Prelude.{◌≡◌, ℕ, ◌+◌, ◌-◌, ◌≤◌, ◌<◌, ℤ, pos, Bool, true, List, [], ◌∷◌, ◌++◌, Option, Some, map, length, slice_get}
+use Rattle.apex_types.specs.declared.limits.TheConstants.{MOST_INSTRUCTIONS}
 use Rattle.apex_types.specs.declared.instruction.Instr.{Instr}
 use Rattle.apex_types.specs.declared.instruction.Instr.TheVariants as instr
 use Rattle.apex_types.specs.declared.identity.Runner.{Runner}
@@ -131,7 +132,7 @@ pub record InProgress (stack : ℕ) (k : Limits) (callers : List Laid) (words : 
 -- each call that waits goes on with the value that it is given
 abbrev pub Waiting : Code → List Procedure → ℕ → List Laid → Type 0
 Waiting code ps stack [] = Unit {0}
-Waiting code ps stack (l ∷ ls) = Goes code ps l.limits l.back (length l.call.values + 1) l.call.parts × (l.back ≤ 65_536) × (length l.call.values < l.limits.room) × InProgress stack l.limits ls l.call.slots × Waiting code ps stack ls
+Waiting code ps stack (l ∷ ls) = Goes code ps l.limits l.back (length l.call.values + 1) l.call.parts × (l.back ≤ MOST_INSTRUCTIONS) × (length l.call.values < l.limits.room) × InProgress stack l.limits ls l.call.slots × Waiting code ps stack ls
 
 pub record Keeps (code : Code) (procedures : List Procedure) (c : SourceControl) (m : MachineControl) : Type 0 where
   pub laid : List Laid

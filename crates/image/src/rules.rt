@@ -2,6 +2,7 @@
 
 ghost use Rattle.std.specs.Prelude.{◌≡◌, ◌≤◌, ◌==◌, false, length, IfOk};
 ghost use Rattle.std.specs.List.{list_any};
+ghost use Rattle.apex_types.specs.declared.limits.TheConstants.{MOST_PARTITIONS};
 ghost use Rattle.module_meaning.specs.Table.{has_wrong_window, keeps_rules};
 ghost use Rattle.window_table.specs.Schedules.{schedule_of};
 ghost use Rattle.image.specs.Items.{rows_of, channels_of};
@@ -21,7 +22,7 @@ pub fn keeps_rules(
     partitions: &[PartitionItem],
     channels: &[ChannelRow],
 ) -> Result<bool, AllocError>
-    requires few { length partitions.now ≤ 16 }
+    requires few { length partitions.now ≤ MOST_PARTITIONS }
     requires periods { list_any (λ p. p.period == 0) (rows_of partitions.now) ≡ false }
     requires windows { has_wrong_window (schedule_of schedule.now) (length (rows_of partitions.now)) ≡ false }
     ensures { IfOk result (λ kept. kept ≡ keeps_rules (schedule_of schedule.now) (rows_of partitions.now) (channels_of channels.now)) }

@@ -4,6 +4,7 @@ use Rattle.std.proofs.Common.{◌≡◌, ℕ, ◌+◌, ◌-◌, ◌≤◌, min, 
 use Rattle.std.specs.Prelude.{◌&&◌, int_le, nat_eq, nat_lt, nat_le, if◌then◌else◌, slice_get}
 use Rattle.std.proofs.lemmas.Bool.{and_parts, leb-true}
 use Rattle.std.proofs.lemmas.List.{length-take, length-drop}
+use Rattle.apex_types.specs.declared.limits.TheConstants.{MOST_WORDS}
 use Rattle.apex_types.specs.declared.codes.ErrorKind.{ErrorKind}
 use Rattle.apex_types.specs.declared.codes.ErrorKind.TheVariants as error
 use Rattle.apex_types.specs.declared.identity.Runner.{Runner}
@@ -29,7 +30,7 @@ use Rattle.isolation.proofs.Holding.{HasLength}
 -- ---- what a call hands in
 
 -- so many words from a place on, where they are within the data
-words_in : (base size l : ℤ) (words : List ℤ) (most : ℕ) → most ≤ 16 → is_range_within (length words) base size ≡ true → (int_le (pos 1) l && int_le l (pos most) && int_le l size) ≡ true
+words_in : (base size l : ℤ) (words : List ℤ) (most : ℕ) → most ≤ MOST_WORDS → is_range_within (length words) base size ≡ true → (int_le (pos 1) l && int_le l (pos most) && int_le l size) ≡ true
     → HasLength most (first_words l (message_from base (most_words size) words))
 words_in (pos b) (pos n) (pos k) words most few within e =
     let two = and_parts (nat_le 1 k && nat_le k most) (nat_le k n) e in
@@ -38,10 +39,10 @@ words_in (pos b) (pos n) (pos k) words most few within e =
     let low = leb-true k most one.1 in
     let room = leb-true k n two.1 in
     let there = leb-true (b + n) (length words) within in
-    let a = length-take k (take (min n 16) (drop b words)) in
-    let c = length-take (min n 16) (drop b words) in
+    let a = length-take k (take (min n MOST_WORDS) (drop b words)) in
+    let c = length-take (min n MOST_WORDS) (drop b words) in
     let d = length-drop b words in
-    let all : length (take k (take (min n 16) (drop b words))) ≡ k = omega (arith, few, some, low, room, there, a, c, d) in
+    let all : length (take k (take (min n MOST_WORDS) (drop b words))) ≡ k = omega (arith, few, some, low, room, there, a, c, d) in
     record { some = omega (arith, some, all); few = omega (arith, low, all) }
 words_in (pos b) (pos n) (negsuc k) words most few within e = absurd (cc)
 words_in (pos b) (negsuc n) (pos k) words most few within e = absurd (cc)
@@ -50,7 +51,7 @@ words_in (negsuc b) (pos n) l words most few within e = absurd (cc)
 words_in (negsuc b) (negsuc n) l words most few within e = absurd (cc)
 
 -- From an array within the data, so many words as an object takes, which are 16 at most.
-pub handed_length : (array : ArrayPlace) (l : ℤ) (words : List ℤ) (most : ℕ) → most ≤ 16 → has_array_within (length words) (Some array) ≡ true → is_length most array l ≡ true
+pub handed_length : (array : ArrayPlace) (l : ℤ) (words : List ℤ) (most : ℕ) → most ≤ MOST_WORDS → has_array_within (length words) (Some array) ≡ true → is_length most array l ≡ true
     → HasLength most (first_words l (handed (Some array) words))
 handed_length array l words most few within e = words_in array.base array.size l words most few within e
 

@@ -3,6 +3,7 @@
 use Rattle.std.specs.Prelude.{◌≡◌, ℕ, ◌^◌, ◌≤◌, ℤ, true, List, [], ◌∷◌, ◌++◌, length, Some}
 use Rattle.std.specs.List.{AllByRecursion}
 use Rattle.arrayvec.specs.ArrayVec.{ArrayVec}
+use Rattle.apex_types.specs.declared.limits.TheConstants.{MOST_TICKS}
 use Rattle.apex_types.specs.declared.codes.StartCondition.{StartCondition}
 use Rattle.apex_types.specs.declared.identity.At.{At}
 use Rattle.apex_types.specs.declared.identity.PortId.{PortId}
@@ -41,7 +42,7 @@ IsDelivered row PartitionFault = Unit {0}
 -- in the order of their ticks, none of a tick before this one
 abbrev pub AreDelivered : Partition → ℕ → List InputLine → Type 0
 AreDelivered row before [] = Unit {0}
-AreDelivered row before (l ∷ ls) = (before ≤ l.tick.0) × (l.tick.0 ≤ 2 ^ 40) × IsDelivered row l.input × AreDelivered row l.tick.0 ls
+AreDelivered row before (l ∷ ls) = (before ≤ l.tick.0) × (l.tick.0 ≤ MOST_TICKS) × IsDelivered row l.input × AreDelivered row l.tick.0 ls
 
 is_input : (row : Partition) (i : Input) → IsDelivered row i → IsWritable i → IsInput row i
 is_input row (Arrive port m) h w = record { at = h.at; there = h.there; taken = h.taken; message = record { some = h.message.some; few = h.message.few; fit = w } }

@@ -6,6 +6,7 @@ use Rattle.std.specs.List.{list_all, join_with_byte}
 use Rattle.std.proofs.lemmas.Bool.{and_parts, and_from, eq-eqb, lt-ltb, le-ltb, le-leb, cond-true, cond-false}
 use Rattle.std.proofs.lemmas.Bool.Decides.{nat_tests}
 use Rattle.std.proofs.lemmas.List.Folds.{list_all-append}
+use Rattle.apex_types.specs.declared.limits.TheConstants.{MOST_DEVICE_LINES, MOST_NAME_BYTES, MOST_TICKS}
 use Rattle.apex_types.specs.NameText.{is_name, is_name_byte, is_lower_case}
 use Rattle.apex_types.specs.declared.device.DeviceFault.{DeviceFault}
 use Rattle.apex_types.specs.declared.device.DeviceFault.TheVariants as fault
@@ -36,7 +37,7 @@ name_bytes_ink (c ∷ cs) h =
 name_ink : (name : List ℕ) → is_name name ≡ true → list_all is_ink name ≡ true
 name_ink [] h = cc
 name_ink (c ∷ cs) h =
-    let p = and_parts (is_lower_case c && list_all is_name_byte cs) (nat_le (length cs) 29) h in
+    let p = and_parts (is_lower_case c && list_all is_name_byte cs) (nat_le (length cs + 1) MOST_NAME_BYTES) h in
     let q = and_parts (is_lower_case c) (list_all is_name_byte cs) p.0 in
     and_from (is_ink c) (list_all is_ink cs) (one c q.0) (name_bytes_ink cs q.1)
   where
@@ -140,7 +141,7 @@ module _ (row : Partition) (names : HasNames row) where
   parts_ink ModuleFault h = refl
   parts_ink PartitionFault h = and_from (list_all is_ink row.name) true (name_ink row.name names.name) refl
 
-  body_ink : (l : InputLine) → l.tick.0 ≤ 2 ^ 40 → IsInput row l.input → AreInk (decimal l.tick.0 ∷ input_parts row l.input)
+  body_ink : (l : InputLine) → l.tick.0 ≤ MOST_TICKS → IsInput row l.input → AreInk (decimal l.tick.0 ∷ input_parts row l.input)
   body_ink l low h = and_from (list_all is_ink (decimal l.tick.0)) (list_all (list_all is_ink) (input_parts row l.input)) (decimal_ink l.tick.0 (omega (arith, low))) (parts_ink l.input h)
 
   written_again : (i : Input) → IsInput row i → written_of (input_parts row i) ≡ Some (said row i)
@@ -148,35 +149,35 @@ module _ (row : Partition) (names : HasNames row) where
   written_again ModuleFault h = refl
   written_again PartitionFault h = cond-true (is_name row.name) (Some (DevicePartitionFault row.name)) None names.name
 
-  line_again : (l : InputLine) → l.tick.0 ≤ 2 ^ 40 → IsInput row l.input → line_of (input_body row l) ≡ Some (record { tick = l.tick.0; written = said row l.input })
+  line_again : (l : InputLine) → l.tick.0 ≤ MOST_TICKS → IsInput row l.input → line_of (input_body row l) ≡ Some (record { tick = l.tick.0; written = said row l.input })
   line_again l low h =
       ap line_of_pieces (pieces_join 32 (decimal l.tick.0) (input_parts row l.input) (ink_is_free 32 (decimal l.tick.0) (omega arith) (decimal_ink l.tick.0 (omega (arith, low)))) (all_free 32 (input_parts row l.input) (omega arith) (parts_ink l.input h)))
-      ∙ ap (λ (o : Option ℕ). line_with o (written_of (input_parts row l.input))) (plain_again (2 ^ 40) l.tick.0 (lit< tt) low)
+      ∙ ap (λ (o : Option ℕ). line_with o (written_of (input_parts row l.input))) (plain_again MOST_TICKS l.tick.0 (lit< tt) low)
       ∙ ap (λ (o : Option Written). line_with (Some l.tick.0) o) (written_again l.input h)
 
   line_within : (b : Bool) (l : InputLine) → b ≡ true → within b l.tick.0 l.input ≡ Ok l
   line_within true l e = refl
   line_within false l e = absurd (cc)
 
-  named_again : (count tick : ℕ) (i : Input) → count < 65_536 → IsInput row i → named row count tick (said row i) ≡ Ok (record { tick = record { 0 = tick }; input = i })
+  named_again : (count tick : ℕ) (i : Input) → count < MOST_DEVICE_LINES → IsInput row i → named row count tick (said row i) ≡ Ok (record { tick = record { 0 = tick }; input = i })
   named_again count tick (Arrive port m) room h =
       ap (λ (o : Option PortRow). taken_message count tick m.items (first_from 1 (λ y. same y.name (name_of_port o)) row.ports)) h.there
       ∙ ap (λ (o : Option (ℕ × PortRow)). taken_message count tick m.items o) (found_port row names port.0 h.at h.there)
       ∙ ap (λ (d : PortDirection). if is_destination d then within (is_room count && nat_le (length m.items) h.at.words) tick (Arrive port m) else Err fault.Name) h.taken
-      ∙ line_within (is_room count && nat_le (length m.items) h.at.words) (record { tick = record { 0 = tick }; input = Arrive port m }) (and_from (is_room count) (nat_le (length m.items) h.at.words) (lt-ltb count 65_536 room) (le-leb (length m.items) h.at.words h.message.few))
-  named_again count tick ModuleFault room h = line_within (is_room count) (record { tick = record { 0 = tick }; input = ModuleFault }) (lt-ltb count 65_536 room)
+      ∙ line_within (is_room count && nat_le (length m.items) h.at.words) (record { tick = record { 0 = tick }; input = Arrive port m }) (and_from (is_room count) (nat_le (length m.items) h.at.words) (lt-ltb count MOST_DEVICE_LINES room) (le-leb (length m.items) h.at.words h.message.few))
+  named_again count tick ModuleFault room h = line_within (is_room count) (record { tick = record { 0 = tick }; input = ModuleFault }) (lt-ltb count MOST_DEVICE_LINES room)
   named_again count tick PartitionFault room h =
       cond-true (same row.name row.name) (within (is_room count) tick PartitionFault) (Err fault.Name) (same_own row.name)
-      ∙ line_within (is_room count) (record { tick = record { 0 = tick }; input = PartitionFault }) (lt-ltb count 65_536 room)
+      ∙ line_within (is_room count) (record { tick = record { 0 = tick }; input = PartitionFault }) (lt-ltb count MOST_DEVICE_LINES room)
 
-  taken_again : (count before : ℕ) (l : InputLine) → count < 65_536 → before ≤ l.tick.0 → l.tick.0 ≤ 2 ^ 40 → IsInput row l.input → taken row count before (line_of (input_body row l)) ≡ Ok l
+  taken_again : (count before : ℕ) (l : InputLine) → count < MOST_DEVICE_LINES → before ≤ l.tick.0 → l.tick.0 ≤ MOST_TICKS → IsInput row l.input → taken row count before (line_of (input_body row l)) ≡ Ok l
   taken_again count before l room late low h =
       ap (taken row count before) (line_again l low h)
       ∙ cond-false (nat_lt l.tick.0 before) (Err fault.Order) (named row count l.tick.0 (said row l.input)) (le-ltb l.tick.0 before late)
       ∙ named_again count l.tick.0 l.input room h
 
   -- ---- the text
-  lines_again : (ls : List InputLine) (count before : ℕ) → AreInputs row before ls → count + length ls ≤ 65_536 → lines_from row count before (pieces 10 (replay_text row ls)) ≡ Ok ls
+  lines_again : (ls : List InputLine) (count before : ℕ) → AreInputs row before ls → count + length ls ≤ MOST_DEVICE_LINES → lines_from row count before (pieces 10 (replay_text row ls)) ≡ Ok ls
   unfolding lines_from pieces_behind_marks
   lines_again [] count before h few = refl
   lines_again (l ∷ ls) count before h few =
@@ -186,6 +187,6 @@ module _ (row : Partition) (names : HasNames row) where
       ∙ ap (put_line l) (lines_again ls (count + 1) l.tick.0 h.3 (omega (arith, few)))
 
 -- The text of inputs is accepted as a replay text, and stands for these inputs.
-pub text_again : (row : Partition) (ls : List InputLine) → HasNames row → AreInputs row 0 ls → length ls ≤ 65_536 → replay_verdict row (replay_text row ls) ≡ Ok ls
+pub text_again : (row : Partition) (ls : List InputLine) → HasNames row → AreInputs row 0 ls → length ls ≤ MOST_DEVICE_LINES → replay_verdict row (replay_text row ls) ≡ Ok ls
 unfolding replay_verdict
 text_again row ls names h few = lines_again row names ls 0 0 h (omega (arith, few))

@@ -2,6 +2,7 @@
 use Rattle.std.proofs.Common.{◌≡◌, sym, ℕ, zero, suc, ◌+◌, ◌^◌, ◌≤◌, List, [], ◌∷◌, ◌++◌, length, map, Option, Some, None, Ok, refl, ap, subst, ◌∙◌, arith}
 use Rattle.std.specs.Prelude.{slice_get, is_some, option_map}
 use Rattle.std.proofs.lemmas.Option.{slice_get-map}
+use Rattle.apex_types.specs.declared.limits.TheConstants.{MOST_DEVICE_LINES, MOST_TICKS, MOST_WORDS}
 use Rattle.apex_types.specs.declared.codes.StartCondition.TheVariants as condition
 use Rattle.apex_types.specs.declared.device.DeviceLine.{DeviceLine}
 use Rattle.apex_types.specs.declared.row.PortRow.{PortRow}
@@ -48,7 +49,7 @@ item_names image lawful (suc place) item e = names_in image.schedule.frame [] im
 -- its ports take 16 words at most
 are_short : (before rows : List PortRow) → EachBeside IsPort before rows → AreShort rows
 are_short before [] each k x e = absurd (cc)
-are_short before (r ∷ rs) each zero x e = subst (λ (y : PortRow). y.words ≤ 16) (same_some r x e) each.0.words.most
+are_short before (r ∷ rs) each zero x e = subst (λ (y : PortRow). y.words ≤ MOST_WORDS) (same_some r x e) each.0.words.most
 are_short before (r ∷ rs) each (suc k) x e = are_short (before ++ r ∷ []) rs each.1 k x e
 
 row_short : (image : Image) → IsLawful image → (place : ℕ) (row : Partition) → slice_get (partitions_in image) place ≡ Some row → AreShort row.ports
@@ -92,7 +93,7 @@ first_sound s n (i ∷ is) (suc place) x e = first_sound s (n + 1) is place x e
 -- ---- the law
 -- what a run brings a partition, but for the values of the words
 are_delivered : (image : Image) (text : List ℕ) (lines : List DeviceLine) (p : ℕ) (item : Item) (n : ℕ)
-    → IsLawful image → verdict_for image text ≡ Ok lines → at_number image.items p ≡ Some item → n ≤ 2 ^ 40 → AreDelivered item.partition 0 (machine_inputs image p lines n)
+    → IsLawful image → verdict_for image text ≡ Ok lines → at_number image.items p ≡ Some item → n ≤ MOST_TICKS → AreDelivered item.partition 0 (machine_inputs image p lines n)
 are_delivered image text lines zero item n lawful taken e few = absurd (cc)
 are_delivered image text lines (suc place) item n lawful taken e few =
     let members = machine_members image.schedule 1 image.items in
@@ -111,7 +112,7 @@ are_delivered image text lines (suc place) item n lawful taken e few =
 
 -- What a run of a lawful image brings a partition is allowed, where all its words are words of 64 bits.
 pub inputs_allowed_of_run : (image : Image) (text : List ℕ) (lines : List DeviceLine) (p : ℕ) (s : Slice) (n : ℕ)
-    → IsLawful image → verdict_for image text ≡ Ok lines → slice image p ≡ Some s → n ≤ 2 ^ 40 → AreWritable (machine_inputs image p lines n) → AreInputs s.item.partition 0 (machine_inputs image p lines n)
+    → IsLawful image → verdict_for image text ≡ Ok lines → slice image p ≡ Some s → n ≤ MOST_TICKS → AreWritable (machine_inputs image p lines n) → AreInputs s.item.partition 0 (machine_inputs image p lines n)
 inputs_allowed_of_run image text lines p s n lawful taken e few words =
     let r = sliced image p s e in
     subst (λ (t : Slice). AreInputs t.item.partition 0 (machine_inputs image p lines n)) r.2
@@ -119,7 +120,7 @@ inputs_allowed_of_run image text lines p s n lawful taken e few words =
 
 -- At most 65,536 of them have a text that is accepted and stands for them.
 pub inputs_read_again : (image : Image) (text : List ℕ) (lines : List DeviceLine) (p : ℕ) (s : Slice) (n : ℕ)
-    → IsLawful image → verdict_for image text ≡ Ok lines → slice image p ≡ Some s → n ≤ 2 ^ 40 → AreWritable (machine_inputs image p lines n) → length (machine_inputs image p lines n) ≤ 65_536
+    → IsLawful image → verdict_for image text ≡ Ok lines → slice image p ≡ Some s → n ≤ MOST_TICKS → AreWritable (machine_inputs image p lines n) → length (machine_inputs image p lines n) ≤ MOST_DEVICE_LINES
     → replay_verdict s.item.partition (replay_text s.item.partition (machine_inputs image p lines n)) ≡ Ok (machine_inputs image p lines n)
 inputs_read_again image text lines p s n lawful taken e few words room =
     let r = sliced image p s e in

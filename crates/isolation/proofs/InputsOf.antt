@@ -4,6 +4,7 @@ use Rattle.std.specs.Prelude.{slice_get, option_map, cond, if◌then◌else◌}
 use Rattle.std.specs.List.{AllByRecursion}
 use Rattle.std.proofs.lemmas.Option.{slice_get-map}
 use Rattle.arrayvec.specs.ArrayVec.{ArrayVec}
+use Rattle.apex_types.specs.declared.limits.TheConstants.{MOST_TICKS}
 use Rattle.apex_types.specs.declared.codes.ModuleAction.{ModuleAction}
 use Rattle.apex_types.specs.declared.codes.ModuleAction.TheVariants as reaction
 use Rattle.apex_types.specs.declared.codes.StartCondition.TheVariants as condition
@@ -98,7 +99,7 @@ earlier row a b (x ∷ xs) l h = (before a b x.tick.0 l h.0, h.1, h.2, h.3)
     before a b t l k = omega arith
 
 -- the inputs of a tick, then the later ones
-tick_lines : (row : Partition) (before t : ℕ) (is : List Input) (rest : List InputLine) → before ≤ t → t ≤ 2 ^ 40 → AllByRecursion (IsDelivered row) is → AreDelivered row t rest → AreDelivered row before (map (line_in t) is ++ rest)
+tick_lines : (row : Partition) (before t : ℕ) (is : List Input) (rest : List InputLine) → before ≤ t → t ≤ MOST_TICKS → AllByRecursion (IsDelivered row) is → AreDelivered row t rest → AreDelivered row before (map (line_in t) is ++ rest)
 tick_lines row before t [] rest l low h k = earlier row before t rest l k
 tick_lines row before t (i ∷ is) rest l low h k = (l, low, h.0, tick_lines row t t is rest (le_refl t) low h.1 k)
 
@@ -218,7 +219,7 @@ module _ {C : Type 0} (names : List (List ℕ)) (all : AreApart names) (ps : Lis
 
   -- from a tick on
   inputs_good : (place : ℕ) (row : Partition) → slice_get ps place ≡ Some row → (n before : ℕ) (o : Option At) (ms : List (Member C)) (w : Member C) → slice_get ms place ≡ Some w → Stand ms
-      → ((a : At) → o ≡ Some a → (before ≤ a.now.0) × (a.now.0 + n ≤ 2 ^ 40 + 1)) → AreDelivered row before (inputs_from plan (suc place) devices n o ms)
+      → ((a : At) → o ≡ Some a → (before ≤ a.now.0) × (a.now.0 + n ≤ MOST_TICKS + 1)) → AreDelivered row before (inputs_from plan (suc place) devices n o ms)
   inputs_good place row e zero before o ms w here s h = tt
   inputs_good place row e (suc n) before None ms w here s h = tt
   inputs_good place row e (suc n) before (Some at) ms w here s h =
@@ -229,14 +230,14 @@ module _ {C : Type 0} (names : List (List ℕ)) (all : AreApart names) (ps : Lis
       (tick_allowed place row e at ms place w here s)
       (inputs_good place row e n at.now.0 (option_map next_tick r.at) r.members t.1.0 t.1.1 t.0 (λ a k. later now.1 a (next_in at.now.0 r.at a (tick_in plan devices at ms) k)))
     where
-      low : at.now.0 + suc n ≤ 2 ^ 40 + 1 → at.now.0 ≤ 2 ^ 40
+      low : at.now.0 + suc n ≤ MOST_TICKS + 1 → at.now.0 ≤ MOST_TICKS
       low l = omega arith
 
-      later : at.now.0 + suc n ≤ 2 ^ 40 + 1 → (a : At) → a.now.0 ≡ at.now.0 + 1 → (at.now.0 ≤ a.now.0) × (a.now.0 + n ≤ 2 ^ 40 + 1)
+      later : at.now.0 + suc n ≤ MOST_TICKS + 1 → (a : At) → a.now.0 ≡ at.now.0 + 1 → (at.now.0 ≤ a.now.0) × (a.now.0 + n ≤ MOST_TICKS + 1)
       later l a k = (omega (arith, k), omega (arith, k))
 
   -- The inputs of n ticks are in order, and each is one that its port allows.
-  pub inputs_allowed : (place : ℕ) (row : Partition) → slice_get ps place ≡ Some row → (n : ℕ) → n ≤ 2 ^ 40 + 1 → (ms : List (Member C)) (w : Member C) → slice_get ms place ≡ Some w
+  pub inputs_allowed : (place : ℕ) (row : Partition) → slice_get ps place ≡ Some row → (n : ℕ) → n ≤ MOST_TICKS + 1 → (ms : List (Member C)) (w : Member C) → slice_get ms place ≡ Some w
       → map name_of (starts ms).members ≡ names → ((q : ℕ) (x : Member C) → slice_get ms q ≡ Some x → Sound q x) → AreDelivered row 0 (inputs_of (record { plan = plan; members = ms }) (suc place) devices n)
   inputs_allowed place row e zero few ms w here named sound = tt
   inputs_allowed place row e (suc n) few ms w here named sound =
@@ -248,7 +249,7 @@ module _ {C : Type 0} (names : List (List ℕ)) (all : AreApart names) (ps : Lis
       now_of None = 0
       now_of (Some at) = at.now.0
 
-      first : {t : ℕ} → 0 ≡ t → (0 ≤ t) × (t + suc n ≤ 2 ^ 40 + 1)
+      first : {t : ℕ} → 0 ≡ t → (0 ≤ t) × (t + suc n ≤ MOST_TICKS + 1)
       first k = (omega arith, omega (arith, few, k))
 
       begun : (q : ℕ) (x : Member C) → slice_get ms q ≡ Some x → slice_get (starts ms).members q ≡ Some (started_member first_tick condition.NormalStart x)

@@ -3,6 +3,7 @@ use Rattle.std.proofs.Common.{◌≡◌, ℕ, zero, suc, ◌≤◌, ℤ, Bool, t
 use Rattle.std.specs.Prelude.{pos, negsuc, not, if◌then◌else◌, slice_get, is_some}
 use Rattle.std.proofs.lemmas.Bool.{not-false}
 use Rattle.arrayvec.specs.ArrayVec.{ArrayVec}
+use Rattle.apex_types.specs.declared.limits.TheConstants.{MOST_WORDS}
 use Rattle.apex_types.specs.declared.codes.Mode.{Mode}
 use Rattle.apex_types.specs.declared.codes.ReturnCode.TheVariants as code
 use Rattle.apex_types.specs.declared.identity.At.{At}
@@ -31,7 +32,7 @@ use Rattle.isolation.proofs.Steps.{same_some}
 
 -- the messages of all these ports are short
 abbrev pub AreShort : List PortRow → Type 0
-AreShort rows = (place : ℕ) (x : PortRow) → slice_get rows place ≡ Some x → x.words ≤ 16
+AreShort rows = (place : ℕ) (x : PortRow) → slice_get rows place ≡ Some x → x.words ≤ MOST_WORDS
 
 module _ (rows : List PortRow) where
   abbrev Sound : Step (Sharing Ports) → Type 0
@@ -126,14 +127,14 @@ module _ (rows : List PortRow) where
     long_enough o array size k z f e = not-false (is_length z.row.words array size) (subst (λ (o : Option (ℕ × Port)). not (has o (λ x. is_length x.row.words array size)) ≡ false) f e)
 
     -- What a call hands in has a length that the port allows.
-    write_sound : AreShort rows → (p : Runner) (id : ℤ) (array : ArrayPlace) (size : ℤ) (words : List ℤ) → ((most : ℕ) → most ≤ 16 → is_length most array size ≡ true → HasLength most (first_words size words))
+    write_sound : AreShort rows → (p : Runner) (id : ℤ) (array : ArrayPlace) (size : ℤ) (words : List ℤ) → ((most : ℕ) → most ≤ MOST_WORDS → is_length most array size ≡ true → HasLength most (first_words size words))
         → Sound (write_sampling_message b p id array size words)
     write_sound short p id array size words good =
         either (not (has (sampling b.shared id) is_created)) _ _ h (either (not (has (sampling b.shared id) is_source)) _ _ h (passed (not (has (sampling b.shared id) (λ x. is_length x.row.words array size))) _ _ h
         (λ e. on_sound (sampling b.shared id) (writes_sample b p (message (first_words size words))) (sampling_found id) (λ k z f g.
         put_sound k z (with_sample z (message (first_words size words))) g refl (λ holds source. (good z.row.words (short k z.row (row_at k z g)) (long_enough (sampling b.shared id) array size k z f e), tt))))))
 
-    send_sound : AreShort rows → (at : At) (p : Runner) (id : ℤ) (array : ArrayPlace) (size limit : ℤ) (words : List ℤ) → ((most : ℕ) → most ≤ 16 → is_length most array size ≡ true → HasLength most (first_words size words))
+    send_sound : AreShort rows → (at : At) (p : Runner) (id : ℤ) (array : ArrayPlace) (size limit : ℤ) (words : List ℤ) → ((most : ℕ) → most ≤ MOST_WORDS → is_length most array size ≡ true → HasLength most (first_words size words))
         → Sound (send_queuing_message at b p id array size limit words)
     send_sound short at p id array size limit words good =
         either (not (has (queuing b.shared id) is_created)) _ _ h (either (not (is_duration limit)) _ _ h (either (not (has (queuing b.shared id) is_source)) _ _ h (passed (not (has (queuing b.shared id) (λ x. is_length x.row.words array size))) _ _ h

@@ -4,6 +4,7 @@ use Rattle.std.proofs.Common.{◌≡◌, ℕ, suc, ◌+◌, ◌^◌, ◌≤◌, 
 use Rattle.std.specs.Prelude.{slice_get, ◌&&◌, nat_lt, nat_le, map, if◌then◌else◌}
 use Rattle.std.specs.List.{AllByRecursion}
 use Rattle.std.proofs.lemmas.Bool.{and_parts, leb-true}
+use Rattle.apex_types.specs.declared.limits.TheConstants.{MOST_TICKS}
 use Rattle.apex_types.specs.NameText.{is_name}
 use Rattle.apex_types.specs.declared.device.DeviceFault.{DeviceFault}
 use Rattle.apex_types.specs.declared.device.DeviceFault.TheVariants as fault
@@ -111,7 +112,7 @@ written_says (kind ∷ rest) w e = either (same kind (codes "MSG")) (same kind (
 
 pieces_say : (ps : List (List ℕ)) (l : WrittenLine) → line_of_pieces ps ≡ Some l → Says l.written
 pieces_say [] l e = absurd (cc)
-pieces_say (t ∷ rest) l e = both (plain_number (2 ^ 40) t) (written_of rest) refl e
+pieces_say (t ∷ rest) l e = both (plain_number MOST_TICKS t) (written_of rest) refl e
   where
     both : (o : Option ℕ) (r : Option Written) → written_of rest ≡ r → line_with o r ≡ Some l → Says l.written
     both None r k e = absurd (cc)

@@ -4,6 +4,7 @@ use Rattle.std.specs.Fmt.{decimal, signed_decimal}
 use Rattle.std.specs.Int.{w64}
 use Rattle.std.specs.List.{join_with_byte}
 use Rattle.arrayvec.specs.ArrayVec.{ArrayVec}
+use Rattle.apex_types.specs.declared.limits.TheConstants.{MOST_TICKS}
 use Rattle.apex_types.specs.NameText.{is_name}
 use Rattle.apex_types.specs.declared.row.PortDirection.TheVariants as direction
 use Rattle.apex_types.specs.declared.row.PortRow.{PortRow}
@@ -75,7 +76,7 @@ AreInOrder before (l ∷ ls) = (before ≤ l.tick.0) × AreInOrder l.tick.0 ls
 -- the same, and each can come
 abbrev pub AreInputs : Partition → ℕ → List InputLine → Type 0
 AreInputs row before [] = Unit {0}
-AreInputs row before (l ∷ ls) = (before ≤ l.tick.0) × (l.tick.0 ≤ 2 ^ 40) × IsInput row l.input × AreInputs row l.tick.0 ls
+AreInputs row before (l ∷ ls) = (before ≤ l.tick.0) × (l.tick.0 ≤ MOST_TICKS) × IsInput row l.input × AreInputs row l.tick.0 ls
 
 -- the names of a partition's row
 pub record HasNames (row : Partition) : Type 0 where

@@ -1,5 +1,6 @@
 -- The text of what comes to one partition: what each line says, and why a line is refused.
 use Rattle.std.specs.Prelude.{ℕ, ◌+◌, ◌^◌, ℤ, Bool, true, false, ◌&&◌, nat_le, nat_lt, if◌then◌else◌, List, [], ◌∷◌, length, codes, Option, Some, None, Result, Ok, Err}
+use Rattle.apex_types.specs.declared.limits.TheConstants.{MOST_TICKS}
 use Rattle.apex_types.specs.declared.device.DeviceFault.{DeviceFault}
 use Rattle.apex_types.specs.declared.device.DeviceFault.TheVariants as fault
 use Rattle.apex_types.specs.declared.row.PortDirection.{PortDirection}
@@ -21,7 +22,7 @@ written_of (kind ∷ rest) =
 
 abbrev pub line_of_pieces : List (List ℕ) → Option WrittenLine
 line_of_pieces [] = None
-line_of_pieces (tick ∷ rest) = line_with (plain_number (2 ^ 40) tick) (written_of rest)
+line_of_pieces (tick ∷ rest) = line_with (plain_number MOST_TICKS tick) (written_of rest)
 
 abbrev pub line_of : List ℕ → Option WrittenLine
 line_of text = line_of_pieces (pieces 32 text)

@@ -1,5 +1,6 @@
 -- What a replay of one partition of an image is of.
 use Rattle.std.specs.Prelude.{◌≡◌, ℕ, ◌^◌, ◌≤◌, List, Option, Some, Result, Ok}
+use Rattle.apex_types.specs.declared.limits.TheConstants.{MOST_TICKS}
 use Rattle.module_meaning.specs.DeviceText.{first_from}
 use Rattle.engine_meaning.specs.Digits.{same}
 use Rattle.machine_meaning.specs.Image.{Item, Image}
@@ -18,4 +19,4 @@ pub record IsReplay (read : Result Image Fault) (name inputs : List ℕ) (n : �
   pub loaded : read ≡ Ok image
   pub found : (f : ℕ × Item) × (numbered image name ≡ Some f) × (s ≡ slice_of image f.0 f.1)
   pub taken : replay_verdict s.item.partition inputs ≡ Ok lines
-  pub few : n ≤ 2 ^ 40
+  pub few : n ≤ MOST_TICKS

@@ -16,7 +16,7 @@ use Rattle.apex_types.specs.declared.event.EventKind.TheVariants as event
 use Rattle.apex_types.specs.declared.event.Subject.{Subject}
 use Rattle.apex_types.specs.declared.identity.Runner.{Runner}
 use Rattle.apex_types.specs.declared.identity.Runner.TheVariants as runner
-use Rattle.apex_types.specs.declared.limits.TheConstants.{MOST_ERRORS}
+use Rattle.apex_types.specs.declared.limits.TheConstants.{MOST_ERRORS, MOST_REPORT_WORDS}
 use Rattle.apex_types.specs.declared.process.Action.TheVariants as asks
 use Rattle.apex_types.specs.declared.process.ProcessStatus.{ProcessStatus}
 use Rattle.apex_types.specs.declared.process.WaitingError.{WaitingError}
@@ -36,9 +36,9 @@ use Rattle.kernel_meaning.specs.Sharing.{fills}
 
 -- ---- REPORT_APPLICATION_MESSAGE
 
--- 1 to 16 words, and no more than the array has
+-- at least one word, at most those of a report, and no more than the array has
 abbrev pub is_message_length : ℤ → ℤ → Bool
-is_message_length size length = int_le (pos 1) length && int_le length (pos 16) && int_le length size
+is_message_length size length = int_le (pos 1) length && int_le length (pos MOST_REPORT_WORDS) && int_le length size
 
 abbrev pub reports : Processes → Runner → List ℤ → Step Processes
 reports s p words = record { part = s; lines = event.Report (subject s p) (message words) ∷ []; actions = [] }
@@ -119,7 +119,7 @@ abbrev pub get_error_status : Sharing Errors → Runner → ArrayPlace → Step 
 get_error_status b p array =
     row (sharing.refuses b p service.GetErrorStatus)
     ((not (is_same p runner.Handler), code.InvalidConfig)
-    ∷ (not (is_large_enough 16 array), code.InvalidParam)
+    ∷ (not (is_large_enough MOST_REPORT_WORDS array), code.InvalidParam)
     ∷ [])
     (takes_error b p array b.shared.waiting)
 

@@ -1,6 +1,7 @@
 -- One tick of a partition: what is due, the choice of who runs, and the tick that this one spends.
 use Rattle.std.specs.Prelude.{ℕ, ◌-◌, min, ℤ, pos, negsuc, Bool, true, false, List, [], ◌∷◌, ◌++◌, length, take, drop, Option, Some, None, slice_get, slice_set, map, if◌then◌else◌}
 use Rattle.arrayvec.specs.ArrayVec.{ArrayVec}
+use Rattle.apex_types.specs.declared.limits.TheConstants.{MOST_WORDS}
 use Rattle.apex_types.specs.Runners.{place_of}
 use Rattle.apex_types.specs.declared.codes.ErrorKind.TheVariants.{DeadlineMissed}
 use Rattle.apex_types.specs.declared.codes.Mode.{Mode}
@@ -107,9 +108,9 @@ abbrev pub message_from : ℤ → ℕ → List ℤ → List ℤ
 message_from (pos place) count words = take count (drop place words)
 message_from (negsuc n) count words = []
 
--- the words of an array, at most 16
+-- the words of an array, at most those of a message
 abbrev pub most_words : ℤ → ℕ
-most_words (pos size) = min size 16
+most_words (pos size) = min size MOST_WORDS
 most_words (negsuc n) = 0
 
 abbrev pub handed : Option ArrayPlace → List ℤ → List ℤ

@@ -1,5 +1,6 @@
 -- The services on processes and on time, a row each.
 use Rattle.std.specs.Prelude.{ℕ, suc, ◌+◌, ℤ, pos, negsuc, Bool, true, false, not, ◌&&◌, ◌||◌, nat_le, [], ◌∷◌, Option, Some, None, is_some, if◌then◌else◌, zero, nat_lt}
+use Rattle.apex_types.specs.declared.limits.TheConstants.{GREATEST_PRIORITY, MOST_LOCK_LEVEL}
 use Rattle.apex_types.specs.declared.codes.Mode.{Mode}
 use Rattle.apex_types.specs.declared.codes.ProcessState.{ProcessState}
 use Rattle.apex_types.specs.declared.codes.ProcessState.TheVariants.{Dormant, Ready, Running, Waiting}
@@ -76,7 +77,7 @@ create_process m s p name =
 
 abbrev pub is_priority : ℤ → Bool
 is_priority (negsuc n) = false
-is_priority (pos n) = nat_le 1 n && nat_le n 239
+is_priority (pos n) = nat_le 1 n && nat_le n GREATEST_PRIORITY
 
 abbrev pub priority_of : ℤ → Priority
 priority_of v = record { 0 = amount v }
@@ -232,7 +233,7 @@ abbrev pub lock_preemption : Mode → Processes → Runner → Step Processes
 lock_preemption m s p =
     row (refuses s p service.LockPreemption)
     ((may_not_lock m p, code.NoAction)
-    ∷ (nat_le 16 (level_of s.lock), code.InvalidConfig)
+    ∷ (nat_le MOST_LOCK_LEVEL (level_of s.lock), code.InvalidConfig)
     ∷ [])
     (with_lock s p service.LockPreemption (locked_by p s.lock))
 

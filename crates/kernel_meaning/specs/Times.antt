@@ -1,5 +1,6 @@
 -- The times that programs give, the start of a process, its release, the normal start, and what is due.
 use Rattle.std.specs.Prelude.{ℕ, zero, ◌^◌, ℤ, pos, negsuc, Bool, true, false, nat_le, suc, ◌+◌, ◌-◌, ◌==◌, [], ◌∷◌, length, Option, Some, None, if◌then◌else◌, is_some}
+use Rattle.apex_types.specs.declared.limits.TheConstants.{MOST_TICKS}
 use Rattle.apex_types.specs.declared.codes.Mode.{Mode}
 use Rattle.apex_types.specs.declared.identity.At.{At}
 use Rattle.apex_types.specs.declared.identity.Runner.{Runner}
@@ -25,10 +26,10 @@ use Rattle.apex_types.specs.declared.service.Service.TheVariants as service
 
 -- The times that programs give, in ticks.
 
--- a delay is 0 to 2^40 ticks
+-- a delay is at least 0 and at most the ticks of a run
 abbrev pub is_delay : ℤ → Bool
 is_delay (negsuc n) = false
-is_delay (pos n) = nat_le n (2 ^ 40)
+is_delay (pos n) = nat_le n MOST_TICKS
 
 -- a time-out or a budget is a delay, or -1 for no limit
 abbrev pub is_duration : ℤ → Bool

@@ -4,6 +4,7 @@ ghost use Rattle.std.specs.Prelude.{◌≡◌, ℕ, ◌+◌, ◌-◌, ◌/◌, �
 ghost use Rattle.arrayvec.specs.ArrayVec.{array_vec_len};
 ghost use Rattle.image.specs.Items.{item_of};
 ghost use Rattle.image.specs.Views.{image_of};
+ghost use Rattle.listing.specs.declared.line.TheConstants.{LONGEST_LINE};
 ghost use Rattle.listing.specs.Code.{code_text, five_digits, instruction_line, instruction_lines, name_line, opcode_text, partition_text};
 ghost use Rattle.listing.specs.Listed.{IsListed};
 
@@ -78,7 +79,7 @@ fn instruction_line(index: usize, instruction: &[u8; 16]) -> Line
 
 /// The name of an opcode; `?` and its number where it has none.
 fn push_opcode(line: &mut Line, opcode: u32)
-    requires { array_vec_len line.old + 21 ≤ 160 }
+    requires { array_vec_len line.old + 21 ≤ LONGEST_LINE }
     ensures items { line.new.items ≡ line.old.items ++ opcode_text opcode }
     ensures len { array_vec_len line.new ≤ array_vec_len line.old + 21 }
 {

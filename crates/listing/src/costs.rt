@@ -1,7 +1,9 @@
 //! The costs of bodies as text.
 
 ghost use Rattle.std.specs.Prelude.{◌≡◌, ℕ, ◌+◌, ◌-◌, ◌^◌, ◌<◌, ◌≤◌, ◌++◌, flat_map};
+ghost use Rattle.apex_types.specs.declared.limits.TheConstants.{MOST_NAME_BYTES};
 ghost use Rattle.arrayvec.specs.ArrayVec.{array_vec_len};
+ghost use Rattle.listing.specs.declared.line.TheConstants.{LONGEST_LINE};
 ghost use Rattle.listing.specs.Costs.{body_text, cost_line, costs_text};
 ghost use Rattle.listing.specs.Listed.{IsListed};
 
@@ -60,9 +62,9 @@ fn cost_line(partition: &Name, body: &BodyCost) -> Line
 }
 
 fn push_body(line: &mut Line, body: &BodyName)
-    requires { array_vec_len line.old + 30 ≤ 160 }
+    requires { array_vec_len line.old + MOST_NAME_BYTES ≤ LONGEST_LINE }
     ensures items { line.new.items ≡ line.old.items ++ body_text body.now }
-    ensures len { array_vec_len line.new ≤ array_vec_len line.old + 30 }
+    ensures len { array_vec_len line.new ≤ array_vec_len line.old + MOST_NAME_BYTES }
 {
     match body {
         BodyName::Init => push_text(line, "INIT"),

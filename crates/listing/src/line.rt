@@ -3,16 +3,21 @@
 ghost use Rattle.std.specs.Prelude.{◌≡◌, ◌+◌, ◌-◌, ◌^◌, ◌<◌, ◌≤◌, ◌++◌, length};
 ghost use Rattle.std.specs.Fmt.{decimal, signed_decimal};
 ghost use Rattle.arrayvec.specs.ArrayVec.{array_vec_len};
+ghost use Rattle.listing.specs.declared.line.TheConstants.{LONGEST_LINE};
 ghost use Rattle.listing.specs.Listed.{IsListed};
 
+use apex_types::limits::MOST_NAME_BYTES;
 use apex_types::{Sink, SinkFault, put_all};
 use arrayvec::ArrayVec;
 
-/// The bytes of one line. The longest has two names of 30, three numbers of 20 digits and 29 other bytes.
-pub type Line = ArrayVec<u8, 160>;
+/// The most bytes of one line. The longest has two names, three numbers of 20 digits and 29 other bytes.
+pub const LONGEST_LINE: usize = 2 * MOST_NAME_BYTES + 100;
+
+/// The bytes of one line.
+pub type Line = ArrayVec<u8, LONGEST_LINE>;
 
 pub fn push_bytes(line: &mut Line, bytes: &[u8])
-    requires { array_vec_len line.old + length bytes.now ≤ 160 }
+    requires { array_vec_len line.old + length bytes.now ≤ LONGEST_LINE }
     ensures items { line.new.items ≡ line.old.items ++ bytes.now }
     ensures len { array_vec_len line.new ≡ array_vec_len line.old + length bytes.now }
 {
@@ -20,7 +25,7 @@ pub fn push_bytes(line: &mut Line, bytes: &[u8])
 }
 
 pub fn push_text(line: &mut Line, text: &str)
-    requires { array_vec_len line.old + length text.now ≤ 160 }
+    requires { array_vec_len line.old + length text.now ≤ LONGEST_LINE }
     ensures items { line.new.items ≡ line.old.items ++ text.now }
     ensures len { array_vec_len line.new ≡ array_vec_len line.old + length text.now }
 {
@@ -28,7 +33,7 @@ pub fn push_text(line: &mut Line, text: &str)
 }
 
 pub fn push_number(line: &mut Line, number: u64)
-    requires { array_vec_len line.old + 20 ≤ 160 }
+    requires { array_vec_len line.old + 20 ≤ LONGEST_LINE }
     ensures items { line.new.items ≡ line.old.items ++ decimal number }
     ensures len { array_vec_len line.new ≤ array_vec_len line.old + 20 }
 {
@@ -37,7 +42,7 @@ pub fn push_number(line: &mut Line, number: u64)
 }
 
 pub fn push_word(line: &mut Line, word: i64)
-    requires { array_vec_len line.old + 20 ≤ 160 }
+    requires { array_vec_len line.old + 20 ≤ LONGEST_LINE }
     ensures items { line.new.items ≡ line.old.items ++ signed_decimal word }
     ensures len { array_vec_len line.new ≤ array_vec_len line.old + 20 }
 {

@@ -5,6 +5,7 @@ use Rattle.std.specs.List.{list_any, AllByRecursion, All}
 use Rattle.std.proofs.lemmas.Bool.{not-false, ltb-false, or_parts, or_from, and_left, ne_eqb}
 use Rattle.std.proofs.lemmas.List.{length-map}
 use Rattle.std.proofs.lemmas.List.Folds.{list_any-append}
+use Rattle.apex_types.specs.declared.limits.TheConstants.{MOST_CHANNELS, MOST_DEPTH, MOST_DESTINATIONS, MOST_FRAME_TICKS, MOST_PARTITIONS, MOST_PORTS, MOST_TICKS, MOST_WINDOWS, MOST_WORDS}
 use Rattle.apex_types.specs.NameText.{is_name}
 use Rattle.apex_types.specs.declared.row.PortRow.{PortRow}
 use Rattle.apex_types.specs.declared.row.WindowRow.{WindowRow}
@@ -128,19 +129,19 @@ count_inside low high xs h = let parts = or_parts (nat_lt (length xs) low) (nat_
 
 kind_inside : (k : KindText) → exceeds_kind k ≡ false → IsPortKind (kind_row k)
 unfolding exceeds_kind
-kind_inside (Sampling refresh) h = inside 0 (pos (2 ^ 40)) refresh h
-kind_inside (Queuing depth discipline) h = inside 1 (pos 32) depth h
+kind_inside (Sampling refresh) h = inside 0 (pos MOST_TICKS) refresh h
+kind_inside (Queuing depth discipline) h = inside 1 (pos MOST_DEPTH) depth h
 
 port_is : (before : List PortText) (p : PortText) → list_any (λ (b : PortText). same b.name p.name) before ≡ false → exceeds_port p ≡ false → IsPort (map port_row before) (port_row p)
 unfolding exceeds_port
 port_is before p fresh h =
     let k = or_parts _ (exceeds_kind p.kind) h in
-    let n = or_parts (not (is_name p.name)) (is_outside 1 (pos 16) p.words) k.0 in
+    let n = or_parts (not (is_name p.name)) (is_outside 1 (pos MOST_WORDS) p.words) k.0 in
     record {
       name = not-false (is_name p.name) n.0;
       fresh = any_mapped (λ (row : PortRow). bytes_eq row.name p.name) port_row before ∙ fresh;
       kind = kind_inside p.kind k.1;
-      words = inside 1 (pos 16) p.words n.1;
+      words = inside 1 (pos MOST_WORDS) p.words n.1;
     }
 
 -- a partition beside partitions
@@ -149,7 +150,7 @@ record IsRow (frame : ℕ) (before : List Partition) (row : Partition) : Type 0 
   fresh : list_any (λ (b : Partition). bytes_eq b.name row.name) before ≡ false
   period : IsFrom 1 frame row.period
   duration : IsFrom 0 row.period row.duration
-  port_count : IsFrom 0 16 (length row.ports)
+  port_count : IsFrom 0 MOST_PORTS (length row.ports)
   ports : EachBeside IsPort [] row.ports
 
 -- what a partition of a text keeps to
@@ -164,7 +165,7 @@ row_is frame before p fresh k =
     let many = or_parts _ (has_many_ports p) ports.0 in
     let times = or_parts (not (is_name p.name)) (exceeds_times frame p) many.0 in
     let each = or_parts (is_outside 1 frame p.period) (is_outside 0 p.period p.duration) times.1 in
-    let few = count_inside 0 16 p.ports many.1 in
+    let few = count_inside 0 MOST_PORTS p.ports many.1 in
     record {
       name = not-false (is_name p.name) times.0;
       fresh = any_mapped (λ (row : Partition). bytes_eq row.name p.name) partition_row before ∙ fresh;
@@ -212,11 +213,11 @@ unfolding number_from
 number_small n test [] k h = absurd cc
 number_small n test (x ∷ xs) k h = number_first (test x) n (length xs) k (number_from (n + 1) test xs) (λ e. number_small (n + 1) test xs k e) h
 
-window_number_small : (ps : List PartitionText) (o : Option ℕ) → length ps ≤ 16 → ((k : ℕ) → o ≡ Some k → (1 ≤ k) × (k < 1 + length ps)) → unwrap_or o 0 < 256
+window_number_small : (ps : List PartitionText) (o : Option ℕ) → length ps ≤ MOST_PARTITIONS → ((k : ℕ) → o ≡ Some k → (1 ≤ k) × (k < 1 + length ps)) → unwrap_or o 0 < 256
 window_number_small ps None few h = omega arith
 window_number_small ps (Some k) few h = omega (arith, (h k refl).1)
 
-windows_are : (ps : List PartitionText) (frame end : ℕ) (before : List WindowRow) (ws : List WindowText) → length ps ≤ 16 → frame ≤ 2 ^ 24 → last_end before ≡ end → overlaps_after (pos frame) (pos end) ws ≡ false → list_any exceeds_window ws ≡ false
+windows_are : (ps : List PartitionText) (frame end : ℕ) (before : List WindowRow) (ws : List WindowText) → length ps ≤ MOST_PARTITIONS → frame ≤ MOST_FRAME_TICKS → last_end before ≡ end → overlaps_after (pos frame) (pos end) ws ≡ false → list_any exceeds_window ws ≡ false
     → EachBeside IsWindow before (map (window_row ps) ws) × AllByRecursion (λ (w : WindowRow). w.offset + w.length ≤ frame) (map (window_row ps) ws)
 unfolding overlaps_after exceeds_window
 windows_are ps frame end before [] few small at apart limits = (tt, tt)
@@ -254,7 +255,7 @@ port_end n (Some q) rest e some few small others h =
     let is : ends.Port (record { 0 = n }) (record { 0 = q }) ≡ e = cc in
     subst IsEnd is (few, small q refl, and_left (n == 0) (q == 0) (not_zero n some))
 
-port_ends : (n : ℕ) (ps : List PartitionText) (text : List ℕ) (e : ChannelEnd) → 1 ≤ n → n + length ps ≤ 256 → AllByRecursion (λ (p : PartitionText). length p.ports ≤ 16) ps → port_from n ps text ≡ Some e → IsEnd e
+port_ends : (n : ℕ) (ps : List PartitionText) (text : List ℕ) (e : ChannelEnd) → 1 ≤ n → n + length ps ≤ 256 → AllByRecursion (λ (p : PartitionText). length p.ports ≤ MOST_PORTS) ps → port_from n ps text ≡ Some e → IsEnd e
 unfolding port_from
 port_ends n [] text e some few ports h = absurd cc
 port_ends n (p ∷ ps) text e some few ports h =
@@ -268,7 +269,7 @@ end_is : (o : Option ChannelEnd) → ((e : ChannelEnd) → o ≡ Some e → IsEn
 end_is None h = tt
 end_is (Some e) h = h e refl
 
-module _ (ps : List PartitionText) (few : length ps ≤ 16) (ports : AllByRecursion (λ (p : PartitionText). length p.ports ≤ 16) ps) where
+module _ (ps : List PartitionText) (few : length ps ≤ MOST_PARTITIONS) (ports : AllByRecursion (λ (p : PartitionText). length p.ports ≤ MOST_PORTS) ps) where
   named_end : (text : List ℕ) → IsEnd (unwrap_or (end_of ps text) ends.Device)
   unfolding end_of
   named_end text = end_is (end_of ps text) (λ e h. device_or (same text (codes "DEVICE")) (port_from 1 ps text) e (λ k. port_ends 1 ps text e (omega arith) (omega arith) ports k) h)
@@ -280,8 +281,8 @@ module _ (ps : List PartitionText) (few : length ps ≤ 16) (ports : AllByRecurs
   channel_is : (before : List ChannelText) (c : ChannelText) → list_any (λ (b : ChannelText). same b.name c.name) before ≡ false → exceeds_channel c ≡ false → IsChannel (map (channel_row ps) before) (channel_row ps c)
   unfolding exceeds_channel
   channel_is before c fresh h =
-      let parts = or_parts (not (is_name c.name)) (is_count_outside 1 16 c.destinations) h in
-      let count = count_inside 1 16 c.destinations parts.1 in
+      let parts = or_parts (not (is_name c.name)) (is_count_outside 1 MOST_DESTINATIONS c.destinations) h in
+      let count = count_inside 1 MOST_DESTINATIONS c.destinations parts.1 in
       let same_count = length-map c.destinations (λ d. unwrap_or (end_of ps d) ends.Device) in
       record {
         name = not-false (is_name c.name) parts.0;
@@ -297,13 +298,13 @@ not_negative : (low : ℕ) (high : ℕ) (z : ℤ) → is_outside low (pos high) 
 not_negative low high (pos n) h = refl
 not_negative low high (negsuc n) h = absurd cc
 
-few_ports : (frame : ℤ) (ps : List PartitionText) → list_any (exceeds_partition frame) ps ≡ false → AllByRecursion (λ (p : PartitionText). length p.ports ≤ 16) ps
+few_ports : (frame : ℤ) (ps : List PartitionText) → list_any (exceeds_partition frame) ps ≡ false → AllByRecursion (λ (p : PartitionText). length p.ports ≤ MOST_PORTS) ps
 unfolding exceeds_partition
 few_ports frame [] h = tt
 few_ports frame (p ∷ ps) h =
     let parts = or_parts (exceeds_partition frame p) (list_any (exceeds_partition frame) ps) h in
     let many = or_parts _ (has_many_ports p) (or_parts _ (list_any exceeds_port p.ports) parts.0).0 in
-    ((count_inside 0 16 p.ports many.1).most, few_ports frame ps parts.1)
+    ((count_inside 0 MOST_PORTS p.ports many.1).most, few_ports frame ps parts.1)
 
 -- the image of a table whose partitions have become items
 abbrev pub image_of : Table → List Item → Image
@@ -320,17 +321,17 @@ text_limits text items limits names apart same_rows sections =
     let ps = text.partitions in
     let l1 = or_parts _ (list_any (exceeds_partition text.frame) ps) limits in
     let l2 = or_parts (exceeds_counts text) (exceeds_rows text) l1.0 in
-    let c1 = or_parts _ (is_count_outside 0 64 text.channels) l2.0 in
-    let c2 = or_parts _ (is_count_outside 1 64 text.windows) c1.0 in
-    let c3 = or_parts (is_outside 1 (pos 16777216) text.frame) (is_count_outside 1 16 ps) c2.0 in
+    let c1 = or_parts _ (is_count_outside 0 MOST_CHANNELS text.channels) l2.0 in
+    let c2 = or_parts _ (is_count_outside 1 MOST_WINDOWS text.windows) c1.0 in
+    let c3 = or_parts (is_outside 1 (pos MOST_FRAME_TICKS) text.frame) (is_count_outside 1 MOST_PARTITIONS ps) c2.0 in
     let rows = or_parts (list_any exceeds_window text.windows) (list_any exceeds_channel text.channels) l2.1 in
     let n1 = or_parts _ (list_any (λ (p : PartitionText). has_twice (λ (q r : PortText). same q.name r.name) p.ports) ps) names in
     let n2 = or_parts (has_twice (λ (p q : PartitionText). same p.name q.name) ps) (has_twice (λ (c d : ChannelText). same c.name d.name) text.channels) n1.0 in
-    let frame = inside 1 (pos 16777216) text.frame c3.0 in
+    let frame = inside 1 (pos MOST_FRAME_TICKS) text.frame c3.0 in
     let frame_is = not_negative 1 16777216 text.frame c3.0 in
-    let partitions = count_inside 1 16 ps c3.1 in
-    let windows = count_inside 1 64 text.windows c2.1 in
-    let channels = count_inside 0 64 text.channels c1.1 in
+    let partitions = count_inside 1 MOST_PARTITIONS ps c3.1 in
+    let windows = count_inside 1 MOST_WINDOWS text.windows c2.1 in
+    let channels = count_inside 0 MOST_CHANNELS text.channels c1.1 in
     let follow : overlaps_after (pos (nat_abs text.frame)) (pos 0) text.windows ≡ false = subst (λ (z : ℤ). overlaps_after z (pos 0) text.windows ≡ false) frame_is apart in
     let placed = windows_are ps (nat_abs text.frame) 0 [] text.windows partitions.most frame.most refl follow rows.0 in
     let each = each_row (IsRow (nat_abs text.frame)) (KeepsRow text.frame) (λ (p q : PartitionText). same p.name q.name) partition_row (row_is text.frame) [] ps (none_apart (λ (p q : PartitionText). same p.name q.name) ps) n2.0 (keeps_rows text.frame ps l1.1 n1.1) in
@@ -396,11 +397,11 @@ text_in_order text limits apart =
     let ps = text.partitions in
     let l1 = or_parts _ (list_any (exceeds_partition text.frame) ps) limits in
     let l2 = or_parts (exceeds_counts text) (exceeds_rows text) l1.0 in
-    let c1 = or_parts _ (is_count_outside 0 64 text.channels) l2.0 in
-    let c2 = or_parts _ (is_count_outside 1 64 text.windows) c1.0 in
-    let c3 = or_parts (is_outside 1 (pos 16777216) text.frame) (is_count_outside 1 16 ps) c2.0 in
+    let c1 = or_parts _ (is_count_outside 0 MOST_CHANNELS text.channels) l2.0 in
+    let c2 = or_parts _ (is_count_outside 1 MOST_WINDOWS text.windows) c1.0 in
+    let c3 = or_parts (is_outside 1 (pos MOST_FRAME_TICKS) text.frame) (is_count_outside 1 MOST_PARTITIONS ps) c2.0 in
     let rows = or_parts (list_any exceeds_window text.windows) (list_any exceeds_channel text.channels) l2.1 in
-    let frame = inside 1 (pos 16777216) text.frame c3.0 in
+    let frame = inside 1 (pos MOST_FRAME_TICKS) text.frame c3.0 in
     let frame_is = not_negative 1 16777216 text.frame c3.0 in
     let follow : overlaps_after (pos (nat_abs text.frame)) (pos 0) text.windows ≡ false = subst (λ (z : ℤ). overlaps_after z (pos 0) text.windows ≡ false) frame_is apart in
     (frame.least, windows_in_order ps (nat_abs text.frame) 0 text.windows follow rows.0)

@@ -4,6 +4,7 @@ use Rattle.std.specs.Prelude.{◌&&◌, FitsSigned}
 use Rattle.std.specs.List.{flat_map}
 use Rattle.std.specs.Int.{w16, w32, w64}
 use Rattle.std.proofs.lemmas.Bool.{leb-true, le-leb, eqb-true}
+use Rattle.apex_types.specs.declared.limits.TheConstants.{GREATEST_PRIORITY, LEAST_STACK_WORDS, MOST_INSTRUCTIONS, MOST_PARAMETERS, MOST_PROCEDURES, MOST_SLOTS, MOST_STACK_WORDS, MOST_TICKS}
 use Rattle.apex_types.specs.declared.row.RoutineRow.{RoutineRow}
 use Rattle.apex_types.specs.declared.row.BodyRow.{BodyRow}
 use Rattle.apex_types.specs.declared.row.ProcessRow.{ProcessRow}
@@ -24,12 +25,12 @@ unfolding routine_at routine
 routine_reads = said routine_at _ routine _ IsRoutine
     (first (number_at w32) _ (λ (r : RoutineRow). r.entry) u32 (λ r. u8 r.parameters ++ (u16 r.slots ++ u32 r.frame)) _ _
     (number_reads w32 (2 ^ 32) wide32)
-    (λ entry p. first (small_at 0 8) _ (λ (r : RoutineRow). r.parameters) u8 (λ r. u16 r.slots ++ u32 r.frame) (IsFrom 0 8) _
-    (small_reads 0 8 (lit< tt))
-    (λ parameters q. first (limited_at w16 parameters 72) _ (λ (r : RoutineRow). r.slots) u16 (λ r. u32 r.frame) (IsFrom parameters 72) _
-    (limited_reads w16 (2 ^ 16) wide16 parameters 72 (lit< tt))
-    (λ slots r. last (limited_at w32 (slots + 2) 4096) (λ frame. record { entry = entry; parameters = parameters; slots = slots; frame = frame }) (λ (r : RoutineRow). r.frame) u32 (IsFrom (slots + 2) 4096)
-    (limited_reads w32 (2 ^ 32) wide32 (slots + 2) 4096 (lit< tt)) (λ a. refl))
+    (λ entry p. first (small_at 0 MOST_PARAMETERS) _ (λ (r : RoutineRow). r.parameters) u8 (λ r. u16 r.slots ++ u32 r.frame) (IsFrom 0 MOST_PARAMETERS) _
+    (small_reads 0 MOST_PARAMETERS (lit< tt))
+    (λ parameters q. first (limited_at w16 parameters MOST_SLOTS) _ (λ (r : RoutineRow). r.slots) u16 (λ r. u32 r.frame) (IsFrom parameters MOST_SLOTS) _
+    (limited_reads w16 (2 ^ 16) wide16 parameters MOST_SLOTS (lit< tt))
+    (λ slots r. last (limited_at w32 (slots + 2) MOST_STACK_WORDS) (λ frame. record { entry = entry; parameters = parameters; slots = slots; frame = frame }) (λ (r : RoutineRow). r.frame) u32 (IsFrom (slots + 2) MOST_STACK_WORDS)
+    (limited_reads w32 (2 ^ 32) wide32 (slots + 2) MOST_STACK_WORDS (lit< tt)) (λ a. refl))
     (λ slots row r g. ap (λ (r : RoutineRow). r.slots) g.1))
     (λ parameters row q g. ap (λ (r : RoutineRow). r.parameters) g.1.1))
     (λ entry row p g. ap (λ (r : RoutineRow). r.entry) g.1.1.1))
@@ -40,12 +41,12 @@ routine_reads = said routine_at _ routine _ IsRoutine
 pub body_reads : Reads body_at body IsBody
 unfolding body_at body
 body_reads = said body_at _ body _ IsBody
-    (first (limited_at w16 16 4096) _ (λ (r : BodyRow). r.stack) u16 (λ r. u32 r.entry ++ (u16 r.slots ++ u32 r.frame)) (IsFrom 16 4096) _
-    (limited_reads w16 (2 ^ 16) wide16 16 4096 (lit< tt))
+    (first (limited_at w16 LEAST_STACK_WORDS MOST_STACK_WORDS) _ (λ (r : BodyRow). r.stack) u16 (λ r. u32 r.entry ++ (u16 r.slots ++ u32 r.frame)) (IsFrom LEAST_STACK_WORDS MOST_STACK_WORDS) _
+    (limited_reads w16 (2 ^ 16) wide16 LEAST_STACK_WORDS MOST_STACK_WORDS (lit< tt))
     (λ stack p. first (number_at w32) _ (λ (r : BodyRow). r.entry) u32 (λ r. u16 r.slots ++ u32 r.frame) _ _
     (number_reads w32 (2 ^ 32) wide32)
-    (λ entry q. first (limited_at w16 0 72) _ (λ (r : BodyRow). r.slots) u16 (λ r. u32 r.frame) (IsFrom 0 72) _
-    (limited_reads w16 (2 ^ 16) wide16 0 72 (lit< tt))
+    (λ entry q. first (limited_at w16 0 MOST_SLOTS) _ (λ (r : BodyRow). r.slots) u16 (λ r. u32 r.frame) (IsFrom 0 MOST_SLOTS) _
+    (limited_reads w16 (2 ^ 16) wide16 0 MOST_SLOTS (lit< tt))
     (λ slots r. last (limited_at w32 (slots + 2) stack) (λ frame. record { stack = stack; entry = entry; slots = slots; frame = frame }) (λ (r : BodyRow). r.frame) u32 (IsFrom (slots + 2) stack)
     (limited_reads w32 (2 ^ 32) wide32 (slots + 2) stack (omega (arith, p.most))) (λ a. refl))
     (λ slots row r g. ap (λ (r : BodyRow). r.slots) g.1))
@@ -57,7 +58,7 @@ body_reads = said body_at _ body _ IsBody
 
 -- ---- durations
 
-finite_ok : (n : ℕ) (a b : Bool) (o : Option ℕ) → (a ≡ true → 1 ≤ n) → (b ≡ true → n ≤ 2 ^ 40) → cond (a && b) (Some (Some n)) None ≡ Some o → (o ≡ Some n) × IsFrom 1 (2 ^ 40) n
+finite_ok : (n : ℕ) (a b : Bool) (o : Option ℕ) → (a ≡ true → 1 ≤ n) → (b ≡ true → n ≤ MOST_TICKS) → cond (a && b) (Some (Some n)) None ≡ Some o → (o ≡ Some n) × IsFrom 1 MOST_TICKS n
 finite_ok n true true o low high h = let e : Some n ≡ o = cc in (sym e, record { least = low refl; most = high refl })
 finite_ok n true false o low high h = absurd cc
 finite_ok n false b o low high h = absurd cc
@@ -74,7 +75,7 @@ infinite_ok n false o is h = absurd cc
 stands : (z : ℤ) (o : Option ℕ) → duration_of z ≡ Some o → (i64 z ≡ duration o) × IsDuration o
 unfolding duration
 stands (pos n) o h =
-    let g = finite_ok n (leb 1 n) (leb n (2 ^ 40)) o (leb-true 1 n) (leb-true n (2 ^ 40)) h in
+    let g = finite_ok n (leb 1 n) (leb n MOST_TICKS) o (leb-true 1 n) (leb-true n MOST_TICKS) h in
     subst (λ (y : Option ℕ). (i64 (pos n) ≡ duration y) × IsDuration y) (sym g.0) (refl, g.1)
 stands (negsuc n) o h =
     let g = infinite_ok n (eqb n 0) o (eqb-true n 0) h in
@@ -98,7 +99,7 @@ word_stands : (o : Option ℕ) → IsDuration o → duration_of (word_of o) ≡ 
 word_stands None good = refl
 word_stands (Some n) good =
     let low : leb 1 n ≡ true = le-leb 1 n good.least in
-    let high : leb n (2 ^ 40) ≡ true = le-leb n (2 ^ 40) good.most in
+    let high : leb n MOST_TICKS ≡ true = le-leb n MOST_TICKS good.most in
     rw (low, high) refl
 
 chosen_duration : (rest : List ℕ) (o : Option (Option ℕ)) (x : Option ℕ × List ℕ) → chosen rest o ≡ Ok x → (o ≡ Some x.0) × (rest ≡ x.1)
@@ -139,8 +140,8 @@ unfolding process_at process
 process_reads unit before = said (process_at unit before) _ process _ (IsProcess unit before)
     (first (fresh_name_at (is_process before)) _ (λ (r : ProcessRow). r.name) name (λ r. u8 r.priority.0 ++ (duration r.period ++ (duration r.capacity ++ body r.body))) _ _
     (fresh_reads (is_process before))
-    (λ text p. first (small_at 1 239) _ (λ (r : ProcessRow). r.priority.0) u8 (λ r. duration r.period ++ (duration r.capacity ++ body r.body)) (IsFrom 1 239) _
-    (small_reads 1 239 (lit< tt))
+    (λ text p. first (small_at 1 GREATEST_PRIORITY) _ (λ (r : ProcessRow). r.priority.0) u8 (λ r. duration r.period ++ (duration r.capacity ++ body r.body)) (IsFrom 1 GREATEST_PRIORITY) _
+    (small_reads 1 GREATEST_PRIORITY (lit< tt))
     (λ priority q. first (period_at unit) _ (λ (r : ProcessRow). r.period) duration (λ r. duration r.capacity ++ body r.body) _ _
     (period_reads unit)
     (λ period r. first duration_at _ (λ (r : ProcessRow). r.capacity) duration (λ r. body r.body) IsDuration _
@@ -192,8 +193,8 @@ handler_reads = record {
 pub bodies_reads : (unit : ℕ) → Reads (bodies_at unit) bodies (AreBodies unit)
 unfolding bodies_at bodies
 bodies_reads unit = said (bodies_at unit) _ bodies _ (AreBodies unit)
-    (first (list_at 0 256 (λ _. routine_at)) _ (λ (b : Bodies). b.routines) (list routine) (λ b. list process b.processes ++ (body b.init ++ handler b.handler)) _ _
-    (list_reads (λ _. routine_at) routine (λ _. IsRoutine) 0 256 (lit< tt) (λ _. routine_reads))
+    (first (list_at 0 MOST_PROCEDURES (λ _. routine_at)) _ (λ (b : Bodies). b.routines) (list routine) (λ b. list process b.processes ++ (body b.init ++ handler b.handler)) _ _
+    (list_reads (λ _. routine_at) routine (λ _. IsRoutine) 0 MOST_PROCEDURES (lit< tt) (λ _. routine_reads))
     (λ routines p. first (list_at 0 31 (process_at unit)) _ (λ (b : Bodies). b.processes) (list process) (λ b. body b.init ++ handler b.handler) _ _
     (list_reads (process_at unit) process (IsProcess unit) 0 31 (lit< tt) (process_reads unit))
     (λ processes q. first body_at _ (λ (b : Bodies). b.init) body (λ b. handler b.handler) IsBody _
@@ -219,18 +220,18 @@ pub code_reads : (b : Bodies) → Reads (code_at b) (list instruction) (IsCode b
 unfolding code_at list
 code_reads b = record {
   takes = λ bytes x fits e.
-      let a = bind_ok (limited_at w32 1 65536 bytes) (λ count. cond (enter_within count.0 b) (items_at (λ _. bytes_at 16) count.0 [] count.1) (Err Limit)) x e in
+      let a = bind_ok (limited_at w32 1 MOST_INSTRUCTIONS bytes) (λ count. cond (enter_within count.0 b) (items_at (λ _. bytes_at 16) count.0 [] count.1) (Err Limit)) x e in
       let h = test_held (enter_within a.0.0 b) (items_at (λ _. bytes_at 16) a.0.0 [] a.0.1) x a.2 in
-      let p = (limited_reads w32 (2 ^ 32) wide32 1 65536 (lit< tt)).takes bytes a.0 fits a.1 in
+      let p = (limited_reads w32 (2 ^ 32) wide32 1 MOST_INSTRUCTIONS (lit< tt)).takes bytes a.0 fits a.1 in
       let q = items_take (λ _. bytes_at 16) instruction (λ _ bytes. length bytes ≡ 16) (λ _. instruction_reads) a.0.0 [] a.0.1 x p.0.rest_fits h.1 in
       let both = Takes-then bytes (u32 a.0.0) a.0.1 (flat_map instruction q.new) x.1 p.0 q.taken in
       let new_is : q.new ≡ x.0 = sym q.all_is in
       let count_is : a.0.0 ≡ length x.0 = sym q.count ∙ ap length new_is in
       let taken : Takes bytes (u32 (length x.0) ++ flat_map instruction x.0) x.1 = subst (λ (n : ℕ). Takes bytes (u32 n ++ flat_map instruction x.0) x.1) count_is (subst (λ (y : List (List ℕ)). Takes bytes (u32 a.0.0 ++ flat_map instruction y) x.1) new_is both) in
-      (taken, record { count = subst (IsFrom 1 65536) count_is p.1; entries = subst (λ (n : ℕ). enter_within n b ≡ true) count_is h.0; instructions = subst (EachBeside (λ _ bytes. length bytes ≡ 16) []) new_is q.good });
+      (taken, record { count = subst (IsFrom 1 MOST_INSTRUCTIONS) count_is p.1; entries = subst (λ (n : ℕ). enter_within n b ≡ true) count_is h.0; instructions = subst (EachBeside (λ _ bytes. length bytes ≡ 16) []) new_is q.good });
   again = λ xs rest good.
-      ap (λ (y : List ℕ). limited_at w32 1 65536 y >>= λ count. cond (enter_within count.0 b) (items_at (λ _. bytes_at 16) count.0 [] count.1) (Err Limit)) (append_assoc (u32 (length xs)) (flat_map instruction xs) rest)
-      ∙ ap (λ (y : Read ℕ). y >>= λ count. cond (enter_within count.0 b) (items_at (λ _. bytes_at 16) count.0 [] count.1) (Err Limit)) ((limited_reads w32 (2 ^ 32) wide32 1 65536 (lit< tt)).again (length xs) (flat_map instruction xs ++ rest) good.count)
+      ap (λ (y : List ℕ). limited_at w32 1 MOST_INSTRUCTIONS y >>= λ count. cond (enter_within count.0 b) (items_at (λ _. bytes_at 16) count.0 [] count.1) (Err Limit)) (append_assoc (u32 (length xs)) (flat_map instruction xs) rest)
+      ∙ ap (λ (y : Read ℕ). y >>= λ count. cond (enter_within count.0 b) (items_at (λ _. bytes_at 16) count.0 [] count.1) (Err Limit)) ((limited_reads w32 (2 ^ 32) wide32 1 MOST_INSTRUCTIONS (lit< tt)).again (length xs) (flat_map instruction xs ++ rest) good.count)
       ∙ ap (λ (t : Bool). cond t (items_at (λ _. bytes_at 16) (length xs) [] (flat_map instruction xs ++ rest)) (Err Limit)) good.entries
       ∙ items_again (λ _. bytes_at 16) instruction (λ _ bytes. length bytes ≡ 16) (λ _. instruction_reads) xs [] rest good.instructions;
 }

@@ -5,6 +5,7 @@ use Rattle.std.specs.Str.{bytes_eq}
 use Rattle.std.proofs.lemmas.Bool.{eqb-true}
 use Rattle.std.proofs.lemmas.List.{append-nil, nil_from_length}
 use Rattle.std.proofs.lemmas.Slice.Eq.{bytes_eq-Decides}
+use Rattle.apex_types.specs.declared.limits.TheConstants.{MOST_CHANNELS, MOST_FRAME_TICKS, MOST_PARTITIONS, MOST_WINDOWS}
 use Rattle.machine_meaning.specs.Image.{Image}
 use Rattle.machine_meaning.specs.ImageSpelling.{u8, u16, u32, list, module_action, item, window, channel, head, spelling}
 use Rattle.machine_meaning.specs.Image.{magic, version}
@@ -47,16 +48,16 @@ unfolding fields_at spelling head
 fields_reads = said fields_at _ spelling _ IsWithinLimits
     (first version_at _ (λ (image : Image). version) (λ _. magic ++ u16 version) (λ image. u32 image.schedule.frame ++ (u8 (module_action image.fault) ++ (list item image.items ++ (list window image.schedule.windows ++ list channel image.channels)))) _ _
     version_reads
-    (λ number o. first (limited_at w32 1 (2 ^ 24)) _ (λ (image : Image). image.schedule.frame) u32 (λ image. u8 (module_action image.fault) ++ (list item image.items ++ (list window image.schedule.windows ++ list channel image.channels))) (IsFrom 1 (2 ^ 24)) _
-    (limited_reads w32 (2 ^ 32) wide32 1 (2 ^ 24) (lit< tt))
+    (λ number o. first (limited_at w32 1 MOST_FRAME_TICKS) _ (λ (image : Image). image.schedule.frame) u32 (λ image. u8 (module_action image.fault) ++ (list item image.items ++ (list window image.schedule.windows ++ list channel image.channels))) (IsFrom 1 MOST_FRAME_TICKS) _
+    (limited_reads w32 (2 ^ 32) wide32 1 MOST_FRAME_TICKS (lit< tt))
     (λ frame p. first (choice_at module_action_of) _ (λ (image : Image). image.fault) (λ a. u8 (module_action a)) (λ image. list item image.items ++ (list window image.schedule.windows ++ list channel image.channels)) _ _
     module_action_reads
-    (λ fault q. first (list_at 1 16 (item_at frame)) _ (λ (image : Image). image.items) (list item) (λ image. list window image.schedule.windows ++ list channel image.channels) _ _
-    (list_reads (item_at frame) item (IsItem frame) 1 16 (lit< tt) (item_reads frame (omega (arith, p.most))))
-    (λ items r. first (list_at 1 64 window_at) _ (λ (image : Image). image.schedule.windows) (list window) (λ image. list channel image.channels) _ _
-    (list_reads window_at window IsWindow 1 64 (lit< tt) window_reads)
-    (λ windows s. last (list_at 0 64 channel_at) (λ channels. record { schedule = record { frame = frame; windows = windows }; fault = fault; items = items; channels = channels }) (λ (image : Image). image.channels) (list channel) _
-    (list_reads channel_at channel IsChannel 0 64 (lit< tt) channel_reads) (λ a. refl))
+    (λ fault q. first (list_at 1 MOST_PARTITIONS (item_at frame)) _ (λ (image : Image). image.items) (list item) (λ image. list window image.schedule.windows ++ list channel image.channels) _ _
+    (list_reads (item_at frame) item (IsItem frame) 1 MOST_PARTITIONS (lit< tt) (item_reads frame (omega (arith, p.most))))
+    (λ items r. first (list_at 1 MOST_WINDOWS window_at) _ (λ (image : Image). image.schedule.windows) (list window) (λ image. list channel image.channels) _ _
+    (list_reads window_at window IsWindow 1 MOST_WINDOWS (lit< tt) window_reads)
+    (λ windows s. last (list_at 0 MOST_CHANNELS channel_at) (λ channels. record { schedule = record { frame = frame; windows = windows }; fault = fault; items = items; channels = channels }) (λ (image : Image). image.channels) (list channel) _
+    (list_reads channel_at channel IsChannel 0 MOST_CHANNELS (lit< tt) channel_reads) (λ a. refl))
     (λ windows image s g. ap (λ (image : Image). image.schedule.windows) g.1))
     (λ items image r g. ap (λ (image : Image). image.items) g.1.1))
     (λ fault image q g. ap (λ (image : Image). image.fault) g.1.1.1))

@@ -1,5 +1,5 @@
 -- Words, names and choices of an image.
-use Rattle.std.proofs.Common.{◌≡◌, ℕ, ◌^◌, ◌<◌, ◌≤◌, ℤ, Bool, true, false, cond, ltb, List, [], ◌∷◌, ◌++◌, length, take, drop, Option, Some, None, Ok, Err, refl, sym, ap, subst, ◌∙◌, arith, lit<}
+use Rattle.std.proofs.Common.{◌+◌, ◌≡◌, ℕ, ◌^◌, ◌<◌, ◌≤◌, ℤ, Bool, true, false, cond, ltb, List, [], ◌∷◌, ◌++◌, length, take, drop, Option, Some, None, Ok, Err, refl, sym, ap, subst, ◌∙◌, arith, lit<}
 use Rattle.std.specs.Prelude.{◌&&◌, FitsSigned, nat_le}
 use Rattle.std.specs.List.{list_all}
 use Rattle.std.specs.Int.{w64, cast_signed, cast_unsigned}
@@ -7,6 +7,7 @@ use Rattle.std.proofs.Math.Facts.{Fits-of_z, sfits_to_z}
 use Rattle.std.proofs.lemmas.Int.{to_z-of_z, of_z-to_z}
 use Rattle.std.proofs.lemmas.Bool.{ltb-false, le-ltb, leb-true}
 use Rattle.std.proofs.lemmas.List.{take_at, drop_at, take-append-drop, length-append, length-take}
+use Rattle.apex_types.specs.declared.limits.TheConstants.{MOST_NAME_BYTES}
 use Rattle.apex_types.specs.NameText.{is_name, is_lower_case, is_name_byte}
 use Rattle.machine_meaning.specs.ImageSpelling.{u8, u64, i64, name}
 use Rattle.machine_meaning.specs.ImageReading.{Fault, Truncated, Limit, Order, Read, ◌>>=◌, number_at, byte_at, word_at, small_at, bytes_at, name_at, fresh_name_at, chosen, choice_at}
@@ -52,12 +53,12 @@ pub held : {A : Type 0} (b : Bool) (d : Fault) (x y : A) → cond b (Ok x) (Err 
 held true d x y e = (refl, cc)
 held false d x y e = absurd cc
 
-is_short : (cs : List ℕ) (a b : Bool) → (a && b && nat_le (length cs) 29) ≡ true → length cs ≤ 29
-is_short cs true true h = leb-true (length cs) 29 h
+is_short : (cs : List ℕ) (a b : Bool) → (a && b && nat_le (length cs + 1) MOST_NAME_BYTES) ≡ true → length cs + 1 ≤ MOST_NAME_BYTES
+is_short cs true true h = leb-true (length cs + 1) MOST_NAME_BYTES h
 is_short cs true false h = absurd cc
 is_short cs false b h = absurd cc
 
-name_size : (text : List ℕ) → is_name text ≡ true → IsFrom 1 30 (length text)
+name_size : (text : List ℕ) → is_name text ≡ true → IsFrom 1 MOST_NAME_BYTES (length text)
 name_size [] h = absurd cc
 name_size (c ∷ cs) h =
     let short = is_short cs (is_lower_case c) (list_all is_name_byte cs) h in
@@ -67,16 +68,16 @@ pub name_reads : Reads name_at name (λ text. is_name text ≡ true)
 unfolding name_at name
 name_reads = record {
   takes = λ bytes x fits e.
-      let a = bind_ok (small_at 1 30 bytes) (λ size. bytes_at size.0 size.1 >>= λ text. cond (is_name text.0) (Ok text) (Err Limit)) x e in
+      let a = bind_ok (small_at 1 MOST_NAME_BYTES bytes) (λ size. bytes_at size.0 size.1 >>= λ text. cond (is_name text.0) (Ok text) (Err Limit)) x e in
       let b = bind_ok (bytes_at a.0.0 a.0.1) (λ text. cond (is_name text.0) (Ok text) (Err Limit)) x a.2 in
       let g = held (is_name b.0.0) Limit b.0 x b.2 in
-      let p = (small_reads 1 30 (lit< tt)).takes bytes a.0 fits a.1 in
+      let p = (small_reads 1 MOST_NAME_BYTES (lit< tt)).takes bytes a.0 fits a.1 in
       let q = (bytes_reads a.0.0).takes a.0.1 b.0 p.0.rest_fits b.1 in
       let both = Takes-then bytes (u8 a.0.0) a.0.1 b.0.0 b.0.1 p.0 q.0 in
       let sized : Takes bytes (u8 (length b.0.0) ++ b.0.0) b.0.1 = subst (λ (n : ℕ). Takes bytes (u8 n ++ b.0.0) b.0.1) (sym q.1) both in
       subst (λ (y : List ℕ × List ℕ). Takes bytes (u8 (length y.0) ++ y.0) y.1 × (is_name y.0 ≡ true)) g.1 (sized, g.0);
   again = λ text rest good.
-      ap (λ (y : Read ℕ). y >>= λ size. bytes_at size.0 size.1 >>= λ t. cond (is_name t.0) (Ok t) (Err Limit)) ((small_reads 1 30 (lit< tt)).again (length text) (text ++ rest) (name_size text good))
+      ap (λ (y : Read ℕ). y >>= λ size. bytes_at size.0 size.1 >>= λ t. cond (is_name t.0) (Ok t) (Err Limit)) ((small_reads 1 MOST_NAME_BYTES (lit< tt)).again (length text) (text ++ rest) (name_size text good))
       ∙ ap (λ (y : Read (List ℕ)). y >>= λ t. cond (is_name t.0) (Ok t) (Err Limit)) ((bytes_reads (length text)).again text rest refl)
       ∙ rw good refl;
 }

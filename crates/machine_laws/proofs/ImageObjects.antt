@@ -2,6 +2,7 @@
 use Rattle.std.proofs.Common.{◌^◌, max, ◌++◌, refl, ap, lit<}
 use Rattle.std.specs.Prelude.{FitsSigned}
 use Rattle.std.specs.Int.{w32, w64}
+use Rattle.apex_types.specs.declared.limits.TheConstants.{MOST_DATA_WORDS, MOST_DEPTH, MOST_OBJECTS, MOST_SEMAPHORE_VALUE, MOST_WORDS}
 use Rattle.apex_types.specs.declared.row.SemaphoreRow.{SemaphoreRow}
 use Rattle.apex_types.specs.declared.row.BufferRow.{BufferRow}
 use Rattle.apex_types.specs.declared.row.BlackboardRow.{BlackboardRow}
@@ -18,10 +19,10 @@ use Rattle.machine_laws.proofs.ImageLists.{list_reads}
 pub semaphore_reads : Reads semaphore_at semaphore IsSemaphore
 unfolding semaphore_at semaphore
 semaphore_reads = said semaphore_at _ semaphore _ IsSemaphore
-    (first (limited_at w32 0 1000000) _ (λ (r : SemaphoreRow). r.value) u32 (λ r. u32 r.maximum ++ u8 (discipline r.discipline)) (IsFrom 0 1000000) _
-    (limited_reads w32 (2 ^ 32) wide32 0 1000000 (lit< tt))
-    (λ value p. first (limited_at w32 (max 1 value) 1000000) _ (λ (r : SemaphoreRow). r.maximum) u32 (λ r. u8 (discipline r.discipline)) (IsFrom (max 1 value) 1000000) _
-    (limited_reads w32 (2 ^ 32) wide32 (max 1 value) 1000000 (lit< tt))
+    (first (limited_at w32 0 MOST_SEMAPHORE_VALUE) _ (λ (r : SemaphoreRow). r.value) u32 (λ r. u32 r.maximum ++ u8 (discipline r.discipline)) (IsFrom 0 MOST_SEMAPHORE_VALUE) _
+    (limited_reads w32 (2 ^ 32) wide32 0 MOST_SEMAPHORE_VALUE (lit< tt))
+    (λ value p. first (limited_at w32 (max 1 value) MOST_SEMAPHORE_VALUE) _ (λ (r : SemaphoreRow). r.maximum) u32 (λ r. u8 (discipline r.discipline)) (IsFrom (max 1 value) MOST_SEMAPHORE_VALUE) _
+    (limited_reads w32 (2 ^ 32) wide32 (max 1 value) MOST_SEMAPHORE_VALUE (lit< tt))
     (λ maximum q. last (choice_at discipline_of) (λ order. record { value = value; maximum = maximum; discipline = order }) (λ (r : SemaphoreRow). r.discipline) (λ a. u8 (discipline a)) (λ _. Unit {0}) discipline_reads (λ a. refl))
     (λ maximum r q g. ap (λ (r : SemaphoreRow). r.maximum) g.1))
     (λ value r p g. ap (λ (r : SemaphoreRow). r.value) g.1.1))
@@ -32,10 +33,10 @@ semaphore_reads = said semaphore_at _ semaphore _ IsSemaphore
 pub buffer_reads : Reads buffer_at buffer IsBuffer
 unfolding buffer_at buffer
 buffer_reads = said buffer_at _ buffer _ IsBuffer
-    (first (small_at 1 16) _ (λ (r : BufferRow). r.words) u8 (λ r. u8 r.depth ++ u8 (discipline r.discipline)) (IsFrom 1 16) _
-    (small_reads 1 16 (lit< tt))
-    (λ words p. first (small_at 1 32) _ (λ (r : BufferRow). r.depth) u8 (λ r. u8 (discipline r.discipline)) (IsFrom 1 32) _
-    (small_reads 1 32 (lit< tt))
+    (first (small_at 1 MOST_WORDS) _ (λ (r : BufferRow). r.words) u8 (λ r. u8 r.depth ++ u8 (discipline r.discipline)) (IsFrom 1 MOST_WORDS) _
+    (small_reads 1 MOST_WORDS (lit< tt))
+    (λ words p. first (small_at 1 MOST_DEPTH) _ (λ (r : BufferRow). r.depth) u8 (λ r. u8 (discipline r.discipline)) (IsFrom 1 MOST_DEPTH) _
+    (small_reads 1 MOST_DEPTH (lit< tt))
     (λ depth q. last (choice_at discipline_of) (λ order. record { words = words; depth = depth; discipline = order }) (λ (r : BufferRow). r.discipline) (λ a. u8 (discipline a)) (λ _. Unit {0}) discipline_reads (λ a. refl))
     (λ depth r q g. ap (λ (r : BufferRow). r.depth) g.1))
     (λ words r p g. ap (λ (r : BufferRow). r.words) g.1.1))
@@ -46,7 +47,7 @@ buffer_reads = said buffer_at _ buffer _ IsBuffer
 pub blackboard_reads : Reads blackboard_at blackboard IsBlackboard
 unfolding blackboard_at blackboard
 blackboard_reads = said blackboard_at _ blackboard _ IsBlackboard
-    (last (small_at 1 16) (λ words. record { words = words }) (λ (r : BlackboardRow). r.words) u8 (IsFrom 1 16) (small_reads 1 16 (lit< tt)) (λ a. refl))
+    (last (small_at 1 MOST_WORDS) (λ words. record { words = words }) (λ (r : BlackboardRow). r.words) u8 (IsFrom 1 MOST_WORDS) (small_reads 1 MOST_WORDS (lit< tt)) (λ a. refl))
     (λ r. refl)
     (λ r g. record { words = g.0 })
     (λ r g. (g.words, refl))
@@ -54,16 +55,16 @@ blackboard_reads = said blackboard_at _ blackboard _ IsBlackboard
 pub objects_reads : Reads objects_at objects AreObjects
 unfolding objects_at objects
 objects_reads = said objects_at _ objects _ AreObjects
-    (first (list_at 0 65536 (λ _. word_at)) _ (λ (o : Objects). o.initial) (list i64) (λ o. list semaphore o.semaphores ++ (u8 o.events ++ (list buffer o.buffers ++ list blackboard o.blackboards))) _ _
-    (list_reads (λ _. word_at) i64 (λ _. FitsSigned w64) 0 65536 (lit< tt) (λ _. word_reads))
-    (λ initial p. first (list_at 0 16 (λ _. semaphore_at)) _ (λ (o : Objects). o.semaphores) (list semaphore) (λ o. u8 o.events ++ (list buffer o.buffers ++ list blackboard o.blackboards)) _ _
-    (list_reads (λ _. semaphore_at) semaphore (λ _. IsSemaphore) 0 16 (lit< tt) (λ _. semaphore_reads))
-    (λ semaphores q. first (small_at 0 16) _ (λ (o : Objects). o.events) u8 (λ o. list buffer o.buffers ++ list blackboard o.blackboards) (IsFrom 0 16) _
-    (small_reads 0 16 (lit< tt))
-    (λ events r. first (list_at 0 16 (λ _. buffer_at)) _ (λ (o : Objects). o.buffers) (list buffer) (λ o. list blackboard o.blackboards) _ _
-    (list_reads (λ _. buffer_at) buffer (λ _. IsBuffer) 0 16 (lit< tt) (λ _. buffer_reads))
-    (λ buffers s. last (list_at 0 16 (λ _. blackboard_at)) (λ blackboards. record { initial = initial; semaphores = semaphores; events = events; buffers = buffers; blackboards = blackboards }) (λ (o : Objects). o.blackboards) (list blackboard) _
-    (list_reads (λ _. blackboard_at) blackboard (λ _. IsBlackboard) 0 16 (lit< tt) (λ _. blackboard_reads)) (λ a. refl))
+    (first (list_at 0 MOST_DATA_WORDS (λ _. word_at)) _ (λ (o : Objects). o.initial) (list i64) (λ o. list semaphore o.semaphores ++ (u8 o.events ++ (list buffer o.buffers ++ list blackboard o.blackboards))) _ _
+    (list_reads (λ _. word_at) i64 (λ _. FitsSigned w64) 0 MOST_DATA_WORDS (lit< tt) (λ _. word_reads))
+    (λ initial p. first (list_at 0 MOST_OBJECTS (λ _. semaphore_at)) _ (λ (o : Objects). o.semaphores) (list semaphore) (λ o. u8 o.events ++ (list buffer o.buffers ++ list blackboard o.blackboards)) _ _
+    (list_reads (λ _. semaphore_at) semaphore (λ _. IsSemaphore) 0 MOST_OBJECTS (lit< tt) (λ _. semaphore_reads))
+    (λ semaphores q. first (small_at 0 MOST_OBJECTS) _ (λ (o : Objects). o.events) u8 (λ o. list buffer o.buffers ++ list blackboard o.blackboards) (IsFrom 0 MOST_OBJECTS) _
+    (small_reads 0 MOST_OBJECTS (lit< tt))
+    (λ events r. first (list_at 0 MOST_OBJECTS (λ _. buffer_at)) _ (λ (o : Objects). o.buffers) (list buffer) (λ o. list blackboard o.blackboards) _ _
+    (list_reads (λ _. buffer_at) buffer (λ _. IsBuffer) 0 MOST_OBJECTS (lit< tt) (λ _. buffer_reads))
+    (λ buffers s. last (list_at 0 MOST_OBJECTS (λ _. blackboard_at)) (λ blackboards. record { initial = initial; semaphores = semaphores; events = events; buffers = buffers; blackboards = blackboards }) (λ (o : Objects). o.blackboards) (list blackboard) _
+    (list_reads (λ _. blackboard_at) blackboard (λ _. IsBlackboard) 0 MOST_OBJECTS (lit< tt) (λ _. blackboard_reads)) (λ a. refl))
     (λ buffers o s g. ap (λ (o : Objects). o.buffers) g.1))
     (λ events o r g. ap (λ (o : Objects). o.events) g.1.1))
     (λ semaphores o q g. ap (λ (o : Objects). o.semaphores) g.1.1.1))

@@ -3,6 +3,7 @@ use Rattle.std.proofs.Common.{◌≡◌, ℕ, zero, suc, ◌-◌, ◌^◌, ◌<�
 use Rattle.std.specs.Prelude.{◌&&◌, ◌==◌}
 use Rattle.std.specs.Int.{w32, w64}
 use Rattle.std.proofs.lemmas.Bool.{ltb-false, le-ltb, eqb-true}
+use Rattle.apex_types.specs.declared.limits.TheConstants.{MOST_DEPTH, MOST_DESTINATIONS, MOST_PORTS, MOST_TICKS, MOST_WORDS}
 use Rattle.apex_types.specs.declared.codes.Discipline.{Discipline}
 use Rattle.apex_types.specs.declared.codes.Discipline.TheVariants.{Fifo}
 use Rattle.apex_types.specs.declared.codes.PartitionAction.{PartitionAction}
@@ -73,15 +74,15 @@ kind_number : (k : PortKind) → IsFrom 0 1 (port_kind k)
 kind_number (Sampling refresh) = record { least = omega arith; most = omega arith }
 kind_number (Queuing depth order) = record { least = omega arith; most = omega arith }
 
-is_sampling : (k : PortKind) → IsPortKind k × (port_kind k ≡ 0) → IsFrom 0 (2 ^ 40) (refresh_of k) × (IsFrom 0 0 0 × (IsFrom 0 0 0 × (k ≡ Sampling (refresh_of k))))
+is_sampling : (k : PortKind) → IsPortKind k × (port_kind k ≡ 0) → IsFrom 0 MOST_TICKS (refresh_of k) × (IsFrom 0 0 0 × (IsFrom 0 0 0 × (k ≡ Sampling (refresh_of k))))
 is_sampling (Sampling refresh) h = (h.0, (nothing_else, (nothing_else, refl)))
 is_sampling (Queuing depth order) h = absurd cc
 
 sampling_reads : Reads sampling_at port_fields (λ k. IsPortKind k × (port_kind k ≡ 0))
 unfolding sampling_at port_fields
 sampling_reads = said_where sampling_at (λ k. u64 (refresh_of k) ++ (u8 0 ++ (u8 0 ++ []))) port_fields _ (λ k. IsPortKind k × (port_kind k ≡ 0))
-    (first (limited_at w64 0 (2 ^ 40)) _ refresh_of u64 (λ k. u8 0 ++ (u8 0 ++ [])) (IsFrom 0 (2 ^ 40)) _
-    (limited_reads w64 (2 ^ 64) wide64 0 (2 ^ 40) (lit< tt))
+    (first (limited_at w64 0 MOST_TICKS) _ refresh_of u64 (λ k. u8 0 ++ (u8 0 ++ [])) (IsFrom 0 MOST_TICKS) _
+    (limited_reads w64 (2 ^ 64) wide64 0 MOST_TICKS (lit< tt))
     (λ refresh p. first (small_at 0 0) _ (λ _. 0) u8 (λ k. u8 0 ++ []) (IsFrom 0 0) _
     (small_reads 0 0 (lit< tt))
     (λ depth q. first (small_at 0 0) (λ order. Ok (Sampling refresh, order.1)) (λ _. 0) u8 (λ k. []) (IsFrom 0 0) (λ _ k. k ≡ Sampling refresh)
@@ -102,7 +103,7 @@ abbrev order_of : PortKind → Discipline
 order_of (Sampling refresh) = Fifo
 order_of (Queuing depth order) = order
 
-is_queuing : (k : PortKind) → IsPortKind k × (port_kind k ≡ 1) → IsFrom 0 0 0 × (IsFrom 1 32 (depth_of k) × (Unit {0} × (k ≡ Queuing (depth_of k) (order_of k))))
+is_queuing : (k : PortKind) → IsPortKind k × (port_kind k ≡ 1) → IsFrom 0 0 0 × (IsFrom 1 MOST_DEPTH (depth_of k) × (Unit {0} × (k ≡ Queuing (depth_of k) (order_of k))))
 is_queuing (Sampling refresh) h = absurd cc
 is_queuing (Queuing depth order) h = (nothing_else, (h.0, (tt, refl)))
 
@@ -111,8 +112,8 @@ unfolding queuing_at port_fields
 queuing_reads = said_where queuing_at (λ k. u64 0 ++ (u8 (depth_of k) ++ u8 (discipline (order_of k)))) port_fields _ (λ k. IsPortKind k × (port_kind k ≡ 1))
     (first (limited_at w64 0 0) _ (λ _. 0) u64 (λ k. u8 (depth_of k) ++ u8 (discipline (order_of k))) (IsFrom 0 0) _
     (limited_reads w64 (2 ^ 64) wide64 0 0 (lit< tt))
-    (λ refresh p. first (small_at 1 32) _ depth_of u8 (λ k. u8 (discipline (order_of k))) (IsFrom 1 32) _
-    (small_reads 1 32 (lit< tt))
+    (λ refresh p. first (small_at 1 MOST_DEPTH) _ depth_of u8 (λ k. u8 (discipline (order_of k))) (IsFrom 1 MOST_DEPTH) _
+    (small_reads 1 MOST_DEPTH (lit< tt))
     (λ depth q. last (choice_at discipline_of) (λ order. Queuing depth order) order_of (λ a. u8 (discipline a)) (λ _. Unit {0}) discipline_reads (λ a. refl))
     (λ depth k q g. ap depth_of g.1))
     (λ refresh k p g. zero_is refresh p))
@@ -136,8 +137,8 @@ port_reads before = said (port_at before) _ port _ (IsPort before)
     (small_reads 0 1 (lit< tt))
     (λ number q. first (choice_at direction_of) _ (λ (r : PortRow). r.direction) (λ a. u8 (direction a)) (λ r. u8 r.words ++ port_fields r.kind) _ _
     direction_reads
-    (λ way r. first (small_at 1 16) _ (λ (r : PortRow). r.words) u8 (λ r. port_fields r.kind) (IsFrom 1 16) _
-    (small_reads 1 16 (lit< tt))
+    (λ way r. first (small_at 1 MOST_WORDS) _ (λ (r : PortRow). r.words) u8 (λ r. port_fields r.kind) (IsFrom 1 MOST_WORDS) _
+    (small_reads 1 MOST_WORDS (lit< tt))
     (λ words s. last (kind_at number) (λ kind. record { name = text; kind = kind; direction = way; words = words }) (λ (r : PortRow). r.kind) port_fields _ (kind_reads number q) (λ a. refl))
     (λ words row s g. ap (λ (r : PortRow). r.words) g.1))
     (λ way row r g. ap (λ (r : PortRow). r.direction) g.1.1))
@@ -160,8 +161,8 @@ partition_reads frame small before = said (partition_at frame before) _ partitio
     (limited_reads w32 (2 ^ 32) wide32 0 period (omega (arith, q.most, small)))
     (λ duration r. first health_at _ (λ (r : Partition). r.health) health (λ r. list port r.ports) _ _
     health_reads
-    (λ table s. last (list_at 0 16 port_at) (λ ports. record { name = text; period = period; duration = duration; health = table; ports = ports }) (λ (r : Partition). r.ports) (list port) _
-    (list_reads port_at port IsPort 0 16 (lit< tt) port_reads) (λ a. refl))
+    (λ table s. last (list_at 0 MOST_PORTS port_at) (λ ports. record { name = text; period = period; duration = duration; health = table; ports = ports }) (λ (r : Partition). r.ports) (list port) _
+    (list_reads port_at port IsPort 0 MOST_PORTS (lit< tt) port_reads) (λ a. refl))
     (λ table row s g. ap (λ (r : Partition). r.health) g.1))
     (λ duration row r g. ap (λ (r : Partition). r.duration) g.1.1))
     (λ period row q g. ap (λ (r : Partition). r.period) g.1.1.1))
@@ -262,8 +263,8 @@ channel_reads before = said (channel_at before) _ channel _ (IsChannel before)
     (fresh_reads (is_channel before))
     (λ text p. first channel_end_at _ (λ (r : Channel). r.source) channel_end (λ r. list channel_end r.destinations) IsEnd _
     end_reads
-    (λ source q. last (list_at 1 16 (λ _. channel_end_at)) (λ destinations. record { name = text; source = source; destinations = destinations }) (λ (r : Channel). r.destinations) (list channel_end) _
-    (list_reads (λ _. channel_end_at) channel_end (λ _. IsEnd) 1 16 (lit< tt) (λ _. end_reads)) (λ a. refl))
+    (λ source q. last (list_at 1 MOST_DESTINATIONS (λ _. channel_end_at)) (λ destinations. record { name = text; source = source; destinations = destinations }) (λ (r : Channel). r.destinations) (list channel_end) _
+    (list_reads (λ _. channel_end_at) channel_end (λ _. IsEnd) 1 MOST_DESTINATIONS (lit< tt) (λ _. end_reads)) (λ a. refl))
     (λ source row q g. ap (λ (r : Channel). r.source) g.1))
     (λ text row p g. ap (λ (r : Channel). r.name) g.1.1))
     (λ r. assoc3 (name r.name) (channel_end r.source) (list channel_end r.destinations))

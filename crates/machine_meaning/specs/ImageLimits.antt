@@ -3,7 +3,7 @@
 -- module table are kept.
 use Rattle.std.specs.Prelude.{◌≡◌, ℕ, ◌+◌, ◌<◌, ◌≤◌, ◌^◌, ◌-◌, true, false, ◌&&◌, ◌==◌, List, [], ◌∷◌, ◌++◌, length, max, Option, Some, None, FitsSigned}
 use Rattle.std.specs.Int.{w64}
-use Rattle.apex_types.specs.declared.limits.TheConstants.{MOST_PROCESSES}
+use Rattle.apex_types.specs.declared.limits.TheConstants.{GREATEST_PRIORITY, LEAST_STACK_WORDS, MOST_CHANNELS, MOST_DATA_WORDS, MOST_DEPTH, MOST_DESTINATIONS, MOST_FRAME_TICKS, MOST_INSTRUCTIONS, MOST_OBJECTS, MOST_PARAMETERS, MOST_PARTITIONS, MOST_PORTS, MOST_PROCEDURES, MOST_PROCESSES, MOST_SEMAPHORE_VALUE, MOST_SLOTS, MOST_STACK_WORDS, MOST_TICKS, MOST_WINDOWS, MOST_WORDS}
 use Rattle.apex_types.specs.declared.row.SemaphoreRow.{SemaphoreRow}
 use Rattle.apex_types.specs.declared.row.BufferRow.{BufferRow}
 use Rattle.apex_types.specs.declared.row.BlackboardRow.{BlackboardRow}
@@ -36,55 +36,54 @@ EachBeside P before (item ∷ items) = P before item × EachBeside P (before ++ 
 
 -- ---- what a partition's source became
 
--- a first value of at most the maximum, which is 1 to 1,000,000
+-- a first value of at most the maximum
 pub record IsSemaphore (row : SemaphoreRow) : Type 0 where
-  pub value : IsFrom 0 1000000 row.value
-  pub maximum : IsFrom (max 1 row.value) 1000000 row.maximum
+  pub value : IsFrom 0 MOST_SEMAPHORE_VALUE row.value
+  pub maximum : IsFrom (max 1 row.value) MOST_SEMAPHORE_VALUE row.maximum
 
 pub record IsBuffer (row : BufferRow) : Type 0 where
-  pub words : IsFrom 1 16 row.words
-  pub depth : IsFrom 1 32 row.depth
+  pub words : IsFrom 1 MOST_WORDS row.words
+  pub depth : IsFrom 1 MOST_DEPTH row.depth
 
 pub record IsBlackboard (row : BlackboardRow) : Type 0 where
-  pub words : IsFrom 1 16 row.words
+  pub words : IsFrom 1 MOST_WORDS row.words
 
--- Data, semaphores, events, buffers and blackboards: at most 65,536 words and 16 objects of a kind.
+-- Data, semaphores, events, buffers and blackboards.
 pub record AreObjects (o : Objects) : Type 0 where
-  pub words : IsFrom 0 65536 (length o.initial)
+  pub words : IsFrom 0 MOST_DATA_WORDS (length o.initial)
   pub initial : EachBeside (λ _. FitsSigned w64) [] o.initial
-  pub semaphore_count : IsFrom 0 16 (length o.semaphores)
+  pub semaphore_count : IsFrom 0 MOST_OBJECTS (length o.semaphores)
   pub semaphores : EachBeside (λ _. IsSemaphore) [] o.semaphores
-  pub events : IsFrom 0 16 o.events
-  pub buffer_count : IsFrom 0 16 (length o.buffers)
+  pub events : IsFrom 0 MOST_OBJECTS o.events
+  pub buffer_count : IsFrom 0 MOST_OBJECTS (length o.buffers)
   pub buffers : EachBeside (λ _. IsBuffer) [] o.buffers
-  pub blackboard_count : IsFrom 0 16 (length o.blackboards)
+  pub blackboard_count : IsFrom 0 MOST_OBJECTS (length o.blackboards)
   pub blackboards : EachBeside (λ _. IsBlackboard) [] o.blackboards
 
--- Up to 8 parameters, which are among up to 72 slots; the frame has room for the slots and two
--- words more.
+-- The parameters are among the slots; the frame has room for the slots and two words more.
 pub record IsRoutine (row : RoutineRow) : Type 0 where
   pub entry : row.entry < 2 ^ 32
-  pub parameters : IsFrom 0 8 row.parameters
-  pub slots : IsFrom row.parameters 72 row.slots
-  pub frame : IsFrom (row.slots + 2) 4096 row.frame
+  pub parameters : IsFrom 0 MOST_PARAMETERS row.parameters
+  pub slots : IsFrom row.parameters MOST_SLOTS row.slots
+  pub frame : IsFrom (row.slots + 2) MOST_STACK_WORDS row.frame
 
 pub record IsBody (row : BodyRow) : Type 0 where
-  pub stack : IsFrom 16 4096 row.stack
+  pub stack : IsFrom LEAST_STACK_WORDS MOST_STACK_WORDS row.stack
   pub entry : row.entry < 2 ^ 32
-  pub slots : IsFrom 0 72 row.slots
+  pub slots : IsFrom 0 MOST_SLOTS row.slots
   pub frame : IsFrom (row.slots + 2) row.stack row.frame
 
--- none, or 1 to 2^40 ticks
+-- none, or at least one tick
 abbrev pub IsDuration : Option ℕ → Type 0
 IsDuration None = Unit {0}
-IsDuration (Some ticks) = IsFrom 1 (2 ^ 40) ticks
+IsDuration (Some ticks) = IsFrom 1 MOST_TICKS ticks
 
 -- In a partition with a period of so many ticks, beside the processes before it: its name is none of
 -- theirs, and its period a multiple.
 pub record IsProcess (unit : ℕ) (before : List ProcessRow) (row : ProcessRow) : Type 0 where
   pub name : is_name row.name ≡ true
   pub fresh : is_process before row.name ≡ false
-  pub priority : IsFrom 1 239 row.priority.0
+  pub priority : IsFrom 1 GREATEST_PRIORITY row.priority.0
   pub period : IsDuration row.period
   pub multiple : is_infinite_or_multiple unit row.period ≡ true
   pub capacity : IsDuration row.capacity
@@ -94,18 +93,18 @@ abbrev pub IsHandler : Option BodyRow → Type 0
 IsHandler None = Unit {0}
 IsHandler (Some row) = IsBody row
 
--- at most 256 procedures, and no more processes than a partition may have
+-- no more procedures and processes than a partition may have
 pub record AreBodies (unit : ℕ) (b : Bodies) : Type 0 where
-  pub routine_count : IsFrom 0 256 (length b.routines)
+  pub routine_count : IsFrom 0 MOST_PROCEDURES (length b.routines)
   pub routines : EachBeside (λ _. IsRoutine) [] b.routines
   pub process_count : IsFrom 0 MOST_PROCESSES (length b.processes)
   pub processes : EachBeside (IsProcess unit) [] b.processes
   pub init : IsBody b.init
   pub handler : IsHandler b.handler
 
--- 1 to 65,536 instructions of sixteen bytes, and every body begins within them
+-- instructions of sixteen bytes, at least one, and every body begins within them
 pub record IsCode (b : Bodies) (code : List (List ℕ)) : Type 0 where
-  pub count : IsFrom 1 65536 (length code)
+  pub count : IsFrom 1 MOST_INSTRUCTIONS (length code)
   pub entries : enter_within (length code) b ≡ true
   pub instructions : EachBeside (λ _ bytes. length bytes ≡ 16) [] code
 
@@ -117,17 +116,17 @@ pub record IsSection (unit : ℕ) (s : Section) : Type 0 where
 
 -- ---- the rows of the module table
 
--- a refresh of at most 2^40 ticks, or 1 to 32 messages
+-- a refresh period, or a depth
 abbrev pub IsPortKind : PortKind → Type 0
-IsPortKind (Sampling refresh) = IsFrom 0 (2 ^ 40) refresh
-IsPortKind (Queuing depth order) = IsFrom 1 32 depth
+IsPortKind (Sampling refresh) = IsFrom 0 MOST_TICKS refresh
+IsPortKind (Queuing depth order) = IsFrom 1 MOST_DEPTH depth
 
 -- beside the ports before it: its name is none of theirs
 pub record IsPort (before : List PortRow) (row : PortRow) : Type 0 where
   pub name : is_name row.name ≡ true
   pub fresh : is_port before row.name ≡ false
   pub kind : IsPortKind row.kind
-  pub words : IsFrom 1 16 row.words
+  pub words : IsFrom 1 MOST_WORDS row.words
 
 -- in a major frame of so many ticks, beside the partitions before it
 pub record IsPartition (frame : ℕ) (before : List Item) (row : Partition) : Type 0 where
@@ -135,7 +134,7 @@ pub record IsPartition (frame : ℕ) (before : List Item) (row : Partition) : Ty
   pub fresh : is_partition before row.name ≡ false
   pub period : IsFrom 1 frame row.period
   pub duration : IsFrom 0 row.period row.duration
-  pub port_count : IsFrom 0 16 (length row.ports)
+  pub port_count : IsFrom 0 MOST_PORTS (length row.ports)
   pub ports : EachBeside IsPort [] row.ports
 
 pub record IsItem (frame : ℕ) (before : List Item) (it : Item) : Type 0 where
@@ -154,24 +153,24 @@ abbrev pub IsEnd : ChannelEnd → Type 0
 IsEnd Device = Unit {0}
 IsEnd (Port p q) = (p.0 < 256) × (q.0 < 256) × (((p.0 == 0) && (q.0 == 0)) ≡ false)
 
--- beside the channels before it, with 1 to 16 destinations
+-- beside the channels before it, with at least one destination
 pub record IsChannel (before : List Channel) (row : Channel) : Type 0 where
   pub name : is_name row.name ≡ true
   pub fresh : is_channel before row.name ≡ false
   pub source : IsEnd row.source
-  pub count : IsFrom 1 16 (length row.destinations)
+  pub count : IsFrom 1 MOST_DESTINATIONS (length row.destinations)
   pub destinations : EachBeside (λ _. IsEnd) [] row.destinations
 
 -- ---- the image
 
 -- all fields within their limits
 pub record IsWithinLimits (image : Image) : Type 0 where
-  pub frame : IsFrom 1 (2 ^ 24) image.schedule.frame
-  pub item_count : IsFrom 1 16 (length image.items)
+  pub frame : IsFrom 1 MOST_FRAME_TICKS image.schedule.frame
+  pub item_count : IsFrom 1 MOST_PARTITIONS (length image.items)
   pub items : EachBeside (IsItem image.schedule.frame) [] image.items
-  pub window_count : IsFrom 1 64 (length image.schedule.windows)
+  pub window_count : IsFrom 1 MOST_WINDOWS (length image.schedule.windows)
   pub windows : EachBeside IsWindow [] image.schedule.windows
-  pub channel_count : IsFrom 0 64 (length image.channels)
+  pub channel_count : IsFrom 0 MOST_CHANNELS (length image.channels)
   pub channels : EachBeside IsChannel [] image.channels
 
 -- the images that have a spelling which is read again

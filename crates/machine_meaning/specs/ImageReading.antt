@@ -4,7 +4,7 @@ use Rattle.std.specs.Prelude.{ℕ, zero, suc, ◌+◌, ◌-◌, ◌%◌, ◌^◌
 use Rattle.std.specs.List.{list_all, list_any}
 use Rattle.std.specs.Str.{bytes_eq}
 use Rattle.std.specs.Int.{Width, w16, w32, w64, byte_len, from_le_bytes, cast_signed}
-use Rattle.apex_types.specs.declared.limits.TheConstants.{MOST_PROCESSES}
+use Rattle.apex_types.specs.declared.limits.TheConstants.{GREATEST_PRIORITY, LEAST_STACK_WORDS, MOST_CHANNELS, MOST_DATA_WORDS, MOST_DEPTH, MOST_DESTINATIONS, MOST_FRAME_TICKS, MOST_INSTRUCTIONS, MOST_NAME_BYTES, MOST_OBJECTS, MOST_PARTITIONS, MOST_PORTS, MOST_PROCEDURES, MOST_PROCESSES, MOST_SEMAPHORE_VALUE, MOST_SLOTS, MOST_STACK_WORDS, MOST_TICKS, MOST_WINDOWS, MOST_WORDS}
 use Rattle.apex_types.specs.NameText.{is_name}
 use Rattle.module_meaning.specs.Table.{keeps_rules}
 use Rattle.apex_types.specs.declared.codes.Discipline.{Discipline}
@@ -84,7 +84,7 @@ bytes_at size bytes = if nat_lt (length bytes) size then Err Truncated else Ok (
 -- The length of a name is judged before its bytes, its form when all are there.
 unfoldable pub name_at : List ℕ → Read (List ℕ)
 name_at bytes = do
-  size ← small_at 1 30 bytes
+  size ← small_at 1 MOST_NAME_BYTES bytes
   text ← bytes_at size.0 size.1
   if is_name text.0 then Ok text else Err Limit
 
@@ -153,7 +153,7 @@ health_at bytes = do
 -- refresh, depth and discipline; the fields of the other kind are 0
 unfoldable pub sampling_at : List ℕ → Read PortKind
 sampling_at bytes = do
-  refresh ← limited_at w64 0 (2 ^ 40) bytes
+  refresh ← limited_at w64 0 MOST_TICKS bytes
   depth ← small_at 0 0 refresh.1
   order ← small_at 0 0 depth.1
   Ok (Sampling refresh.0, order.1)
@@ -161,7 +161,7 @@ sampling_at bytes = do
 unfoldable pub queuing_at : List ℕ → Read PortKind
 queuing_at bytes = do
   refresh ← limited_at w64 0 0 bytes
-  depth ← small_at 1 32 refresh.1
+  depth ← small_at 1 MOST_DEPTH refresh.1
   order ← choice_at discipline_of depth.1
   Ok (Queuing depth.0 order.0, order.1)
 
@@ -177,7 +177,7 @@ port_at before bytes = do
   name ← fresh_name_at (is_port before) bytes
   kind ← small_at 0 1 name.1
   direction ← choice_at direction_of kind.1
-  words ← small_at 1 16 direction.1
+  words ← small_at 1 MOST_WORDS direction.1
   fields ← kind_at kind.0 words.1
   Ok (record { name = name.0; kind = fields.0; direction = direction.0; words = words.0 }, fields.1)
 
@@ -190,28 +190,28 @@ partition_at frame before bytes = do
   period ← limited_at w32 1 frame name.1
   duration ← limited_at w32 0 period.0 period.1
   health ← health_at duration.1
-  ports ← list_at 0 16 port_at health.1
+  ports ← list_at 0 MOST_PORTS port_at health.1
   Ok (record { name = name.0; period = period.0; duration = duration.0; health = health.0; ports = ports.0 }, ports.1)
 
 -- ---- what a partition's source became
 
 unfoldable pub semaphore_at : List ℕ → Read SemaphoreRow
 semaphore_at bytes = do
-  value ← limited_at w32 0 1000000 bytes
-  maximum ← limited_at w32 (max 1 value.0) 1000000 value.1
+  value ← limited_at w32 0 MOST_SEMAPHORE_VALUE bytes
+  maximum ← limited_at w32 (max 1 value.0) MOST_SEMAPHORE_VALUE value.1
   order ← choice_at discipline_of maximum.1
   Ok (record { value = value.0; maximum = maximum.0; discipline = order.0 }, order.1)
 
 unfoldable pub buffer_at : List ℕ → Read BufferRow
 buffer_at bytes = do
-  words ← small_at 1 16 bytes
-  depth ← small_at 1 32 words.1
+  words ← small_at 1 MOST_WORDS bytes
+  depth ← small_at 1 MOST_DEPTH words.1
   order ← choice_at discipline_of depth.1
   Ok (record { words = words.0; depth = depth.0; discipline = order.0 }, order.1)
 
 unfoldable pub blackboard_at : List ℕ → Read BlackboardRow
 blackboard_at bytes = do
-  words ← small_at 1 16 bytes
+  words ← small_at 1 MOST_WORDS bytes
   Ok (record { words = words.0 }, words.1)
 
 -- The frame of a procedure has room for its slots and two words more. Entries are judged when the
@@ -220,21 +220,21 @@ unfoldable pub routine_at : List ℕ → Read RoutineRow
 routine_at bytes = do
   entry ← number_at w32 bytes
   parameters ← small_at 0 8 entry.1
-  slots ← limited_at w16 parameters.0 72 parameters.1
-  frame ← limited_at w32 (slots.0 + 2) 4096 slots.1
+  slots ← limited_at w16 parameters.0 MOST_SLOTS parameters.1
+  frame ← limited_at w32 (slots.0 + 2) MOST_STACK_WORDS slots.1
   Ok (record { entry = entry.0; parameters = parameters.0; slots = slots.0; frame = frame.0 }, frame.1)
 
 unfoldable pub body_at : List ℕ → Read BodyRow
 body_at bytes = do
-  stack ← limited_at w16 16 4096 bytes
+  stack ← limited_at w16 LEAST_STACK_WORDS MOST_STACK_WORDS bytes
   entry ← number_at w32 stack.1
-  slots ← limited_at w16 0 72 entry.1
+  slots ← limited_at w16 0 MOST_SLOTS entry.1
   frame ← limited_at w32 (slots.0 + 2) stack.0 slots.1
   Ok (record { stack = stack.0; entry = entry.0; slots = slots.0; frame = frame.0 }, frame.1)
 
 -- -1 is none, a finite duration is 1 to 2^40 ticks
 abbrev pub duration_of : ℤ → Option (Option ℕ)
-duration_of (pos n) = if nat_le 1 n && nat_le n (2 ^ 40) then Some (Some n) else None
+duration_of (pos n) = if nat_le 1 n && nat_le n MOST_TICKS then Some (Some n) else None
 duration_of (negsuc n) = if n == 0 then Some None else None
 
 unfoldable pub duration_at : List ℕ → Read (Option ℕ)
@@ -259,7 +259,7 @@ is_process rows name = list_any (λ row. bytes_eq row.name name) rows
 unfoldable pub process_at : ℕ → List ProcessRow → List ℕ → Read ProcessRow
 process_at unit before bytes = do
   name ← fresh_name_at (is_process before) bytes
-  priority ← small_at 1 239 name.1
+  priority ← small_at 1 GREATEST_PRIORITY name.1
   period ← period_at unit priority.1
   capacity ← duration_at period.1
   body ← body_at capacity.1
@@ -272,16 +272,16 @@ handler_at bytes = do
 
 unfoldable pub objects_at : List ℕ → Read Objects
 objects_at bytes = do
-  initial ← list_at 0 65536 (λ _. word_at) bytes
-  semaphores ← list_at 0 16 (λ _. semaphore_at) initial.1
-  events ← small_at 0 16 semaphores.1
-  buffers ← list_at 0 16 (λ _. buffer_at) events.1
-  blackboards ← list_at 0 16 (λ _. blackboard_at) buffers.1
+  initial ← list_at 0 MOST_DATA_WORDS (λ _. word_at) bytes
+  semaphores ← list_at 0 MOST_OBJECTS (λ _. semaphore_at) initial.1
+  events ← small_at 0 MOST_OBJECTS semaphores.1
+  buffers ← list_at 0 MOST_OBJECTS (λ _. buffer_at) events.1
+  blackboards ← list_at 0 MOST_OBJECTS (λ _. blackboard_at) buffers.1
   Ok (record { initial = initial.0; semaphores = semaphores.0; events = events.0; buffers = buffers.0; blackboards = blackboards.0 }, blackboards.1)
 
 unfoldable pub bodies_at : ℕ → List ℕ → Read Bodies
 bodies_at unit bytes = do
-  routines ← list_at 0 256 (λ _. routine_at) bytes
+  routines ← list_at 0 MOST_PROCEDURES (λ _. routine_at) bytes
   processes ← list_at 0 MOST_PROCESSES (process_at unit) routines.1
   init ← body_at processes.1
   handler ← handler_at init.1
@@ -301,7 +301,7 @@ enter_within count bodies =
 -- The count of instructions is judged, then every entry, then the instructions are there as they are.
 unfoldable pub code_at : Bodies → List ℕ → Read (List (List ℕ))
 code_at bodies bytes = do
-  count ← limited_at w32 1 65536 bytes
+  count ← limited_at w32 1 MOST_INSTRUCTIONS bytes
   if enter_within count.0 bodies then items_at (λ _. bytes_at 16) count.0 [] count.1 else Err Limit
 
 unfoldable pub section_at : ℕ → List ℕ → Read Section
@@ -359,7 +359,7 @@ unfoldable pub channel_at : List Channel → List ℕ → Read Channel
 channel_at before bytes = do
   name ← fresh_name_at (is_channel before) bytes
   source ← channel_end_at name.1
-  destinations ← list_at 1 16 (λ _. channel_end_at) source.1
+  destinations ← list_at 1 MOST_DESTINATIONS (λ _. channel_end_at) source.1
   Ok (record { name = name.0; source = source.0; destinations = destinations.0 }, destinations.1)
 
 -- ---- the image
@@ -380,11 +380,11 @@ version_at bytes = do
 unfoldable pub fields_at : List ℕ → Read Image
 fields_at bytes = do
   number ← version_at bytes
-  frame ← limited_at w32 1 (2 ^ 24) number.1
+  frame ← limited_at w32 1 MOST_FRAME_TICKS number.1
   fault ← choice_at module_action_of frame.1
-  items ← list_at 1 16 (item_at frame.0) fault.1
-  windows ← list_at 1 64 window_at items.1
-  channels ← list_at 0 64 channel_at windows.1
+  items ← list_at 1 MOST_PARTITIONS (item_at frame.0) fault.1
+  windows ← list_at 1 MOST_WINDOWS window_at items.1
+  channels ← list_at 0 MOST_CHANNELS channel_at windows.1
   Ok (record { schedule = record { frame = frame.0; windows = windows.0 }; fault = fault.0; items = items.0; channels = channels.0 }, channels.1)
 
 abbrev pub partitions_in : Image → List Partition

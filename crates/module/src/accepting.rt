@@ -9,7 +9,8 @@ ghost use Rattle.module.specs.Sources.{IsSource, AreSources, programs_of};
 
 use crate::fault::BuildFault;
 use apex_types::Name;
-use compiler::{CompileFault, MOST_INSTRUCTIONS, size_of_program};
+use apex_types::limits::MOST_INSTRUCTIONS;
+use compiler::{CompileFault, size_of_program};
 use pal::{Checked, check};
 use pal_base::fault::{PalFault, Refusal};
 use pal_base::parse::parse;

@@ -1,5 +1,6 @@
 -- The lines of a text, whatever they are taken as: device texts and replay texts are read alike.
 use Rattle.std.specs.Prelude.{ℕ, ◌+◌, ◌^◌, nat_lt, if◌then◌else◌, List, [], ◌∷◌, codes, Option, Some, None, Result, Ok, Err}
+use Rattle.apex_types.specs.declared.limits.TheConstants.{MOST_TICKS}
 use Rattle.apex_types.specs.declared.device.DeviceFault.{DeviceFault}
 use Rattle.apex_types.specs.declared.device.DeviceFault.TheVariants as fault
 use Rattle.module_meaning.specs.DeviceText.{Written, WrittenLine, message_of, fault_of, line_with, plain_number, pieces}
@@ -15,7 +16,7 @@ written_by mark (kind ∷ rest) =
 
 abbrev pub line_by_pieces : List ℕ → List (List ℕ) → Option WrittenLine
 line_by_pieces mark [] = None
-line_by_pieces mark (tick ∷ rest) = line_with (plain_number (2 ^ 40) tick) (written_by mark rest)
+line_by_pieces mark (tick ∷ rest) = line_with (plain_number MOST_TICKS tick) (written_by mark rest)
 
 -- A line without its line feed: a tick of at most 2^40, then the mark with a name and words, or FAULT, alone or
 -- with a partition; single spaces between them.

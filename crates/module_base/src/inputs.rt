@@ -1,6 +1,7 @@
 //! Replay texts: what the lines of a text are for one partition.
 
 ghost use Rattle.std.specs.Prelude.{◌≡◌, ◌≤◌, ℤ, List, Some, Ok, Err, All, length, IfOk, IfErr, if◌then◌else◌};
+ghost use Rattle.apex_types.specs.declared.limits.TheConstants.{MOST_PORTS, MOST_WORDS};
 ghost use Rattle.apex_types.specs.declared.device.DeviceFault.TheVariants as fault;
 ghost use Rattle.apex_types.specs.declared.row.PortRow.{PortRow};
 ghost use Rattle.module_meaning.specs.DeviceText as meant;
@@ -90,8 +91,8 @@ fn message(
     name: Name,
     words: MessageWords,
 ) -> Result<InputLine, DeviceFault>
-    requires count { length ports.now ≤ 16 }
-    requires words { All (λ (x : PortRow). x.words ≤ 16) ports.now }
+    requires count { length ports.now ≤ MOST_PORTS }
+    requires words { All (λ (x : PortRow). x.words ≤ MOST_WORDS) ports.now }
     ensures { (ws : List ℤ) → words ≡ fitting ws → result ≡ taken_message count tick.0 ws (first_from 1 (λ x. same x.name name) ports.now) }
 {
     for (place, row) in ports.iter().enumerate() {
@@ -112,7 +113,7 @@ fn message_at(
     row: &PortRow,
     words: MessageWords,
 ) -> Result<InputLine, DeviceFault>
-    requires { row.now.words ≤ 16 }
+    requires { row.now.words ≤ MOST_WORDS }
     ensures { (ws : List ℤ) → words ≡ fitting ws → result ≡ taken_message count tick.0 ws (Some (port.0, row.now)) }
 {
     if !is_destination(row.direction) {

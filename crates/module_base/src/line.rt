@@ -8,10 +8,11 @@ ghost use Rattle.module_base.specs.TextLines.{line_by, written_by};
 
 use crate::number::{plain_number, word};
 use crate::piece::split_at;
+use apex_types::limits::MOST_TICKS;
 use apex_types::{Name, Ticks, Words};
 
 /// The last tick that a line may have.
-const LAST_TICK: u64 = 1 << 40;
+const LAST_TICK: u64 = MOST_TICKS;
 
 /// The words of a message, unless there are more than a message has.
 #[derive(Drop)]

@@ -4,6 +4,7 @@ ghost use Rattle.std.specs.Prelude.{◌≡◌, ◌+◌, ◌-◌, ◌*◌, ◌^�
 ghost use Rattle.std.specs.Fmt.{decimal, signed_decimal};
 ghost use Rattle.std.specs.Int.{w64};
 ghost use Rattle.std.specs.Io.KnownBytes.{Appends};
+ghost use Rattle.apex_types.specs.declared.limits.TheConstants.{MOST_LINE_BYTES, MOST_NAME_BYTES, MOST_WORDS, MOST_WORD_BYTES};
 ghost use Rattle.arrayvec.specs.ArrayVec.{array_vec_len};
 ghost use Rattle.apex_types.specs.Line.{words_text};
 ghost use Rattle.apex_types.specs.Line.{TakesBeginning};
@@ -12,14 +13,14 @@ ghost use Rattle.image.specs.Items.{partition_of};
 ghost use Rattle.isolation.specs.InputText.{AreWords, AreWritable, IsWritable, input_text, name_of_port, replay_text};
 ghost use Rattle.module_base.specs.LineText.{behind_tick};
 
+use apex_types::limits::MOST_LINE_BYTES;
 use apex_types::{PortId, PortRow, Sink, SinkFault, put_all};
 use arrayvec::ArrayVec;
 use isolation::{Input, InputLine};
 use window_table::PartitionRow;
 
-/// The bytes of one line. The longest has a tick of at most 20 digits, ` ARRIVE `, a name of 30, 16
-/// words of at most 20 bytes with a space before each, and a line feed.
-type Line = ArrayVec<u8, 512>;
+/// The bytes of one line, which is no longer than one of a trace.
+type Line = ArrayVec<u8, MOST_LINE_BYTES>;
 
 /// Writes the text of what comes to a partition: a line for each input, in their order. The words
 /// that are written are words of 64 bits.
@@ -75,9 +76,9 @@ fn line_bytes(row: &PartitionRow, line: &InputLine) -> Line
 
 /// What stands behind the tick.
 fn push_input(line: &mut Line, row: &PartitionRow, input: &Input)
-    requires { array_vec_len line.old + 400 ≤ 512 }
+    requires { array_vec_len line.old + 70 + MOST_NAME_BYTES + MOST_WORD_BYTES * MOST_WORDS ≤ MOST_LINE_BYTES }
     ensures items { line.new.items ≡ line.old.items ++ behind_tick (partition_of row.now) input.now }
-    ensures len { array_vec_len line.new ≤ array_vec_len line.old + 400 }
+    ensures len { array_vec_len line.new ≤ array_vec_len line.old + 70 + MOST_NAME_BYTES + MOST_WORD_BYTES * MOST_WORDS }
     ensures words { IsWritable input.now }
 {
     match input {
@@ -98,7 +99,7 @@ fn push_input(line: &mut Line, row: &PartitionRow, input: &Input)
 #[tactic(auto, using(crate::proofs::Lawful::from_one))]
 fn name_of_port(ports: &[PortRow], port: PortId) -> &[u8]
     ensures name { result.now ≡ name_of_port (at_number ports.now port.0) }
-    ensures short { length result.now ≤ 30 }
+    ensures short { length result.now ≤ MOST_NAME_BYTES }
 {
     if port.0 == 0 {
         return b"".as_slice();
@@ -111,9 +112,9 @@ fn name_of_port(ports: &[PortRow], port: PortId) -> &[u8]
 
 /// The words of a message, each behind a space.
 fn push_words(line: &mut Line, words: &[i64])
-    requires { array_vec_len line.old + 21 * length words.now ≤ 512 }
+    requires { array_vec_len line.old + MOST_WORD_BYTES * length words.now ≤ MOST_LINE_BYTES }
     ensures items { line.new.items ≡ line.old.items ++ words_text words.now }
-    ensures len { array_vec_len line.new ≤ array_vec_len line.old + 21 * length words.now }
+    ensures len { array_vec_len line.new ≤ array_vec_len line.old + MOST_WORD_BYTES * length words.now }
     ensures words { AreWords words.now }
 {
     for word in words {
@@ -122,9 +123,9 @@ fn push_words(line: &mut Line, words: &[i64])
 }
 
 fn push_word(line: &mut Line, word: i64)
-    requires { array_vec_len line.old + 21 ≤ 512 }
+    requires { array_vec_len line.old + MOST_WORD_BYTES ≤ MOST_LINE_BYTES }
     ensures items { line.new.items ≡ line.old.items ++ 32 ∷ signed_decimal word }
-    ensures len { array_vec_len line.new ≤ array_vec_len line.old + 21 }
+    ensures len { array_vec_len line.new ≤ array_vec_len line.old + MOST_WORD_BYTES }
     ensures word { FitsSigned w64 word }
 {
     let mut buffer = itoa::Buffer::new();
@@ -133,7 +134,7 @@ fn push_word(line: &mut Line, word: i64)
 }
 
 fn push_tick(line: &mut Line, tick: u64)
-    requires { array_vec_len line.old + 20 ≤ 512 }
+    requires { array_vec_len line.old + 20 ≤ MOST_LINE_BYTES }
     ensures items { line.new.items ≡ line.old.items ++ decimal tick }
     ensures len { array_vec_len line.new ≤ array_vec_len line.old + 20 }
 {
@@ -142,7 +143,7 @@ fn push_tick(line: &mut Line, tick: u64)
 }
 
 fn push_text(line: &mut Line, text: &str)
-    requires { array_vec_len line.old + length text.now ≤ 512 }
+    requires { array_vec_len line.old + length text.now ≤ MOST_LINE_BYTES }
     ensures items { line.new.items ≡ line.old.items ++ text.now }
     ensures len { array_vec_len line.new ≡ array_vec_len line.old + length text.now }
 {
@@ -150,7 +151,7 @@ fn push_text(line: &mut Line, text: &str)
 }
 
 fn push_bytes(line: &mut Line, bytes: &[u8])
-    requires { array_vec_len line.old + length bytes.now ≤ 512 }
+    requires { array_vec_len line.old + length bytes.now ≤ MOST_LINE_BYTES }
     ensures items { line.new.items ≡ line.old.items ++ bytes.now }
     ensures len { array_vec_len line.new ≡ array_vec_len line.old + length bytes.now }
 {

@@ -1,6 +1,7 @@
 -- The text of the devices: what each line says, and why a line is refused.
 use Rattle.std.specs.Prelude.{ℕ, zero, suc, ◌+◌, ◌-◌, ◌^◌, ℤ, pos, negsuc, Bool, true, false, not, ◌&&◌, ◌==◌, nat_lt, nat_le, if◌then◌else◌, List, [], ◌∷◌, length, codes, Option, Some, None, Result, Ok, Err}
 use Rattle.std.specs.List.{list_all}
+use Rattle.apex_types.specs.declared.limits.TheConstants.{MOST_DEVICE_LINES, MOST_TICKS}
 use Rattle.apex_types.specs.NameText.{is_name}
 use Rattle.apex_types.specs.declared.device.DeviceFault.{DeviceFault}
 use Rattle.apex_types.specs.declared.device.DeviceFault.TheVariants as fault
@@ -108,7 +109,7 @@ line_with _ _ = None
 
 abbrev pub line_of_pieces : List (List ℕ) → Option WrittenLine
 line_of_pieces [] = None
-line_of_pieces (tick ∷ rest) = line_with (plain_number (2 ^ 40) tick) (written_of rest)
+line_of_pieces (tick ∷ rest) = line_with (plain_number MOST_TICKS tick) (written_of rest)
 
 -- A line without its line feed: a tick of at most 2^40, then MSG with a channel and words, or FAULT, alone or
 -- with a partition; single spaces between them.
@@ -153,7 +154,7 @@ within false tick i = Err fault.Size
 
 -- at most 65,536 lines
 abbrev pub is_room : ℕ → Bool
-is_room count = nat_lt count 65_536
+is_room count = nat_lt count MOST_DEVICE_LINES
 
 -- a message by the channel of its name, which comes from the device
 abbrev pub taken_message : List Partition → (count tick : ℕ) → List ℤ → Option (ℕ × Channel) → Result DeviceLine DeviceFault

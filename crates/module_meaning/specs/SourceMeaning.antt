@@ -1,6 +1,7 @@
 -- What the sources of a module mean: the trace. Kernel, windows and trace are those of an image too; here the processes run on their
 -- sources.
 use Rattle.std.specs.Prelude.{ℕ, ◌+◌, List, [], ◌∷◌, map, is_some, ◌≡◌, ◌^◌, ◌≤◌, Ok}
+use Rattle.apex_types.specs.declared.limits.TheConstants.{MOST_TICKS}
 use Rattle.apex_types.specs.declared.device.DeviceLine.{DeviceLine}
 use Rattle.apex_types.specs.declared.event.Event.{Event}
 use Rattle.apex_types.specs.declared.event.Subject.TheVariants.{Process}
@@ -49,4 +50,4 @@ source_trace t sources devices n = trace (source_module t sources) devices n
 pub record IsAcceptedRun (table : List ℕ) (sources : List (List ℕ)) (devices : List ℕ) (n : ℕ) (t : Table) (programs : List Program) (lines : List DeviceLine) : Type 0 where
   pub accepted : IsModule table sources t programs
   pub taken : verdict t.partitions t.channels devices ≡ Ok lines
-  pub few : n ≤ 2 ^ 40
+  pub few : n ≤ MOST_TICKS

@@ -3,6 +3,7 @@
 use Rattle.std.specs.Prelude.{ℕ, ℤ, codes, eqb, Bool, true, false, ◌&&◌, ◌||◌, is_some, if◌then◌else◌, List, [], ◌∷◌, Option, Some, None, ◌+◌, ◌^◌, pos, ◌+ℤ◌, nat_abs, not, nat_lt, int_lt, is_none, ◌++◌, length, map, unwrap_or, Result, Ok, Err}
 use Rattle.std.specs.Cmp.Lexicographic.{pointwise}
 use Rattle.toml.specs.Data.{Items, no_items, item, Members, no_members, member, get_member, as_str, as_integer, as_bool, as_array, as_table}
+use Rattle.apex_types.specs.declared.limits.TheConstants.{MOST_CHANNELS, MOST_DEPTH, MOST_DESTINATIONS, MOST_FRAME_TICKS, MOST_PARTITIONS, MOST_PORTS, MOST_TICKS, MOST_WINDOWS, MOST_WORDS}
 use Rattle.apex_types.specs.declared.codes.Discipline.{Discipline}
 use Rattle.apex_types.specs.declared.codes.Discipline.TheVariants as orders
 use Rattle.apex_types.specs.declared.codes.ModuleAction.{ModuleAction}
@@ -260,14 +261,14 @@ abbrev pub is_count_outside : {A : Type 0} → ℕ → ℕ → List A → Bool
 is_count_outside low high xs = nat_lt (length xs) low || nat_lt high (length xs)
 
 unfoldable pub exceeds_kind : KindText → Bool
-exceeds_kind (Sampling refresh) = is_outside 0 (pos (2 ^ 40)) refresh
-exceeds_kind (Queuing depth discipline) = is_outside 1 (pos 32) depth
+exceeds_kind (Sampling refresh) = is_outside 0 (pos MOST_TICKS) refresh
+exceeds_kind (Queuing depth discipline) = is_outside 1 (pos MOST_DEPTH) depth
 
 unfoldable pub exceeds_port : PortText → Bool
-exceeds_port p = not (is_name p.name) || is_outside 1 (pos 16) p.words || exceeds_kind p.kind
+exceeds_port p = not (is_name p.name) || is_outside 1 (pos MOST_WORDS) p.words || exceeds_kind p.kind
 
 abbrev pub has_many_ports : PartitionText → Bool
-has_many_ports p = is_count_outside 0 16 p.ports
+has_many_ports p = is_count_outside 0 MOST_PORTS p.ports
 
 abbrev pub exceeds_times : ℤ → PartitionText → Bool
 exceeds_times frame p = is_outside 1 frame p.period || is_outside 0 p.period p.duration
@@ -279,12 +280,12 @@ unfoldable pub exceeds_window : WindowText → Bool
 exceeds_window w = int_lt w.offset (pos 0) || int_lt w.length (pos 1)
 
 unfoldable pub exceeds_channel : ChannelText → Bool
-exceeds_channel c = not (is_name c.name) || is_count_outside 1 16 c.destinations
+exceeds_channel c = not (is_name c.name) || is_count_outside 1 MOST_DESTINATIONS c.destinations
 
 -- the frame, and how many partitions, windows and channels there are
 unfoldable pub exceeds_counts : TableText → Bool
 exceeds_counts t =
-    is_outside 1 (pos 16777216) t.frame || is_count_outside 1 16 t.partitions || is_count_outside 1 64 t.windows || is_count_outside 0 64 t.channels
+    is_outside 1 (pos MOST_FRAME_TICKS) t.frame || is_count_outside 1 MOST_PARTITIONS t.partitions || is_count_outside 1 MOST_WINDOWS t.windows || is_count_outside 0 MOST_CHANNELS t.channels
 
 unfoldable pub exceeds_rows : TableText → Bool
 exceeds_rows t = list_any exceeds_window t.windows || list_any exceeds_channel t.channels

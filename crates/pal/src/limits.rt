@@ -2,6 +2,7 @@
 
 ghost use Rattle.std.specs.Prelude.{◌≡◌, ◌&&◌, List, ℕ, Some, map, length, nat_le, is_ok, is_some, option_map, IfOk};
 ghost use Rattle.std.specs.List.{list_all};
+ghost use Rattle.apex_types.specs.declared.limits.TheConstants.{LEAST_STACK_WORDS, MOST_PROCESSES, MOST_STACK_WORDS};
 ghost use Rattle.apex_types.specs.NameText as name_text;
 ghost use Rattle.pal_meaning.specs.Resolve.{no_counts};
 ghost use Rattle.pal_meaning.specs.Syntax as tree;
@@ -18,7 +19,11 @@ use crate::meanings::Counts;
 use crate::numbers::value_of;
 use crate::resolving::{limited_count, resolve_body, resolve_statements};
 use crate::table::{NameTable, text_of};
-use apex_types::{MOST_PROCESSES, Name};
+use apex_types::Name;
+use apex_types::limits::{
+    GREATEST_PRIORITY, LEAST_STACK_WORDS, MOST_DEPTH, MOST_LOCALS, MOST_PARAMETERS, MOST_PROCESSES,
+    MOST_SEMAPHORE_VALUE, MOST_STACK_WORDS, MOST_TICKS, MOST_WORDS, MOST_WORK_TICKS,
+};
 use indexmap::IndexSet;
 use pal_base::frames::{frame_of_body, frame_of_procedure};
 use pal_base::syntax::{
@@ -113,7 +118,7 @@ fn check_word(number: &Numeral) -> Check
     check_that(value_of(number).is_some(), number.line)
 }
 
-/// Checks that the number is a time: -1, or 1 to 2^40 ticks. The error is the line, or that of a
+/// Checks that the number is a time: -1, or at least one tick. The error is the line, or that of a
 /// number above 2^63 - 1.
 fn check_time(number: &Numeral, line: u32) -> Check
     ensures { is_ok result ≡ is_time (integer_of number.now) }
@@ -121,11 +126,11 @@ fn check_time(number: &Numeral, line: u32) -> Check
     if number.negative {
         check_between(1, 1, number, line)
     } else {
-        check_between(1, 1_099_511_627_776, number, line)
+        check_between(1, MOST_TICKS, number, line)
     }
 }
 
-/// Checks that the word has the form of a name, 1 to 30 characters. The error is its line.
+/// Checks that the word has the form of a name. The error is its line.
 fn check_name_form(names: &IndexSet<String>, name: Identifier) -> Check
     ensures { is_ok result ≡ name_text.is_name (name_of (texts names.now.keys) name) }
 {
@@ -187,7 +192,7 @@ fn check_kind(
             earliest(check_count(values.len(), size, line), check_numbers(values))
         }
         DeclarationKind::Semaphore { first, maximum, .. } => earliest(
-            check_between(1, 1_000_000, maximum, line),
+            check_between(1, MOST_SEMAPHORE_VALUE as u64, maximum, line),
             check_at_most(first, maximum, line),
         ),
         DeclarationKind::Buffer {
@@ -195,10 +200,10 @@ fn check_kind(
             messages,
             ..
         } => earliest(
-            check_between(1, 16, words, line),
-            check_between(1, 32, messages, line),
+            check_between(1, MOST_WORDS as u64, words, line),
+            check_between(1, MOST_DEPTH as u64, messages, line),
         ),
-        DeclarationKind::Blackboard { words } => check_between(1, 16, words, line),
+        DeclarationKind::Blackboard { words } => check_between(1, MOST_WORDS as u64, words, line),
         DeclarationKind::Procedure { parameters, body } => {
             check_procedure(alloc, names, declared, line, parameters, body)?
         }
@@ -215,15 +220,15 @@ fn check_procedure(
 ) -> Result<Check, AllocError>
     ensures { IfOk result (λ checked. is_ok checked ≡ keeps_kind (entries_of declared.now) (tree.Procedure (map (name_of (texts names.now.keys)) parameters.now) (body_of (texts names.now.keys) body.now))) }
 {
-    let count = check_that(parameters.len() <= 8, line);
+    let count = check_that(parameters.len() <= MOST_PARAMETERS as usize, line);
     let inside = check_body(names, body);
     let block = resolve_statements(alloc, names, declared, parameters, body)?;
-    let slots = limited_count(8, parameters.len());
-    let frame = frame_of_procedure(slots, limited_count(64, body.locals.len()), &block);
+    let slots = limited_count(MOST_PARAMETERS, parameters.len());
+    let frame = frame_of_procedure(slots, limited_count(MOST_LOCALS, body.locals.len()), &block);
     let before = earliest(count, check_name_forms(names, parameters));
     Ok(earliest(
         earliest(before, inside),
-        check_that(frame <= 4_096, body.line),
+        check_that(frame <= MOST_STACK_WORDS as u64, body.line),
     ))
 }
 
@@ -277,12 +282,12 @@ fn check_frame(
     stack: &Numeral,
     body: &Body,
 ) -> Result<Check, AllocError>
-    ensures { IfOk result (λ checked. is_ok checked ≡ (is_between 16 4096 (number_of stack.now) && well_formed.fits_stack (entries_of declared.now) (number_of stack.now) (body_of (texts names.now.keys) body.now))) }
+    ensures { IfOk result (λ checked. is_ok checked ≡ (is_between LEAST_STACK_WORDS MOST_STACK_WORDS (number_of stack.now) && well_formed.fits_stack (entries_of declared.now) (number_of stack.now) (body_of (texts names.now.keys) body.now))) }
 {
     let Some(words) = value_of(stack) else {
         return Ok(Err(Line(stack.line)));
     };
-    if words < 16 || 4_096 < words {
+    if words < LEAST_STACK_WORDS as u64 || (MOST_STACK_WORDS as u64) < words {
         return Ok(Err(Line(line)));
     }
     let shape = resolve_body(alloc, names, declared, stack, body)?;
@@ -315,7 +320,7 @@ fn check_process(
     let line = process.line;
     let row = earliest(
         check_name_form(names, process.name),
-        check_between(1, 239, &process.priority, line),
+        check_between(1, GREATEST_PRIORITY as u64, &process.priority, line),
     );
     let period = earliest(row, check_time(&process.period, line));
     let times = earliest(period, check_time(&process.capacity, line));
@@ -326,7 +331,7 @@ fn check_process(
 fn check_body(names: &IndexSet<String>, body: &Body) -> Check
     ensures { is_ok result ≡ keeps_body (body_of (texts names.now.keys) body.now) }
 {
-    check_that(body.locals.len() <= 64, body.line)?;
+    check_that(body.locals.len() <= MOST_LOCALS as usize, body.line)?;
     check_name_forms(names, &body.locals)?;
     check_block(names, &body.statements)
 }
@@ -368,7 +373,7 @@ fn check_statement(names: &IndexSet<String>, line: u32, statement: &StmtKind) ->
             check_block(names, then)?;
             check_block(names, other)
         }
-        StmtKind::Work(ticks) => check_between(1, 1_000_000, ticks, line),
+        StmtKind::Work(ticks) => check_between(1, MOST_WORK_TICKS as u64, ticks, line),
         StmtKind::Return(value) => check_expression(names, value),
         StmtKind::CallService(_, arguments, targets) => {
             check_expressions(names, arguments)?;

@@ -1,6 +1,7 @@
 //! What the declared names of a program stand for.
 
 ghost use Rattle.std.specs.Prelude.{◌≡◌, ◌+◌, ◌++◌, ◌&&◌, [], List, ℕ, ◌<◌, map, take, position, is_ok, true, option_map, IfOk, IfSome};
+ghost use Rattle.apex_types.specs.declared.limits.TheConstants.{MOST_PORTS};
 ghost use Rattle.pal_meaning.specs.Resolve as meant;
 ghost use Rattle.pal_meaning.specs.Resolve.{Entry, declared_entries, declaration_entries, process_entries, no_counts, declared_meaning};
 ghost use Rattle.pal_meaning.specs.WellFormed.{are_new};
@@ -13,13 +14,19 @@ ghost use Rattle.pal.specs.Tables.{entries_of, counts_of};
 use crate::lines::{Check, check_that, earliest};
 use crate::numbers::{limited, value_of};
 use crate::table::{NameTable, text_of};
-use apex_types::{Denotation, MOST_PROCESSES, ObjectKind, Place, PortRow};
+use apex_types::limits::{
+    MOST_DATA_WORDS, MOST_OBJECTS, MOST_PORTS, MOST_PROCEDURES, MOST_PROCESSES, MOST_SLOTS,
+};
+use apex_types::{Denotation, ObjectKind, Place, PortRow};
 use indexmap::IndexSet;
 use pal_base::syntax::{Declaration, DeclarationKind, Process, Program};
 use std::alloc::{AllocError, Global};
 
 /// The most processes of a program.
 const PROCESSES: u32 = MOST_PROCESSES as u32;
+
+/// The most objects of a kind.
+const OBJECTS: u32 = MOST_OBJECTS as u32;
 
 /// How many words of data and how many of each kind are declared.
 #[derive(Clone, Copy)]
@@ -55,17 +62,17 @@ pub fn slot(before: usize, index: usize) -> u16
     ensures { result ≡ meant.slot (before + index) }
 {
     match before.checked_add(index) {
-        Some(place) if place < 72 => place as u16,
+        Some(place) if place < MOST_SLOTS as usize => place as u16,
         _ => 0,
     }
 }
 
-/// The place of the port with that name among the first 16 of a partition's ports.
+/// The place of the port with that name among a partition's ports.
 fn port_place(ports: &[PortRow], name: &str) -> Option<usize>
-    ensures exact { result ≡ position (λ p. bytes_eq p.name name.now) (take 16 ports.now) }
-    ensures small { IfSome result (λ place. place < 16) }
+    ensures exact { result ≡ position (λ p. bytes_eq p.name name.now) (take MOST_PORTS ports.now) }
+    ensures small { IfSome result (λ place. place < MOST_PORTS) }
 {
-    let (first, _) = ports.split_at(ports.len().min(16));
+    let (first, _) = ports.split_at(ports.len().min(MOST_PORTS as usize));
     first.iter().position(|port| port.name.as_str() == name)
 }
 
@@ -98,20 +105,20 @@ impl Counts {
         match kind {
             DeclarationKind::Variable(_) => Denotation::Scalar(Place::Data(self.words)),
             DeclarationKind::Array { size, .. } => {
-                Denotation::Array(self.words, limited(65_536, size) as i64)
+                Denotation::Array(self.words, limited(MOST_DATA_WORDS as u64, size) as i64)
             }
             DeclarationKind::Semaphore { .. } => {
-                Denotation::Object(ObjectKind::Semaphore, next(16, self.semaphores))
+                Denotation::Object(ObjectKind::Semaphore, next(OBJECTS, self.semaphores))
             }
             DeclarationKind::Event => Denotation::Object(
                 ObjectKind::Event,
-                next(16, u32::from(self.events)),
+                next(OBJECTS, u32::from(self.events)),
             ),
             DeclarationKind::Buffer { .. } => {
-                Denotation::Object(ObjectKind::Buffer, next(16, self.buffers))
+                Denotation::Object(ObjectKind::Buffer, next(OBJECTS, self.buffers))
             }
             DeclarationKind::Blackboard { .. } => {
-                Denotation::Object(ObjectKind::Blackboard, next(16, self.blackboards))
+                Denotation::Object(ObjectKind::Blackboard, next(OBJECTS, self.blackboards))
             }
             DeclarationKind::Port => Denotation::Object(ObjectKind::Port, port_number(ports, name)),
             DeclarationKind::Procedure { parameters, .. } => {
@@ -126,24 +133,24 @@ impl Counts {
     {
         let mut counts = self;
         match kind {
-            DeclarationKind::Variable(_) => counts.words = counted(65_536, self.words, 1)?,
+            DeclarationKind::Variable(_) => counts.words = counted(MOST_DATA_WORDS, self.words, 1)?,
             DeclarationKind::Array { size, .. } => {
                 let size = value_of(size).unwrap_or(0);
-                counts.words = counted(65_536, self.words, size)?;
+                counts.words = counted(MOST_DATA_WORDS, self.words, size)?;
             }
             DeclarationKind::Semaphore { .. } => {
-                counts.semaphores = counted(16, self.semaphores, 1)?;
+                counts.semaphores = counted(OBJECTS, self.semaphores, 1)?;
             }
             DeclarationKind::Event => {
-                counts.events = counted(16, u32::from(self.events), 1)? as u8;
+                counts.events = counted(OBJECTS, u32::from(self.events), 1)? as u8;
             }
-            DeclarationKind::Buffer { .. } => counts.buffers = counted(16, self.buffers, 1)?,
+            DeclarationKind::Buffer { .. } => counts.buffers = counted(OBJECTS, self.buffers, 1)?,
             DeclarationKind::Blackboard { .. } => {
-                counts.blackboards = counted(16, self.blackboards, 1)?;
+                counts.blackboards = counted(OBJECTS, self.blackboards, 1)?;
             }
-            DeclarationKind::Port => counts.ports = counted(16, self.ports, 1)?,
+            DeclarationKind::Port => counts.ports = counted(MOST_PORTS as u32, self.ports, 1)?,
             DeclarationKind::Procedure { .. } => {
-                counts.procedures = counted(256, self.procedures, 1)?;
+                counts.procedures = counted(MOST_PROCEDURES as u32, self.procedures, 1)?;
             }
         }
         Some(counts)

@@ -21,6 +21,10 @@ use crate::meanings::Counts;
 use crate::numbers::{limited, signed_word_of, word_of};
 use crate::scope::{Scope, enter_body};
 use crate::table::{NameTable, text_of};
+use apex_types::limits::{
+    GREATEST_PRIORITY, MOST_DATA_WORDS, MOST_DEPTH, MOST_LOCALS, MOST_PARAMETERS,
+    MOST_SEMAPHORE_VALUE, MOST_STACK_WORDS, MOST_TICKS, MOST_WORDS, MOST_WORK_TICKS,
+};
 use apex_types::{
     ArgumentKind, BlackboardRow, BufferRow, Discipline, Name, Place, Priority, SemaphoreRow,
 };
@@ -82,7 +86,7 @@ fn push_words(words: &mut Vec<i64>, kind: &DeclarationKind) -> Result<(), AllocE
         DeclarationKind::Variable(Some(value)) => words.push(signed_word_of(value))?,
         DeclarationKind::Variable(None) => words.push(0)?,
         DeclarationKind::Array { size, values } => {
-            let size = limited(65_536, size) as usize;
+            let size = limited(MOST_DATA_WORDS as u64, size) as usize;
             push_values(words, values)?;
             push_zeros(words, size.saturating_sub(values.len()))?;
         }
@@ -114,8 +118,8 @@ fn semaphore_row(first: &Numeral, maximum: &Numeral, discipline: Discipline) -> 
     ensures discipline { result.discipline ≡ discipline }
 {
     SemaphoreRow {
-        value: limited(1_000_000, first) as u32,
-        maximum: limited(1_000_000, maximum) as u32,
+        value: limited(MOST_SEMAPHORE_VALUE as u64, first) as u32,
+        maximum: limited(MOST_SEMAPHORE_VALUE as u64, maximum) as u32,
         discipline,
     }
 }
@@ -140,7 +144,7 @@ fn semaphores_of(
     Ok(rows)
 }
 
-/// How many events are declared, up to 16.
+/// How many events are declared, up to the most.
 fn events_of(declarations: &[Declaration]) -> u8
     ensures { (names : List (List ℕ)) → result ≡ (counts_of no_counts (map (view.declaration_of names) declarations.now)).events }
 {
@@ -163,8 +167,8 @@ fn buffers_of(alloc: Global, declarations: &[Declaration]) -> Result<Vec<BufferR
         } = &declaration.kind
         {
             rows.push(BufferRow {
-                words: limited(16, words) as u8,
-                depth: limited(32, messages) as u8,
+                words: limited(MOST_WORDS as u64, words) as u8,
+                depth: limited(MOST_DEPTH as u64, messages) as u8,
                 discipline: *discipline,
             })?;
         }
@@ -182,7 +186,7 @@ fn blackboards_of(
     for declaration in declarations {
         if let DeclarationKind::Blackboard { words } = &declaration.kind {
             rows.push(BlackboardRow {
-                words: limited(16, words) as u8,
+                words: limited(MOST_WORDS as u64, words) as u8,
             })?;
         }
     }
@@ -224,8 +228,8 @@ fn resolve_procedures(
             let name = name_at(names, declaration.name);
             procedures.push(program::Procedure {
                 name,
-                parameters: limited_count(8, parameters.len()),
-                locals: limited_count(64, body.locals.len()),
+                parameters: limited_count(MOST_PARAMETERS, parameters.len()),
+                locals: limited_count(MOST_LOCALS, body.locals.len()),
                 block: resolve_statements(alloc, names, declared, parameters, body)?,
             })?;
         }
@@ -244,8 +248,8 @@ pub fn resolve_body(
     ensures { IfOk result (λ resolved. shown.body_of resolved ≡ meant.resolve_body (entries_of declared.now) (number_of stack.now) (view.body_of (texts names.now.keys) body.now)) }
 {
     Ok(program::Body {
-        stack: limited(4_096, stack) as u16,
-        locals: limited_count(64, body.locals.len()),
+        stack: limited(MOST_STACK_WORDS as u64, stack) as u16,
+        locals: limited_count(MOST_LOCALS, body.locals.len()),
         block: resolve_statements(alloc, names, declared, &[], body)?,
     })
 }
@@ -294,7 +298,7 @@ fn resolve_process(
 {
     Ok(program::Process {
         name: name_at(names, process.name),
-        priority: Priority(limited(239, &process.priority) as u8),
+        priority: Priority(limited(GREATEST_PRIORITY as u64, &process.priority) as u8),
         period: time_of(&process.period),
         capacity: time_of(&process.capacity),
         body: resolve_body(alloc, names, declared, &process.stack, &process.body)?,
@@ -308,7 +312,7 @@ fn time_of(number: &Numeral) -> Option<u64>
     if number.negative {
         None
     } else {
-        Some(limited(1_099_511_627_776, number))
+        Some(limited(MOST_TICKS, number))
     }
 }
 
@@ -376,7 +380,9 @@ fn resolve_statement(
             let block = resolve_block(alloc, scope, block)?;
             Ok(program::Stmt::While(test, block))
         }
-        StmtKind::Work(ticks) => Ok(program::Stmt::Work(limited(1_000_000, ticks) as u32)),
+        StmtKind::Work(ticks) => Ok(program::Stmt::Work(
+            limited(MOST_WORK_TICKS as u64, ticks) as u32,
+        )),
         StmtKind::Return(value) => {
             let value = resolve_expression(alloc, scope, value)?;
             Ok(program::Stmt::Return(value))

@@ -17,10 +17,11 @@ use crate::mark::Mark;
 use crate::source::{Read, ReadError, Source};
 use crate::syntax::{Declaration, Process, Program, StackBody};
 use crate::word::{Token, Words, words_of};
+use apex_types::limits::MOST_SOURCE_BYTES;
 use std::alloc::Global;
 
 /// The greatest length of a source text, in bytes.
-const GREATEST_LENGTH: usize = 1_048_576;
+const GREATEST_LENGTH: usize = MOST_SOURCE_BYTES as usize;
 
 /// The tree of a source text.
 ///

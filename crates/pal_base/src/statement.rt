@@ -12,10 +12,11 @@ use crate::source::{Read, ReadError, Source};
 use crate::syntax::{Body, Identifier, Stmt, StmtKind};
 use crate::word::Token;
 use apex_types::Service;
+use apex_types::limits::MOST_LEVELS;
 use std::alloc::Global;
 
-/// How many levels may be opened in a body, which opens the first of 64.
-const LEVELS_IN_BODY: u32 = 63;
+/// How many levels may be opened in a body, which opens the first.
+const LEVELS_IN_BODY: u32 = MOST_LEVELS - 1;
 
 impl Source {
     #[tactic(auto, unfolding(pal_laws::specs::GrammarReading::body_at))]

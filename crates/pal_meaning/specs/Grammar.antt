@@ -2,6 +2,7 @@
 -- word is the longest that begins where it stands. Each line of the grammar is one way to write a thing; rest are the words that follow it.
 use Rattle.std.specs.Prelude.{ℕ, zero, suc, ◌^◌, ◌==◌, ◌&&◌, ◌||◌, nat_eq, nat_lt, nat_le, Bool, true, false, if◌then◌else◌, List, [], ◌∷◌, length, drop, Option, Some, None, codes, find, ◌≡◌, ◌≤◌, ◌-◌}
 use Rattle.std.specs.List.{prefix_len, starts_with}
+use Rattle.apex_types.specs.declared.limits.TheConstants.{MOST_LEVELS, MOST_SOURCE_BYTES}
 use Rattle.apex_types.specs.declared.service.Service.{Service}
 use Rattle.apex_types.specs.ServiceShape.{service_word, services}
 use Rattle.engine_meaning.specs.Digits.{decimal_value, front, is_digit, same}
@@ -340,7 +341,7 @@ abbrev mutual
 
 -- a body opens the first of 64 levels
 abbrev pub IsBody : tree.Body → Type 0
-IsBody b = IsBlock b.block 63
+IsBody b = IsBlock b.block (MOST_LEVELS - 1)
 
 abbrev pub IsKind : tree.Kind → Type 0
 IsKind (tree.Procedure xs b) = IsBody b
@@ -370,7 +371,7 @@ IsWritten words program = IsProgram program × (words ≡ program_words program)
 
 -- a source text is ASCII, and no longer than 1,048,576 bytes
 abbrev pub IsText : List ℕ → Type 0
-IsText text = IsAscii text × (length text ≤ 1048576)
+IsText text = IsAscii text × (length text ≤ MOST_SOURCE_BYTES)
 
 -- the text of a program: its words are those that the grammar writes the program with
 abbrev pub IsProgramOf : List ℕ → tree.Program → Type 0

@@ -1,7 +1,7 @@
 -- What the names of a program stand for, and the program with its names resolved. The resolution is
 -- made for every program: what makes a program not well formed stands as 0 in it.
 use Rattle.std.specs.Prelude.{ℕ, ◌+◌, ◌-◌, ◌^◌, ℤ, pos, ◌-ℤ◌, nat_le, nat_lt, if◌then◌else◌, List, [], ◌∷◌, ◌++◌, map, length, take, replicate, flat_map, filter_map, position, Option, Some, None, option_map, unwrap_or, bytes_eq}
-use Rattle.apex_types.specs.declared.limits.TheConstants.{MOST_PROCESSES}
+use Rattle.apex_types.specs.declared.limits.TheConstants.{GREATEST_PRIORITY, MOST_DATA_WORDS, MOST_DEPTH, MOST_LOCALS, MOST_OBJECTS, MOST_PORTS, MOST_PROCEDURES, MOST_PROCESSES, MOST_SEMAPHORE_VALUE, MOST_SLOTS, MOST_STACK_WORDS, MOST_TICKS, MOST_WORDS, MOST_WORK_TICKS}
 use Rattle.apex_types.specs.declared.place.Place.{Place}
 use Rattle.apex_types.specs.declared.place.Place.TheVariants.{Data, Slot}
 use Rattle.apex_types.specs.declared.denotation.Denotation.{Denotation}
@@ -49,14 +49,14 @@ counted limit count more = if nat_le (more + count) limit then Some (more + coun
 
 -- the counts after one more declaration, where each is within its limit
 abbrev pub after : Counts → written.Kind → Option Counts
-after c (written.Variable value) = option_map (λ n. record c { words = n }) (counted 65536 c.words 1)
-after c (written.Array size values) = option_map (λ n. record c { words = n }) (counted 65536 c.words (value_or_zero size))
-after c (written.Semaphore first maximum discipline) = option_map (λ n. record c { semaphores = n }) (counted 16 c.semaphores 1)
-after c written.Event = option_map (λ n. record c { events = n }) (counted 16 c.events 1)
-after c (written.Buffer words messages discipline) = option_map (λ n. record c { buffers = n }) (counted 16 c.buffers 1)
-after c (written.Blackboard words) = option_map (λ n. record c { blackboards = n }) (counted 16 c.blackboards 1)
-after c written.Port = option_map (λ n. record c { ports = n }) (counted 16 c.ports 1)
-after c (written.Procedure parameters body) = option_map (λ n. record c { procedures = n }) (counted 256 c.procedures 1)
+after c (written.Variable value) = option_map (λ n. record c { words = n }) (counted MOST_DATA_WORDS c.words 1)
+after c (written.Array size values) = option_map (λ n. record c { words = n }) (counted MOST_DATA_WORDS c.words (value_or_zero size))
+after c (written.Semaphore first maximum discipline) = option_map (λ n. record c { semaphores = n }) (counted MOST_OBJECTS c.semaphores 1)
+after c written.Event = option_map (λ n. record c { events = n }) (counted MOST_OBJECTS c.events 1)
+after c (written.Buffer words messages discipline) = option_map (λ n. record c { buffers = n }) (counted MOST_OBJECTS c.buffers 1)
+after c (written.Blackboard words) = option_map (λ n. record c { blackboards = n }) (counted MOST_OBJECTS c.blackboards 1)
+after c written.Port = option_map (λ n. record c { ports = n }) (counted MOST_PORTS c.ports 1)
+after c (written.Procedure parameters body) = option_map (λ n. record c { procedures = n }) (counted MOST_PROCEDURES c.procedures 1)
 
 -- the number of the next of a kind, from 1
 abbrev pub next : ℕ → ℕ → ℕ
@@ -64,17 +64,17 @@ next limit count = unwrap_or (counted limit count 1) 0
 
 -- the number of the port of that name in the partition's row, from 1; 0 if there is none
 abbrev pub port_number : List PortRow → List ℕ → ℕ
-port_number ports name = unwrap_or (option_map (λ i. i + 1) (position (λ p. bytes_eq p.name name) (take 16 ports))) 0
+port_number ports name = unwrap_or (option_map (λ i. i + 1) (position (λ p. bytes_eq p.name name) (take MOST_PORTS ports))) 0
 
 -- What a declared name stands for, after so much is declared: variables and arrays lie in the data
 -- in the order of declaration, objects are numbered from 1, each kind by itself, procedures from 0.
 abbrev pub declared_meaning : List PortRow → Counts → List ℕ → written.Kind → Denotation
 declared_meaning ports c name (written.Variable value) = denotation.Scalar (Data c.words)
-declared_meaning ports c name (written.Array size values) = denotation.Array c.words (pos (within 65536 size))
-declared_meaning ports c name (written.Semaphore first maximum discipline) = denotation.Object object.Semaphore (next 16 c.semaphores)
-declared_meaning ports c name written.Event = denotation.Object object.Event (next 16 c.events)
-declared_meaning ports c name (written.Buffer words messages discipline) = denotation.Object object.Buffer (next 16 c.buffers)
-declared_meaning ports c name (written.Blackboard words) = denotation.Object object.Blackboard (next 16 c.blackboards)
+declared_meaning ports c name (written.Array size values) = denotation.Array c.words (pos (within MOST_DATA_WORDS size))
+declared_meaning ports c name (written.Semaphore first maximum discipline) = denotation.Object object.Semaphore (next MOST_OBJECTS c.semaphores)
+declared_meaning ports c name written.Event = denotation.Object object.Event (next MOST_OBJECTS c.events)
+declared_meaning ports c name (written.Buffer words messages discipline) = denotation.Object object.Buffer (next MOST_OBJECTS c.buffers)
+declared_meaning ports c name (written.Blackboard words) = denotation.Object object.Blackboard (next MOST_OBJECTS c.blackboards)
 declared_meaning ports c name written.Port = denotation.Object object.Port (port_number ports name)
 declared_meaning ports c name (written.Procedure parameters body) = denotation.Procedure c.procedures (length parameters)
 
@@ -103,7 +103,7 @@ declared_entries ports p = declaration_entries ports no_counts p.declarations ++
 
 -- the slot of the parameter or local with so many before it
 abbrev pub slot : ℕ → ℕ
-slot place = if nat_lt place 72 then place else 0
+slot place = if nat_lt place MOST_SLOTS then place else 0
 
 -- the entries of the parameters and locals of a body, with so many before them
 abbrev pub own_entries : ℕ → List (List ℕ) → List Entry
@@ -183,7 +183,7 @@ abbrev mutual
   resolve_stmt scope (written.If test block) = program.If (resolve_expr scope test) (resolve_block scope block)
   resolve_stmt scope (written.IfElse test block other) = program.IfElse (resolve_expr scope test) (resolve_block scope block) (resolve_block scope other)
   resolve_stmt scope (written.While test block) = program.While (resolve_expr scope test) (resolve_block scope block)
-  resolve_stmt scope (written.Work ticks) = program.Work (within 1000000 ticks)
+  resolve_stmt scope (written.Work ticks) = program.Work (within MOST_WORK_TICKS ticks)
   resolve_stmt scope (written.Return value) = program.Return (resolve_expr scope value)
   resolve_stmt scope (written.CallService service arguments targets) = program.CallService service (resolve_arguments scope (arguments_of service) arguments) (map (λ x. place_of (scope x)) targets)
 
@@ -200,19 +200,19 @@ count_within limit n = if nat_le n limit then n else 0
 
 -- a body that is no procedure's, with its stack
 abbrev pub resolve_body : List Entry → Option ℕ → written.Body → program.Body
-resolve_body declared stack b = record { stack = within 4096 stack; locals = count_within 64 (length b.locals); block = resolve_body_block declared [] b }
+resolve_body declared stack b = record { stack = within MOST_STACK_WORDS stack; locals = count_within MOST_LOCALS (length b.locals); block = resolve_body_block declared [] b }
 
 abbrev pub resolve_stack_body : List Entry → written.StackBody → program.Body
 resolve_stack_body declared b = resolve_body declared b.stack b.body
 
 -- a time in ticks; -1 is infinite
 abbrev pub time_of : written.Integer → Option ℕ
-time_of i = if i.negative then None else Some (within (2 ^ 40) i.magnitude)
+time_of i = if i.negative then None else Some (within MOST_TICKS i.magnitude)
 
 abbrev pub resolve_process : List Entry → written.Process → program.Process
 resolve_process declared p = record {
   name = p.name;
-  priority = within 239 p.priority;
+  priority = within GREATEST_PRIORITY p.priority;
   period = time_of p.period;
   capacity = time_of p.capacity;
   body = resolve_body declared p.stack p.body;
@@ -221,7 +221,7 @@ resolve_process declared p = record {
 abbrev pub procedure_of : List Entry → written.Kind → Option program.Procedure
 procedure_of declared (written.Procedure parameters b) = Some (record {
   parameters = count_within 8 (length parameters);
-  locals = count_within 64 (length b.locals);
+  locals = count_within MOST_LOCALS (length b.locals);
   block = resolve_body_block declared parameters b;
 })
 procedure_of declared _ = None
@@ -234,19 +234,19 @@ array_words size values = map signed_word values ++ replicate (size - length val
 abbrev pub words_of : written.Kind → List ℤ
 words_of (written.Variable None) = pos 0 ∷ []
 words_of (written.Variable (Some value)) = signed_word value ∷ []
-words_of (written.Array size values) = array_words (within 65536 size) values
+words_of (written.Array size values) = array_words (within MOST_DATA_WORDS size) values
 words_of _ = []
 
 abbrev pub semaphore_of : written.Kind → Option SemaphoreRow
-semaphore_of (written.Semaphore first maximum discipline) = Some (record { value = within 1000000 first; maximum = within 1000000 maximum; discipline = discipline })
+semaphore_of (written.Semaphore first maximum discipline) = Some (record { value = within MOST_SEMAPHORE_VALUE first; maximum = within MOST_SEMAPHORE_VALUE maximum; discipline = discipline })
 semaphore_of _ = None
 
 abbrev pub buffer_of : written.Kind → Option BufferRow
-buffer_of (written.Buffer words messages discipline) = Some (record { words = within 16 words; depth = within 32 messages; discipline = discipline })
+buffer_of (written.Buffer words messages discipline) = Some (record { words = within MOST_WORDS words; depth = within MOST_DEPTH messages; discipline = discipline })
 buffer_of _ = None
 
 abbrev pub blackboard_of : written.Kind → Option BlackboardRow
-blackboard_of (written.Blackboard words) = Some (record { words = within 16 words })
+blackboard_of (written.Blackboard words) = Some (record { words = within MOST_WORDS words })
 blackboard_of _ = None
 
 -- the counts after all declarations; a count that would pass its limit stays

@@ -2,7 +2,7 @@
 -- whole program. The verdict is the first that does not hold, or the program with its names resolved.
 use Rattle.std.specs.Prelude.{ℕ, ◌+◌, ◌%◌, ◌^◌, Bool, true, false, not, ◌&&◌, nat_eq, nat_le, nat_lt, is_some, List, [], ◌∷◌, ◌++◌, length, Option, Some, None, Result, Ok, Err, if◌then◌else◌}
 use Rattle.std.specs.List.{list_all}
-use Rattle.apex_types.specs.declared.limits.TheConstants.{MOST_PROCESSES}
+use Rattle.apex_types.specs.declared.limits.TheConstants.{GREATEST_PRIORITY, LEAST_STACK_WORDS, MOST_DEPTH, MOST_LOCALS, MOST_PARAMETERS, MOST_PROCESSES, MOST_SEMAPHORE_VALUE, MOST_STACK_WORDS, MOST_TICKS, MOST_WORDS, MOST_WORK_TICKS}
 use Rattle.apex_types.specs.NameText.{is_name}
 use Rattle.apex_types.specs.declared.denotation.Denotation.{Denotation}
 use Rattle.apex_types.specs.declared.denotation.Denotation.TheVariants as denotation
@@ -175,7 +175,7 @@ is_between low high (Some n) = nat_le low n && nat_le n high
 
 -- -1, or 1 to 2^40 ticks
 abbrev pub is_time : written.Integer → Bool
-is_time i = if i.negative then is_between 1 1 i.magnitude else is_between 1 (2 ^ 40) i.magnitude
+is_time i = if i.negative then is_between 1 1 i.magnitude else is_between 1 MOST_TICKS i.magnitude
 
 abbrev pub is_word : written.Integer → Bool
 is_word i = is_some i.magnitude
@@ -205,7 +205,7 @@ abbrev mutual
   keeps_stmt (written.If test block) = keeps_expr test && keeps_block block
   keeps_stmt (written.IfElse test block other) = keeps_expr test && (keeps_block block && keeps_block other)
   keeps_stmt (written.While test block) = keeps_expr test && keeps_block block
-  keeps_stmt (written.Work ticks) = is_between 1 1000000 ticks
+  keeps_stmt (written.Work ticks) = is_between 1 MOST_WORK_TICKS ticks
   keeps_stmt (written.Return value) = keeps_expr value
   keeps_stmt (written.CallService service arguments targets) = keeps_exprs arguments && list_all is_name targets
 
@@ -214,7 +214,7 @@ abbrev mutual
   keeps_block (written.MoreStmts first rest) = keeps_stmt first && keeps_block rest
 
 abbrev pub keeps_body : written.Body → Bool
-keeps_body b = nat_le (length b.locals) 64 && list_all is_name b.locals && keeps_block b.block
+keeps_body b = nat_le (length b.locals) MOST_LOCALS && list_all is_name b.locals && keeps_block b.block
 
 -- the frame of a body fits its stack
 abbrev pub fits_stack : List Entry → Option ℕ → written.Body → Bool
@@ -223,11 +223,11 @@ fits_stack declared (Some words) b = nat_le (frame_of_body (resolve_body declare
 
 -- a body that is no procedure's, with its stack
 abbrev pub keeps_stack_body : List Entry → Option ℕ → written.Body → Bool
-keeps_stack_body declared stack b = is_between 16 4096 stack && fits_stack declared stack b && keeps_body b
+keeps_stack_body declared stack b = is_between LEAST_STACK_WORDS MOST_STACK_WORDS stack && fits_stack declared stack b && keeps_body b
 
 abbrev pub fits_frame : Option program.Procedure → Bool
 fits_frame None = true
-fits_frame (Some p) = nat_le (frame_of_procedure p) 4096
+fits_frame (Some p) = nat_le (frame_of_procedure p) MOST_STACK_WORDS
 
 abbrev pub value_at_most : Option ℕ → Option ℕ → Bool
 value_at_most None most = false
@@ -241,19 +241,19 @@ keeps_value (Some i) = is_word i
 abbrev pub keeps_kind : List Entry → written.Kind → Bool
 keeps_kind declared (written.Variable value) = keeps_value value
 keeps_kind declared (written.Array size values) = value_at_most (Some (length values)) size && list_all is_word values
-keeps_kind declared (written.Semaphore first maximum discipline) = is_between 1 1000000 maximum && value_at_most first maximum
+keeps_kind declared (written.Semaphore first maximum discipline) = is_between 1 MOST_SEMAPHORE_VALUE maximum && value_at_most first maximum
 keeps_kind declared written.Event = true
-keeps_kind declared (written.Buffer words messages discipline) = is_between 1 16 words && is_between 1 32 messages
-keeps_kind declared (written.Blackboard words) = is_between 1 16 words
+keeps_kind declared (written.Buffer words messages discipline) = is_between 1 MOST_WORDS words && is_between 1 MOST_DEPTH messages
+keeps_kind declared (written.Blackboard words) = is_between 1 MOST_WORDS words
 keeps_kind declared written.Port = true
-keeps_kind declared (written.Procedure parameters b) = nat_le (length parameters) 8 && list_all is_name parameters
+keeps_kind declared (written.Procedure parameters b) = nat_le (length parameters) MOST_PARAMETERS && list_all is_name parameters
     && keeps_body b && fits_frame (procedure_of declared (written.Procedure parameters b))
 
 abbrev pub keeps_declaration : List Entry → written.Declaration → Bool
 keeps_declaration declared d = is_name d.name && keeps_kind declared d.kind
 
 abbrev pub keeps_process : List Entry → written.Process → Bool
-keeps_process declared p = is_name p.name && is_between 1 239 p.priority && is_time p.period && is_time p.capacity
+keeps_process declared p = is_name p.name && is_between 1 GREATEST_PRIORITY p.priority && is_time p.period && is_time p.capacity
     && keeps_stack_body declared p.stack p.body
 
 -- the words of data and the declarations of each kind, counted one after the other, are within limits

@@ -1,11 +1,12 @@
 -- Names, subjects, return codes and responses: each is its text, and is read again from it.
-use Rattle.std.proofs.Common.{◌≡◌, ℕ, zero, suc, ◌<◌, ◌≤◌, Bool, true, false, cond, List, [], ◌∷◌, length, option_map, Option, Some, None, codes, refl, sym, ap, subst, ◌∙◌, arith, lit<}
+use Rattle.std.proofs.Common.{◌+◌, ◌≡◌, ℕ, zero, suc, ◌<◌, ◌≤◌, Bool, true, false, cond, List, [], ◌∷◌, length, option_map, Option, Some, None, codes, refl, sym, ap, subst, ◌∙◌, arith, lit<}
 use Rattle.std.specs.Prelude.{nat_le, ◌&&◌, nat_eq, slice_get, IsTrue}
 use Rattle.std.specs.Cmp.Lexicographic.{same_text}
 use Rattle.std.specs.Fmt.{decimal}
 use Rattle.std.specs.List.{list_all}
 use Rattle.std.proofs.lemmas.Bool.{and_parts, and_from, and_left, leb-true, ne_eqb, cond-true, cond-false}
 use Rattle.std.proofs.lemmas.Bool.Decides.{nat_tests}
+use Rattle.apex_types.specs.declared.limits.TheConstants.{MOST_NAME_BYTES}
 use Rattle.apex_types.specs.CodeWords.{return_code_number, level_word, level_of_response, action_word}
 use Rattle.apex_types.specs.Line.{partition_text, subject_text, culprit_text}
 use Rattle.apex_types.specs.NameText.{is_name, is_name_byte, is_lower_case}
@@ -42,7 +43,7 @@ name_bytes_ink (c ∷ cs) h =
 name_ink : (name : List ℕ) → is_name name ≡ true → list_all is_ink name ≡ true
 name_ink [] h = cc
 name_ink (c ∷ cs) h =
-    let p = and_parts (is_lower_case c && list_all is_name_byte cs) (nat_le (length cs) 29) h in
+    let p = and_parts (is_lower_case c && list_all is_name_byte cs) (nat_le (length cs + 1) MOST_NAME_BYTES) h in
     let q = and_parts (is_lower_case c) (list_all is_name_byte cs) p.0 in
     and_from (is_ink c) (list_all is_ink cs) (lower_case_ink c q.0) (name_bytes_ink cs q.1)
 
@@ -50,7 +51,7 @@ name_ink (c ∷ cs) h =
 name_differs : (name : List ℕ) (b : ℕ) (bs : List ℕ) → is_name name ≡ true → b < 97 → same name (b ∷ bs) ≡ false
 name_differs [] b bs h low = refl
 name_differs (c ∷ cs) b bs h low =
-    let p = and_parts (is_lower_case c && list_all is_name_byte cs) (nat_le (length cs) 29) h in
+    let p = and_parts (is_lower_case c && list_all is_name_byte cs) (nat_le (length cs + 1) MOST_NAME_BYTES) h in
     let q = and_parts (is_lower_case c) (list_all is_name_byte cs) p.0 in
     let r = and_parts (nat_le 97 c) (nat_le c 122) q.0 in
     and_left (nat_eq c b) (same cs bs) (ne_eqb c b (λ (e : c ≡ b). omega (arith, e, low, leb-true 97 c r.0)))

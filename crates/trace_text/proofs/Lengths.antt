@@ -6,6 +6,7 @@ use Rattle.std.specs.Int.{w64}
 use Rattle.std.specs.List.{list_all}
 use Rattle.std.proofs.lemmas.Bool.{and_parts, leb-true}
 use Rattle.std.proofs.lemmas.Fmt.{length-decimal-le, length_signed_le}
+use Rattle.apex_types.specs.declared.limits.TheConstants.{MOST_NAME_BYTES}
 use Rattle.apex_types.specs.CodeWords.{return_code_number, mode_word, state_word, error_word, level_word, level_of_response, action_word}
 use Rattle.apex_types.specs.Line.{thirteen_digits, partition_text, subject_text, culprit_text, words_text, kind_text, line_of}
 use Rattle.apex_types.specs.NameText.{is_name, is_lower_case, is_name_byte}
@@ -36,8 +37,8 @@ use Rattle.trace_text.specs.Trace.{AreWords, IsMessage, IsSubject, IsCulprit, Is
 name_short : (name : List ℕ) → IsTrue (is_name name) → length name ≤ 30
 name_short [] good = omega arith
 name_short (c ∷ cs) good =
-    let p = and_parts (is_lower_case c && list_all is_name_byte cs) (nat_le (length cs) 29) good in
-    omega (arith, leb-true (length cs) 29 p.1)
+    let p = and_parts (is_lower_case c && list_all is_name_byte cs) (nat_le (length cs + 1) MOST_NAME_BYTES) good in
+    omega (arith, leb-true (length cs + 1) MOST_NAME_BYTES p.1)
 
 partition_short : (p : Option (List ℕ)) → IsPartition p → length (partition_text p) ≤ 30
 partition_short None good = lit≤ tt

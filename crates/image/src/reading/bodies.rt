@@ -2,6 +2,7 @@
 
 ghost use Rattle.std.specs.Prelude.{◌≡◌, ◌<◌, [], nat_lt};
 ghost use Rattle.std.specs.List.{list_all};
+ghost use Rattle.apex_types.specs.declared.limits.TheConstants.{MOST_PROCESSES};
 ghost use Rattle.machine_meaning.specs.ImageReading.{is_process, fresh_name_at, duration_at, period_at, duration_of, is_infinite_or_multiple, routine_at, body_at, process_at, items_at, list_at, handler_at, bodies_at, enter_within, handler_enters, code_at, bytes_at};
 ghost use Rattle.image.specs.Views.{Gives, bodies_of};
 
@@ -11,11 +12,12 @@ use crate::reading::numbers::{
     i64_at, name_at, same_name, u8_within, u16_within, u32_at, u32_within,
 };
 use crate::reading::rows::{Row, list_at, rows_at};
-use apex_types::{BodyRow, MOST_PROCESSES, Name, Priority, ProcessRow, RoutineRow};
+use apex_types::limits::{
+    GREATEST_PRIORITY, LEAST_STACK_WORDS, MOST_INSTRUCTIONS, MOST_PARAMETERS, MOST_PROCEDURES,
+    MOST_PROCESSES, MOST_SLOTS, MOST_STACK_WORDS, MOST_TICKS,
+};
+use apex_types::{BodyRow, Name, Priority, ProcessRow, RoutineRow};
 use std::alloc::Global;
-
-/// The greatest finite duration in ticks.
-const GREATEST_DURATION: i64 = 1 << 40;
 
 /// What a source runs: its procedures, processes, INIT and handler.
 #[derive(Drop)]
@@ -35,9 +37,9 @@ impl Row for RoutineRow {
         bytes: &'a [u8],
     ) -> Result<(RoutineRow, &'a [u8]), ImageFault> {
         let (entry, rest) = u32_at(bytes)?;
-        let (parameters, rest) = u8_within(rest, 0, 8)?;
-        let (slots, rest) = u16_within(rest, u16::from(parameters), 72)?;
-        let (frame, rest) = u32_within(rest, u32::from(slots) + 2, 4_096)?;
+        let (parameters, rest) = u8_within(rest, 0, MOST_PARAMETERS)?;
+        let (slots, rest) = u16_within(rest, u16::from(parameters), MOST_SLOTS)?;
+        let (frame, rest) = u32_within(rest, u32::from(slots) + 2, MOST_STACK_WORDS as u32)?;
         let row = RoutineRow {
             entry,
             parameters,
@@ -52,9 +54,9 @@ impl Row for RoutineRow {
 fn body_at(bytes: &[u8]) -> Result<(BodyRow, &[u8]), ImageFault>
     ensures { Gives (λ x. (x.0, x.1.now)) result (body_at bytes.now) }
 {
-    let (stack, rest) = u16_within(bytes, 16, 4_096)?;
+    let (stack, rest) = u16_within(bytes, LEAST_STACK_WORDS, MOST_STACK_WORDS)?;
     let (entry, rest) = u32_at(rest)?;
-    let (slots, rest) = u16_within(rest, 0, 72)?;
+    let (slots, rest) = u16_within(rest, 0, MOST_SLOTS)?;
     let (frame, rest) = u32_within(rest, u32::from(slots) + 2, u32::from(stack))?;
     let row = BodyRow {
         stack,
@@ -71,7 +73,7 @@ fn duration_of(word: i64) -> Option<Option<u64>>
 {
     if word == -1 {
         Some(None)
-    } else if 1 <= word && word <= GREATEST_DURATION {
+    } else if 1 <= word && word <= MOST_TICKS as i64 {
         Some(Some(word as u64))
     } else {
         None
@@ -144,7 +146,7 @@ fn process_at<'a>(
         Ok(found) => found,
         Err(fault) => return Err(fault),
     };
-    let (priority, rest) = u8_within(rest, 1, 239)?;
+    let (priority, rest) = u8_within(rest, 1, GREATEST_PRIORITY)?;
     let (period, rest) = period_at(unit, rest)?;
     let (capacity, rest) = duration_at(rest)?;
     let (body, rest) = body_at(rest)?;
@@ -211,7 +213,7 @@ pub fn bodies_at(alloc: Global, unit: u32, bytes: &[u8]) -> Result<(Bodies, &[u8
     requires { 0 < unit }
     ensures { Gives (λ x. (bodies_of x.0, x.1.now)) result (bodies_at unit bytes.now) }
 {
-    let (routines, rest) = list_at(alloc, bytes, 0, 256)?;
+    let (routines, rest) = list_at(alloc, bytes, 0, MOST_PROCEDURES as u32)?;
     let (processes, rest) = process_list_at(alloc, unit, rest)?;
     let (init, rest) = body_at(rest)?;
     let (handler, rest) = handler_at(rest)?;
@@ -276,7 +278,7 @@ pub fn code_at<'a>(
 ) -> Result<(Vec<[u8; 16]>, &'a [u8]), ImageFault>
     ensures { Gives (λ x. (x.0.items, x.1.now)) result (code_at (bodies_of bodies.now) bytes.now) }
 {
-    let (count, rest) = u32_within(bytes, 1, 65_536)?;
+    let (count, rest) = u32_within(bytes, 1, MOST_INSTRUCTIONS)?;
     if !enter_within(count, bodies) {
         return Err(ImageFault::Limit);
     }

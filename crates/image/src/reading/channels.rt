@@ -3,6 +3,7 @@
 ghost use Rattle.std.specs.Prelude.{◌≡◌, []};
 ghost use Rattle.std.specs.List.{list_any};
 ghost use Rattle.std.specs.Str.{bytes_eq};
+ghost use Rattle.apex_types.specs.declared.limits.TheConstants.{MOST_CHANNELS};
 ghost use Rattle.machine_meaning.specs.ImageReading.{is_channel, fresh_name_at, end_between, channel_end_at, channel_at, items_at, list_at};
 ghost use Rattle.image.specs.Items.{channel_of, channels_of};
 ghost use Rattle.image.specs.Views.{Gives};
@@ -11,6 +12,7 @@ use crate::fault::ImageFault;
 use crate::reading::numbers::{byte_at, name_at, same_name, u32_within};
 use crate::reading::rows;
 use crate::reading::rows::Row;
+use apex_types::limits::{MOST_CHANNELS, MOST_DESTINATIONS};
 use apex_types::{ChannelEnd, Name, PartitionId, PortId};
 use std::alloc::Global;
 use window_table::ChannelRow;
@@ -64,7 +66,7 @@ fn channel_at<'a>(
         Err(fault) => return Err(fault),
     };
     let (source, rest) = ChannelEnd::read(&[], rest)?;
-    let (destinations, rest) = rows::list_at(alloc, rest, 1, 16)?;
+    let (destinations, rest) = rows::list_at(alloc, rest, 1, MOST_DESTINATIONS as u32)?;
     let row = ChannelRow {
         name,
         source,
@@ -93,11 +95,11 @@ fn channels_at(
     Ok((rows, rest))
 }
 
-/// Up to 64 channels.
+/// The channels.
 #[tactic(auto, unfolding(machine_meaning::specs::ImageReading::list_at))]
 pub fn channel_list_at(alloc: Global, bytes: &[u8]) -> Result<(Vec<ChannelRow>, &[u8]), ImageFault>
-    ensures { Gives (λ x. (channels_of x.0.items, x.1.now)) result (list_at 0 64 channel_at bytes.now) }
+    ensures { Gives (λ x. (channels_of x.0.items, x.1.now)) result (list_at 0 MOST_CHANNELS channel_at bytes.now) }
 {
-    let (count, rest) = u32_within(bytes, 0, 64)?;
+    let (count, rest) = u32_within(bytes, 0, MOST_CHANNELS as u32)?;
     channels_at(alloc, count, rest)
 }

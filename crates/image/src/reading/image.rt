@@ -11,6 +11,7 @@ use crate::reading::choices::module_action_at;
 use crate::reading::items::item_list_at;
 use crate::reading::numbers::{bytes_at, u16_at, u32_within};
 use crate::reading::rows::list_at;
+use apex_types::limits::{MOST_FRAME_TICKS, MOST_WINDOWS};
 use apex_types::{ModuleAction, WindowRow};
 use std::alloc::Global;
 use window_table::ChannelRow;
@@ -55,10 +56,10 @@ pub fn fields_at(alloc: Global, bytes: &[u8]) -> Result<(Fields, &[u8]), ImageFa
     ensures { Gives (λ x. (fields_of x.0, x.1.now)) result (fields_at bytes.now) }
 {
     let (_, rest) = version_at(bytes)?;
-    let (frame, rest) = u32_within(rest, 1, 1 << 24)?;
+    let (frame, rest) = u32_within(rest, 1, MOST_FRAME_TICKS)?;
     let (fault, rest) = module_action_at(rest)?;
     let (partitions, rest) = item_list_at(alloc, frame, rest)?;
-    let (windows, rest) = list_at(alloc, rest, 1, 64)?;
+    let (windows, rest) = list_at(alloc, rest, 1, MOST_WINDOWS as u32)?;
     let (channels, rest) = channel_list_at(alloc, rest)?;
     let fields = Fields {
         frame,

@@ -1,6 +1,7 @@
 //! Partitions with what their sources became.
 
 ghost use Rattle.std.specs.Prelude.{◌≡◌, ◌<◌, []};
+ghost use Rattle.apex_types.specs.declared.limits.TheConstants.{MOST_PARTITIONS};
 ghost use Rattle.machine_meaning.specs.ImageReading.{section_at, item_at, items_at, list_at};
 ghost use Rattle.image.specs.Items.{section_of, item_of, items_of};
 ghost use Rattle.image.specs.Views.{Gives};
@@ -12,6 +13,7 @@ use crate::reading::numbers::u32_within;
 use crate::reading::objects::objects_at;
 use crate::reading::partitions::partition_at;
 use apex_types::Section;
+use apex_types::limits::MOST_PARTITIONS;
 use std::alloc::Global;
 
 /// The section of a partition with a period of `unit` ticks.
@@ -76,15 +78,15 @@ fn items_at(
     Ok((items, rest))
 }
 
-/// 1 to 16 partitions in a major frame of `frame` ticks.
+/// The partitions, at least one, in a major frame of `frame` ticks.
 #[tactic(auto, unfolding(machine_meaning::specs::ImageReading::list_at))]
 pub fn item_list_at(
     alloc: Global,
     frame: u32,
     bytes: &[u8],
 ) -> Result<(Vec<PartitionItem>, &[u8]), ImageFault>
-    ensures { Gives (λ x. (items_of x.0.items, x.1.now)) result (list_at 1 16 (item_at frame) bytes.now) }
+    ensures { Gives (λ x. (items_of x.0.items, x.1.now)) result (list_at 1 MOST_PARTITIONS (item_at frame) bytes.now) }
 {
-    let (count, rest) = u32_within(bytes, 1, 16)?;
+    let (count, rest) = u32_within(bytes, 1, MOST_PARTITIONS as u32)?;
     items_at(alloc, frame, count, rest)
 }

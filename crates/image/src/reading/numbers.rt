@@ -8,6 +8,7 @@ ghost use Rattle.image.specs.Views.{Gives};
 
 use crate::fault::ImageFault;
 use apex_types::Name;
+use apex_types::limits::MOST_NAME_BYTES;
 
 pub fn byte_at(bytes: &[u8]) -> Result<(u8, &[u8]), ImageFault>
     ensures { Gives (λ x. (x.0, x.1.now)) result (byte_at bytes.now) }
@@ -120,7 +121,7 @@ pub fn bytes_at(size: usize, bytes: &[u8]) -> Result<(&[u8], &[u8]), ImageFault>
 pub fn name_at(bytes: &[u8]) -> Result<(Name, &[u8]), ImageFault>
     ensures { Gives (λ x. (x.0, x.1.now)) result (name_at bytes.now) }
 {
-    let (size, rest) = u8_within(bytes, 1, 30)?;
+    let (size, rest) = u8_within(bytes, 1, MOST_NAME_BYTES as u8)?;
     let (text, rest) = bytes_at(usize::from(size), rest)?;
     match Name::new(text) {
         Some(name) => Ok((name, rest)),

@@ -8,6 +8,9 @@ use crate::fault::ImageFault;
 use crate::reading::choices::discipline_at;
 use crate::reading::numbers::{i64_at, u8_within, u32_within};
 use crate::reading::rows::{Row, list_at};
+use apex_types::limits::{
+    MOST_DATA_WORDS, MOST_DEPTH, MOST_OBJECTS, MOST_SEMAPHORE_VALUE, MOST_WORDS,
+};
 use apex_types::{BlackboardRow, BufferRow, SemaphoreRow};
 use std::alloc::Global;
 
@@ -37,8 +40,8 @@ impl Row for SemaphoreRow {
         _before: &[SemaphoreRow],
         bytes: &'a [u8],
     ) -> Result<(SemaphoreRow, &'a [u8]), ImageFault> {
-        let (value, rest) = u32_within(bytes, 0, 1_000_000)?;
-        let (maximum, rest) = u32_within(rest, value.max(1), 1_000_000)?;
+        let (value, rest) = u32_within(bytes, 0, MOST_SEMAPHORE_VALUE)?;
+        let (maximum, rest) = u32_within(rest, value.max(1), MOST_SEMAPHORE_VALUE)?;
         let (discipline, rest) = discipline_at(rest)?;
         let row = SemaphoreRow {
             value,
@@ -57,8 +60,8 @@ impl Row for BufferRow {
         _before: &[BufferRow],
         bytes: &'a [u8],
     ) -> Result<(BufferRow, &'a [u8]), ImageFault> {
-        let (words, rest) = u8_within(bytes, 1, 16)?;
-        let (depth, rest) = u8_within(rest, 1, 32)?;
+        let (words, rest) = u8_within(bytes, 1, MOST_WORDS as u8)?;
+        let (depth, rest) = u8_within(rest, 1, MOST_DEPTH)?;
         let (discipline, rest) = discipline_at(rest)?;
         let row = BufferRow {
             words,
@@ -77,7 +80,7 @@ impl Row for BlackboardRow {
         _before: &[BlackboardRow],
         bytes: &'a [u8],
     ) -> Result<(BlackboardRow, &'a [u8]), ImageFault> {
-        let (words, rest) = u8_within(bytes, 1, 16)?;
+        let (words, rest) = u8_within(bytes, 1, MOST_WORDS as u8)?;
         Ok((BlackboardRow { words }, rest))
     }
 }
@@ -86,11 +89,11 @@ impl Row for BlackboardRow {
 pub fn objects_at(alloc: Global, bytes: &[u8]) -> Result<(Objects, &[u8]), ImageFault>
     ensures { Gives (λ x. (objects_of x.0, x.1.now)) result (objects_at bytes.now) }
 {
-    let (initial, rest) = list_at(alloc, bytes, 0, 65_536)?;
-    let (semaphores, rest) = list_at(alloc, rest, 0, 16)?;
-    let (events, rest) = u8_within(rest, 0, 16)?;
-    let (buffers, rest) = list_at(alloc, rest, 0, 16)?;
-    let (blackboards, rest) = list_at(alloc, rest, 0, 16)?;
+    let (initial, rest) = list_at(alloc, bytes, 0, MOST_DATA_WORDS)?;
+    let (semaphores, rest) = list_at(alloc, rest, 0, MOST_OBJECTS as u32)?;
+    let (events, rest) = u8_within(rest, 0, MOST_OBJECTS)?;
+    let (buffers, rest) = list_at(alloc, rest, 0, MOST_OBJECTS as u32)?;
+    let (blackboards, rest) = list_at(alloc, rest, 0, MOST_OBJECTS as u32)?;
     let objects = Objects {
         initial,
         semaphores,

@@ -12,12 +12,10 @@ use crate::item::PartitionItem;
 use crate::reading::choices::{direction_at, discipline_at, partition_action_at};
 use crate::reading::numbers::{name_at, same_name, u8_within, u32_within, u64_within};
 use crate::reading::rows::{Row, list_at};
+use apex_types::limits::{MOST_DEPTH, MOST_PORTS, MOST_TICKS, MOST_WORDS};
 use apex_types::{HealthTable, Name, PortKind, PortRow};
 use std::alloc::Global;
 use window_table::PartitionRow;
-
-/// The greatest finite duration in ticks.
-const GREATEST_DURATION: u64 = 1 << 40;
 
 #[tactic(auto, unfolding(machine_meaning::specs::ImageReading::health_at))]
 fn health_at(bytes: &[u8]) -> Result<(HealthTable, &[u8]), ImageFault>
@@ -46,7 +44,7 @@ fn health_at(bytes: &[u8]) -> Result<(HealthTable, &[u8]), ImageFault>
 fn sampling_at(bytes: &[u8]) -> Result<(PortKind, &[u8]), ImageFault>
     ensures { Gives (λ x. (x.0, x.1.now)) result (sampling_at bytes.now) }
 {
-    let (refresh, rest) = u64_within(bytes, 0, GREATEST_DURATION)?;
+    let (refresh, rest) = u64_within(bytes, 0, MOST_TICKS)?;
     let (_, rest) = u8_within(rest, 0, 0)?;
     let (_, rest) = u8_within(rest, 0, 0)?;
     Ok((PortKind::Sampling { refresh }, rest))
@@ -57,7 +55,7 @@ fn queuing_at(bytes: &[u8]) -> Result<(PortKind, &[u8]), ImageFault>
     ensures { Gives (λ x. (x.0, x.1.now)) result (queuing_at bytes.now) }
 {
     let (_, rest) = u64_within(bytes, 0, 0)?;
-    let (depth, rest) = u8_within(rest, 1, 32)?;
+    let (depth, rest) = u8_within(rest, 1, MOST_DEPTH)?;
     let (discipline, rest) = discipline_at(rest)?;
     Ok((PortKind::Queuing { depth, discipline }, rest))
 }
@@ -101,7 +99,7 @@ impl Row for PortRow {
         };
         let (number, rest) = u8_within(rest, 0, 1)?;
         let (direction, rest) = direction_at(rest)?;
-        let (words, rest) = u8_within(rest, 1, 16)?;
+        let (words, rest) = u8_within(rest, 1, MOST_WORDS as u8)?;
         let (kind, rest) = kind_at(number, rest)?;
         let row = PortRow {
             name,
@@ -150,7 +148,7 @@ pub fn partition_at<'a>(
     let (period, rest) = u32_within(rest, 1, frame)?;
     let (duration, rest) = u32_within(rest, 0, period)?;
     let (health, rest) = health_at(rest)?;
-    let (ports, rest) = list_at(alloc, rest, 0, 16)?;
+    let (ports, rest) = list_at(alloc, rest, 0, MOST_PORTS as u32)?;
     let row = PartitionRow {
         name,
         period,

@@ -1,8 +1,9 @@
 use Rattle.std.proofs.Common.{◌≡◌, ◌+◌, ◌*◌, ◌≤◌, ◌++◌, length, take}
+use Rattle.apex_types.specs.declared.limits.TheConstants.{MOST_WORD_BYTES}
 use Rattle.apex_types.specs.Line.{words_text}
 use Rattle.apex_types.proofs.text.push_words.Given as goal
 
 abbrev pub invariant-loop-word : goal.invariant-loop-word
 invariant-loop-word g l =
     (l.line.items ≡ l.initial.line.items ++ words_text (take l.word-index l.words))
-    × (length l.line.items ≤ length l.initial.line.items + 21 * l.word-index)
+    × (length l.line.items ≤ length l.initial.line.items + MOST_WORD_BYTES * l.word-index)

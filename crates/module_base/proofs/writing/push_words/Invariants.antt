@@ -1,4 +1,5 @@
 use Rattle.std.proofs.Common.{◌≡◌, ◌+◌, ◌*◌, ◌≤◌, ◌++◌, length, take, drop}
+use Rattle.apex_types.specs.declared.limits.TheConstants.{MOST_WORD_BYTES}
 use Rattle.apex_types.specs.Line.{words_text}
 use Rattle.isolation.specs.InputText.{AreWords}
 use Rattle.module_base.proofs.writing.push_words.Given as goal
@@ -6,6 +7,6 @@ use Rattle.module_base.proofs.writing.push_words.Given as goal
 abbrev pub invariant-loop-word : goal.invariant-loop-word
 invariant-loop-word l = record {
   items : l.line.items ≡ l.initial.line.items ++ words_text (take l.word-index l.words);
-  len : length l.line.items ≤ length l.initial.line.items + 21 * l.word-index;
+  len : length l.line.items ≤ length l.initial.line.items + MOST_WORD_BYTES * l.word-index;
   words : AreWords (drop l.word-index l.words) → AreWords l.words;
 }
