@@ -1,6 +1,8 @@
 mod dues;
 mod errors;
 mod memory;
+mod processes;
+mod ready;
 mod schedules;
 mod scripts;
 mod tables;

@@ -1,7 +1,7 @@
-//! The list of those for whom something is due.
+//! The lists of those for whom something is due.
 
 use apex_types::{ProcessIndex, Ticks};
-use links::{DueEntry, DueList};
+use links::{DueEntry, DueList, due_mask, next_due, set_timer};
 use std::process::Abort;
 
 /// A step, and the process and the tick that are first after it.
@@ -47,4 +47,18 @@ fn the_least_tick_is_first_and_equals_in_turn(rt: HostRuntime) {
         take(&rt, &mut dues, step);
         assert_eq!(rt; dues.first(), first.map(entry), "row {row}");
     }
+}
+
+/// Process 4 has a due time, and process 2 a deadline before it.
+#[test]
+fn what_is_due_of_both_lists(rt: HostRuntime) {
+    let mut dues = DueList::new();
+    let mut deadlines = DueList::new();
+    set_timer(&mut dues, ProcessIndex(4), Some(Ticks(50)));
+    set_timer(&mut deadlines, ProcessIndex(2), Some(Ticks(30)));
+    assert_eq!(rt; next_due(&dues, &deadlines), Some(Ticks(30)));
+    assert_eq!(rt; due_mask(&dues, &deadlines, Ticks(29)), 0);
+    assert_eq!(rt; due_mask(&dues, &deadlines, Ticks(50)), 0b10100);
+    set_timer(&mut deadlines, ProcessIndex(2), None);
+    assert_eq!(rt; next_due(&dues, &deadlines), Some(Ticks(50)));
 }

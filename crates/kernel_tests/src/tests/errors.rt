@@ -8,8 +8,8 @@ use apex_types::{
     Words, WriterSink, write_event,
 };
 use health::{
-    Errors, action_of, create_error_handler, free_places, get_error_status, is_message_length,
-    level_of, report_application_message, start_handler,
+    Errors, action_of, create_error_handler, free_places, get_error_status, handler_stays,
+    is_message_length, level_of, report_application_message, start_handler,
 };
 use process_table_base::ProcessTable;
 use std::alloc::Global;
@@ -167,6 +167,18 @@ fn the_handler_starts_for_an_error(rt: HostRuntime) {
     let mut out = started(&rt, rt.alloc(), 1);
     let line = "0000000000003 a STATE HANDLER READY\n";
     expect_line(&rt, rt.alloc(), &mut out, line);
+}
+
+#[test]
+fn whether_the_handler_would_start(rt: HostRuntime) {
+    let mut out = Out::new();
+    let mut table = with_handler(&rt, rt.alloc(), &mut out);
+    let errors = errors(&rt, rt.alloc(), 1);
+    assert!(rt; handler_stays(&table, &errors, Mode::ColdStart));
+    assert!(rt; !handler_stays(&table, &errors, Mode::Normal));
+    let mut out = Out::new();
+    start_handler(&mut table, &errors, Mode::Normal, &mut out);
+    assert!(rt; handler_stays(&table, &errors, Mode::Normal));
 }
 
 #[test]

@@ -44,7 +44,11 @@ static OWNERS: [u8; 20] = [1, 1, 1, 1, 2, 2, 2, 2, 2, 2, 0, 0, 1, 1, 1, 1, 1, 1,
 /// The partition whose window has ended at each tick of the frame, or 0.
 static ENDED: [u8; 20] = [0, 0, 0, 0, 1, 0, 0, 0, 0, 0, 2, 0, 0, 0, 0, 0, 0, 0, 1, 0];
 
-/// The same two for the first partition alone.
+/// For how many ticks from each of the frame on the owner stays, and no window ends behind the first of
+/// them.
+static UNTIL_CHANGE: [u8; 20] = [4, 3, 2, 1, 6, 5, 4, 3, 2, 1, 2, 1, 6, 5, 4, 3, 2, 1, 2, 1];
+
+/// The owners and the ends for the first partition alone.
 static OWN_TICKS: [u8; 20] = [1, 1, 1, 1, 0, 0, 0, 0, 0, 0, 0, 0, 1, 1, 1, 1, 1, 1, 0, 0];
 
 static OWN_ENDED: [u8; 20] = [0, 0, 0, 0, 1, 0, 0, 0, 0, 0, 0, 0, 0, 0, 0, 0, 0, 0, 1, 0];
@@ -140,6 +144,21 @@ fn owners_and_ends(rt: HostRuntime) {
     let schedule = schedule(&rt, rt.alloc(), TABLE);
     expect_frames(&rt, &schedule, 0, &OWNERS, &ENDED);
     expect_frames(&rt, &schedule, 7, &OWNERS, &ENDED);
+}
+
+#[test]
+fn changes(rt: HostRuntime) {
+    let schedule = schedule(&rt, rt.alloc(), TABLE);
+    let origin = Ticks(7);
+    for (now, until) in (27..).zip(&UNTIL_CHANGE) {
+        let now = Ticks(now);
+        let until = u64::from(*until);
+        assert_eq!(rt;
+            schedule.until_change(At { now, origin }),
+            until,
+            "from {now:?}"
+        );
+    }
 }
 
 #[test]

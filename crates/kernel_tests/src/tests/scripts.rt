@@ -160,6 +160,15 @@ fn schedule(rt: &impl Abort, alloc: Global) -> Schedule {
     }
 }
 
+/// In how many of the thousand ticks from a tick on nothing happens.
+fn still(partition: &Partition<Scripted>, now: u64) -> u32 {
+    let at = At {
+        now: Ticks(now),
+        origin: Ticks(0),
+    };
+    partition.kernel().still_ticks(at, 1000)
+}
+
 /// Expects these lines of a tick.
 fn expect_tick(
     rt: &impl Abort,
@@ -206,8 +215,10 @@ fn scripts_are_played(rt: HostRuntime) {
     expect_tick(&rt, alloc, &mut partition, mem, 2, NORMAL);
     expect_tick(&rt, alloc, &mut partition, mem, 3, RUNNING);
     expect_tick(&rt, alloc, &mut partition, mem, 4, ASKED);
+    assert_eq!(rt; still(&partition, 5), 0);
     expect_tick(&rt, alloc, &mut partition, mem, 5, FAULTY);
     expect_tick(&rt, alloc, &mut partition, mem, 6, "");
+    assert_eq!(rt; still(&partition, 7), 1000);
 }
 
 /// The process of an empty script is busy for ever. While nothing happens, the partition asks its

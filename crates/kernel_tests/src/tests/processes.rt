@@ -1,0 +1,60 @@
+//! A process with a time capacity: when something is due for it, and whether a choice would change
+//! anything.
+
+use apex_types::{At, BodyRow, Mode, Name, Out, Priority, ProcessIndex, ProcessRow, Runner, Ticks};
+use process_table_base::{Points, ProcessTable};
+use std::alloc::Global;
+use std::process::Abort;
+
+const PROCESS: Runner = Runner::Process(ProcessIndex(0));
+
+/// One process, whose deadline is 20 ticks after its release.
+fn table(rt: &impl Abort, alloc: Global) -> ProcessTable {
+    let rows = [ProcessRow {
+        name: Name::new(b"p").expect(rt, "a name"),
+        priority: Priority(5),
+        period: None,
+        capacity: Some(20),
+        body: BodyRow {
+            stack: 2,
+            entry: 0,
+            slots: 0,
+            frame: 2,
+        },
+    }];
+    ProcessTable::new(alloc, &rows).expect(rt, "memory")
+}
+
+/// The process is started at tick 10 of normal mode.
+fn start(table: &mut ProcessTable) {
+    let at = At {
+        now: Ticks(10),
+        origin: Ticks(0),
+    };
+    let points = Points {
+        at,
+        next: Ticks(40),
+    };
+    table.start(Mode::Normal, points, PROCESS, Ticks(0), &mut Out::new());
+}
+
+#[test]
+fn a_deadline_ends_the_quiet_ticks(rt: HostRuntime) {
+    let mut table = table(&rt, rt.alloc());
+    assert_eq!(rt; table.next_due(), None);
+    assert_eq!(rt; table.quiet_ticks(Ticks(10), 1000), 1000);
+    start(&mut table);
+    assert_eq!(rt; table.next_due(), Some(Ticks(30)));
+    assert_eq!(rt; table.quiet_ticks(Ticks(10), 1000), 20);
+    assert_eq!(rt; table.quiet_ticks(Ticks(30), 1000), 0);
+}
+
+#[test]
+fn a_choice_changes_nothing_twice(rt: HostRuntime) {
+    let mut table = table(&rt, rt.alloc());
+    assert!(rt; table.choice_stays(Mode::Normal));
+    start(&mut table);
+    assert!(rt; !table.choice_stays(Mode::Normal));
+    table.choose(Mode::Normal, &mut Out::new());
+    assert!(rt; table.choice_stays(Mode::Normal));
+}

@@ -1,0 +1,339 @@
+#!/usr/bin/env python3
+"""Compares programs on random modules, byte for byte: the images that they build, and the traces that they write.
+
+    modules.py --new PROGRAM --oracle FOLDER [--old PROGRAM] [--stages N..] [--count N] [--stretched N] [--first SEED] [--jobs N] [--keep FOLDER]
+
+The modules are those of an independent program, which lies in the folder of `--oracle` as the Python package `source_meaning`; beside it
+stands the generator, `later_stages.make(stage, seed)`. It is none of this repository, so no gate runs this.
+
+Of each stage so many modules (`--count`) are built and run as they are made, every tenth of them for up to 100,000 ticks. The traces of
+`--new` and of the independent program have to be equal; with `--old`, an earlier `mb`, the images and traces of both programs, too.
+
+And so many modules (`--stretched`) have long quiet stretches: their waits, time-outs, delays, periods, capacities, windows and `work` are stretched
+by factors of up to 10^6, and their device lines lie far apart. They run for up to 10^9 ticks, and are compared with `--old`, which needs
+some 0.1 to 0.3 microseconds a tick; where they have at most 100,000 ticks, with the independent program, too. Their stages go round.
+
+Seeds count from `--first` on, and a stage and a seed make one module. The last line has the counts. At the first difference the files of
+the module are left in the folder of `--keep`, the line is named, and the exit status is 1. A run that is told to end (SIGTERM) says how far it came.
+
+A program without proof serves as well: see "Forms that worked" in docs/STATUS.md. To look at one module, give its stage, its seed and `--count 1`.
+"""
+
+import argparse
+import functools
+import multiprocessing
+import random
+import re
+import shutil
+import signal
+import subprocess
+import sys
+import tempfile
+from collections import Counter
+from dataclasses import dataclass
+from pathlib import Path
+
+sys.dont_write_bytecode = True
+
+STAGES = (4, 5, 6, 7, 8)
+MOST_TICKS = 2**40
+MOST_FRAME = 2**24
+MOST_WORK = 10**6
+MOST_FACTOR = 10**6
+# The independent program goes tick by tick, some microseconds each.
+MOST_ORACLE_TICKS = 10**5
+CHUNK = 1 << 20
+
+# The services whose last argument is a time.
+TIMED = (
+    "TIMED_WAIT|SUSPEND_SELF|REPLENISH|DELAYED_START|WAIT_SEMAPHORE|WAIT_EVENT|SEND_BUFFER|RECEIVE_BUFFER|READ_BLACKBOARD"
+    "|SEND_QUEUING_MESSAGE|RECEIVE_QUEUING_MESSAGE"
+)
+
+
+class Differs(Exception):
+    """Two programs do not do the same."""
+
+
+@dataclass(frozen=True)
+class Module:
+    """A table, a source for each partition in its order, a device text, and for how many ticks it is run."""
+
+    table: str
+    sources: list
+    devices: str
+    ticks: int
+
+
+@dataclass(frozen=True)
+class Settings:
+    new: str
+    old: str | None
+    oracle: Path
+    keep: Path
+
+
+@dataclass(frozen=True)
+class Task:
+    kind: str
+    stage: int
+    seed: int
+
+
+class Oracle:
+    """The independent program, with its generator of modules."""
+
+    def __init__(self, folder):
+        if str(folder) not in sys.path:
+            sys.path.insert(0, str(folder))
+        import later_stages
+        from source_meaning import module, words
+
+        # The generator asks it tens of thousands of times, and it depends on the stage alone.
+        if not hasattr(later_stages.allowed, "cache_info"):
+            later_stages.allowed = functools.cache(later_stages.allowed)
+        self.make_of, self.module, self.Refusal = later_stages.make, module, words.Refusal
+
+    def make(self, task):
+        made = Module(*self.make_of(task.stage, task.seed))
+        chance = random.Random(f"{task.kind} {task.stage} {task.seed}")
+        if task.kind == "stretched":
+            return Stretch(chance, task.seed, made).module()
+        if task.seed % 10 == 0:
+            return Module(made.table, made.sources, made.devices, log_uniform(chance, 10**4, MOST_ORACLE_TICKS))
+        return made
+
+    def trace(self, made):
+        """The trace; or the line of the refusal, and no trace."""
+        try:
+            return self.module.run(made.table.encode(), [it.encode() for it in made.sources], made.devices.encode(), made.ticks).encode(), b""
+        except self.Refusal as refusal:
+            return b"", f"mb: {refusal.message}\n".encode()
+
+
+def log_uniform(chance, least, most):
+    return min(most, max(least, round(least * (most / least) ** chance.random())))
+
+
+class Stretch:
+    """Makes a module quiet for long: the same module with other times."""
+
+    def __init__(self, chance, seed, made):
+        self.chance = chance
+        self.made = made
+        self.ticks = self.ticks_of(seed)
+        self.factor = log_uniform(chance, 1, MOST_FACTOR)
+        # A third of the tables keep their windows, so that a quiet stretch has many of them.
+        frame = int(re.search(r"^frame = (\d+)$", made.table, re.M)[1])
+        most = min(self.factor, MOST_FRAME // frame)
+        self.table_factor = 1 if chance.random() < 1 / 3 else log_uniform(chance, 1, most)
+
+    def ticks_of(self, seed):
+        """Of a hundred modules one has 10^9 ticks, and some three have 10^8 to 10^9."""
+        if seed % 100 == 0:
+            return 10**9
+        return log_uniform(self.chance, 10**8, 10**9) if seed % 30 == 15 else log_uniform(self.chance, 10**4, 10**8)
+
+    def module(self):
+        return Module(self.table(), [self.source(it) for it in self.made.sources], self.devices(), self.ticks)
+
+    def time(self, text):
+        """A time that is stretched, mostly; to no multiple of the factor in half of the cases."""
+        had = int(text)
+        if not 0 < had < MOST_TICKS or self.chance.random() < 0.2:
+            return text
+        more = self.chance.choice((0, self.chance.randrange(self.factor)))
+        return str(min(MOST_TICKS, had * self.factor + more))
+
+    def table(self):
+        text = re.sub(r"^(refresh) = (\d+)$", lambda it: f"{it[1]} = {self.time(it[2])}", self.made.table, flags=re.M)
+        return re.sub(
+            r"^(frame|period|duration|offset|length) = (\d+)$", lambda it: f"{it[1]} = {int(it[2]) * self.table_factor}", text, flags=re.M
+        )
+
+    def source(self, text):
+        text = re.sub(r"\bperiod (\d+) capacity", lambda it: f"period {self.period(int(it[1]))} capacity", text)
+        text = re.sub(r"\bcapacity (\d+) ", lambda it: f"capacity {self.time(it[1])} ", text)
+        text = re.sub(rf"\b({TIMED})\(((?:[^(),;]*, )*)(\d+)\)", lambda it: f"{it[1]}({it[2]}{self.time(it[3])})", text)
+        return re.sub(r"\bwork (\d+);", lambda it: f"work {self.work(int(it[1]))};", text)
+
+    def period(self, had):
+        """A multiple of what the partition's period has become."""
+        least = had * self.table_factor
+        times = log_uniform(self.chance, 1, max(1, self.factor // self.table_factor))
+        return least * min(times, MOST_TICKS // least)
+
+    def work(self, had):
+        return had if had == 0 or self.chance.random() < 0.5 else had * log_uniform(self.chance, 1, max(1, min(self.factor, MOST_WORK // had)))
+
+    def devices(self):
+        """The lines in the same order, over the whole run; or over its beginning."""
+        last = self.ticks if self.chance.random() < 2 / 3 else log_uniform(self.chance, 10**4, self.ticks)
+        lines = [it.split(" ", 1) for it in self.made.devices.splitlines(keepends=True)]
+        scaled = [(int(tick) * last // self.made.ticks, rest) for tick, rest in lines]
+        moved = [(tick + self.chance.choice((0, 0, self.chance.randrange(1, 1 + max(1, last // 1000)))), rest) for tick, rest in scaled]
+        return "".join(f"{tick} {rest}" for tick, rest in sorted(moved, key=lambda it: it[0]))
+
+
+def first_difference(wanted, had):
+    """The first line in which two texts differ."""
+    pairs = zip([*wanted.splitlines(), None], [*had.splitlines(), None])
+    number, one, other = next((number, *pair) for number, pair in enumerate(pairs, 1) if pair[0] != pair[1])
+    return f"line {number}: wanted {one}, had {other}"
+
+
+def expect(what, wanted, had):
+    if wanted != had:
+        raise Differs(f"{what}: {first_difference(wanted, had)}")
+
+
+class Comparison:
+    """The programs on one module, in a folder of its own."""
+
+    def __init__(self, settings, made, folder):
+        self.settings, self.made, self.folder = settings, made, folder
+        self.names = [f"source{number}" for number in range(len(made.sources))]
+        for name, text in [("table", made.table), ("devices", made.devices), *zip(self.names, made.sources)]:
+            (folder / name).write_text(text)
+
+    def build(self, program, image):
+        """The status, what is printed on both outputs, and the image."""
+        words = [program, "build", "table", image, *self.names]
+        done = subprocess.run(words, cwd=self.folder, stdin=subprocess.DEVNULL, capture_output=True, timeout=600)
+        file = self.folder / image
+        return done.returncode, done.stdout, done.stderr, file.read_bytes() if file.exists() else b""
+
+    def run(self, program):
+        words = [program, "run", "image", "devices", str(self.made.ticks)]
+        return subprocess.Popen(words, cwd=self.folder, stdin=subprocess.DEVNULL, stdout=subprocess.PIPE, stderr=subprocess.PIPE)
+
+    def images(self):
+        """Expects the same image of both programs; returns the line of the refusal, if they refuse the module."""
+        new = self.build(self.settings.new, "image")
+        if self.settings.old:
+            old = self.build(self.settings.old, "old_image")
+            for what, one, other in zip(("status of build", "build", "refusal", "image"), old, new):
+                if one != other:
+                    raise Differs(what if what in ("image", "status of build") else f"{what}: {first_difference(one, other)}")
+        return new[2] if new[0] else None
+
+    def traces(self, is_kept):
+        """Expects the same trace of both programs, piece by piece; returns how many lines it has, and the trace if it is to be kept."""
+        running = [self.run(it) for it in (self.settings.new, self.settings.old) if it]
+        try:
+            lines, kept = 0, []
+            while True:
+                pieces = [it.stdout.read(CHUNK) for it in running]
+                if pieces[0] != pieces[-1]:
+                    raise Differs(f"trace, {lines} lines and then {first_difference(pieces[-1], pieces[0])}")
+                if not pieces[0]:
+                    break
+                lines += pieces[0].count(b"\n")
+                kept += pieces[:1] if is_kept else []
+            for program in running:
+                said = program.stderr.read()
+                if program.wait() != 0 or said:
+                    raise Differs(f"run: status {program.returncode}, {said.decode(errors='replace').strip()}")
+        finally:
+            for program in running:
+                program.kill()
+                program.wait()
+        return lines, b"".join(kept)
+
+
+def compare(task, settings, room, counts):
+    """Makes the module of a stage and a seed, and expects the same of all programs."""
+    oracle = Oracle(settings.oracle)
+    made = oracle.make(task)
+    comparison = Comparison(settings, made, room)
+    is_short = made.ticks <= MOST_ORACLE_TICKS
+    refusal = comparison.images()
+    if refusal is None:
+        lines, trace = comparison.traces(is_short)
+        counts["ticks"] += made.ticks
+        counts["lines"] += lines
+    else:
+        trace = b""
+        counts["refused"] += 1
+    counts["modules"] += 1
+    if is_short:
+        wanted, wanted_refusal = oracle.trace(made)
+        expect("refusal of the independent program", wanted_refusal, refusal or b"")
+        expect("trace of the independent program", wanted, trace)
+        counts["modules compared with the independent program"] += 1
+        counts["ticks compared with it"] += made.ticks
+
+
+def try_task(given):
+    """Compares one module; returns what it has counted, and a line if something differs."""
+    task, settings = given
+    counts, found = Counter(), None
+    with tempfile.TemporaryDirectory() as room:
+        try:
+            compare(task, settings, Path(room), counts)
+        except (Differs, OSError, subprocess.TimeoutExpired) as why:
+            kept = settings.keep / f"{task.kind}_{task.stage}_{task.seed}"
+            shutil.copytree(room, kept, dirs_exist_ok=True)
+            found = f"{task.kind} stage {task.stage} seed {task.seed}, in {kept}: {why}"
+    return task, counts, found
+
+
+def words():
+    told = argparse.ArgumentParser(description=__doc__.partition("\n")[0])
+    told.add_argument("--new", type=Path, required=True, help="the program")
+    told.add_argument("--old", type=Path, help="an earlier program")
+    told.add_argument("--oracle", type=Path, required=True, help="the folder of an independent program and of its generator")
+    told.add_argument("--stages", type=int, nargs="+", default=STAGES, help="the stages of the generator")
+    told.add_argument("--count", type=int, default=0, help="how many modules of each stage")
+    told.add_argument("--stretched", type=int, default=0, help="how many modules with long quiet stretches, with --old")
+    told.add_argument("--first", type=int, default=1, help="the first seed")
+    told.add_argument("--jobs", type=int, default=2, help="how many modules at a time")
+    told.add_argument("--keep", type=Path, default=Path("differences"), help="the folder for the module that differs")
+    given = told.parse_args()
+    if given.stretched and not given.old:
+        told.error("--stretched needs --old")
+    return given
+
+
+def tasks_of(given):
+    plain = [Task("plain", stage, seed) for seed in range(given.first, given.first + given.count) for stage in given.stages]
+    stretched = [
+        Task("stretched", given.stages[seed % len(given.stages)], seed) for seed in range(given.first, given.first + given.stretched)
+    ]
+    return plain + stretched
+
+
+def stop(*_):
+    raise KeyboardInterrupt
+
+
+def text_of(counts):
+    return ", ".join(f"{count} {what}" for what, count in sorted(counts.items()))
+
+
+def main():
+    given = words()
+    settings = Settings(str(given.new.resolve()), given.old and str(given.old.resolve()), given.oracle.resolve(), given.keep.resolve())
+    tasks = tasks_of(given)
+    counts, done = {}, 0
+    with multiprocessing.Pool(given.jobs, signal.signal, (signal.SIGTERM, signal.SIG_DFL)) as pool:
+        signal.signal(signal.SIGTERM, stop)
+        try:
+            for task, counted, found in pool.imap(try_task, [(it, settings) for it in tasks]):
+                if found is not None:
+                    print(found, flush=True)
+                    return 1
+                counts.setdefault(f"{task.kind} stage {task.stage}", Counter()).update(counted)
+                done += 1
+                if done % 100 == 0:
+                    print(f"{done} modules: {text_of(sum(counts.values(), Counter()))}", flush=True)
+        except KeyboardInterrupt:
+            print(f"stopped before {tasks[done]}")
+    for name, counted in sorted(counts.items()):
+        print(f"{name}: {text_of(counted)}")
+    print(f"no difference in {done} of {len(tasks)} modules: {text_of(sum(counts.values(), Counter()))}")
+    return int(done < len(tasks))
+
+
+if __name__ == "__main__":
+    sys.exit(main())
