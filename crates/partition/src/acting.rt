@@ -5,7 +5,7 @@ ghost use Rattle.kernel_meaning.specs.Partition.{line, told};
 ghost use Rattle.partition.specs.Members.{member_at, acts, acts_all, IsTold};
 
 use crate::kernel::Kernel;
-use apex_types::{Action, At, EventLog, Happenings, Name};
+use apex_types::{Action, EventLog, Happenings, Moment, Name};
 use partition_base::Executor;
 
 /// Does what the kernel asks of the processor, of the memory and of the errors that wait for the handler.
@@ -42,15 +42,15 @@ pub(crate) fn act_all<E: Executor>(
 }
 
 /// What happened in a tick is told as events of the partition.
-pub(crate) fn tell<L: EventLog>(name: Name, at: At, lines: &mut Happenings, log: &mut L)
+pub(crate) fn tell<L: EventLog>(name: Name, moment: Moment, lines: &mut Happenings, log: &mut L)
     requires { length lines.old.items ≤ L.room log.old }
-    ensures told { IsTold L.EventLog log.old log.new (told name at lines.old.items) }
+    ensures told { IsTold L.EventLog log.old log.new (told name moment.at lines.old.items) }
     ensures few { L.room log.old ≤ L.room log.new + length lines.old.items }
     ensures lines { lines.new.items ≡ [] }
 {
     let partition = Some(name);
     for kind in lines.as_slice() {
-        log.tell(at.now, &partition, kind);
+        log.tell(moment.at.now, &partition, kind);
     }
     lines.clear();
 }

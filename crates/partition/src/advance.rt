@@ -1,6 +1,7 @@
 //! Many ticks of a partition at once.
 
 ghost use Rattle.std.specs.Prelude.{◌≡◌, ◌≤◌, ◌<◌, ◌+◌, ◌^◌, ℕ, [], length, Some, None};
+ghost use Rattle.apex_types.specs.declared.limits.TheConstants.{MOST_TICKS};
 ghost use Rattle.apex_types.specs.Room.{IsEmpty};
 ghost use Rattle.kernel_meaning.specs.Partition as meaning;
 ghost use Rattle.kernel_meaning.specs.Step.{nothing};
@@ -11,7 +12,7 @@ ghost use Rattle.partition.specs.Members.{member_of, HasAdvanced, HasGone, IsMov
 ghost use Rattle.processor.specs.Views.{asks_of};
 
 use crate::partition::Partition;
-use apex_types::{At, EventLog, Runner, Ticks};
+use apex_types::{At, EventLog, Moment, Runner, Ticks};
 use partition_base::Executor;
 use processor::{Burst, Outcome};
 
@@ -37,25 +38,23 @@ impl<E: Executor> Partition<E> {
     fn settle<L: EventLog>(
         &mut self,
         mem: &mut E::Mem,
-        at: At,
+        moment: Moment,
         runner: Runner,
         outcome: Outcome,
         log: &mut L,
     )
-        requires past { at.origin.0 ≤ at.now.0 }
-        requires now { at.now.0 ≤ 2 ^ 40 }
         requires fits { E.laid mem.old ≡ E.layout self.old.executor }
         requires idle { IsEmpty self.old.out }
         requires empty { L.held log.old ≡ [] }
         ensures fits { E.laid mem.new ≡ E.layout self.new.executor }
         ensures idle { IsEmpty self.new.out }
-        ensures moved { let x = member_of E.Executor self.old mem.old in IsMoved (meaning.moved at x.engine (meaning.treats_asked at x.world.kernel runner (asks_of outcome) (meaning.given (asks_of outcome) x.world.words)) x.world) x (member_of E.Executor self.new mem.new) (IsTold L.EventLog log.old log.new) }
+        ensures moved { let x = member_of E.Executor self.old mem.old in IsMoved (meaning.moved moment.at x.engine (meaning.treats_asked moment.at x.world.kernel runner (asks_of outcome) (meaning.given (asks_of outcome) x.world.words)) x.world) x (member_of E.Executor self.new mem.new) (IsTold L.EventLog log.old log.new) }
     {
         let name = self.kernel.name();
         let words = self.given(mem, &outcome);
         let out = &mut self.out;
-        self.kernel.treat(at, runner, outcome, &words, out);
-        self.finish(mem, name, at, log);
+        self.kernel.treat(moment, runner, outcome, &words, out);
+        self.finish(mem, name, moment, log);
     }
 
     /// Ticks of the one that runs, while nothing is due and the choice stays: how many they were. It asks
@@ -63,30 +62,31 @@ impl<E: Executor> Partition<E> {
     fn burst<L: EventLog>(
         &mut self,
         mem: &mut E::Mem,
-        at: At,
+        moment: Moment,
         runner: Runner,
         k: u32,
         log: &mut L,
     ) -> u32
         requires some { 0 < k }
-        requires past { at.origin.0 ≤ at.now.0 }
-        requires soon { at.now.0 + k ≤ 2 ^ 40 }
+        requires soon { moment.at.now.0 + k ≤ MOST_TICKS }
         requires fits { E.laid mem.old ≡ E.layout self.old.executor }
         requires idle { IsEmpty self.old.out }
         requires empty { L.held log.old ≡ [] }
         requires runs { self.old.kernel.processes.running ≡ Some runner }
         requires choice { meaning.chooses_with_handler self.old.kernel ≡ nothing self.old.kernel }
-        requires due { (i : ℕ) → i < k → HasNothingDue (tick_from at.origin.0 (at.now.0 + i)) self.old.kernel }
+        requires due { (i : ℕ) → i < k → HasNothingDue (tick_from moment.at.origin.0 (moment.at.now.0 + i)) self.old.kernel }
         ensures fits { E.laid mem.new ≡ E.layout self.new.executor }
         ensures idle { IsEmpty self.new.out }
         ensures within { result ≤ k }
         ensures some { 0 < result }
-        ensures gone { TellsSome L.EventLog log.old log.new (λ told. HasGone at (member_of E.Executor self.old mem.old) (member_of E.Executor self.new mem.new) told result) }
+        ensures gone { TellsSome L.EventLog log.old log.new (λ told. HasGone moment.at (member_of E.Executor self.old mem.old) (member_of E.Executor self.new mem.new) told result) }
     {
         let burst = self.run_for(mem, runner, k);
-        let last = At {
-            now: Ticks(at.now.0 + (u64::from(burst.ticks) - 1)),
-            origin: at.origin,
+        let last = Moment {
+            at: At {
+                now: Ticks(moment.at.now.0 + (u64::from(burst.ticks) - 1)),
+                origin: moment.at.origin,
+            },
         };
         self.settle(mem, last, runner, burst.outcome, log);
         burst.ticks
@@ -97,10 +97,9 @@ impl<E: Executor> Partition<E> {
     /// Ticks of the partition, at least one: how many they were. Where something is due or the choice may
     /// change it is one whole tick; else the one that runs goes on until it asks for something, and where
     /// nobody runs nothing happens.
-    fn phase<L: EventLog>(&mut self, mem: &mut E::Mem, at: At, k: u32, log: &mut L) -> u32
+    fn phase<L: EventLog>(&mut self, mem: &mut E::Mem, moment: Moment, k: u32, log: &mut L) -> u32
         requires some { 0 < k }
-        requires past { at.origin.0 ≤ at.now.0 }
-        requires soon { at.now.0 + k ≤ 2 ^ 40 }
+        requires soon { moment.at.now.0 + k ≤ MOST_TICKS }
         requires fits { E.laid mem.old ≡ E.layout self.old.executor }
         requires idle { IsEmpty self.old.out }
         requires empty { L.held log.old ≡ [] }
@@ -108,37 +107,44 @@ impl<E: Executor> Partition<E> {
         ensures idle { IsEmpty self.new.out }
         ensures within { result ≤ k }
         ensures some { 0 < result }
-        ensures gone { TellsSome L.EventLog log.old log.new (λ told. HasGone at (member_of E.Executor self.old mem.old) (member_of E.Executor self.new mem.new) told result) }
+        ensures gone { TellsSome L.EventLog log.old log.new (λ told. HasGone moment.at (member_of E.Executor self.old mem.old) (member_of E.Executor self.new mem.new) told result) }
     {
-        let quiet = self.kernel.quiet_ticks(at, k);
+        let quiet = self.kernel.quiet_ticks(moment, k);
         if quiet == 0 {
-            self.tick(mem, at, log);
+            self.tick(mem, moment, log);
             return 1;
         }
         match self.kernel.running() {
             None => quiet,
-            Some(runner) => self.burst(mem, at, runner, quiet, log),
+            Some(runner) => self.burst(mem, moment, runner, quiet, log),
         }
     }
 
     /// `k` ticks of the partition, this one the first, or those up to the first with an event: how many
     /// they were. The partition is then as so many calls of [`Partition::tick`] leave it, and the events
     /// are those of the last one. Nothing from outside of the partition may happen in these ticks.
-    pub fn advance<L: EventLog>(&mut self, mem: &mut E::Mem, at: At, k: u32, log: &mut L) -> u32
-        requires past { at.origin.0 ≤ at.now.0 }
-        requires soon { at.now.0 + k ≤ 2 ^ 40 }
+    pub fn advance<L: EventLog>(
+        &mut self,
+        mem: &mut E::Mem,
+        moment: Moment,
+        k: u32,
+        log: &mut L,
+    ) -> u32
+        requires soon { moment.at.now.0 + k ≤ MOST_TICKS }
         requires fits { E.laid mem.old ≡ E.layout self.old.executor }
         requires empty { L.held log.old ≡ [] }
         ensures fits { E.laid mem.new ≡ E.layout self.new.executor }
         ensures within { result ≤ k }
-        ensures advanced { TellsSome L.EventLog log.old log.new (λ told. HasAdvanced at k (member_of E.Executor self.old mem.old) (member_of E.Executor self.new mem.new) told result) }
+        ensures advanced { TellsSome L.EventLog log.old log.new (λ told. HasAdvanced moment.at k (member_of E.Executor self.old mem.old) (member_of E.Executor self.new mem.new) told result) }
     {
         self.out.clear();
         let mut left = k;
         while left > 0 && log.is_empty() {
-            let now = At {
-                now: Ticks(at.now.0 + u64::from(k - left)),
-                origin: at.origin,
+            let now = Moment {
+                at: At {
+                    now: Ticks(moment.at.now.0 + u64::from(k - left)),
+                    origin: moment.at.origin,
+                },
             };
             left -= self.phase(mem, now, left, log);
         }

@@ -15,7 +15,7 @@ ghost use Rattle.partition.specs.View.{fixed_of};
 
 use crate::fixed::Fixed;
 use apex_types::{
-    At, ErrorKind, Mode, Name, Out, PortRow, Runner, Section, StartCondition, Subject,
+    ErrorKind, Mode, Moment, Name, Out, PortRow, Runner, Section, StartCondition, Subject,
 };
 use health::{Errors, free_places, handler_stays, start_handler};
 use ports::Ports;
@@ -77,15 +77,12 @@ impl Kernel {
     }
 
     /// What a start counts from: this tick, and the partition's next release point.
-    pub(crate) fn points(&self, at: At) -> Points
-        requires past { at.origin.0 ≤ at.now.0 }
-        requires now { at.now.0 ≤ 2 ^ 40 }
-        ensures at { result.at ≡ at }
-        ensures next { result.next.0 ≡ next_release_of at self.now }
-        ensures soon { result.next.0 ≤ 2 ^ 41 }
+    pub(crate) fn points(&self, moment: Moment) -> Points
+        ensures at { result.moment.at ≡ moment.at }
+        ensures next { result.next.0 ≡ next_release_of moment.at self.now }
     {
-        let next = self.fixed.schedule.next_release(self.fixed.number, at);
-        Points { at, next }
+        let next = self.fixed.schedule.next_release(self.fixed.number, moment);
+        Points { moment, next }
     }
 
     /// The partition's name.
@@ -122,10 +119,10 @@ impl Kernel {
     /// How many of so many ticks, this one the first, come before anything is due, if neither the start of
     /// the error handler nor the choice of who runs would change anything now; else none.
     #[tactic(auto, using(crate::proofs::Quiet::quiet_due, crate::proofs::Quiet::choice_stays))]
-    pub(crate) fn quiet_ticks(&self, at: At, k: u32) -> u32
+    pub(crate) fn quiet_ticks(&self, moment: Moment, k: u32) -> u32
         ensures within { result ≤ k }
         ensures choice { 0 < result → tick.chooses_with_handler self.now ≡ nothing self.now }
-        ensures due { (i : ℕ) → i < result → HasNothingDue (tick_from at.origin.0 (at.now.0 + i)) self.now }
+        ensures due { (i : ℕ) → i < result → HasNothingDue (tick_from moment.at.origin.0 (moment.at.now.0 + i)) self.now }
     {
         let mode = self.mode;
         if !handler_stays(&self.processes, &self.errors, mode) {
@@ -134,20 +131,19 @@ impl Kernel {
         if !self.processes.choice_stays(mode) {
             return 0;
         }
-        self.processes.quiet_ticks(at.now, k)
+        self.processes.quiet_ticks(moment.at.now, k)
     }
 
     /// Due times and deadlines are treated; the mode of the Clear that a missed deadline leads to, if it
     /// leads to one.
-    pub(crate) fn treat_due(&mut self, at: At, out: &mut Out) -> Option<Mode>
-        requires now { at.now.0 ≤ 2 ^ 40 }
+    pub(crate) fn treat_due(&mut self, moment: Moment, out: &mut Out) -> Option<Mode>
         requires room { HasRoom 93 out.old }
-        ensures step { IsMade (of_processes self.old (tick.treats_due at self.old).step) self.new out.old out.new }
-        ensures clears { result ≡ (tick.treats_due at self.old).clears }
+        ensures step { IsMade (of_processes self.old (tick.treats_due moment.at self.old).step) self.new out.old out.new }
+        ensures clears { result ≡ (tick.treats_due moment.at self.old).clears }
         ensures grows { Grows 93 out.old out.new }
     {
         let action = self.action_of(ErrorKind::DeadlineMissed);
         let free = free_places(&self.processes, &self.errors, self.mode);
-        self.processes.due(at, free, action, out).clears
+        self.processes.due(moment, free, action, out).clears
     }
 }

@@ -13,7 +13,7 @@ ghost use Rattle.ports.specs.Held.{message_behind};
 
 use crate::kernel::Kernel;
 use crate::partition::Partition;
-use apex_types::{At, EventKind, EventLog, Name, Out, PortId, Words};
+use apex_types::{EventKind, EventLog, Moment, Name, Out, PortId, Words};
 use partition_base::Executor;
 use ports::{admit, arrive};
 
@@ -26,13 +26,13 @@ fn place_of(port: PortId) -> u8
 
 impl Kernel {
     /// A message arrives at a port.
-    fn arrive(&mut self, at: At, port: PortId, message: Words, out: &mut Out)
+    fn arrive(&mut self, moment: Moment, port: PortId, message: Words, out: &mut Out)
         requires { HasRoom 4 out.old }
-        ensures step { IsMade (of_ports self.old (arrival.arrives at (with_ports self.old) (meaning.place_of_port port) message)) self.new out.old out.new }
+        ensures step { IsMade (of_ports self.old (arrival.arrives moment.at (with_ports self.old) (meaning.place_of_port port) message)) self.new out.old out.new }
         ensures grows { Grows 4 out.old out.new }
     {
         let table = &mut self.processes;
-        arrive(table, &mut self.ports, at, place_of(port), message, out);
+        arrive(table, &mut self.ports, moment, place_of(port), message, out);
     }
 
     /// The first message of a port leaves it, if it holds one.
@@ -91,7 +91,7 @@ impl<E: Executor> Partition<E> {
     pub fn arrive<L: EventLog>(
         &mut self,
         mem: &mut E::Mem,
-        at: At,
+        moment: Moment,
         port: PortId,
         message: Words,
         log: &mut L,
@@ -99,12 +99,12 @@ impl<E: Executor> Partition<E> {
         requires fits { E.laid mem.old ≡ E.layout self.old.executor }
         requires empty { L.held log.old ≡ [] }
         ensures fits { E.laid mem.new ≡ E.layout self.new.executor }
-        ensures moved { let x = member_of E.Executor self.old mem.old in IsMoved (meaning.arrives at port message x) x (member_of E.Executor self.new mem.new) (IsTold L.EventLog log.old log.new) }
+        ensures moved { let x = member_of E.Executor self.old mem.old in IsMoved (meaning.arrives moment.at port message x) x (member_of E.Executor self.new mem.new) (IsTold L.EventLog log.old log.new) }
     {
         let name = self.kernel.name();
         self.out.clear();
-        self.kernel.arrive(at, port, message, &mut self.out);
-        self.finish(mem, name, at, log);
+        self.kernel.arrive(moment, port, message, &mut self.out);
+        self.finish(mem, name, moment, log);
     }
 
     /// The first message of a source port leaves it, if it holds one (ARINC 653 Part 1, interpartition
@@ -112,7 +112,7 @@ impl<E: Executor> Partition<E> {
     pub fn move_one<L: EventLog>(
         &mut self,
         mem: &mut E::Mem,
-        at: At,
+        moment: Moment,
         port: PortId,
         log: &mut L,
     ) -> Option<Words>
@@ -120,42 +120,48 @@ impl<E: Executor> Partition<E> {
         requires empty { L.held log.old ≡ [] }
         ensures fits { E.laid mem.new ≡ E.layout self.new.executor }
         ensures message { result ≡ meaning.leaving port (member_of E.Executor self.old mem.old) }
-        ensures moved { let x = member_of E.Executor self.old mem.old in IsMoved (meaning.leaves at port x) x (member_of E.Executor self.new mem.new) (IsTold L.EventLog log.old log.new) }
+        ensures moved { let x = member_of E.Executor self.old mem.old in IsMoved (meaning.leaves moment.at port x) x (member_of E.Executor self.new mem.new) (IsTold L.EventLog log.old log.new) }
     {
         let name = self.kernel.name();
         self.out.clear();
         let message = self.kernel.move_one(port, &mut self.out);
-        self.finish(mem, name, at, log);
+        self.finish(mem, name, moment, log);
         message
     }
 
     /// The senders that wait at a source port enter it in their order, as long as there is room
     /// (ARINC 653 Part 1, interpartition communication).
-    pub fn admit<L: EventLog>(&mut self, mem: &mut E::Mem, at: At, port: PortId, log: &mut L)
+    pub fn admit<L: EventLog>(
+        &mut self,
+        mem: &mut E::Mem,
+        moment: Moment,
+        port: PortId,
+        log: &mut L,
+    )
         requires fits { E.laid mem.old ≡ E.layout self.old.executor }
         requires empty { L.held log.old ≡ [] }
         ensures fits { E.laid mem.new ≡ E.layout self.new.executor }
-        ensures moved { let x = member_of E.Executor self.old mem.old in IsMoved (meaning.admits at port x) x (member_of E.Executor self.new mem.new) (IsTold L.EventLog log.old log.new) }
+        ensures moved { let x = member_of E.Executor self.old mem.old in IsMoved (meaning.admits moment.at port x) x (member_of E.Executor self.new mem.new) (IsTold L.EventLog log.old log.new) }
     {
         let name = self.kernel.name();
         self.out.clear();
         self.kernel.admit(port, &mut self.out);
-        self.finish(mem, name, at, log);
+        self.finish(mem, name, moment, log);
     }
 
     /// A message of the partition leaves the module by a channel: its line.
     pub fn go_out<L: EventLog>(
         &self,
         mem: &E::Mem,
-        at: At,
+        moment: Moment,
         channel: Name,
         message: Words,
         log: &mut L,
     )
         requires empty { L.held log.old ≡ [] }
-        ensures moved { let x = member_of E.Executor self.now mem.now in IsMoved (meaning.goes_out at channel message x) x x (IsTold L.EventLog log.old log.new) }
+        ensures moved { let x = member_of E.Executor self.now mem.now in IsMoved (meaning.goes_out moment.at channel message x) x x (IsTold L.EventLog log.old log.new) }
     {
         let name = Some(self.kernel.name());
-        log.tell(at.now, &name, &EventKind::Out(channel, message));
+        log.tell(moment.at.now, &name, &EventKind::Out(channel, message));
     }
 }

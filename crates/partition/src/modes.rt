@@ -9,8 +9,8 @@ ghost use Rattle.kernel_meaning.specs.Made.{IsMade, IsTold};
 
 use crate::kernel::Kernel;
 use apex_types::{
-    Action, At, EventKind, Mode, Out, ProcessState, ReturnCode, Runner, Service, StartCondition,
-    Subject,
+    Action, EventKind, Mode, Moment, Out, ProcessState, ReturnCode, Runner, Service,
+    StartCondition, Subject,
 };
 use process_table::stop_self;
 
@@ -59,14 +59,12 @@ impl Kernel {
     }
 
     /// INIT becomes dormant, the mode normal, then those that wait for it start in number order.
-    fn start_normally(&mut self, at: At, out: &mut Out)
-        requires past { at.origin.0 ≤ at.now.0 }
-        requires now { at.now.0 ≤ 2 ^ 40 }
+    fn start_normally(&mut self, moment: Moment, out: &mut Out)
         requires room { HasRoom 33 out.old }
-        ensures step { IsMade (meaning.starts_normally at self.old) self.new out.old out.new }
+        ensures step { IsMade (meaning.starts_normally moment.at self.old) self.new out.old out.new }
         ensures grows { Grows 33 out.old out.new }
     {
-        let points = self.points(at);
+        let points = self.points(moment);
         self.rest(Runner::Init, out);
         self.enter_normal(out);
         self.processes.start_all_waiting(points, out);
@@ -104,11 +102,9 @@ impl Kernel {
     /// SET_PARTITION_MODE (ARINC 653 Part 1, partition management): the partition enters a mode.
     /// INVALID_PARAM: the number is no mode's; NO_ACTION: normal mode in normal mode; INVALID_MODE: a
     /// warm start in a cold start.
-    pub fn set_partition_mode(&mut self, at: At, caller: Runner, mode: i64, out: &mut Out)
-        requires past { at.origin.0 ≤ at.now.0 }
-        requires now { at.now.0 ≤ 2 ^ 40 }
+    pub fn set_partition_mode(&mut self, moment: Moment, caller: Runner, mode: i64, out: &mut Out)
         requires room { HasRoom 34 out.old }
-        ensures step { IsMade (meaning.set_partition_mode at self.old caller mode) self.new out.old out.new }
+        ensures step { IsMade (meaning.set_partition_mode moment.at self.old caller mode) self.new out.old out.new }
         ensures grows { Grows 34 out.old out.new }
     {
         let service = Service::SetPartitionMode;
@@ -124,7 +120,7 @@ impl Kernel {
         }
         processes.answer(caller, service, ReturnCode::NoError, &[], out);
         match wanted {
-            Mode::Normal => self.start_normally(at, out),
+            Mode::Normal => self.start_normally(moment, out),
             other => self.clear(other, StartCondition::PartitionRestart, out),
         }
     }

@@ -6,7 +6,7 @@ ghost use Rattle.kernel_meaning.specs.ObjectServices.{serves_objects};
 ghost use Rattle.kernel_meaning.specs.Sharing.{both};
 ghost use Rattle.kernel_meaning.specs.Made.{IsMade};
 
-use apex_types::{At, Call, Mode, Out, Runner, Words};
+use apex_types::{Call, Mode, Moment, Out, Runner, Words};
 use process_table_base::ProcessTable;
 use sync_objects::{
     clear_blackboard, create_blackboard, create_buffer, create_event, create_semaphore,
@@ -23,15 +23,14 @@ pub(crate) fn serve_objects(
     table: &mut ProcessTable,
     objects: &mut Objects,
     mode: Mode,
-    at: At,
+    moment: Moment,
     caller: Runner,
     call: Call,
     words: &Words,
     out: &mut Out,
 )
-    requires now { at.now.0 ≤ 2 ^ 40 }
     requires room { HasRoom 94 out.old }
-    ensures step { IsMade (serves_objects mode at (both table.old objects.old) caller call words.now.items) (both table.new objects.new) out.old out.new }
+    ensures step { IsMade (serves_objects mode moment.at (both table.old objects.old) caller call words.now.items) (both table.new objects.new) out.old out.new }
     ensures grows { Grows 94 out.old out.new }
 {
     match call {
@@ -42,13 +41,13 @@ pub(crate) fn serve_objects(
             length,
             timeout,
         } => send_buffer(
-            table, objects, at, caller, buffer, array, length, timeout, words, out,
+            table, objects, moment, caller, buffer, array, length, timeout, words, out,
         ),
         Call::ReceiveBuffer {
             buffer,
             array,
             timeout,
-        } => receive_buffer(table, objects, at, caller, buffer, array, timeout, out),
+        } => receive_buffer(table, objects, moment, caller, buffer, array, timeout, out),
         Call::GetBufferId { name } => get_buffer_id(table, objects, caller, name, out),
         Call::GetBufferStatus { buffer } => {
             get_buffer_status(table, objects, caller, buffer, out)
@@ -67,7 +66,9 @@ pub(crate) fn serve_objects(
             blackboard,
             array,
             timeout,
-        } => read_blackboard(table, objects, at, caller, blackboard, array, timeout, out),
+        } => read_blackboard(
+            table, objects, moment, caller, blackboard, array, timeout, out,
+        ),
         Call::ClearBlackboard { blackboard } => {
             clear_blackboard(table, objects, caller, blackboard, out)
         }
@@ -79,7 +80,7 @@ pub(crate) fn serve_objects(
             create_semaphore(table, objects, mode, caller, name, out)
         }
         Call::WaitSemaphore { semaphore, timeout } => {
-            wait_semaphore(table, objects, at, caller, semaphore, timeout, out)
+            wait_semaphore(table, objects, moment, caller, semaphore, timeout, out)
         }
         Call::SignalSemaphore { semaphore } => {
             signal_semaphore(table, objects, caller, semaphore, out)
@@ -92,7 +93,7 @@ pub(crate) fn serve_objects(
         Call::SetEvent { event } => set_event(table, objects, caller, event, out),
         Call::ResetEvent { event } => reset_event(table, objects, caller, event, out),
         Call::WaitEvent { event, timeout } => {
-            wait_event(table, objects, at, caller, event, timeout, out)
+            wait_event(table, objects, moment, caller, event, timeout, out)
         }
         Call::GetEventId { name } => get_event_id(table, objects, caller, name, out),
         Call::GetEventStatus { event } => get_event_status(table, objects, caller, event, out),

@@ -6,7 +6,7 @@ ghost use Rattle.kernel_meaning.specs.PortServices as meaning;
 ghost use Rattle.kernel_meaning.specs.Sharing.{both};
 ghost use Rattle.kernel_meaning.specs.Made.{IsMade};
 
-use apex_types::{At, Call, Mode, Out, Runner, Words};
+use apex_types::{Call, Mode, Moment, Out, Runner, Words};
 use ports::{
     Ports, clear_queuing_port, create_queuing_port, create_sampling_port, get_queuing_port_id,
     get_queuing_port_status, get_sampling_port_id, get_sampling_port_status, read_sampling_message,
@@ -40,15 +40,14 @@ pub(crate) fn serve_ports(
     table: &mut ProcessTable,
     ports: &mut Ports,
     mode: Mode,
-    at: At,
+    moment: Moment,
     caller: Runner,
     call: Call,
     words: &Words,
     out: &mut Out,
 )
-    requires now { at.now.0 ≤ 2 ^ 40 }
     requires room { HasRoom 94 out.old }
-    ensures step { IsMade (meaning.serves_ports mode at (both table.old ports.old) caller call words.now.items) (both table.new ports.new) out.old out.new }
+    ensures step { IsMade (meaning.serves_ports mode moment.at (both table.old ports.old) caller call words.now.items) (both table.new ports.new) out.old out.new }
     ensures grows { Grows 94 out.old out.new }
 {
     match call {
@@ -61,7 +60,7 @@ pub(crate) fn serve_ports(
             length,
         } => write_sampling_message(table, ports, caller, port, array, length, words, out),
         Call::ReadSamplingMessage { port, array } => {
-            read_sampling_message(table, ports, at, caller, port, array, out)
+            read_sampling_message(table, ports, moment, caller, port, array, out)
         }
         Call::GetSamplingPortId { name } => get_sampling_port_id(table, ports, caller, name, out),
         Call::GetSamplingPortStatus { port } => {
@@ -76,13 +75,13 @@ pub(crate) fn serve_ports(
             length,
             timeout,
         } => send_queuing_message(
-            table, ports, at, caller, port, array, length, timeout, words, out,
+            table, ports, moment, caller, port, array, length, timeout, words, out,
         ),
         Call::ReceiveQueuingMessage {
             port,
             array,
             timeout,
-        } => receive_queuing_message(table, ports, at, caller, port, array, timeout, out),
+        } => receive_queuing_message(table, ports, moment, caller, port, array, timeout, out),
         Call::GetQueuingPortId { name } => get_queuing_port_id(table, ports, caller, name, out),
         Call::GetQueuingPortStatus { port } => {
             get_queuing_port_status(table, ports, caller, port, out)

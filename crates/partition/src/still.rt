@@ -9,7 +9,7 @@ ghost use Rattle.kernel_meaning.specs.Step.{nothing};
 ghost use Rattle.bursts.specs.Quiet.{IsAtRest, IsStill};
 
 use crate::kernel::Kernel;
-use apex_types::{At, ListKey};
+use apex_types::{ListKey, Moment};
 
 impl Kernel {
     /// Whether nobody waits at the port at a place.
@@ -47,9 +47,9 @@ impl Kernel {
     /// How many of so many ticks, this one the first, come in which nothing happens in the partition:
     /// nobody runs or is chosen, nothing is due, no message can leave a port, and nobody who waits at a
     /// port can enter it. None where something may happen at this tick.
-    pub fn still_ticks(&self, at: At, k: u32) -> u32
+    pub fn still_ticks(&self, moment: Moment, k: u32) -> u32
         ensures within { result ≤ k }
-        ensures still { 0 < result → IsStill at.origin.0 at.now.0 (at.now.0 + result) self.now }
+        ensures still { 0 < result → IsStill moment.at.origin.0 moment.at.now.0 (moment.at.now.0 + result) self.now }
     {
         if self.running().is_some() {
             return 0;
@@ -57,6 +57,6 @@ impl Kernel {
         if !self.ports_rest() {
             return 0;
         }
-        self.quiet_ticks(at, k)
+        self.quiet_ticks(moment, k)
     }
 }

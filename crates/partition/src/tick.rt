@@ -9,18 +9,24 @@ ghost use Rattle.processor.specs.Views.{asks_of};
 
 use crate::acting::{act_all, tell};
 use crate::partition::Partition;
-use apex_types::{At, EventLog, Mode, Name, Out, Runner, StartCondition, Words, array_of};
+use apex_types::{EventLog, Mode, Moment, Name, Out, Runner, StartCondition, Words, array_of};
 use partition_base::Executor;
 use processor::Outcome;
 
 impl<E: Executor> Partition<E> {
     /// What a step asked for is done, and what happened is told.
-    pub(crate) fn finish<L: EventLog>(&mut self, mem: &mut E::Mem, name: Name, at: At, log: &mut L)
+    pub(crate) fn finish<L: EventLog>(
+        &mut self,
+        mem: &mut E::Mem,
+        name: Name,
+        moment: Moment,
+        log: &mut L,
+    )
         requires fits { E.laid mem.old ≡ E.layout self.old.executor }
         requires room { length self.old.out.lines.items ≤ L.room log.old }
         ensures fits { E.laid mem.new ≡ E.layout self.new.executor }
         ensures member { member_of E.Executor self.new mem.new ≡ acts_all self.old.out.actions.items (member_of E.Executor self.old mem.old) }
-        ensures told { IsTold L.EventLog log.old log.new (meaning.told name at self.old.out.lines.items) }
+        ensures told { IsTold L.EventLog log.old log.new (meaning.told name moment.at self.old.out.lines.items) }
         ensures few { L.room log.old ≤ L.room log.new + length self.old.out.lines.items }
         ensures empty { IsEmpty self.new.out }
     {
@@ -34,58 +40,57 @@ impl<E: Executor> Partition<E> {
             self.out.actions.as_slice(),
         );
         self.out.actions.clear();
-        tell(name, at, &mut self.out.lines, log);
+        tell(name, moment, &mut self.out.lines, log);
     }
 
     /// Clear to a cold start, for a reason (ARINC 653 Part 1, partition management).
     pub fn clear<L: EventLog>(
         &mut self,
         mem: &mut E::Mem,
-        at: At,
+        moment: Moment,
         condition: StartCondition,
         log: &mut L,
     )
         requires fits { E.laid mem.old ≡ E.layout self.old.executor }
         requires empty { L.held log.old ≡ [] }
         ensures fits { E.laid mem.new ≡ E.layout self.new.executor }
-        ensures moved { IsMoved (meaning.cold_start at condition (member_of E.Executor self.old mem.old)) (member_of E.Executor self.old mem.old) (member_of E.Executor self.new mem.new) (IsTold L.EventLog log.old log.new) }
+        ensures moved { IsMoved (meaning.cold_start moment.at condition (member_of E.Executor self.old mem.old)) (member_of E.Executor self.old mem.old) (member_of E.Executor self.new mem.new) (IsTold L.EventLog log.old log.new) }
     {
         let name = self.kernel.name();
         self.out.clear();
         self.kernel.clear(Mode::ColdStart, condition, &mut self.out);
-        self.finish(mem, name, at, log);
+        self.finish(mem, name, moment, log);
     }
 
     /// A fault of the partition's hardware (ARINC 653 Part 1, health monitoring): its line, then what
     /// the partition's action for it does.
-    pub fn fault<L: EventLog>(&mut self, mem: &mut E::Mem, at: At, log: &mut L)
+    pub fn fault<L: EventLog>(&mut self, mem: &mut E::Mem, moment: Moment, log: &mut L)
         requires fits { E.laid mem.old ≡ E.layout self.old.executor }
         requires empty { L.held log.old ≡ [] }
         ensures fits { E.laid mem.new ≡ E.layout self.new.executor }
-        ensures moved { let x = member_of E.Executor self.old mem.old in IsMoved (meaning.breaks_down at x) x (member_of E.Executor self.new mem.new) (IsTold L.EventLog log.old log.new) }
+        ensures moved { let x = member_of E.Executor self.old mem.old in IsMoved (meaning.breaks_down moment.at x) x (member_of E.Executor self.new mem.new) (IsTold L.EventLog log.old log.new) }
     {
         let name = self.kernel.name();
         self.out.clear();
         self.kernel.break_down(&mut self.out);
-        self.finish(mem, name, at, log);
+        self.finish(mem, name, moment, log);
     }
 
     /// Due times and deadlines are treated; the mode of the Clear that a missed deadline leads to, if it
     /// leads to one.
-    fn treat<L: EventLog>(&mut self, mem: &mut E::Mem, at: At, log: &mut L) -> Option<Mode>
-        requires now { at.now.0 ≤ 2 ^ 40 }
+    fn treat<L: EventLog>(&mut self, mem: &mut E::Mem, moment: Moment, log: &mut L) -> Option<Mode>
         requires fits { E.laid mem.old ≡ E.layout self.old.executor }
         requires idle { IsEmpty self.old.out }
         requires room { 93 ≤ L.room log.old }
         ensures fits { E.laid mem.new ≡ E.layout self.new.executor }
         ensures idle { IsEmpty self.new.out }
-        ensures clears { result ≡ (meaning.treats_due at (member_of E.Executor self.old mem.old).world.kernel).clears }
-        ensures moved { let x = member_of E.Executor self.old mem.old in IsMoved (meaning.treating_phase x.engine at x.world) x (member_of E.Executor self.new mem.new) (IsTold L.EventLog log.old log.new) }
+        ensures clears { result ≡ (meaning.treats_due moment.at (member_of E.Executor self.old mem.old).world.kernel).clears }
+        ensures moved { let x = member_of E.Executor self.old mem.old in IsMoved (meaning.treating_phase x.engine moment.at x.world) x (member_of E.Executor self.new mem.new) (IsTold L.EventLog log.old log.new) }
         ensures few { L.room log.old ≤ L.room log.new + 93 }
     {
         let name = self.kernel.name();
-        let clears = self.kernel.treat_due(at, &mut self.out);
-        self.finish(mem, name, at, log);
+        let clears = self.kernel.treat_due(moment, &mut self.out);
+        self.finish(mem, name, moment, log);
         clears
     }
 
@@ -93,7 +98,7 @@ impl<E: Executor> Partition<E> {
     fn then_clear<L: EventLog>(
         &mut self,
         mem: &mut E::Mem,
-        at: At,
+        moment: Moment,
         clears: Option<Mode>,
         log: &mut L,
     )
@@ -102,93 +107,87 @@ impl<E: Executor> Partition<E> {
         requires room { 3 ≤ L.room log.old }
         ensures fits { E.laid mem.new ≡ E.layout self.new.executor }
         ensures idle { IsEmpty self.new.out }
-        ensures moved { let x = member_of E.Executor self.old mem.old in IsMoved (meaning.clearing_phase x.engine at clears x.world) x (member_of E.Executor self.new mem.new) (IsTold L.EventLog log.old log.new) }
+        ensures moved { let x = member_of E.Executor self.old mem.old in IsMoved (meaning.clearing_phase x.engine moment.at clears x.world) x (member_of E.Executor self.new mem.new) (IsTold L.EventLog log.old log.new) }
         ensures few { L.room log.old ≤ L.room log.new + 3 }
     {
         if clears.is_some() {
             let name = self.kernel.name();
             self.kernel.then_clear(clears, &mut self.out);
-            self.finish(mem, name, at, log);
+            self.finish(mem, name, moment, log);
         }
     }
 
     /// What is due is treated; a missed deadline may lead to a Clear.
-    fn treat_due<L: EventLog>(&mut self, mem: &mut E::Mem, at: At, log: &mut L)
-        requires now { at.now.0 ≤ 2 ^ 40 }
+    fn treat_due<L: EventLog>(&mut self, mem: &mut E::Mem, moment: Moment, log: &mut L)
         requires fits { E.laid mem.old ≡ E.layout self.old.executor }
         requires idle { IsEmpty self.old.out }
         requires room { 96 ≤ L.room log.old }
         ensures fits { E.laid mem.new ≡ E.layout self.new.executor }
         ensures idle { IsEmpty self.new.out }
-        ensures moved { let x = member_of E.Executor self.old mem.old in IsMoved (meaning.due_phase x.engine at x.world) x (member_of E.Executor self.new mem.new) (IsTold L.EventLog log.old log.new) }
+        ensures moved { let x = member_of E.Executor self.old mem.old in IsMoved (meaning.due_phase x.engine moment.at x.world) x (member_of E.Executor self.new mem.new) (IsTold L.EventLog log.old log.new) }
         ensures few { L.room log.old ≤ L.room log.new + 96 }
     {
-        let clears = self.treat(mem, at, log);
-        self.then_clear(mem, at, clears, log);
+        let clears = self.treat(mem, moment, log);
+        self.then_clear(mem, moment, clears, log);
     }
 
     /// The choice of who runs.
-    fn choose<L: EventLog>(&mut self, mem: &mut E::Mem, at: At, log: &mut L)
+    fn choose<L: EventLog>(&mut self, mem: &mut E::Mem, moment: Moment, log: &mut L)
         requires fits { E.laid mem.old ≡ E.layout self.old.executor }
         requires idle { IsEmpty self.old.out }
         requires room { 3 ≤ L.room log.old }
         ensures fits { E.laid mem.new ≡ E.layout self.new.executor }
         ensures idle { IsEmpty self.new.out }
-        ensures moved { let x = member_of E.Executor self.old mem.old in IsMoved (meaning.choice_phase x.engine at x.world) x (member_of E.Executor self.new mem.new) (IsTold L.EventLog log.old log.new) }
+        ensures moved { let x = member_of E.Executor self.old mem.old in IsMoved (meaning.choice_phase x.engine moment.at x.world) x (member_of E.Executor self.new mem.new) (IsTold L.EventLog log.old log.new) }
         ensures few { L.room log.old ≤ L.room log.new + 3 }
     {
         let name = self.kernel.name();
         self.kernel.choose(&mut self.out);
-        self.finish(mem, name, at, log);
+        self.finish(mem, name, moment, log);
     }
 
     /// What is due, then the choice.
-    fn prepare<L: EventLog>(&mut self, mem: &mut E::Mem, at: At, log: &mut L)
-        requires now { at.now.0 ≤ 2 ^ 40 }
+    fn prepare<L: EventLog>(&mut self, mem: &mut E::Mem, moment: Moment, log: &mut L)
         requires fits { E.laid mem.old ≡ E.layout self.old.executor }
         requires idle { IsEmpty self.old.out }
         requires room { 99 ≤ L.room log.old }
         ensures fits { E.laid mem.new ≡ E.layout self.new.executor }
         ensures idle { IsEmpty self.new.out }
-        ensures moved { let x = member_of E.Executor self.old mem.old in IsMoved (meaning.prepares x.engine at x.world) x (member_of E.Executor self.new mem.new) (IsTold L.EventLog log.old log.new) }
+        ensures moved { let x = member_of E.Executor self.old mem.old in IsMoved (meaning.prepares x.engine moment.at x.world) x (member_of E.Executor self.new mem.new) (IsTold L.EventLog log.old log.new) }
         ensures few { L.room log.old ≤ L.room log.new + 99 }
     {
-        self.treat_due(mem, at, log);
-        self.choose(mem, at, log);
+        self.treat_due(mem, moment, log);
+        self.choose(mem, moment, log);
     }
 
     /// This one spends a tick, and what it asks for is done.
-    fn spend<L: EventLog>(&mut self, mem: &mut E::Mem, at: At, runner: Runner, log: &mut L)
-        requires past { at.origin.0 ≤ at.now.0 }
-        requires now { at.now.0 ≤ 2 ^ 40 }
+    fn spend<L: EventLog>(&mut self, mem: &mut E::Mem, moment: Moment, runner: Runner, log: &mut L)
         requires fits { E.laid mem.old ≡ E.layout self.old.executor }
         requires idle { IsEmpty self.old.out }
         requires room { 94 ≤ L.room log.old }
         ensures fits { E.laid mem.new ≡ E.layout self.new.executor }
         ensures idle { IsEmpty self.new.out }
-        ensures moved { let x = member_of E.Executor self.old mem.old in IsMoved (meaning.spends x.engine at runner x.world) x (member_of E.Executor self.new mem.new) (IsTold L.EventLog log.old log.new) }
+        ensures moved { let x = member_of E.Executor self.old mem.old in IsMoved (meaning.spends x.engine moment.at runner x.world) x (member_of E.Executor self.new mem.new) (IsTold L.EventLog log.old log.new) }
     {
         let name = self.kernel.name();
         let outcome = self.executor.tick(mem, runner);
         let words = self.given(mem, &outcome);
         let out = &mut self.out;
-        self.kernel.treat(at, runner, outcome, &words, out);
-        self.finish(mem, name, at, log);
+        self.kernel.treat(moment, runner, outcome, &words, out);
+        self.finish(mem, name, moment, log);
     }
 
     /// The chosen one spends a tick, if there is one.
-    fn spend_chosen<L: EventLog>(&mut self, mem: &mut E::Mem, at: At, log: &mut L)
-        requires past { at.origin.0 ≤ at.now.0 }
-        requires now { at.now.0 ≤ 2 ^ 40 }
+    fn spend_chosen<L: EventLog>(&mut self, mem: &mut E::Mem, moment: Moment, log: &mut L)
         requires fits { E.laid mem.old ≡ E.layout self.old.executor }
         requires idle { IsEmpty self.old.out }
         requires room { 94 ≤ L.room log.old }
         ensures fits { E.laid mem.new ≡ E.layout self.new.executor }
         ensures idle { IsEmpty self.new.out }
-        ensures moved { let x = member_of E.Executor self.old mem.old in IsMoved (meaning.spending_phase x.engine at x.world) x (member_of E.Executor self.new mem.new) (IsTold L.EventLog log.old log.new) }
+        ensures moved { let x = member_of E.Executor self.old mem.old in IsMoved (meaning.spending_phase x.engine moment.at x.world) x (member_of E.Executor self.new mem.new) (IsTold L.EventLog log.old log.new) }
     {
         if let Some(runner) = self.kernel.running() {
-            self.spend(mem, at, runner, log);
+            self.spend(mem, moment, runner, log);
         }
     }
 
@@ -207,18 +206,16 @@ impl<E: Executor> Partition<E> {
     }
 
     /// One tick: what is due, then the choice, then the tick of the chosen one.
-    pub fn tick<L: EventLog>(&mut self, mem: &mut E::Mem, at: At, log: &mut L)
-        requires past { at.origin.0 ≤ at.now.0 }
-        requires now { at.now.0 ≤ 2 ^ 40 }
+    pub fn tick<L: EventLog>(&mut self, mem: &mut E::Mem, moment: Moment, log: &mut L)
         requires fits { E.laid mem.old ≡ E.layout self.old.executor }
         requires empty { L.held log.old ≡ [] }
         ensures fits { E.laid mem.new ≡ E.layout self.new.executor }
         ensures idle { IsEmpty self.new.out }
-        ensures moved { let x = member_of E.Executor self.old mem.old in IsMoved (meaning.advances at x) x (member_of E.Executor self.new mem.new) (IsTold L.EventLog log.old log.new) }
+        ensures moved { let x = member_of E.Executor self.old mem.old in IsMoved (meaning.advances moment.at x) x (member_of E.Executor self.new mem.new) (IsTold L.EventLog log.old log.new) }
     {
         self.out.clear();
-        self.prepare(mem, at, log);
-        self.spend_chosen(mem, at, log);
+        self.prepare(mem, moment, log);
+        self.spend_chosen(mem, moment, log);
     }
 }
 

@@ -13,14 +13,14 @@ ghost use Rattle.ports.specs.Status.{placed_port, port_status};
 
 use crate::port::PortStatus;
 use crate::ports::Ports;
-use apex_types::{At, Entry, EventKind, ListKey, Out, ReturnCode, Words, copied};
+use apex_types::{Entry, EventKind, ListKey, Moment, Out, ReturnCode, Words, copied};
 use process_table_base::ProcessTable;
 
 /// A sampling port has the message, with its tick, in place of the one before.
 fn arrive_sampling(
     table: &ProcessTable,
     ports: &mut Ports,
-    at: At,
+    moment: Moment,
     place: u8,
     port: PortStatus,
     message: Words,
@@ -29,12 +29,12 @@ fn arrive_sampling(
     requires status { port ≡ port_status (placed_port ports.old place) }
     requires kind { is_sampling (placed_port ports.old place) ≡ true }
     requires room { HasRoom 1 out.old }
-    ensures step { IsMade (meaning.arrives_sampling at (both table.now ports.old) place (placed_port ports.old place) message) (both table.now ports.new) out.old out.new }
+    ensures step { IsMade (meaning.arrives_sampling moment.at (both table.now ports.old) place (placed_port ports.old place) message) (both table.now ports.new) out.old out.new }
     ensures grows { Grows 1 out.old out.new }
 {
     let line = EventKind::Arrive(port.row.name, copied(&message));
     out.lines.push(line);
-    ports.put_arrived(place, message, at.now);
+    ports.put_arrived(place, message, moment.at.now);
 }
 
 /// Where nobody waits the message goes behind the others, and where there is no room it is lost.
@@ -94,20 +94,20 @@ fn arrive_queuing(
 pub fn arrive(
     table: &mut ProcessTable,
     ports: &mut Ports,
-    at: At,
+    moment: Moment,
     place: u8,
     message: Words,
     out: &mut Out,
 )
     requires { HasRoom 4 out.old }
-    ensures step { IsMade (meaning.arrives at (both table.old ports.old) place message) (both table.new ports.new) out.old out.new }
+    ensures step { IsMade (meaning.arrives moment.at (both table.old ports.old) place message) (both table.new ports.new) out.old out.new }
     ensures grows { Grows 4 out.old out.new }
 {
     let Some(port) = ports.status(place) else {
         return;
     };
     if port.is_sampling() {
-        arrive_sampling(table, ports, at, place, port, message, out);
+        arrive_sampling(table, ports, moment, place, port, message, out);
     } else {
         arrive_queuing(table, ports, place, port, message, out);
     }

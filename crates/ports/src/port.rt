@@ -5,7 +5,7 @@ ghost use Rattle.kernel_meaning.specs.Objects as meaning;
 ghost use Rattle.kernel_meaning.specs.PortServices as services;
 ghost use Rattle.ports.specs.Status.{port_status, without_first};
 
-use apex_types::{At, Discipline, PortDirection, PortKind, PortRow, Ticks, Words, copied};
+use apex_types::{Discipline, Moment, PortDirection, PortKind, PortRow, Ticks, Words, copied};
 use circular_buffer::HeapCircularBuffer;
 use std::alloc::{AllocError, Global};
 use std::marker::Model;
@@ -263,10 +263,10 @@ impl Port {
     }
 
     /// Whether its message arrived no longer ago than its refresh period.
-    pub(crate) fn is_valid(&self, at: At) -> bool
-        ensures { result ≡ services.is_valid at self.now }
+    pub(crate) fn is_valid(&self, moment: Moment) -> bool
+        ensures { result ≡ services.is_valid moment.at self.now }
     {
-        at.now.0.saturating_sub(self.arrival.0) <= refresh_of(self.row.kind)
+        moment.at.now.0.saturating_sub(self.arrival.0) <= refresh_of(self.row.kind)
     }
 
     /// Its messages are gone.

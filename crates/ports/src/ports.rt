@@ -12,7 +12,7 @@ ghost use Rattle.ports.specs.Held.{message_behind};
 ghost use Rattle.ports.specs.Status.{placed_port, port_of_status, port_status, port_with_status, without_first};
 
 use crate::port::{Port, PortStatus};
-use apex_types::{At, EventKind, Out, PortRow, Ticks, Words, copied};
+use apex_types::{EventKind, Moment, Out, PortRow, Ticks, Words, copied};
 use std::alloc::{AllocError, Global};
 use std::marker::Model;
 use sync_objects_base::place_of;
@@ -198,16 +198,16 @@ impl Ports {
     }
 
     /// Reads the message of a sampling port: a copy, and whether it is valid, which the port remembers.
-    pub(crate) fn read_message(&mut self, place: u8, at: At) -> Option<(Words, bool)>
+    pub(crate) fn read_message(&mut self, place: u8, moment: Moment) -> Option<(Words, bool)>
         ensures none { IsNone result → slice_get (placed_port self.old place).messages 0 ≡ None }
         ensures first { IfSome result (λ read. slice_get (placed_port self.old place).messages 0 ≡ Some read.0) }
-        ensures valid { IfSome result (λ read. read.1 ≡ services.is_valid at (placed_port self.old place)) }
+        ensures valid { IfSome result (λ read. read.1 ≡ services.is_valid moment.at (placed_port self.old place)) }
         ensures empty { IsNone result → self.new ≡ self.old }
         ensures rest { IfSome result (λ read. self.new ≡ meaning.put_port self.old place (record (placed_port self.old place) { valid = read.1 })) }
     {
         let port = self.ports.get_mut(usize::from(place))?;
         let message = port.first()?;
-        let valid = port.is_valid(at);
+        let valid = port.is_valid(moment);
         port.set_valid(valid);
         Some((message, valid))
     }

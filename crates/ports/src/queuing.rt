@@ -14,7 +14,7 @@ use crate::deliver::deliver;
 use crate::port::PortStatus;
 use crate::ports::Ports;
 use apex_types::{
-    ArrayPlace, At, Discipline, ListKey, Mode, Out, ReturnCode, Runner, Service, Waiting, Words,
+    ArrayPlace, Discipline, ListKey, Mode, Moment, Out, ReturnCode, Runner, Service, Waiting, Words,
 };
 use process_table_base::{ProcessTable, first_words, is_duration, is_large_enough, is_length};
 
@@ -73,7 +73,7 @@ pub fn get_queuing_port_id(
 fn send(
     table: &mut ProcessTable,
     ports: &mut Ports,
-    at: At,
+    moment: Moment,
     caller: Runner,
     limit: i64,
     message: Words,
@@ -81,12 +81,11 @@ fn send(
     port: PortStatus,
     out: &mut Out,
 )
-    requires now { at.now.0 ≤ 2 ^ 40 }
     requires limit { durations.is_duration limit ≡ true }
     requires place { place < MOST_OBJECTS }
     requires status { port ≡ port_status (placed_port ports.old place) }
     requires room { HasRoom 1 out.old }
-    ensures step { IsMade (meaning.sends at (both table.old ports.old) caller limit message place (placed_port ports.old place)) (both table.new ports.new) out.old out.new }
+    ensures step { IsMade (meaning.sends moment.at (both table.old ports.old) caller limit message place (placed_port ports.old place)) (both table.new ports.new) out.old out.new }
     ensures grows { Grows 1 out.old out.new }
 {
     let service = Service::SendQueuingMessage;
@@ -97,7 +96,7 @@ fn send(
             discipline: port.discipline(),
             array: None,
         };
-        return table.block(at, caller, limit, waiting, message, out);
+        return table.block(moment, caller, limit, waiting, message, out);
     }
     table.answer(caller, service, ReturnCode::NoError, &[], out);
     ports.push_message(place, message);
@@ -113,7 +112,7 @@ fn send(
 pub fn send_queuing_message(
     table: &mut ProcessTable,
     ports: &mut Ports,
-    at: At,
+    moment: Moment,
     caller: Runner,
     id: i64,
     array: ArrayPlace,
@@ -122,9 +121,8 @@ pub fn send_queuing_message(
     words: &Words,
     out: &mut Out,
 )
-    requires now { at.now.0 ≤ 2 ^ 40 }
     requires room { HasRoom 1 out.old }
-    ensures step { IsMade (meaning.send_queuing_message at (both table.old ports.old) caller id array length limit words.now.items) (both table.new ports.new) out.old out.new }
+    ensures step { IsMade (meaning.send_queuing_message moment.at (both table.old ports.old) caller id array length limit words.now.items) (both table.new ports.new) out.old out.new }
     ensures grows { Grows 1 out.old out.new }
 {
     let service = Service::SendQueuingMessage;
@@ -141,7 +139,9 @@ pub fn send_queuing_message(
         return table.refuse(caller, service, ReturnCode::InvalidParam, &[], out);
     }
     let message = first_words(length, words);
-    send(table, ports, at, caller, limit, message, place, port, out);
+    send(
+        table, ports, moment, caller, limit, message, place, port, out,
+    );
 }
 
 /// The code of a receive. The first after an overflow tells of it.
@@ -159,7 +159,7 @@ fn code_of_receive(overflowed: bool) -> ReturnCode
 fn receive(
     table: &mut ProcessTable,
     ports: &mut Ports,
-    at: At,
+    moment: Moment,
     caller: Runner,
     array: ArrayPlace,
     limit: i64,
@@ -167,12 +167,11 @@ fn receive(
     discipline: Discipline,
     out: &mut Out,
 )
-    requires now { at.now.0 ≤ 2 ^ 40 }
     requires limit { durations.is_duration limit ≡ true }
     requires place { place < MOST_OBJECTS }
     requires discipline { discipline ≡ discipline_of (placed_port ports.old place).row.kind }
     requires room { HasRoom 2 out.old }
-    ensures step { let x = placed_port ports.old place in IsMade (meaning.receives at (both table.old ports.old) caller array limit place x x.messages) (both table.new ports.new) out.old out.new }
+    ensures step { let x = placed_port ports.old place in IsMade (meaning.receives moment.at (both table.old ports.old) caller array limit place x x.messages) (both table.new ports.new) out.old out.new }
     ensures grows { Grows 2 out.old out.new }
 {
     let service = Service::ReceiveQueuingMessage;
@@ -187,7 +186,7 @@ fn receive(
         discipline,
         array: Some(array),
     };
-    table.block(at, caller, limit, waiting, Words::new(), out);
+    table.block(moment, caller, limit, waiting, Words::new(), out);
 }
 
 /// RECEIVE_QUEUING_MESSAGE (ARINC 653 Part 1, interpartition communication): the first message of the
@@ -200,16 +199,15 @@ fn receive(
 pub fn receive_queuing_message(
     table: &mut ProcessTable,
     ports: &mut Ports,
-    at: At,
+    moment: Moment,
     caller: Runner,
     id: i64,
     array: ArrayPlace,
     limit: i64,
     out: &mut Out,
 )
-    requires now { at.now.0 ≤ 2 ^ 40 }
     requires room { HasRoom 2 out.old }
-    ensures step { IsMade (meaning.receive_queuing_message at (both table.old ports.old) caller id array limit) (both table.new ports.new) out.old out.new }
+    ensures step { IsMade (meaning.receive_queuing_message moment.at (both table.old ports.old) caller id array limit) (both table.new ports.new) out.old out.new }
     ensures grows { Grows 2 out.old out.new }
 {
     let service = Service::ReceiveQueuingMessage;
@@ -227,7 +225,7 @@ pub fn receive_queuing_message(
     }
     let discipline = port.discipline();
     receive(
-        table, ports, at, caller, array, limit, place, discipline, out,
+        table, ports, moment, caller, array, limit, place, discipline, out,
     );
 }
 

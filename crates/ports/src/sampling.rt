@@ -10,7 +10,7 @@ ghost use Rattle.ports.specs.Status.{placed_port};
 use crate::deliver::deliver;
 use crate::port::validity_number;
 use crate::ports::Ports;
-use apex_types::{ArrayPlace, At, Mode, Out, ReturnCode, Runner, Service, Words};
+use apex_types::{ArrayPlace, Mode, Moment, Out, ReturnCode, Runner, Service, Words};
 use process_table_base::{ProcessTable, first_words, is_large_enough, is_length};
 
 /// CREATE_SAMPLING_PORT (ARINC 653 Part 1, interpartition communication): the sampling port of that
@@ -104,18 +104,18 @@ pub fn write_sampling_message(
 fn read(
     table: &ProcessTable,
     ports: &mut Ports,
-    at: At,
+    moment: Moment,
     caller: Runner,
     array: ArrayPlace,
     place: u8,
     out: &mut Out,
 )
     requires { HasRoom 2 out.old }
-    ensures step { let x = placed_port ports.old place in IsMade (meaning.reads_sample at (both table.now ports.old) caller array place x x.messages) (both table.now ports.new) out.old out.new }
+    ensures step { let x = placed_port ports.old place in IsMade (meaning.reads_sample moment.at (both table.now ports.old) caller array place x x.messages) (both table.now ports.new) out.old out.new }
     ensures grows { Grows 2 out.old out.new }
 {
     let service = Service::ReadSamplingMessage;
-    match ports.read_message(place, at) {
+    match ports.read_message(place, moment) {
         Some((message, valid)) => {
             let outputs = [message.len() as i64, validity_number(valid)];
             deliver(
@@ -141,15 +141,14 @@ fn read(
 pub fn read_sampling_message(
     table: &ProcessTable,
     ports: &mut Ports,
-    at: At,
+    moment: Moment,
     caller: Runner,
     id: i64,
     array: ArrayPlace,
     out: &mut Out,
 )
-    requires now { at.now.0 ≤ 2 ^ 40 }
     requires room { HasRoom 2 out.old }
-    ensures step { IsMade (meaning.read_sampling_message at (both table.now ports.old) caller id array) (both table.now ports.new) out.old out.new }
+    ensures step { IsMade (meaning.read_sampling_message moment.at (both table.now ports.old) caller id array) (both table.now ports.new) out.old out.new }
     ensures grows { Grows 2 out.old out.new }
 {
     let service = Service::ReadSamplingMessage;
@@ -165,7 +164,7 @@ pub fn read_sampling_message(
     if !is_large_enough(port.row.words, array) {
         return table.refuse(caller, service, ReturnCode::InvalidParam, &[0, 0], out);
     }
-    read(table, ports, at, caller, array, place, out);
+    read(table, ports, moment, caller, array, place, out);
 }
 
 /// GET_SAMPLING_PORT_STATUS (ARINC 653 Part 1, interpartition communication): the most words of a

@@ -154,10 +154,8 @@ pub fn start(
     id: i64,
     out: &mut Out,
 )
-    requires now { points.at.now.0 ≤ 2 ^ 40 }
-    requires next { points.next.0 ≤ 2 ^ 41 }
     requires room { HasRoom 3 out.old }
-    ensures step { IsMade (meaning.start mode points.at points.next.0 table.old caller id) table.new out.old out.new }
+    ensures step { IsMade (meaning.start mode points.moment.at points.next.0 table.old caller id) table.new out.old out.new }
     ensures grows { Grows 2 out.old out.new }
 {
     let service = Service::Start;
@@ -197,10 +195,8 @@ pub fn delayed_start(
     delay: i64,
     out: &mut Out,
 )
-    requires now { points.at.now.0 ≤ 2 ^ 40 }
-    requires next { points.next.0 ≤ 2 ^ 41 }
     requires room { HasRoom 3 out.old }
-    ensures step { IsMade (meaning.delayed_start mode points.at points.next.0 table.old caller id delay) table.new out.old out.new }
+    ensures step { IsMade (meaning.delayed_start mode points.moment.at points.next.0 table.old caller id delay) table.new out.old out.new }
     ensures grows { Grows 2 out.old out.new }
 {
     let service = Service::DelayedStart;

@@ -7,7 +7,7 @@ ghost use Rattle.kernel_meaning.specs.Processes.{is_periodic};
 ghost use Rattle.kernel_meaning.specs.ProcessServices as meaning;
 ghost use Rattle.kernel_meaning.specs.Made.{IsMade};
 
-use apex_types::{At, Lock, Out, ProcessStatus, ReturnCode, Runner, Service};
+use apex_types::{Lock, Moment, Out, ProcessStatus, ReturnCode, Runner, Service};
 use process_table_base::{ProcessTable, is_dormant, is_duration, is_same};
 
 /// Whether there is a record, and it is of a periodic process.
@@ -23,10 +23,15 @@ fn is_periodic(row: &Option<ProcessStatus>) -> bool
 /// SUSPEND_SELF (ARINC 653 Part 1, process management): the caller waits until it is resumed, or for
 /// so many ticks; -1 is without limit, and at 0 nothing happens. INVALID_MODE: the caller may not
 /// wait, or is periodic; INVALID_PARAM: a time-out below -1 or above 2^40 ticks.
-pub fn suspend_self(table: &mut ProcessTable, at: At, caller: Runner, limit: i64, out: &mut Out)
-    requires now { at.now.0 ≤ 2 ^ 40 }
+pub fn suspend_self(
+    table: &mut ProcessTable,
+    moment: Moment,
+    caller: Runner,
+    limit: i64,
+    out: &mut Out,
+)
     requires room { HasRoom 1 out.old }
-    ensures step { IsMade (meaning.suspend_self at table.old caller limit) table.new out.old out.new }
+    ensures step { IsMade (meaning.suspend_self moment.at table.old caller limit) table.new out.old out.new }
     ensures grows { Grows 1 out.old out.new }
 {
     let service = Service::SuspendSelf;
@@ -42,7 +47,7 @@ pub fn suspend_self(table: &mut ProcessTable, at: At, caller: Runner, limit: i64
     if limit == 0 {
         table.answer(caller, service, ReturnCode::NoError, &[], out);
     } else {
-        table.suspend_self(at, caller, limit, out);
+        table.suspend_self(moment, caller, limit, out);
     }
 }
 

@@ -8,27 +8,31 @@ ghost use Rattle.kernel_meaning.specs.ProcessServices as meaning;
 ghost use Rattle.process_table_base.specs.Bounds.{IsAtMost, IsBounded};
 
 use crate::lock::may_not_lock;
-use apex_types::{At, Due, Mode, Out, ProcessStatus, ReturnCode, Runner, Service, Ticks};
+use apex_types::{Due, Mode, Moment, Out, ProcessStatus, ReturnCode, Runner, Service, Ticks};
 use process_table_base::{ProcessTable, is_delay, is_duration};
 
 /// GET_TIME (ARINC 653 Part 1, time management): the current tick.
-pub fn get_time(table: &ProcessTable, at: At, caller: Runner, out: &mut Out)
-    requires now { at.now.0 ≤ 2 ^ 40 }
+pub fn get_time(table: &ProcessTable, moment: Moment, caller: Runner, out: &mut Out)
     requires room { HasRoom 1 out.old }
-    ensures step { IsTold (meaning.get_time at table.now caller) out.old out.new }
+    ensures step { IsTold (meaning.get_time moment.at table.now caller) out.old out.new }
     ensures grows { Grows 1 out.old out.new }
 {
-    let now = at.now.0 as i64;
+    let now = moment.at.now.0 as i64;
     table.answer(caller, Service::GetTime, ReturnCode::NoError, &[now], out);
 }
 
 /// TIMED_WAIT (ARINC 653 Part 1, time management): without a delay the caller goes last among those
 /// of its priority, else it waits for so many ticks. INVALID_MODE: the caller may not wait;
 /// INVALID_PARAM: a delay below 0 or above 2^40 ticks.
-pub fn timed_wait(table: &mut ProcessTable, at: At, caller: Runner, delay: i64, out: &mut Out)
-    requires now { at.now.0 ≤ 2 ^ 40 }
+pub fn timed_wait(
+    table: &mut ProcessTable,
+    moment: Moment,
+    caller: Runner,
+    delay: i64,
+    out: &mut Out,
+)
     requires room { HasRoom 1 out.old }
-    ensures step { IsMade (meaning.timed_wait at table.old caller delay) table.new out.old out.new }
+    ensures step { IsMade (meaning.timed_wait moment.at table.old caller delay) table.new out.old out.new }
     ensures grows { Grows 1 out.old out.new }
 {
     let service = Service::TimedWait;
@@ -38,14 +42,13 @@ pub fn timed_wait(table: &mut ProcessTable, at: At, caller: Runner, delay: i64, 
     if !is_delay(delay) {
         return table.refuse(caller, service, ReturnCode::InvalidParam, &[], out);
     }
-    wait_for(table, at, caller, delay, out);
+    wait_for(table, moment, caller, delay, out);
 }
 
-fn wait_for(table: &mut ProcessTable, at: At, caller: Runner, delay: i64, out: &mut Out)
-    requires now { at.now.0 ≤ 2 ^ 40 }
+fn wait_for(table: &mut ProcessTable, moment: Moment, caller: Runner, delay: i64, out: &mut Out)
     requires delay { is_delay delay ≡ true }
     requires room { HasRoom 1 out.old }
-    ensures step { IsMade (meaning.delays at table.old caller delay) table.new out.old out.new }
+    ensures step { IsMade (meaning.delays moment.at table.old caller delay) table.new out.old out.new }
     ensures grows { Grows 1 out.old out.new }
 {
     let service = Service::TimedWait;
@@ -53,7 +56,7 @@ fn wait_for(table: &mut ProcessTable, at: At, caller: Runner, delay: i64, out: &
         table.answer(caller, service, ReturnCode::NoError, &[], out);
         table.go_last(caller);
     } else {
-        let due = Due::Delay(Ticks(at.now.0 + delay as u64));
+        let due = Due::Delay(Ticks(moment.at.now.0 + delay as u64));
         table.wait(caller, service, Some(due), out);
     }
 }
@@ -79,30 +82,28 @@ pub fn periodic_wait(table: &mut ProcessTable, caller: Runner, out: &mut Out)
 }
 
 /// A deadline so many ticks from now, none without a limit.
-fn deadline_in(at: At, budget: i64) -> Option<Ticks>
-    requires now { at.now.0 ≤ 2 ^ 40 }
+fn deadline_in(moment: Moment, budget: i64) -> Option<Ticks>
     requires budget { is_duration budget ≡ true }
-    ensures deadline { result ≡ meaning.deadline_in at budget }
+    ensures deadline { result ≡ meaning.deadline_in moment.at budget }
     ensures bounded { IsAtMost (2 ^ 41) result }
 {
     if budget < 0 {
         None
     } else {
-        Some(Ticks(at.now.0 + budget as u64))
+        Some(Ticks(moment.at.now.0 + budget as u64))
     }
 }
 
 /// Whether a budget reaches past the next release of a periodic process.
-fn reaches_past(at: At, budget: i64, row: &ProcessStatus) -> bool
-    requires now { at.now.0 ≤ 2 ^ 40 }
+fn reaches_past(moment: Moment, budget: i64, row: &ProcessStatus) -> bool
     requires budget { is_duration budget ≡ true }
     requires bounded { IsBounded row.now }
-    ensures { result ≡ meaning.reaches_past at budget row.now row.now.period }
+    ensures { result ≡ meaning.reaches_past moment.at budget row.now row.now.period }
 {
     match row.period {
         None => false,
         Some(_) if budget < 0 => true,
-        Some(period) => at.now.0 + budget as u64 > row.release.0 + period.0,
+        Some(period) => moment.at.now.0 + budget as u64 > row.release.0 + period.0,
     }
 }
 
@@ -113,14 +114,13 @@ fn reaches_past(at: At, budget: i64, row: &ProcessStatus) -> bool
 pub fn replenish(
     table: &mut ProcessTable,
     mode: Mode,
-    at: At,
+    moment: Moment,
     caller: Runner,
     budget: i64,
     out: &mut Out,
 )
-    requires now { at.now.0 ≤ 2 ^ 40 }
     requires room { HasRoom 1 out.old }
-    ensures step { IsMade (meaning.replenish mode at table.old caller budget) table.new out.old out.new }
+    ensures step { IsMade (meaning.replenish mode moment.at table.old caller budget) table.new out.old out.new }
     ensures grows { Grows 1 out.old out.new }
 {
     let service = Service::Replenish;
@@ -136,9 +136,9 @@ pub fn replenish(
     if row.capacity.is_none() {
         return table.refuse(caller, service, ReturnCode::NoAction, &[], out);
     }
-    if reaches_past(at, budget, &row) {
+    if reaches_past(moment, budget, &row) {
         return table.refuse(caller, service, ReturnCode::InvalidMode, &[], out);
     }
     table.answer(caller, service, ReturnCode::NoError, &[], out);
-    table.set_deadline(caller, deadline_in(at, budget));
+    table.set_deadline(caller, deadline_in(moment, budget));
 }

@@ -15,8 +15,9 @@ ghost use Rattle.process_table_base.specs.Treating.{IsTreated};
 use crate::start::released_at;
 use crate::table::ProcessTable;
 use apex_types::{
-    Action, At, Due, ErrorKind, EventKind, MOST_RUNNERS, Mode, Out, PartitionAction, ProcessIndex,
-    ProcessStatus, Response, ReturnCode, Runner, Service, Ticks, Wait, WaitingError, Words,
+    Action, Due, ErrorKind, EventKind, MOST_RUNNERS, Mode, Moment, Out, PartitionAction,
+    ProcessIndex, ProcessStatus, Response, ReturnCode, Runner, Service, Ticks, Wait, WaitingError,
+    Words,
 };
 
 /// What the treatment of processes comes to beside its lines: how many more errors may wait for the
@@ -46,16 +47,15 @@ impl ProcessTable {
         }
     }
 
-    fn treat_due(&mut self, at: At, runner: Runner, row: ProcessStatus, out: &mut Out)
-        requires now { at.now.0 ≤ 2 ^ 40 }
+    fn treat_due(&mut self, moment: Moment, runner: Runner, row: ProcessStatus, out: &mut Out)
         requires runner { place_of runner < MOST_RUNNERS }
         requires bounded { IsBounded row }
         requires room { HasRoom 2 out.old }
-        ensures step { IsMade (meaning.treats_due at self.old runner row row.due) self.new out.old out.new }
+        ensures step { IsMade (meaning.treats_due moment.at self.old runner row row.due) self.new out.old out.new }
         ensures grows { Grows 2 out.old out.new }
     {
         if let Some(due) = row.due {
-            if tick_of(due).0 <= at.now.0 {
+            if tick_of(due).0 <= moment.at.now.0 {
                 self.end_wait(runner, row, due, out);
             }
         }
@@ -105,18 +105,18 @@ impl ProcessTable {
 
     fn treat_deadline(
         &mut self,
-        at: At,
+        moment: Moment,
         free: u8,
         action: PartitionAction,
         process: ProcessIndex,
         out: &mut Out,
     ) -> Treated
         requires { HasRoom 1 out.old }
-        ensures treated { IsTreated (meaning.treats_deadline at free action self.old process (row_of self.old (Runner.Process process))) self.new out.old out.new result }
+        ensures treated { IsTreated (meaning.treats_deadline moment.at free action self.old process (row_of self.old (Runner.Process process))) self.new out.old out.new result }
         ensures grows { Grows 1 out.old out.new }
     {
         if let Some(row) = self.row(Runner::Process(process)) {
-            if is_past(at.now, row.deadline) {
+            if is_past(moment.at.now, row.deadline) {
                 return self.miss(free, action, process, row, out);
             }
         }
@@ -126,45 +126,43 @@ impl ProcessTable {
     /// One process: its due time, then its deadline.
     fn treat(
         &mut self,
-        at: At,
+        moment: Moment,
         free: u8,
         action: PartitionAction,
         process: ProcessIndex,
         out: &mut Out,
     ) -> Treated
-        requires now { at.now.0 ≤ 2 ^ 40 }
         requires room { HasRoom 3 out.old }
-        ensures treated { IsTreated (meaning.treats at free action self.old process (row_of self.old (Runner.Process process))) self.new out.old out.new result }
+        ensures treated { IsTreated (meaning.treats moment.at free action self.old process (row_of self.old (Runner.Process process))) self.new out.old out.new result }
         ensures grows { Grows 3 out.old out.new }
     {
         let runner = Runner::Process(process);
         let Some(row) = self.row(runner) else {
             return Treated { free, clears: None };
         };
-        self.treat_due(at, runner, row, out);
-        self.treat_deadline(at, free, action, process, out)
+        self.treat_due(moment, runner, row, out);
+        self.treat_deadline(moment, free, action, process, out)
     }
 
     /// Each process of the mask in number order, until one of them leads to a Clear.
     fn treat_all(
         &mut self,
-        at: At,
+        moment: Moment,
         free: u8,
         action: PartitionAction,
         mask: u64,
         out: &mut Out,
     ) -> Treated
-        requires now { at.now.0 ≤ 2 ^ 40 }
         requires room { HasRoom 93 out.old }
         requires few { length self.old.rows ≤ MOST_RUNNERS }
-        requires mask { IsDueMask at.now.0 (due_times self.old.rows) (deadlines self.old.rows) mask }
-        ensures treated { IsTreated (meaning.due at free action self.old) self.new out.old out.new result }
+        requires mask { IsDueMask moment.at.now.0 (due_times self.old.rows) (deadlines self.old.rows) mask }
+        ensures treated { IsTreated (meaning.due moment.at free action self.old) self.new out.old out.new result }
         ensures grows { Grows 93 out.old out.new }
     {
         let mut left = mask;
         let mut free = free;
         while let Some((process, rest)) = split_first(left) {
-            let treated = self.treat(at, free, action, process, out);
+            let treated = self.treat(moment, free, action, process, out);
             if treated.clears.is_some() {
                 return treated;
             }
@@ -177,14 +175,19 @@ impl ProcessTable {
     /// Each process in number order: its due time if it is at most now, then its deadline if it is
     /// at most now. `free` more errors may wait for the error handler, and `action` is the
     /// partition's for a missed deadline: an action that leads to a Clear ends the treatment.
-    pub fn due(&mut self, at: At, free: u8, action: PartitionAction, out: &mut Out) -> Treated
-        requires now { at.now.0 ≤ 2 ^ 40 }
+    pub fn due(
+        &mut self,
+        moment: Moment,
+        free: u8,
+        action: PartitionAction,
+        out: &mut Out,
+    ) -> Treated
         requires room { HasRoom 93 out.old }
-        ensures treated { IsTreated (meaning.due at free action self.old) self.new out.old out.new result }
+        ensures treated { IsTreated (meaning.due moment.at free action self.old) self.new out.old out.new result }
         ensures grows { Grows 93 out.old out.new }
     {
-        let mask = self.due_mask(at.now);
-        self.treat_all(at, free, action, mask, out)
+        let mask = self.due_mask(moment.at.now);
+        self.treat_all(moment, free, action, mask, out)
     }
 }
 

@@ -4,7 +4,7 @@ ghost use Rattle.std.specs.Prelude.{◌≡◌, ◌≤◌, ◌^◌, true};
 ghost use Rattle.kernel_meaning.specs.Times as meaning;
 ghost use Rattle.kernel_meaning.specs.ProcessServices as services;
 
-use apex_types::{At, Due, Ticks};
+use apex_types::{Due, Moment, Ticks};
 
 /// The greatest finite time of a service, in ticks: 2^40.
 const MOST_TICKS: i64 = 1_099_511_627_776;
@@ -24,14 +24,13 @@ pub fn is_duration(ticks: i64) -> bool
 }
 
 /// The due time of one that waits at most so long.
-pub fn time_out(at: At, limit: i64) -> Option<Due>
-    requires now { at.now.0 ≤ 2 ^ 40 }
+pub fn time_out(moment: Moment, limit: i64) -> Option<Due>
     requires limit { meaning.is_duration limit ≡ true }
-    ensures { result ≡ services.time_out at limit }
+    ensures { result ≡ services.time_out moment.at limit }
 {
     if limit < 0 {
         None
     } else {
-        Some(Due::TimeOut(Ticks(at.now.0 + limit as u64)))
+        Some(Due::TimeOut(Ticks(moment.at.now.0 + limit as u64)))
     }
 }

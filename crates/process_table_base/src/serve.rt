@@ -12,7 +12,8 @@ ghost use Rattle.process_table_base.specs.Own.{own_change, own_step};
 use crate::duration::time_out;
 use crate::table::ProcessTable;
 use apex_types::{
-    At, Due, Out, Priority, ProcessState, ProcessStatus, ReturnCode, Runner, Service, Ticks, Wait,
+    Due, Moment, Out, Priority, ProcessState, ProcessStatus, ReturnCode, Runner, Service, Ticks,
+    Wait,
 };
 
 impl ProcessTable {
@@ -50,11 +51,10 @@ impl ProcessTable {
     }
 
     /// A process suspends itself: it waits until it is resumed, or for so long.
-    pub fn suspend_self(&mut self, at: At, process: Runner, limit: i64, out: &mut Out)
-        requires now { at.now.0 ≤ 2 ^ 40 }
+    pub fn suspend_self(&mut self, moment: Moment, process: Runner, limit: i64, out: &mut Out)
         requires limit { is_duration limit ≡ true }
         requires room { HasRoom 1 out.old }
-        ensures step { IsMade (meaning.suspends_self at self.old process limit (row_of self.old process)) self.new out.old out.new }
+        ensures step { IsMade (meaning.suspends_self moment.at self.old process limit (row_of self.old process)) self.new out.old out.new }
         ensures grows { Grows 1 out.old out.new }
     {
         if let Some(row) = self.row(process) {
@@ -63,7 +63,7 @@ impl ProcessTable {
                 ..row
             };
             let reason = Wait::Service(Service::SuspendSelf);
-            self.wait_as(process, suspended, reason, time_out(at, limit), out);
+            self.wait_as(process, suspended, reason, time_out(moment, limit), out);
         }
     }
 

@@ -1,6 +1,7 @@
 //! The start of a process, its release, and the normal start of those that wait for it.
 
 ghost use Rattle.std.specs.Prelude.{◌≡◌, ◌<◌, ◌≤◌, ◌+◌, ◌-◌, ◌^◌, length, IfSome};
+ghost use Rattle.apex_types.specs.declared.limits.TheConstants.{LATEST_RELEASE_POINT, MOST_TICKS};
 ghost use Rattle.apex_types.specs.Room.{HasRoom, Grows};
 ghost use Rattle.apex_types.specs.Runners.{place_of};
 ghost use Rattle.kernel_meaning.specs.Processes.{row_of};
@@ -11,14 +12,14 @@ ghost use Rattle.process_table_base.specs.Own.{own_step};
 
 use crate::table::ProcessTable;
 use apex_types::{
-    Action, At, Due, MOST_PROCESSES, MOST_RUNNERS, Mode, Out, ProcessIndex, ProcessStatus, Runner,
-    Ticks, Wait,
+    Action, Due, MOST_PROCESSES, MOST_RUNNERS, Mode, Moment, Out, ProcessIndex, ProcessStatus,
+    Runner, Ticks, Wait,
 };
 
 /// So many ticks after a tick, where they are limited.
 fn later(tick: Ticks, count: Option<Ticks>) -> Option<Ticks>
-    requires tick { tick.0 ≤ 2 ^ 40 }
-    requires count { IsAtMost (2 ^ 40) count }
+    requires tick { tick.0 ≤ MOST_TICKS }
+    requires count { IsAtMost MOST_TICKS count }
     ensures { result ≡ meaning.later tick count }
 {
     match count {
@@ -30,7 +31,7 @@ fn later(tick: Ticks, count: Option<Ticks>) -> Option<Ticks>
 /// The record of one that is released at a tick: its deadline is its time capacity later.
 #[tactic(auto, using(crate::proofs::Bounds::bounds))]
 pub(crate) fn released_at(tick: Ticks, row: ProcessStatus) -> ProcessStatus
-    requires tick { tick.0 ≤ 2 ^ 40 }
+    requires tick { tick.0 ≤ MOST_TICKS }
     requires bounded { IsBounded row }
     ensures row { result ≡ meaning.released_at tick row }
     ensures bounded { IsBounded result }
@@ -42,11 +43,12 @@ pub(crate) fn released_at(tick: Ticks, row: ProcessStatus) -> ProcessStatus
     }
 }
 
-/// What a start in normal mode counts from: the tick of it, and the partition's next release point.
+/// What a start in normal mode counts from: the moment of it, and the partition's next release point.
 #[derive(Clone, Copy, Debug, PartialEq, Eq)]
 pub struct Points {
-    pub at: At,
+    pub moment: Moment,
     pub next: Ticks,
+    pub ghost soon: { next.0 ≤ LATEST_RELEASE_POINT },
 }
 
 impl ProcessTable {
@@ -60,11 +62,9 @@ impl ProcessTable {
         delay: Ticks,
         out: &mut Out,
     )
-        requires now { points.at.now.0 ≤ 2 ^ 40 }
-        requires next { points.next.0 ≤ 2 ^ 41 }
-        requires delay { delay.0 ≤ 2 ^ 40 }
+        requires delay { delay.0 ≤ MOST_TICKS }
         requires room { HasRoom 2 out.old }
-        ensures step { IsMade (own_step self.old process (meaning.starts mode points.at points.next.0 self.old process delay)) self.new out.old out.new }
+        ensures step { IsMade (own_step self.old process (meaning.starts mode points.moment.at points.next.0 self.old process delay)) self.new out.old out.new }
         ensures grows { Grows 1 out.old out.new }
     {
         let Some(row) = self.row(process) else {
@@ -107,16 +107,14 @@ impl ProcessTable {
         row: ProcessStatus,
         out: &mut Out,
     )
-        requires now { points.at.now.0 ≤ 2 ^ 40 }
-        requires next { points.next.0 ≤ 2 ^ 41 }
-        requires delay { delay.0 ≤ 2 ^ 40 }
+        requires delay { delay.0 ≤ MOST_TICKS }
         requires process { place_of process < MOST_RUNNERS }
         requires bounded { IsBounded row }
         requires room { HasRoom 1 out.old }
-        ensures step { IsMade (meaning.starts_in_normal points.at points.next.0 self.old process delay row) self.new out.old out.new }
+        ensures step { IsMade (meaning.starts_in_normal points.moment.at points.next.0 self.old process delay row) self.new out.old out.new }
         ensures grows { Grows 1 out.old out.new }
     {
-        let now = points.at.now;
+        let now = points.moment.at.now;
         if row.period.is_some() {
             self.wait_for_release(process, row, Ticks(points.next.0 + delay.0), out);
         } else if delay.0 == 0 {
@@ -128,10 +126,8 @@ impl ProcessTable {
 
     /// A process that was started before normal mode takes the normal case of its start.
     fn start_waiting(&mut self, points: Points, process: Runner, out: &mut Out)
-        requires now { points.at.now.0 ≤ 2 ^ 40 }
-        requires next { points.next.0 ≤ 2 ^ 41 }
         requires room { HasRoom 1 out.old }
-        ensures step { IsMade (meaning.starts_waiting points.at points.next.0 self.old process (row_of self.old process)) self.new out.old out.new }
+        ensures step { IsMade (meaning.starts_waiting points.moment.at points.next.0 self.old process (row_of self.old process)) self.new out.old out.new }
         ensures grows { Grows 1 out.old out.new }
     {
         if let Some(row) = self.row(process) {
@@ -144,10 +140,8 @@ impl ProcessTable {
     /// Each process that was started before normal mode takes the normal case of its start, in
     /// number order.
     pub fn start_all_waiting(&mut self, points: Points, out: &mut Out)
-        requires now { points.at.now.0 ≤ 2 ^ 40 }
-        requires next { points.next.0 ≤ 2 ^ 41 }
         requires room { HasRoom MOST_PROCESSES out.old }
-        ensures step { IsMade (meaning.start_all_waiting points.at points.next.0 self.old) self.new out.old out.new }
+        ensures step { IsMade (meaning.start_all_waiting points.moment.at points.next.0 self.old) self.new out.old out.new }
         ensures grows { Grows MOST_PROCESSES out.old out.new }
     {
         let mut left = self.count().saturating_sub(2);

@@ -18,7 +18,7 @@ use crate::change::zeros;
 use crate::duration::time_out;
 use crate::table::ProcessTable;
 use apex_types::{
-    Action, ArrayPlace, At, Entry, ListKey, MOST_PROCESSES, MOST_RUNNERS, Out, ProcessIndex,
+    Action, ArrayPlace, Entry, ListKey, MOST_PROCESSES, MOST_RUNNERS, Moment, Out, ProcessIndex,
     ProcessStatus, ReturnCode, Runner, Wait, Waiting, Words, copied,
 };
 use links::Entries;
@@ -137,17 +137,16 @@ impl ProcessTable {
     /// caller waits, at most so long.
     pub fn block(
         &mut self,
-        at: At,
+        moment: Moment,
         caller: Runner,
         limit: i64,
         waiting: Waiting,
         message: Words,
         out: &mut Out,
     )
-        requires now { at.now.0 ≤ 2 ^ 40 }
         requires limit { is_duration limit ≡ true }
         requires room { HasRoom 1 out.old }
-        ensures step { IsMade (meaning.blocks at self.old caller limit waiting message) self.new out.old out.new }
+        ensures step { IsMade (meaning.blocks moment.at self.old caller limit waiting message) self.new out.old out.new }
         ensures grows { Grows 1 out.old out.new }
     {
         let service = waiting.service;
@@ -175,7 +174,7 @@ impl ProcessTable {
                 service,
                 array: waiting.array,
             };
-            self.wait_as(caller, row, reason, time_out(at, limit), out);
+            self.wait_as(caller, row, reason, time_out(moment, limit), out);
         }
     }
 

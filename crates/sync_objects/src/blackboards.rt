@@ -13,8 +13,8 @@ ghost use Rattle.kernel_meaning.specs.Sharing.{both};
 ghost use Rattle.sync_objects.specs.Both.{number_of_occupied};
 
 use apex_types::{
-    Action, ArrayPlace, At, Discipline, ListKey, Mode, Out, ReturnCode, Runner, Service, Waiting,
-    Words,
+    Action, ArrayPlace, Discipline, ListKey, Mode, Moment, Out, ReturnCode, Runner, Service,
+    Waiting, Words,
 };
 use process_table_base::{ProcessTable, first_words, is_duration, is_large_enough, is_length};
 use sync_objects_base::Objects;
@@ -147,18 +147,17 @@ pub fn clear_blackboard(
 fn read(
     table: &mut ProcessTable,
     objects: &Objects,
-    at: At,
+    moment: Moment,
     caller: Runner,
     array: ArrayPlace,
     limit: i64,
     place: u8,
     out: &mut Out,
 )
-    requires now { at.now.0 ≤ 2 ^ 40 }
     requires limit { durations.is_duration limit ≡ true }
     requires place { place < MOST_OBJECTS }
     requires room { HasRoom 2 out.old }
-    ensures step { IsMade (meaning.reads at (both table.old objects.now) caller array limit place (blackboard_at objects.now place).shown) (both table.new objects.now) out.old out.new }
+    ensures step { IsMade (meaning.reads moment.at (both table.old objects.now) caller array limit place (blackboard_at objects.now place).shown) (both table.new objects.now) out.old out.new }
     ensures grows { Grows 2 out.old out.new }
 {
     let service = Service::ReadBlackboard;
@@ -174,7 +173,7 @@ fn read(
         discipline: Discipline::Fifo,
         array: Some(array),
     };
-    table.block(at, caller, limit, waiting, Words::new(), out);
+    table.block(moment, caller, limit, waiting, Words::new(), out);
 }
 
 /// READ_BLACKBOARD (ARINC 653 Part 1, intrapartition communication): the message that a blackboard
@@ -186,16 +185,15 @@ fn read(
 pub fn read_blackboard(
     table: &mut ProcessTable,
     objects: &Objects,
-    at: At,
+    moment: Moment,
     caller: Runner,
     id: i64,
     array: ArrayPlace,
     limit: i64,
     out: &mut Out,
 )
-    requires now { at.now.0 ≤ 2 ^ 40 }
     requires room { HasRoom 2 out.old }
-    ensures step { IsMade (meaning.read_blackboard at (both table.old objects.now) caller id array limit) (both table.new objects.now) out.old out.new }
+    ensures step { IsMade (meaning.read_blackboard moment.at (both table.old objects.now) caller id array limit) (both table.new objects.now) out.old out.new }
     ensures grows { Grows 2 out.old out.new }
 {
     let service = Service::ReadBlackboard;
@@ -206,7 +204,7 @@ pub fn read_blackboard(
     if !blackboard.created || !large || !is_duration(limit) {
         return table.refuse(caller, service, ReturnCode::InvalidParam, &[0], out);
     }
-    read(table, objects, at, caller, array, limit, place, out);
+    read(table, objects, moment, caller, array, limit, place, out);
 }
 
 /// 0 for empty, 1 for occupied.

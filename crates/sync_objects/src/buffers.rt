@@ -12,8 +12,8 @@ ghost use Rattle.kernel_meaning.specs.Sharing.{both};
 ghost use Rattle.sync_objects.specs.Both.{delivers};
 
 use apex_types::{
-    Action, ArrayPlace, At, Discipline, ListKey, Mode, Out, ReturnCode, Runner, Service, Waiting,
-    Words,
+    Action, ArrayPlace, Discipline, ListKey, Mode, Moment, Out, ReturnCode, Runner, Service,
+    Waiting, Words,
 };
 use process_table_base::{ProcessTable, first_words, is_duration, is_large_enough, is_length};
 use sync_objects_base::{BufferStatus, Objects};
@@ -74,7 +74,7 @@ pub fn get_buffer_id(
 fn send(
     table: &mut ProcessTable,
     objects: &mut Objects,
-    at: At,
+    moment: Moment,
     caller: Runner,
     limit: i64,
     message: Words,
@@ -82,12 +82,11 @@ fn send(
     buffer: BufferStatus,
     out: &mut Out,
 )
-    requires now { at.now.0 ≤ 2 ^ 40 }
     requires limit { durations.is_duration limit ≡ true }
     requires place { place < MOST_OBJECTS }
     requires status { buffer ≡ buffer_status (buffer_at objects.old place) }
     requires room { HasRoom 4 out.old }
-    ensures step { IsMade (meaning.sends at (both table.old objects.old) caller limit message place (buffer_at objects.old place)) (both table.new objects.new) out.old out.new }
+    ensures step { IsMade (meaning.sends moment.at (both table.old objects.old) caller limit message place (buffer_at objects.old place)) (both table.new objects.new) out.old out.new }
     ensures grows { Grows 4 out.old out.new }
 {
     let service = Service::SendBuffer;
@@ -99,7 +98,7 @@ fn send(
             discipline: buffer.row.discipline,
             array: None,
         };
-        return table.block(at, caller, limit, waiting, message, out);
+        return table.block(moment, caller, limit, waiting, message, out);
     }
     table.answer(caller, service, ReturnCode::NoError, &[], out);
     match table.first_waiting(list) {
@@ -117,7 +116,7 @@ fn send(
 pub fn send_buffer(
     table: &mut ProcessTable,
     objects: &mut Objects,
-    at: At,
+    moment: Moment,
     caller: Runner,
     id: i64,
     array: ArrayPlace,
@@ -126,9 +125,8 @@ pub fn send_buffer(
     words: &Words,
     out: &mut Out,
 )
-    requires now { at.now.0 ≤ 2 ^ 40 }
     requires room { HasRoom 4 out.old }
-    ensures step { IsMade (meaning.send_buffer at (both table.old objects.old) caller id array length limit words.now.items) (both table.new objects.new) out.old out.new }
+    ensures step { IsMade (meaning.send_buffer moment.at (both table.old objects.old) caller id array length limit words.now.items) (both table.new objects.new) out.old out.new }
     ensures grows { Grows 4 out.old out.new }
 {
     let service = Service::SendBuffer;
@@ -143,7 +141,7 @@ pub fn send_buffer(
     }
     let message = first_words(length, words);
     send(
-        table, objects, at, caller, limit, message, place, buffer, out,
+        table, objects, moment, caller, limit, message, place, buffer, out,
     );
 }
 
@@ -189,7 +187,7 @@ fn deliver(
 fn receive(
     table: &mut ProcessTable,
     objects: &mut Objects,
-    at: At,
+    moment: Moment,
     caller: Runner,
     array: ArrayPlace,
     limit: i64,
@@ -197,12 +195,11 @@ fn receive(
     discipline: Discipline,
     out: &mut Out,
 )
-    requires now { at.now.0 ≤ 2 ^ 40 }
     requires limit { durations.is_duration limit ≡ true }
     requires place { place < MOST_OBJECTS }
     requires discipline { discipline ≡ (buffer_at objects.old place).row.discipline }
     requires room { HasRoom 4 out.old }
-    ensures step { let x = buffer_at objects.old place in IsMade (meaning.receives at (both table.old objects.old) caller array limit place x x.messages) (both table.new objects.new) out.old out.new }
+    ensures step { let x = buffer_at objects.old place in IsMade (meaning.receives moment.at (both table.old objects.old) caller array limit place x x.messages) (both table.new objects.new) out.old out.new }
     ensures grows { Grows 4 out.old out.new }
 {
     if let Some(message) = objects.pop_message(place) {
@@ -214,7 +211,7 @@ fn receive(
         discipline,
         array: Some(array),
     };
-    table.block(at, caller, limit, waiting, Words::new(), out);
+    table.block(moment, caller, limit, waiting, Words::new(), out);
 }
 
 /// RECEIVE_BUFFER (ARINC 653 Part 1, intrapartition communication): the first message of a buffer goes
@@ -226,16 +223,15 @@ fn receive(
 pub fn receive_buffer(
     table: &mut ProcessTable,
     objects: &mut Objects,
-    at: At,
+    moment: Moment,
     caller: Runner,
     id: i64,
     array: ArrayPlace,
     limit: i64,
     out: &mut Out,
 )
-    requires now { at.now.0 ≤ 2 ^ 40 }
     requires room { HasRoom 4 out.old }
-    ensures step { IsMade (meaning.receive_buffer at (both table.old objects.old) caller id array limit) (both table.new objects.new) out.old out.new }
+    ensures step { IsMade (meaning.receive_buffer moment.at (both table.old objects.old) caller id array limit) (both table.new objects.new) out.old out.new }
     ensures grows { Grows 4 out.old out.new }
 {
     let service = Service::ReceiveBuffer;
@@ -248,7 +244,7 @@ pub fn receive_buffer(
     }
     let discipline = buffer.row.discipline;
     receive(
-        table, objects, at, caller, array, limit, place, discipline, out,
+        table, objects, moment, caller, array, limit, place, discipline, out,
     );
 }
 

@@ -6,7 +6,9 @@ ghost use Rattle.kernel_meaning.specs.EventServices as meaning;
 ghost use Rattle.kernel_meaning.specs.Made.{IsMade};
 ghost use Rattle.kernel_meaning.specs.Sharing.{both};
 
-use apex_types::{At, Discipline, ListKey, Mode, Out, ReturnCode, Runner, Service, Waiting, Words};
+use apex_types::{
+    Discipline, ListKey, Mode, Moment, Out, ReturnCode, Runner, Service, Waiting, Words,
+};
 use process_table_base::{ProcessTable, is_duration};
 use sync_objects_base::Objects;
 
@@ -115,15 +117,14 @@ pub fn reset_event(
 pub fn wait_event(
     table: &mut ProcessTable,
     objects: &Objects,
-    at: At,
+    moment: Moment,
     caller: Runner,
     id: i64,
     limit: i64,
     out: &mut Out,
 )
-    requires now { at.now.0 ≤ 2 ^ 40 }
     requires room { HasRoom 1 out.old }
-    ensures step { IsMade (meaning.wait_event at (both table.old objects.now) caller id limit) (both table.new objects.now) out.old out.new }
+    ensures step { IsMade (meaning.wait_event moment.at (both table.old objects.now) caller id limit) (both table.new objects.now) out.old out.new }
     ensures grows { Grows 1 out.old out.new }
 {
     let service = Service::WaitEvent;
@@ -142,7 +143,7 @@ pub fn wait_event(
         discipline: Discipline::Fifo,
         array: None,
     };
-    table.block(at, caller, limit, waiting, Words::new(), out);
+    table.block(moment, caller, limit, waiting, Words::new(), out);
 }
 
 /// 0 for down, 1 for up.

@@ -6,7 +6,7 @@ ghost use Rattle.kernel_meaning.specs.SemaphoreServices as meaning;
 ghost use Rattle.kernel_meaning.specs.Made.{IsMade};
 ghost use Rattle.kernel_meaning.specs.Sharing.{both};
 
-use apex_types::{At, ListKey, Mode, Out, ReturnCode, Runner, Service, Waiting, Words};
+use apex_types::{ListKey, Mode, Moment, Out, ReturnCode, Runner, Service, Waiting, Words};
 use process_table_base::{ProcessTable, is_duration};
 use sync_objects_base::Objects;
 
@@ -69,15 +69,14 @@ pub fn get_semaphore_id(
 pub fn wait_semaphore(
     table: &mut ProcessTable,
     objects: &mut Objects,
-    at: At,
+    moment: Moment,
     caller: Runner,
     id: i64,
     limit: i64,
     out: &mut Out,
 )
-    requires now { at.now.0 ≤ 2 ^ 40 }
     requires room { HasRoom 1 out.old }
-    ensures step { IsMade (meaning.wait_semaphore at (both table.old objects.old) caller id limit) (both table.new objects.new) out.old out.new }
+    ensures step { IsMade (meaning.wait_semaphore moment.at (both table.old objects.old) caller id limit) (both table.new objects.new) out.old out.new }
     ensures grows { Grows 1 out.old out.new }
 {
     let service = Service::WaitSemaphore;
@@ -98,7 +97,7 @@ pub fn wait_semaphore(
         discipline: semaphore.discipline(),
         array: None,
     };
-    table.block(at, caller, limit, waiting, Words::new(), out);
+    table.block(moment, caller, limit, waiting, Words::new(), out);
 }
 
 /// SIGNAL_SEMAPHORE (ARINC 653 Part 1, intrapartition communication): the first who waits for a

@@ -5,7 +5,7 @@ ghost use Rattle.window_table.specs.Edges.{until_edge};
 ghost use Rattle.kernel_meaning.specs.Windows.{is_within, ends_at, releases};
 ghost use Rattle.kernel_meaning.specs.WindowFacts.{BeginWithin};
 
-use apex_types::{At, PartitionId, Ticks, WindowRow};
+use apex_types::{Moment, PartitionId, Ticks, WindowRow};
 use std::alloc::{AllocError, Global};
 
 /// The ticks of the major frame, and its windows in the order of the table. The frame is above 0,
@@ -83,8 +83,9 @@ fn own_windows(
 }
 
 impl Schedule {
-    ghost use Rattle.std.specs.Prelude.{◌≡◌, ◌≤◌, ◌<◌, ◌+◌, ◌^◌, ℕ, None, option_map, IsTrue, IfOk};
-    ghost use Rattle.kernel_meaning.specs.Windows.{at_tick, schedule_of_partition, phase, owner, ended, has_release, until_start, until_one_of, next_release};
+    ghost use Rattle.std.specs.Prelude.{◌≡◌, ◌≤◌, ◌<◌, ◌+◌, ℕ, None, option_map, IsTrue, IfOk};
+    ghost use Rattle.apex_types.specs.declared.limits.TheConstants.{LATEST_RELEASE_POINT};
+    ghost use Rattle.kernel_meaning.specs.Windows.{at_tick, schedule_of_partition, owner, ended, has_release, until_start, until_one_of, next_release};
     ghost use Rattle.kernel_meaning.specs.WindowFacts.{IsNextRelease};
     ghost use Rattle.window_table.specs.Schedules.{schedule_of};
     ghost use Rattle.window_table.specs.Edges.{until_edges};
@@ -114,23 +115,21 @@ impl Schedule {
         })
     }
 
-    /// The place of a tick in its frame.
-    fn phase(&self, at: At) -> Ticks
-        requires past { at.origin.0 ≤ at.now.0 }
-        ensures place { result.0 ≡ phase (schedule_of self.now) at }
+    /// The place in its frame of the tick that comes so many ticks after the origin.
+    fn phase(&self, since: u64) -> Ticks
+        ensures place { result.0 ≡ since % self.now.frame }
         ensures within { result.0 < self.now.frame }
     {
-        Ticks((at.now.0 - at.origin.0) % u64::from(self.frame))
+        Ticks(since % u64::from(self.frame))
     }
 
     /// The partition whose window holds a tick, if any.
     #[tactic(auto, using(std::proofs::lemmas::List::drop_more))]
-    pub fn owner(&self, at: At) -> Option<PartitionId>
-        requires past { at.origin.0 ≤ at.now.0 }
-        requires tick_limit { at.now.0 ≤ 2 ^ 40 }
-        ensures { option_map (λ p. p.0) result ≡ owner (schedule_of self.now) at }
+    pub fn owner(&self, moment: Moment) -> Option<PartitionId>
+        ensures { option_map (λ p. p.0) result ≡ owner (schedule_of self.now) moment.at }
     {
-        let place = self.phase(at);
+        let at = moment.at;
+        let place = self.phase(at.now.0 - at.origin.0);
         for window in self.windows.as_slice() {
             if is_within(place, window) {
                 return Some(window.partition);
@@ -142,15 +141,14 @@ impl Schedule {
     /// The partition whose window ends at a tick, if any: the tick before it was its last. At the
     /// origin none ends.
     #[tactic(auto, using(std::proofs::lemmas::List::drop_more))]
-    pub fn ended(&self, at: At) -> Option<PartitionId>
-        requires past { at.origin.0 ≤ at.now.0 }
-        requires tick_limit { at.now.0 ≤ 2 ^ 40 }
-        ensures { option_map (λ p. p.0) result ≡ ended (schedule_of self.now) at }
+    pub fn ended(&self, moment: Moment) -> Option<PartitionId>
+        ensures { option_map (λ p. p.0) result ≡ ended (schedule_of self.now) moment.at }
     {
+        let at = moment.at;
         if at.now.0 <= at.origin.0 {
             return None;
         }
-        let place = self.phase(at);
+        let place = self.phase(at.now.0 - at.origin.0);
         for window in self.windows.as_slice() {
             if ends_at(self.frame, place, window) {
                 return Some(window.partition);
@@ -174,66 +172,55 @@ impl Schedule {
     }
 
     /// For how many ticks from this one on the owner stays and, behind this one, no window ends; at least one.
-    pub fn until_change(&self, at: At) -> u64
-        requires past { at.origin.0 ≤ at.now.0 }
+    pub fn until_change(&self, moment: Moment) -> u64
         ensures some { 0 < result }
-        ensures owner { (i : ℕ) → i < result → owner (schedule_of self.now) (at_tick at (at.now.0 + i)) ≡ owner (schedule_of self.now) at }
-        ensures ended { (i : ℕ) → 0 < i → i < result → ended (schedule_of self.now) (at_tick at (at.now.0 + i)) ≡ None }
+        ensures owner { (i : ℕ) → i < result → owner (schedule_of self.now) (at_tick moment.at (moment.at.now.0 + i)) ≡ owner (schedule_of self.now) moment.at }
+        ensures ended { (i : ℕ) → 0 < i → i < result → ended (schedule_of self.now) (at_tick moment.at (moment.at.now.0 + i)) ≡ None }
     {
-        self.until_next_edge(self.phase(at))
+        let at = moment.at;
+        self.until_next_edge(self.phase(at.now.0 - at.origin.0))
     }
 
     /// How many ticks after a tick, at least one and at most a frame, a window starts next.
-    fn until_start(&self, window: &WindowRow, at: At) -> Ticks
-        requires past { at.origin.0 ≤ at.now.0 }
-        requires tick_limit { at.now.0 ≤ 2 ^ 40 }
-        ensures { result.0 ≡ until_start (schedule_of self.now) window.now at }
+    fn until_start(&self, window: &WindowRow, moment: Moment) -> Ticks
+        ensures { result.0 ≡ until_start (schedule_of self.now) window.now moment.at }
     {
-        let next = At {
-            now: Ticks(at.now.0 + 1),
-            origin: at.origin,
-        };
-        let place = self.phase(next);
+        let at = moment.at;
+        let place = self.phase(at.now.0 + 1 - at.origin.0);
         let frame = u64::from(self.frame);
         Ticks(1 + (u64::from(window.offset) + frame - place.0) % frame)
     }
 
     /// How many ticks after a tick, at most a frame, a release window of a partition starts next.
     #[tactic(auto, using(std::proofs::lemmas::List::drop_more, crate::proofs::Periods::until_first))]
-    fn until_release(&self, partition: PartitionId, at: At) -> Ticks
-        requires past { at.origin.0 ≤ at.now.0 }
-        requires tick_limit { at.now.0 ≤ 2 ^ 40 }
-        ensures computed { result.0 ≡ until_one_of (schedule_of self.now) partition.0 at self.now.windows.items }
+    fn until_release(&self, partition: PartitionId, moment: Moment) -> Ticks
+        ensures computed { result.0 ≡ until_one_of (schedule_of self.now) partition.0 moment.at self.now.windows.items }
         ensures bound { result.0 ≤ self.now.frame }
     {
         let mut least = Ticks(u64::from(self.frame));
         for window in self.windows.as_slice() {
             if releases(partition, window) {
-                least = least.min(self.until_start(window, at));
+                least = least.min(self.until_start(window, moment));
             }
         }
         least
     }
 
     /// The tick of the next release; of a partition without a release window a frame later.
-    fn release_after(&self, partition: PartitionId, at: At) -> Ticks
-        requires past { at.origin.0 ≤ at.now.0 }
-        requires tick_limit { at.now.0 ≤ 2 ^ 40 }
-        ensures computed { result.0 ≡ next_release (schedule_of self.now) partition.0 at }
-        ensures soon { result.0 ≤ 2 ^ 41 }
+    fn release_after(&self, partition: PartitionId, moment: Moment) -> Ticks
+        ensures computed { result.0 ≡ next_release (schedule_of self.now) partition.0 moment.at }
+        ensures soon { result.0 ≤ LATEST_RELEASE_POINT }
     {
-        Ticks(at.now.0 + self.until_release(partition, at).0)
+        Ticks(moment.at.now.0 + self.until_release(partition, moment).0)
     }
 
     /// The least tick after this one at which a release window of a partition starts; of a partition
     /// without a release window a frame later.
-    pub fn next_release(&self, partition: PartitionId, at: At) -> Ticks
-        requires past { at.origin.0 ≤ at.now.0 }
-        requires tick_limit { at.now.0 ≤ 2 ^ 40 }
-        ensures computed { result.0 ≡ next_release (schedule_of self.now) partition.0 at }
-        ensures soon { result.0 ≤ 2 ^ 41 }
-        ensures least { IsTrue (has_release self.now.windows.items partition.0) → IsNextRelease (schedule_of self.now) partition.0 at result.0 }
+    pub fn next_release(&self, partition: PartitionId, moment: Moment) -> Ticks
+        ensures computed { result.0 ≡ next_release (schedule_of self.now) partition.0 moment.at }
+        ensures soon { result.0 ≤ LATEST_RELEASE_POINT }
+        ensures least { IsTrue (has_release self.now.windows.items partition.0) → IsNextRelease (schedule_of self.now) partition.0 moment.at result.0 }
     {
-        self.release_after(partition, at)
+        self.release_after(partition, moment)
     }
 }

@@ -5,6 +5,6 @@ use Rattle.partition.proofs.acting.tell.Given as goal
 -- what happened so far is told
 abbrev pub invariant-loop-kind : goal.invariant-loop-kind
 invariant-loop-kind g l = record {
-  told : g.L.EventLog.held l.log ≡ g.L.EventLog.held l.fn.log ++ g.L.EventLog.pieces (told l.fn.name l.at (take l.kind-index l.fn.lines.items));
+  told : g.L.EventLog.held l.log ≡ g.L.EventLog.held l.fn.log ++ g.L.EventLog.pieces (told l.fn.name l.moment.at (take l.kind-index l.fn.lines.items));
   room : g.L.EventLog.room l.fn.log ≤ g.L.EventLog.room l.log + l.kind-index;
 }

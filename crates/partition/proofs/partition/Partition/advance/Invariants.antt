@@ -12,7 +12,7 @@ invariant-loop-left g l =
     let y = member_of g.E.Executor l.self l.mem in
     record {
       same : y ≡ with_world x y.world;
-      told : TellsSome g.L.EventLog l.fn.log l.log (λ told. SoFar x.engine l.at.origin.0 l.k (l.k - l.left) x.world l.at.now.0 y.world told);
+      told : TellsSome g.L.EventLog l.fn.log l.log (λ told. SoFar x.engine l.moment.at.origin.0 l.k (l.k - l.left) x.world l.moment.at.now.0 y.world told);
       within : l.left ≤ l.k;
       fits : g.E.Executor.laid l.mem ≡ g.E.Executor.layout l.self.executor;
       idle : IsEmpty l.self.out;

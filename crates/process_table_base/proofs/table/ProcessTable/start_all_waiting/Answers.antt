@@ -7,9 +7,9 @@ loop-left-preserved c =
     let there = c.loop-left-test.true in
     let made = c.start_waiting.ensures.step in
     record {
-      part = start_part c.args.points.at c.args.points.next.0 _ _ _ _ there made.0 ∙ c.loop-left.invariant.part;
-      lines = start_lines c.args.points.at c.args.points.next.0 _ _ _ _ _ _ _ there made.0 made.1 c.loop-left.invariant.lines;
-      actions = start_actions c.args.points.at c.args.points.next.0 _ _ _ _ _ _ _ there made.0 made.2 c.loop-left.invariant.actions;
+      part = start_part c.args.points.moment.at c.args.points.next.0 _ _ _ _ there made.0 ∙ c.loop-left.invariant.part;
+      lines = start_lines c.args.points.moment.at c.args.points.next.0 _ _ _ _ _ _ _ there made.0 made.1 c.loop-left.invariant.lines;
+      actions = start_actions c.args.points.moment.at c.args.points.next.0 _ _ _ _ _ _ _ there made.0 made.2 c.loop-left.invariant.actions;
       count = omega arith;
       lines_room = omega arith;
       actions_room = omega arith;

@@ -15,8 +15,8 @@ returns-then-is_some-clause-treated c =
     let most = inv.is_left.within p first.set in
     let n = inv.place + inv.count - p in
     let there : 0 < n = omega (arith, most) in
-    let skipped = first_left c.args.at c.args.action c.loop-process.left inv.place inv.count c.loop-process.free p c.in-Some.rest c.loop-process.self inv.is_left first in
-    let e = skipped ∙ due_ends c.args.at c.args.action n p c.loop-process.free c.loop-process.self c.treat-treated.result.clears there made.2 (sym c.is_some.ensures ∙ c.if-is_some.true) in (
+    let skipped = first_left c.args.moment.at c.args.action c.loop-process.left inv.place inv.count c.loop-process.free p c.in-Some.rest c.loop-process.self inv.is_left first in
+    let e = skipped ∙ due_ends c.args.moment.at c.args.action n p c.loop-process.free c.loop-process.self c.treat-treated.result.clears there made.2 (sym c.is_some.ensures ∙ c.if-is_some.true) in (
       (
         made.0.0 ∙ sym (ap (λ (t : Treated). t.step.part) e) ∙ inv.part,
         made.0.1 ∙ sym (ap (λ (t : Treated). c.loop-process.out.lines.items ++ t.step.lines) e) ∙ inv.lines,
@@ -36,15 +36,15 @@ loop-process-preserved c =
     let most = inv.is_left.within p first.set in
     let n = inv.place + inv.count - p in
     let there : 0 < n = omega (arith, most) in
-    let from = first_is_left c.args.at c.args.action c.loop-process.left inv.place inv.count c.loop-process.free p c.in-Some.rest s inv.is_left first in
-    let skipped = first_left c.args.at c.args.action c.loop-process.left inv.place inv.count c.loop-process.free p c.in-Some.rest s inv.is_left first in
-    let e = skipped ∙ due_rest c.args.at c.args.action n p c.loop-process.free s c.treat-treated.result.clears c.treat-treated.new.self c.treat-treated.result.free there made.2 (sym c.is_some.ensures ∙ c.if-is_some.false) made.0.0 made.1 in
-    let left = next_left c.args.at c.args.action c.loop-process.left inv.place inv.count c.loop-process.free p c.in-Some.rest s inv.is_left first in
+    let from = first_is_left c.args.moment.at c.args.action c.loop-process.left inv.place inv.count c.loop-process.free p c.in-Some.rest s inv.is_left first in
+    let skipped = first_left c.args.moment.at c.args.action c.loop-process.left inv.place inv.count c.loop-process.free p c.in-Some.rest s inv.is_left first in
+    let e = skipped ∙ due_rest c.args.moment.at c.args.action n p c.loop-process.free s c.treat-treated.result.clears c.treat-treated.new.self c.treat-treated.result.free there made.2 (sym c.is_some.ensures ∙ c.if-is_some.false) made.0.0 made.1 in
+    let left = next_left c.args.moment.at c.args.action c.loop-process.left inv.place inv.count c.loop-process.free p c.in-Some.rest s inv.is_left first in
     let grown = c.treat-treated.ensures.grows in
     record {
       place = p + 1;
       count = n - 1;
-      is_left = subst (λ (t : Processes). IsLeft c.args.at.now.0 c.in-Some.rest t.rows (p + 1) (n - 1)) (sym made.0.0) left;
+      is_left = subst (λ (t : Processes). IsLeft c.args.moment.at.now.0 c.in-Some.rest t.rows (p + 1) (n - 1)) (sym made.0.0) left;
       few = omega (arith, most, inv.few);
       part = sym (ap (λ (t : Treated). t.step.part) e) ∙ inv.part;
       lines = goes_on _ _ _ _ _ made.0.1 (sym (ap (λ (t : Treated). c.loop-process.out.lines.items ++ t.step.lines) e) ∙ inv.lines);

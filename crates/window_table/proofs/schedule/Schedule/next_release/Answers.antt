@@ -7,4 +7,4 @@ use Rattle.window_table.proofs.schedule.Schedule.next_release.Goals as goal
 pub returns-clause-least : goal.returns-clause-least
 returns-clause-least c = λ there.
     let s = schedule_of c.args.self.now in
-    subst (IsNextRelease s c.args.partition.0 c.args.at) (sym c.release_after.ensures.computed) (is_next_release s c.args.partition.0 c.args.at c.args.self.now.frame_there c.requires.past c.args.self.now.begin_within there)
+    subst (IsNextRelease s c.args.partition.0 c.args.moment.at) (sym c.release_after.ensures.computed) (is_next_release s c.args.partition.0 c.args.moment.at c.args.self.now.frame_there c.args.moment.past c.args.self.now.begin_within there)

@@ -6,5 +6,5 @@ use Rattle.window_table.proofs.schedule.Schedule.until_release.Given as goal
 abbrev pub invariant-loop-window : goal.invariant-loop-window
 invariant-loop-window l = record {
   bound : l.least.0 ≤ l.self.frame;
-  left : until_one_of (schedule_of l.self) l.partition.0 l.at l.self.windows.items ≡ min l.least.0 (until_one_of (schedule_of l.self) l.partition.0 l.at (drop l.window-index l.self.windows.items));
+  left : until_one_of (schedule_of l.self) l.partition.0 l.moment.at l.self.windows.items ≡ min l.least.0 (until_one_of (schedule_of l.self) l.partition.0 l.moment.at (drop l.window-index l.self.windows.items));
 }
