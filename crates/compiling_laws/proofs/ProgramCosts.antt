@@ -1,5 +1,5 @@
 -- What the bodies of a program come to has 64 bits, where the program has a text.
-use Rattle.std.proofs.Common.{◌≡◌, ℕ, zero, suc, true, get_or, ◌+◌, ◌*◌, ◌≤◌, List, [], ◌∷◌, ◌++◌, length, map, Option, Some, None, Ok, refl, sym, subst, arith, length-append}
+use Rattle.std.proofs.Common.{◌≡◌, ℕ, zero, suc, true, get_or, ◌*◌, ◌≤◌, List, [], ◌∷◌, ◌++◌, length, map, Option, Some, None, Ok, refl, sym, subst, arith, length-append}
 use Rattle.std.specs.Prelude.{nat_le, filter_map, option_map}
 use Rattle.std.specs.List.{cons_option, sum, sum_by}
 use Rattle.std.proofs.lemmas.Bool.{and_parts, cond_both, leb-true}
@@ -21,7 +21,7 @@ use Rattle.apex_types.specs.ServiceShape.{arguments_of, cost_of_service}
 use Rattle.apex_types.specs.OperatorCosts.{cost_of_binary}
 use Rattle.compiling_laws.specs.Bounds.{IsBodyHeld, IsProcedureHeld, IsHandlerHeld, AreProcessesHeld, AreProceduresHeld, AreCostsHeld}
 use Rattle.pal_meaning.specs.Program.{costs_of_expr, costs_of_links, costs_of_exprs, costs_of_stmt, costs_of_block, costs_of_procedure, costs_of_body, size_of_procedure, size_of_body, size_of_handler, size_of_process, size_of}
-use Rattle.pal_meaning.specs.Grammar.{IsWritten, program_words}
+use Rattle.pal_meaning.specs.Grammar.{IsWritten}
 use Rattle.pal_meaning.specs.Grammar.{words_of}
 use Rattle.pal_meaning.specs.Resolve.{Entry, Scope, place_of, within, count_within, resolve_expr, resolve_arguments, resolve_stmt, resolve_block, resolve_body_block, scope_of, own_entries, resolve_body, resolve_stack_body, resolve_process, procedure_of, declared_entries, resolve}
 use Rattle.pal_meaning.specs.WellFormed.{verdict}
@@ -54,9 +54,12 @@ work_cheap : (ticks : Option ℕ) → within 1000000 ticks ≤ 1000000
 work_cheap None = omega arith
 work_cheap (Some t) = cond_both (nat_le t 1000000) t 0 (λ x. x ≤ 1000000) (λ e. leb-true t 1000000 e) (λ e. omega arith)
 
+abbrev in_order : Costs → List ℕ
+in_order costs = costs.literal ∷ costs.scalar ∷ costs.array ∷ costs.add ∷ costs.mul ∷ costs.div ∷ costs.logic ∷ costs.branch ∷ costs.jump ∷ costs.call ∷ costs.ret ∷ costs.create ∷ costs.message ∷ costs.service ∷ costs.end ∷ []
+
 module _ (costs : Costs) where
-  low : (i : ℕ) → get_or (costs.literal ∷ costs.scalar ∷ costs.array ∷ costs.add ∷ costs.mul ∷ costs.div ∷ costs.logic ∷ costs.branch ∷ costs.jump ∷ costs.call ∷ costs.ret ∷ costs.create ∷ costs.message ∷ costs.service ∷ costs.end ∷ []) i 0 ≤ 1000000
-  low i = low_at _ i costs.within
+  low : (i : ℕ) → get_or (in_order costs) i 0 ≤ 1000000
+  low i = low_at (in_order costs) i costs.within
 
   literal_low : costs.literal ≤ 1000000
   literal_low = low 0

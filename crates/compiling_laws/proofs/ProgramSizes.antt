@@ -1,6 +1,6 @@
 -- The constructs of a program are at most twice as many as the words that it is written with: an array
 -- that is handed to a service is one word and two constructs.
-use Rattle.std.proofs.Common.{◌≡◌, ℕ, zero, suc, ◌+◌, ◌*◌, ◌≤◌, ◌<◌, Bool, true, false, cond, List, [], ◌∷◌, ◌++◌, length, map, pos, Option, Some, None, ap, arith, length-append}
+use Rattle.std.proofs.Common.{◌≡◌, ℕ, zero, suc, ◌+◌, ◌*◌, ◌≤◌, ◌<◌, Bool, true, false, cond, List, [], ◌∷◌, ◌++◌, length, map, pos, Option, Some, None, ap, arith}
 use Rattle.std.specs.Prelude.{codes, filter_map, option_map}
 use Rattle.std.specs.List.{cons_option, sum_by}
 use Rattle.std.proofs.lemmas.List.{length-map}
@@ -12,10 +12,9 @@ use Rattle.pal_meaning.specs.Program as program
 use Rattle.pal_meaning.specs.Syntax as written
 use Rattle.apex_types.specs.ServiceShape.{arguments_of}
 use Rattle.pal_meaning.specs.Program.{size_of_expr, size_of_links, size_of_exprs, size_of_stmt, size_of_block, size_of_procedure, size_of_body, size_of_handler, size_of_process, size_of}
-use Rattle.pal_meaning.specs.Grammar.{integer_words, all_words, next_name, names_words, targets_words, sign_of, comma, expr_words, links_words, arguments_words, stmt_words, block_words, local_words, body_words, discipline_word, first_words, values_words, kind_words, declaration_words, stack_body_words, handler_words, process_words, program_words}
-use Rattle.pal_meaning.specs.Grammar.{operator_mark}
-use Rattle.pal_meaning.specs.Grammar.{Word, Name, Number, ServiceWord, Mark, behind_blanks, word_at, words_within, words_from, words_of}
-use Rattle.pal_meaning.specs.Resolve.{Entry, Scope, place_of, array_place_of, array_size_of, object_number_of, procedure_number_of, named, within, count_within, resolve_expr, resolve_links, resolve_exprs, resolve_argument, resolve_arguments, resolve_stmt, resolve_block, resolve_body_block, scope_of, own_entries, resolve_body, resolve_stack_body, resolve_process, procedure_of, declared_entries, resolve}
+use Rattle.pal_meaning.specs.Grammar.{integer_words, all_words, next_name, names_words, targets_words, comma, expr_words, links_words, arguments_words, stmt_words, block_words, local_words, body_words, kind_words, declaration_words, stack_body_words, handler_words, process_words, program_words}
+use Rattle.pal_meaning.specs.Grammar.{Word, Number, Mark, behind_blanks, word_at, words_within, words_from, words_of}
+use Rattle.pal_meaning.specs.Resolve.{Entry, Scope, place_of, array_place_of, array_size_of, named, count_within, resolve_expr, resolve_links, resolve_exprs, resolve_argument, resolve_arguments, resolve_stmt, resolve_block, resolve_body_block, scope_of, own_entries, resolve_body, resolve_stack_body, resolve_process, procedure_of, declared_entries, resolve}
 use Rattle.pal_laws.proofs.WordsOf.{blanks_shorter}
 
 -- ---- words before others
