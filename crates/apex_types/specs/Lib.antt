@@ -1,4 +1,5 @@
 pub mod CodeWords
+pub mod CostBounds
 pub mod Line
 pub mod Lines
 pub mod NameText
@@ -9,3 +10,4 @@ pub mod Runners
 pub mod ServiceCalls
 pub mod ServiceShape
 pub mod Sink
+pub mod WrittenCosts

@@ -3,7 +3,7 @@
 -- What a service takes, answers and costs follows from its row.
 use Rattle.std.specs.Prelude.{ℕ, ◌+◌, Bool, true, false, List, [], ◌∷◌, codes, if◌then◌else◌, ◌-◌, nat_eq, Option, None, slice_get}
 use Rattle.std.specs.List.{sum_by, list_any}
-use Rattle.apex_types.specs.declared.cost.TheConstants.{CREATION_COST, ARRAY_SERVICE_COST, SERVICE_COST}
+use Rattle.apex_types.specs.declared.cost.Costs.{Costs}
 use Rattle.apex_types.specs.declared.denotation.ObjectKind.TheVariants as object
 use Rattle.apex_types.specs.declared.shape.ArgumentKind.{ArgumentKind}
 use Rattle.apex_types.specs.declared.shape.ArgumentKind.TheVariants as argument
@@ -115,13 +115,13 @@ abbrev pub class_of : Service → ServiceClass
 class_of s = if (shape s).creates then Creation else if list_any is_array (arguments_of s) then WithArray else Other
 
 -- what a service of each class costs in ticks
-abbrev pub cost_of_class : ServiceClass → ℕ
-cost_of_class Creation = CREATION_COST
-cost_of_class WithArray = ARRAY_SERVICE_COST
-cost_of_class Other = SERVICE_COST
+abbrev pub cost_of_class : Costs → ServiceClass → ℕ
+cost_of_class costs Creation = costs.create
+cost_of_class costs WithArray = costs.message
+cost_of_class costs Other = costs.service
 
-abbrev pub cost_of_service : Service → ℕ
-cost_of_service s = cost_of_class (class_of s)
+abbrev pub cost_of_service : Costs → Service → ℕ
+cost_of_service costs s = cost_of_class costs (class_of s)
 
 -- The services in the order of their numbers, and the service of a number.
 

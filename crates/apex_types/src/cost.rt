@@ -1,53 +1,75 @@
 //! What each construct of a program, and each service, costs in ticks. The instruction that a construct
 //! becomes costs the same.
 
-/// A literal.
-pub const LITERAL_COST: u32 = 1;
+ghost use Rattle.std.specs.Prelude.{◌≡◌, ◌∷◌, [], true};
+ghost use Rattle.apex_types.specs.CostBounds.{are_costs};
 
-/// The read or the write of a scalar.
-pub const SCALAR_COST: u32 = 1;
-
-/// The read or the write of an array's element.
-pub const ELEMENT_COST: u32 = 2;
-
-/// An operator with one operand.
-pub const UNARY_COST: u32 = 1;
-
-/// An operator with two operands, other than those of the next two constants.
-pub const BINARY_COST: u32 = 1;
-
-/// A multiplication.
-pub const MULTIPLY_COST: u32 = 2;
-
-/// A division or a remainder.
-pub const DIVIDE_COST: u32 = 4;
-
-/// The branch after the test of an `if` or a `while`.
-pub const BRANCH_COST: u32 = 1;
-
-/// A jump: out of the first part of an `if` that has an `else`, or back to the test of a `while`.
-pub const JUMP_COST: u32 = 1;
-
-/// A call of a procedure.
-pub const CALL_COST: u32 = 3;
-
-/// A return from a procedure.
-pub const RETURN_COST: u32 = 2;
-
-/// The end of the body of INIT, of the error handler or of a process.
-pub const END_COST: u32 = 4;
-
-/// The read or the write of a word by region and place, which no construct becomes.
-pub const REGION_COST: u32 = 2;
+/// What the constructs of a program and the instructions of the processor cost, each at least one tick
+/// and at most [`MOST_COST`](crate::limits::MOST_COST).
+///
+/// `work n` costs n ticks, and what names no number of ticks or no service that there is costs
+/// [`UNKNOWN_COST`], whatever stands here.
+#[derive(Clone, Copy, Debug, PartialEq, Eq)]
+pub struct Costs {
+    /// A literal, and the name of an object or a process; of an array that is handed on, its place and its size.
+    pub literal: u32,
+    /// The read or the write of a scalar, and of each target of a service.
+    pub scalar: u32,
+    /// The read or the write of an array's element, and of a word by region and place, which no construct becomes.
+    pub array: u32,
+    /// A sum or a difference.
+    pub add: u32,
+    /// A product.
+    pub mul: u32,
+    /// A quotient or a remainder.
+    pub div: u32,
+    /// An operator with one operand, a comparison, `and` and `or`.
+    pub logic: u32,
+    /// The branch after the test of an `if` or a `while`.
+    pub branch: u32,
+    /// A jump: out of the first part of an `if` that has an `else`, or back to the test of a `while`.
+    pub jump: u32,
+    /// A call of a procedure.
+    pub call: u32,
+    /// A return from a procedure.
+    pub ret: u32,
+    /// A service that creates a process, an object or a port, or the error handler.
+    pub create: u32,
+    /// A service that creates nothing and one argument of which is an array.
+    pub message: u32,
+    /// Every other service.
+    pub service: u32,
+    /// The end of the body of INIT, of the error handler or of a process.
+    pub end: u32,
+    pub ghost within: { are_costs (literal ∷ scalar ∷ array ∷ add ∷ mul ∷ div ∷ logic ∷ branch ∷ jump ∷ call ∷ ret ∷ create ∷ message ∷ service ∷ end ∷ []) ≡ true },
+}
 
 /// An instruction that names no number of ticks or no service that there is.
 pub const UNKNOWN_COST: u32 = 1;
 
-/// A service that creates a process, an object or a port, or the error handler.
-pub const CREATION_COST: u32 = 8;
+impl Costs {
+    ghost use Rattle.apex_types.specs.WrittenCosts.{written_costs};
 
-/// A service that creates nothing and one argument of which is an array.
-pub const ARRAY_SERVICE_COST: u32 = 6;
-
-/// Every other service.
-pub const SERVICE_COST: u32 = 4;
+    /// The costs of every module.
+    pub fn written() -> Self
+        ensures { result ≡ written_costs }
+    {
+        Costs {
+            literal: 1,
+            scalar: 1,
+            array: 2,
+            add: 1,
+            mul: 2,
+            div: 4,
+            logic: 1,
+            branch: 1,
+            jump: 1,
+            call: 3,
+            ret: 2,
+            create: 8,
+            message: 6,
+            service: 4,
+            end: 4,
+        }
+    }
+}

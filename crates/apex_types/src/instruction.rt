@@ -2,7 +2,7 @@
 
 ghost use Rattle.std.specs.Prelude.{◌≡◌};
 
-use crate::cost::{BINARY_COST, DIVIDE_COST, MULTIPLY_COST};
+use crate::cost::Costs;
 
 /// An operator that takes two operands.
 #[derive(Clone, Copy, Debug, PartialEq, Eq)]
@@ -26,13 +26,14 @@ impl BinaryOperator {
     ghost use Rattle.apex_types.specs.OperatorCosts.{cost_of_binary};
 
     /// What this operator costs in ticks.
-    pub fn cost(self) -> u32
-        ensures { result ≡ cost_of_binary self }
+    pub fn cost(self, costs: &Costs) -> u32
+        ensures { result ≡ cost_of_binary costs.now self }
     {
         match self {
-            BinaryOperator::Multiply => MULTIPLY_COST,
-            BinaryOperator::Divide | BinaryOperator::Remainder => DIVIDE_COST,
-            _ => BINARY_COST,
+            BinaryOperator::Add | BinaryOperator::Subtract => costs.add,
+            BinaryOperator::Multiply => costs.mul,
+            BinaryOperator::Divide | BinaryOperator::Remainder => costs.div,
+            _ => costs.logic,
         }
     }
 }

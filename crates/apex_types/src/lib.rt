@@ -28,11 +28,7 @@ pub use codes::{
     Discipline, ErrorKind, ErrorLevel, Mode, ModuleAction, PartitionAction, ProcessState, Response,
     ReturnCode, StartCondition,
 };
-pub use cost::{
-    ARRAY_SERVICE_COST, BINARY_COST, BRANCH_COST, CALL_COST, CREATION_COST, DIVIDE_COST,
-    ELEMENT_COST, END_COST, JUMP_COST, LITERAL_COST, MULTIPLY_COST, REGION_COST, RETURN_COST,
-    SCALAR_COST, SERVICE_COST, UNARY_COST, UNKNOWN_COST,
-};
+pub use cost::{Costs, UNKNOWN_COST};
 pub use denotation::{Denotation, ObjectKind};
 pub use device::{DeviceFault, DeviceInput, DeviceLine};
 pub use event::{Event, EventKind, Events, Subject, Words, copied};
@@ -40,7 +36,7 @@ pub use identity::{
     At, ChannelIndex, ListKey, Moment, PartitionId, PortId, Priority, ProcessIndex, Runner, Ticks,
 };
 pub use instruction::{BinaryOperator, Instr, UnaryOperator};
-pub use limits::{MOST_ERRORS, MOST_OBJECTS, MOST_PROCESSES, MOST_RUNNERS, MOST_TICKS};
+pub use limits::{MOST_COST, MOST_ERRORS, MOST_OBJECTS, MOST_PROCESSES, MOST_RUNNERS, MOST_TICKS};
 pub use log::EventLog;
 pub use name::Name;
 pub use out::{Actions, Happenings, Out};

@@ -84,6 +84,9 @@ pub const MOST_DATA_WORDS: u32 = 65_536;
 /// The most ticks of a `work` statement.
 pub const MOST_WORK_TICKS: u32 = 1_000_000;
 
+/// The most ticks that a construct may cost; the least is 1.
+pub const MOST_COST: u32 = 1_000;
+
 /// The most bytes of a source.
 pub const MOST_SOURCE_BYTES: u32 = 1_048_576;
 

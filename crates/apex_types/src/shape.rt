@@ -2,7 +2,7 @@
 
 ghost use Rattle.std.specs.Prelude.{◌≡◌, ◌≤◌, length, true, false};
 
-use crate::cost::{ARRAY_SERVICE_COST, CREATION_COST, SERVICE_COST};
+use crate::cost::Costs;
 use crate::denotation::ObjectKind;
 use crate::service::Service;
 
@@ -20,13 +20,13 @@ impl ServiceClass {
     ghost use Rattle.apex_types.specs.ServiceShape.{cost_of_class};
 
     /// What a service of this class costs in ticks.
-    pub fn cost(self) -> u32
-        ensures { result ≡ cost_of_class self }
+    pub fn cost(self, costs: &Costs) -> u32
+        ensures { result ≡ cost_of_class costs.now self }
     {
         match self {
-            ServiceClass::Creation => CREATION_COST,
-            ServiceClass::WithArray => ARRAY_SERVICE_COST,
-            ServiceClass::Other => SERVICE_COST,
+            ServiceClass::Creation => costs.create,
+            ServiceClass::WithArray => costs.message,
+            ServiceClass::Other => costs.service,
         }
     }
 }
@@ -317,9 +317,9 @@ impl Service {
     }
 
     /// What this service costs in ticks.
-    pub fn cost(self) -> u32
-        ensures { result ≡ cost_of_service self }
+    pub fn cost(self, costs: &Costs) -> u32
+        ensures { result ≡ cost_of_service costs.now self }
     {
-        self.class().cost()
+        self.class().cost(costs)
     }
 }

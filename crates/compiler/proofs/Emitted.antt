@@ -4,7 +4,6 @@ use Rattle.apex_types.specs.declared.limits.TheConstants.{MOST_INSTRUCTIONS}
 use Rattle.apex_types.specs.declared.instruction.Instr.{Instr}
 use Rattle.apex_types.specs.declared.instruction.Instr.TheVariants.{Jump, JumpIfZero}
 use Rattle.pal_meaning.specs.Program.{Expr, Stmt, Block, If, IfElse, While, MoreStmts, NoStmt}
-use Rattle.compiling_laws.proofs.Counts.{more_stmts_size}
 use Rattle.pal_meaning.specs.Program.{size_of_expr, size_of_stmt, size_of_block, size_of_procedure, size_of_process}
 use Rattle.compiling_laws.specs.CompiledCode.{expr_code, stmt_code, block_code, body_code, procedure_code, processes_code, procedures_code, routine_row, routine_rows, process_row, process_rows}
 use Rattle.compiling_laws.proofs.Sizes.{stmt_size, block_size, body_size, procedure_size}
@@ -63,7 +62,7 @@ on_ok (Err e) f h = tt
 pub block_step : (c1 c2 x : List Instr) (slots : ℕ) (s : Stmt) (rest all : Block) → all ≡ MoreStmts s rest → c1 ++ block_code slots (length c1) all ≡ x → length c1 + size_of_block all ≤ MOST_INSTRUCTIONS → c2 ≡ c1 ++ stmt_code slots (length c1) s → (c2 ++ block_code slots (length c2) rest ≡ x) × (length c2 + size_of_block rest ≤ MOST_INSTRUCTIONS)
 block_step c1 c2 x slots s rest all e same fits written =
     let long : length c2 ≡ length c1 + size_of_stmt s = ap length written ∙ length-append c1 (stmt_code slots (length c1) s) ∙ ap (λ n. length c1 + n) (stmt_size s slots (length c1)) in
-    let whole : size_of_block all ≡ size_of_stmt s + size_of_block rest = ap size_of_block e ∙ more_stmts_size s rest in
+    let whole : size_of_block all ≡ size_of_stmt s + size_of_block rest = ap size_of_block e in
     let left : length c2 + size_of_block rest ≤ MOST_INSTRUCTIONS = omega arith in
     (ap (λ n. c2 ++ block_code slots n rest) long ∙ ap (λ c. c ++ block_code slots (length c1 + size_of_stmt s) rest) written ∙ append_assoc c1 (stmt_code slots (length c1) s) (block_code slots (length c1 + size_of_stmt s) rest) ∙ ap (λ b. c1 ++ block_code slots (length c1) b) (sym e) ∙ same, left)
 

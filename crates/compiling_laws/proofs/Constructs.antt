@@ -1,12 +1,12 @@
 -- What is to do unfolds into its simple constructs, each once; their costs are those that are counted.
 use Rattle.std.proofs.Common.{◌≡◌, pos, List, [], ◌∷◌, ◌++◌, map, refl, sym, ap, ◌∙◌, append_assoc}
 use Rattle.std.proofs.lemmas.List.{map-append}
+use Rattle.apex_types.specs.declared.cost.Costs.{Costs}
 use Rattle.apex_types.specs.declared.place.Place.{Place}
 use Rattle.pal_meaning.specs.Program.{Procedure, Body, Expr, Links, Exprs, Stmt, Block}
 use Rattle.pal_meaning.specs.Program.{Literal, Read, Element, Unary, Chain, Apply, NoLink, MoreLinks, NoExpr, MoreExprs}
 use Rattle.pal_meaning.specs.Program.{Assign, AssignElement, If, IfElse, While, Work, Return, CallService, NoStmt, MoreStmts}
 use Rattle.pal_meaning.specs.SourceControl.{Part, Evaluate, Execute, Do, Simple, Value, ReadElement, OperateOne, OperateTwo, Open, WriteScalar, WriteElement, Choose, ChooseElse, Repeat, ReturnValue, Ask, EndBody, Front, links_then, exprs_then, block_then, targets_then, front_of_expr, front_of_exprs, front_of_stmt, front_of, cost_of_simple, parts_of_body, parts_of_procedure}
-use Rattle.apex_types.specs.declared.cost.TheConstants.{SCALAR_COST}
 use Rattle.pal_meaning.specs.Program.{costs_of_expr, costs_of_links, costs_of_exprs, costs_of_stmt, costs_of_block, costs_of_procedure, costs_of_body}
 use Rattle.compiling_laws.specs.Constructs.{constructs_of_expr, constructs_of_links, constructs_of_exprs, constructs_of_stmt, constructs_of_block, with_held, constructs_of}
 
@@ -59,44 +59,45 @@ part_unfolds (Execute s) rest = sym (stmt_unfolds s rest)
 part_unfolds (Do c) rest = refl
 
 -- their costs
-mutual
-  expr_costs : (e : Expr) → costs_of_expr e ≡ map cost_of_simple (constructs_of_expr e)
-  expr_costs (Literal v) = refl
-  expr_costs (Read place) = refl
-  expr_costs (Element place size index) = simp (expr_costs index, map-append)
-  expr_costs (Unary operator e) = simp (expr_costs e, map-append)
-  expr_costs (Chain e ls) = simp (expr_costs e, links_costs ls, map-append)
-  expr_costs (Apply f es) = simp (exprs_costs es, map-append)
+module _ (costs : Costs) where
+  mutual
+    expr_costs : (e : Expr) → costs_of_expr costs e ≡ map (cost_of_simple costs) (constructs_of_expr e)
+    expr_costs (Literal v) = refl
+    expr_costs (Read place) = refl
+    expr_costs (Element place size index) = simp (expr_costs index, map-append)
+    expr_costs (Unary operator e) = simp (expr_costs e, map-append)
+    expr_costs (Chain e ls) = simp (expr_costs e, links_costs ls, map-append)
+    expr_costs (Apply f es) = simp (exprs_costs es, map-append)
 
-  links_costs : (ls : Links) → costs_of_links ls ≡ map cost_of_simple (constructs_of_links ls)
-  links_costs NoLink = refl
-  links_costs (MoreLinks operator e ls) = simp (expr_costs e, links_costs ls, map-append)
+    links_costs : (ls : Links) → costs_of_links costs ls ≡ map (cost_of_simple costs) (constructs_of_links ls)
+    links_costs NoLink = refl
+    links_costs (MoreLinks operator e ls) = simp (expr_costs e, links_costs ls, map-append)
 
-  exprs_costs : (es : Exprs) → costs_of_exprs es ≡ map cost_of_simple (constructs_of_exprs es)
-  exprs_costs NoExpr = refl
-  exprs_costs (MoreExprs e es) = simp (expr_costs e, exprs_costs es, map-append)
+    exprs_costs : (es : Exprs) → costs_of_exprs costs es ≡ map (cost_of_simple costs) (constructs_of_exprs es)
+    exprs_costs NoExpr = refl
+    exprs_costs (MoreExprs e es) = simp (expr_costs e, exprs_costs es, map-append)
 
-targets_costs : (ts : List Place) → map (λ _. SCALAR_COST) ts ≡ map cost_of_simple (map WriteScalar ts)
-targets_costs [] = refl
-targets_costs (t ∷ ts) = ap (λ xs. SCALAR_COST ∷ xs) (targets_costs ts)
+  targets_costs : (ts : List Place) → map (λ _. costs.scalar) ts ≡ map (cost_of_simple costs) (map WriteScalar ts)
+  targets_costs [] = refl
+  targets_costs (t ∷ ts) = ap (λ xs. costs.scalar ∷ xs) (targets_costs ts)
 
-mutual
-  stmt_costs : (s : Stmt) → costs_of_stmt s ≡ map cost_of_simple (constructs_of_stmt s)
-  stmt_costs (Assign place e) = simp (expr_costs e, map-append)
-  stmt_costs (AssignElement place size index e) = simp (expr_costs index, expr_costs e, map-append)
-  stmt_costs (If test block) = simp (expr_costs test, block_costs block, map-append)
-  stmt_costs (IfElse test block other) = simp (expr_costs test, block_costs block, block_costs other, map-append, append_assoc)
-  stmt_costs (While test block) = simp (expr_costs test, block_costs block, map-append, append_assoc)
-  stmt_costs (Work ticks) = refl
-  stmt_costs (Return e) = simp (expr_costs e, map-append)
-  stmt_costs (CallService service es ts) = simp (exprs_costs es, targets_costs ts, map-append)
+  mutual
+    stmt_costs : (s : Stmt) → costs_of_stmt costs s ≡ map (cost_of_simple costs) (constructs_of_stmt s)
+    stmt_costs (Assign place e) = simp (expr_costs e, map-append)
+    stmt_costs (AssignElement place size index e) = simp (expr_costs index, expr_costs e, map-append)
+    stmt_costs (If test block) = simp (expr_costs test, block_costs block, map-append)
+    stmt_costs (IfElse test block other) = simp (expr_costs test, block_costs block, block_costs other, map-append, append_assoc)
+    stmt_costs (While test block) = simp (expr_costs test, block_costs block, map-append, append_assoc)
+    stmt_costs (Work ticks) = refl
+    stmt_costs (Return e) = simp (expr_costs e, map-append)
+    stmt_costs (CallService service es ts) = simp (exprs_costs es, targets_costs ts, map-append)
 
-  block_costs : (b : Block) → costs_of_block b ≡ map cost_of_simple (constructs_of_block b)
-  block_costs NoStmt = refl
-  block_costs (MoreStmts s b) = simp (stmt_costs s, block_costs b, map-append)
+    block_costs : (b : Block) → costs_of_block costs b ≡ map (cost_of_simple costs) (constructs_of_block b)
+    block_costs NoStmt = refl
+    block_costs (MoreStmts s b) = simp (stmt_costs s, block_costs b, map-append)
 
-pub body_costs : (b : Body) → costs_of_body b ≡ map cost_of_simple (constructs_of (parts_of_body b))
-body_costs b = simp (block_constructs b.block (Do EndBody ∷ []), block_costs b.block, map-append)
+  pub body_costs : (b : Body) → costs_of_body costs b ≡ map (cost_of_simple costs) (constructs_of (parts_of_body b))
+  body_costs b = simp (block_constructs b.block (Do EndBody ∷ []), block_costs b.block, map-append)
 
-pub procedure_costs : (p : Procedure) → costs_of_procedure p ≡ map cost_of_simple (constructs_of (parts_of_procedure p))
-procedure_costs p = simp (block_constructs p.block (Do (Value (pos 0)) ∷ Do ReturnValue ∷ []), block_costs p.block, map-append)
+  pub procedure_costs : (p : Procedure) → costs_of_procedure costs p ≡ map (cost_of_simple costs) (constructs_of (parts_of_procedure p))
+  procedure_costs p = simp (block_constructs p.block (Do (Value (pos 0)) ∷ Do ReturnValue ∷ []), block_costs p.block, map-append)

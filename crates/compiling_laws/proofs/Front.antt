@@ -12,7 +12,6 @@ use Rattle.compiling_laws.specs.Fits.{count_of, FitsLinks, FitsExprs, ArePlacesW
 use Rattle.compiling_laws.specs.CompiledCode.{store, expr_code, links_code, exprs_code, stmt_code, block_code}
 use Rattle.pal_meaning.specs.SourceControl.{Part, Evaluate, Execute, Do, Simple, ReadElement, OperateOne, Open, WriteScalar, WriteElement, Choose, ChooseElse, Repeat, ReturnValue, Ask, Front, links_then, exprs_then, block_then, targets_then, front_of_expr, front_of_exprs, front_of_stmt, front_of}
 use Rattle.compiling_laws.specs.Related.{Code, HasAt, Limits, ExprAt, StmtAt, BlockAt, Goes}
-use Rattle.compiling_laws.proofs.Counts.{element_size, unary_size, chain_size, apply_size, more_links_size, more_exprs_size, assign_size, assign_element_size, if_size, if_else_size, while_size, call_service_size, more_stmts_size}
 use Rattle.compiling_laws.proofs.Sizes.{expr_size, exprs_size, stmt_size, block_size}
 use Rattle.compiling_laws.proofs.Placed.{has_front, has_back}
 
@@ -35,7 +34,7 @@ module _ (code : Code) (ps : List Procedure) (k : Limits) where
       let room_e : n + 1 + operands_of_expr e ≤ k.room = omega arith in
       let room_ls : n + operands_of_links ls ≤ k.room = omega arith in
       let two : 2 ≤ n + 1 + 1 = omega arith in
-      let at : pc + size_of_links (MoreLinks operator e ls) ≡ pc + size_of_expr e + 1 + size_of_links ls = omega (arith, more_links_size operator e ls) in
+      let at : pc + size_of_links (MoreLinks operator e ls) ≡ pc + size_of_expr e + 1 + size_of_links ls = omega arith in
       let less : n + 1 ≡ n + 1 + 1 - 1 = omega arith in
       let later = links_goes ls r (pc + size_of_expr e + 1) n back.1 fits.1 room_ls (moved r _ _ _ _ at refl g) in
       (record { has = has_front code pc (expr_code e) (instr.Binary operator ∷ links_code ls) has; fits = fits.0; room = room_e }, (back.0, two, moved (links_then ls r) (pc + size_of_expr e + 1) (pc + size_of_expr e + 1) _ _ refl less later))
@@ -49,7 +48,7 @@ module _ (code : Code) (ps : List Procedure) (k : Limits) where
       let back = has_back code pc (size_of_expr e) (expr_code e) (exprs_code es) (expr_size e) has in
       let room_e : n + operands_of_expr e ≤ k.room = omega arith in
       let room_es : n + 1 + operands_of_exprs es ≤ k.room = omega arith in
-      let at : pc + size_of_exprs (MoreExprs e es) ≡ pc + size_of_expr e + size_of_exprs es = omega (arith, more_exprs_size e es) in
+      let at : pc + size_of_exprs (MoreExprs e es) ≡ pc + size_of_expr e + size_of_exprs es = omega arith in
       let more : n + (count_of es + 1) ≡ n + 1 + count_of es = omega arith in
       (record { has = has_front code pc (expr_code e) (exprs_code es) has; fits = fits.0; room = room_e }, exprs_goes es r (pc + size_of_expr e) (n + 1) back fits.1 room_es (moved r _ _ _ _ at more g))
 
@@ -72,7 +71,7 @@ module _ (code : Code) (ps : List Procedure) (k : Limits) where
       let room = b.room in
       let room_s : n + operands_of_stmt s ≤ k.room = omega arith in
       let room_ss : n + operands_of_block ss ≤ k.room = omega arith in
-      let at : pc + size_of_block (MoreStmts s ss) ≡ pc + size_of_stmt s + size_of_block ss = omega (arith, more_stmts_size s ss) in
+      let at : pc + size_of_block (MoreStmts s ss) ≡ pc + size_of_stmt s + size_of_block ss = omega arith in
       (record { has = has_front code pc (stmt_code k.slots pc s) later b.has; fits = b.fits.0; room = room_s }, block_goes ss r (pc + size_of_stmt s) n (record { has = back; fits = b.fits.1; room = room_ss }) (moved r _ _ n n at refl g))
 
   mutual
@@ -89,20 +88,20 @@ module _ (code : Code) (ps : List Procedure) (k : Limits) where
         let i = instr.LoadElement place size ∷ [] in
         let back = has_back code pc (size_of_expr index) (expr_code index) i (expr_size index) h.has in
         let one : 1 ≤ n + 1 = omega arith in
-        let at : pc + size_of_expr (Element place size index) ≡ pc + size_of_expr index + 1 = omega (arith, element_size place size index) in
+        let at : pc + size_of_expr (Element place size index) ≡ pc + size_of_expr index + 1 = omega arith in
         front_expr index (Do (ReadElement place size) ∷ r) pc n (record { has = has_front code pc (expr_code index) i h.has; fits = h.fits; room = h.room }) (back.0, one, moved r _ _ (n + 1) (n + 1) at refl g)
     front_expr (Unary operator e) r pc n h g =
         let i = instr.Unary operator ∷ [] in
         let back = has_back code pc (size_of_expr e) (expr_code e) i (expr_size e) h.has in
         let one : 1 ≤ n + 1 = omega arith in
-        let at : pc + size_of_expr (Unary operator e) ≡ pc + size_of_expr e + 1 = omega (arith, unary_size operator e) in
+        let at : pc + size_of_expr (Unary operator e) ≡ pc + size_of_expr e + 1 = omega arith in
         front_expr e (Do (OperateOne operator) ∷ r) pc n (record { has = has_front code pc (expr_code e) i h.has; fits = h.fits; room = h.room }) (back.0, one, moved r _ _ (n + 1) (n + 1) at refl g)
     front_expr (Chain e ls) r pc n h g =
         let back = has_back code pc (size_of_expr e) (expr_code e) (links_code ls) (expr_size e) h.has in
         let room = h.room in
         let room_e : n + operands_of_expr e ≤ k.room = omega arith in
         let room_ls : n + operands_of_links ls ≤ k.room = omega arith in
-        let at : pc + size_of_expr (Chain e ls) ≡ pc + size_of_expr e + size_of_links ls = omega (arith, chain_size e ls) in
+        let at : pc + size_of_expr (Chain e ls) ≡ pc + size_of_expr e + size_of_links ls = omega arith in
         front_expr e (links_then ls r) pc n (record { has = has_front code pc (expr_code e) (links_code ls) h.has; fits = h.fits.0; room = room_e }) (links_goes ls r (pc + size_of_expr e) n back h.fits.1 room_ls (moved r _ _ (n + 1) (n + 1) at refl g))
     front_expr (Apply f es) r pc n h g =
         let i = instr.Call f ∷ [] in
@@ -114,7 +113,7 @@ module _ (code : Code) (ps : List Procedure) (k : Limits) where
         let room_es : n + operands_of_exprs es ≤ k.room = omega arith in
         let handed : p.parameters ≤ n + count_of es = omega arith in
         let new : n + count_of es - p.parameters < k.room = omega arith in
-        let at : pc + size_of_expr (Apply f es) ≡ pc + size_of_exprs es + 1 = omega (arith, apply_size f es) in
+        let at : pc + size_of_expr (Apply f es) ≡ pc + size_of_exprs es + 1 = omega arith in
         let left : n + 1 ≡ n + count_of es - p.parameters + 1 = omega arith in
         front_exprs es (Open f) r pc n (has_front code pc (exprs_code es) i h.has) h.fits.1 room_es (back.0, (p, called.1, handed, new, moved r _ _ _ _ at left g))
 
@@ -127,7 +126,7 @@ module _ (code : Code) (ps : List Procedure) (k : Limits) where
         let back = has_back code pc (size_of_expr e) (expr_code e) (exprs_code es) (expr_size e) has in
         let room_e : n + operands_of_expr e ≤ k.room = omega arith in
         let room_es : n + 1 + operands_of_exprs es ≤ k.room = omega arith in
-        let at : pc + size_of_exprs (MoreExprs e es) ≡ pc + size_of_expr e + size_of_exprs es = omega (arith, more_exprs_size e es) in
+        let at : pc + size_of_exprs (MoreExprs e es) ≡ pc + size_of_expr e + size_of_exprs es = omega arith in
         let more : n + (count_of es + 1) ≡ n + 1 + count_of es = omega arith in
         front_expr e (exprs_then es (Do c ∷ r)) pc n (record { has = has_front code pc (expr_code e) (exprs_code es) has; fits = fits.0; room = room_e }) (exprs_goes es (Do c ∷ r) (pc + size_of_expr e) (n + 1) back fits.1 room_es (moved (Do c ∷ r) _ _ _ _ at more g))
 
@@ -136,7 +135,7 @@ module _ (code : Code) (ps : List Procedure) (k : Limits) where
       let i = store place ∷ [] in
       let back = has_back code pc (size_of_expr e) (expr_code e) i (expr_size e) h.has in
       let one : 1 ≤ n + 1 = omega arith in
-      let at : pc + size_of_stmt (Assign place e) ≡ pc + size_of_expr e + 1 = omega (arith, assign_size place e) in
+      let at : pc + size_of_stmt (Assign place e) ≡ pc + size_of_expr e + 1 = omega arith in
       let less : n ≡ n + 1 - 1 = omega arith in
       front_expr e (Do (WriteScalar place) ∷ r) pc n (record { has = has_front code pc (expr_code e) i h.has; fits = h.fits.1; room = h.room }) (back.0, h.fits.0, one, moved r _ _ _ _ at less g)
   front_stmt (AssignElement place size index e) r pc n h g =
@@ -148,7 +147,7 @@ module _ (code : Code) (ps : List Procedure) (k : Limits) where
       let room_index : n + operands_of_expr index ≤ k.room = omega arith in
       let room_e : n + 1 + operands_of_expr e ≤ k.room = omega arith in
       let two : 2 ≤ n + 1 + 1 = omega arith in
-      let at : pc + size_of_stmt (AssignElement place size index e) ≡ pc + size_of_expr index + size_of_expr e + 1 = omega (arith, assign_element_size place size index e) in
+      let at : pc + size_of_stmt (AssignElement place size index e) ≡ pc + size_of_expr index + size_of_expr e + 1 = omega arith in
       let less : n ≡ n + 1 + 1 - 2 = omega arith in
       let here : pc + (size_of_expr index + size_of_expr e) ≡ pc + size_of_expr index + size_of_expr e = omega arith in
       let value : ExprAt code ps k (pc + size_of_expr index) (n + 1) e = record { has = has_back code pc (size_of_expr index) (expr_code index) (expr_code e) (expr_size index) there; fits = h.fits.1; room = room_e } in
@@ -162,7 +161,7 @@ module _ (code : Code) (ps : List Procedure) (k : Limits) where
       let room_test : n + operands_of_expr test ≤ k.room = omega arith in
       let room_block : n + 1 - 1 + operands_of_block block ≤ k.room = omega arith in
       let one : 1 ≤ n + 1 = omega arith in
-      let at : pc + size_of_stmt (If test block) ≡ inside + size_of_block block = omega (arith, if_size test block) in
+      let at : pc + size_of_stmt (If test block) ≡ inside + size_of_block block = omega arith in
       let less : n ≡ n + 1 - 1 = omega arith in
       front_expr test (Do (Choose block) ∷ r) pc n (record { has = has_front code pc (expr_code test) (i ∷ later) h.has; fits = h.fits.0; room = room_test }) (back.0, one, record { has = back.1; fits = h.fits.1; room = room_block }, moved r _ _ _ _ at less g)
   front_stmt (IfElse test block other) r pc n h g =
@@ -183,7 +182,7 @@ module _ (code : Code) (ps : List Procedure) (k : Limits) where
       let room_block : n + 1 - 1 + operands_of_block block ≤ k.room = omega arith in
       let room_other : n + 1 - 1 + operands_of_block other ≤ k.room = omega arith in
       let one : 1 ≤ n + 1 = omega arith in
-      let at : pc + size_of_stmt (IfElse test block other) ≡ after = omega (arith, if_else_size test block other) in
+      let at : pc + size_of_stmt (IfElse test block other) ≡ after = omega arith in
       let less : n ≡ n + 1 - 1 = omega arith in
       front_expr test (Do (ChooseElse block other) ∷ r) pc n (record { has = has_front code pc (expr_code test) (i ∷ first) there; fits = h.fits.0; room = room_test }) (back.0, one, record { has = back.1; fits = h.fits.1; room = room_block }, last.0, record { has = last.1; fits = h.fits.2; room = room_other }, moved r _ _ _ _ at less g)
   front_stmt (While test block) r pc n h g =
@@ -202,7 +201,7 @@ module _ (code : Code) (ps : List Procedure) (k : Limits) where
       let room_block : n + 1 - 1 + operands_of_block block ≤ k.room = omega arith in
       let room_again : n + 1 - 1 + operands_of_stmt (While test block) ≤ k.room = omega arith in
       let one : 1 ≤ n + 1 = omega arith in
-      let at : pc + size_of_stmt (While test block) ≡ last + 1 = omega (arith, while_size test block) in
+      let at : pc + size_of_stmt (While test block) ≡ last + 1 = omega arith in
       let less : n ≡ n + 1 - 1 = omega arith in
       let again : StmtAt code ps k pc (n + 1 - 1) (While test block) = record { has = h.has; fits = h.fits; room = room_again } in
       front_expr test (Do (Repeat test block) ∷ r) pc n (record { has = has_front code pc (expr_code test) (i ∷ first) there; fits = h.fits.0; room = room_test }) (back.0, one, record { has = back.1; fits = h.fits.1; room = room_block }, (pc, jump.0, again, at), moved r _ _ _ _ at less g)
@@ -221,7 +220,7 @@ module _ (code : Code) (ps : List Procedure) (k : Limits) where
       let room_es : n + operands_of_exprs es ≤ k.room = omega arith in
       let handed : argument_words service ≤ n + count_of es = omega arith in
       let room_answer : n + count_of es - argument_words service + answer_words service ≤ k.room = omega arith in
-      let at : pc + size_of_stmt (CallService service es ts) ≡ pc + size_of_exprs es + 1 + length ts = omega (arith, call_service_size service es ts) in
+      let at : pc + size_of_stmt (CallService service es ts) ≡ pc + size_of_exprs es + 1 + length ts = omega arith in
       let left : n + length ts ≡ n + count_of es - argument_words service + answer_words service = omega arith in
       let here = pc + size_of_exprs es + 1 in
       front_exprs es (Ask service) (targets_then ts r) pc n (has_front code pc (exprs_code es) i h.has) h.fits.0 room_es (back.0, handed, room_answer, moved (targets_then ts r) here here _ _ refl left (targets_goes ts r here n back.1 h.fits.3 (moved r _ _ n n at refl g)))

@@ -1,13 +1,14 @@
 -- What the bodies of a program come to has 64 bits, where the program has a text.
-use Rattle.std.proofs.Common.{◌≡◌, ℕ, ◌+◌, ◌*◌, ◌≤◌, List, [], ◌∷◌, ◌++◌, length, map, Option, Some, None, Ok, refl, sym, subst, arith, length-append}
+use Rattle.std.proofs.Common.{◌≡◌, ℕ, zero, suc, true, get_or, ◌*◌, ◌≤◌, List, [], ◌∷◌, ◌++◌, length, map, Option, Some, None, Ok, refl, sym, subst, arith, length-append}
 use Rattle.std.specs.Prelude.{nat_le, filter_map, option_map}
 use Rattle.std.specs.List.{cons_option, sum, sum_by}
-use Rattle.std.proofs.lemmas.Bool.{cond_both, leb-true}
+use Rattle.std.proofs.lemmas.Bool.{and_parts, cond_both, leb-true}
 use Rattle.std.proofs.lemmas.List.Sums.{sum_by-append, sum_by-cons}
-use Rattle.apex_types.specs.declared.limits.TheConstants.{MOST_LOCALS, MOST_PARAMETERS, MOST_WORK_TICKS}
-use Rattle.apex_types.specs.declared.cost.TheConstants.{SCALAR_COST, ELEMENT_COST, UNARY_COST, BRANCH_COST, JUMP_COST, CALL_COST, RETURN_COST, LITERAL_COST, END_COST}
+use Rattle.apex_types.specs.CostBounds.{are_costs, is_cost}
+use Rattle.apex_types.specs.declared.cost.Costs.{Costs}
+use Rattle.apex_types.specs.declared.limits.TheConstants.{MOST_COST, MOST_LOCALS, MOST_PARAMETERS, MOST_WORK_TICKS}
 use Rattle.apex_types.specs.declared.instruction.BinaryOperator.{BinaryOperator}
-use Rattle.apex_types.specs.declared.instruction.BinaryOperator.TheVariants.{Multiply, Divide, Remainder}
+use Rattle.apex_types.specs.declared.instruction.BinaryOperator.TheVariants.{Add, Subtract, Multiply, Divide, Remainder}
 use Rattle.apex_types.specs.declared.place.Place.{Place}
 use Rattle.apex_types.specs.declared.row.PortRow.{PortRow}
 use Rattle.apex_types.specs.declared.service.Service.{Service}
@@ -17,10 +18,10 @@ use Rattle.apex_types.specs.ServiceShape.{class_of, cost_of_class}
 use Rattle.pal_meaning.specs.Program as program
 use Rattle.pal_meaning.specs.Syntax as written
 use Rattle.apex_types.specs.ServiceShape.{arguments_of, cost_of_service}
-use Rattle.engine_meaning.specs.Operators.{cost_of_binary}
+use Rattle.apex_types.specs.OperatorCosts.{cost_of_binary}
 use Rattle.compiling_laws.specs.Bounds.{IsBodyHeld, IsProcedureHeld, IsHandlerHeld, AreProcessesHeld, AreProceduresHeld, AreCostsHeld}
 use Rattle.pal_meaning.specs.Program.{costs_of_expr, costs_of_links, costs_of_exprs, costs_of_stmt, costs_of_block, costs_of_procedure, costs_of_body, size_of_procedure, size_of_body, size_of_handler, size_of_process, size_of}
-use Rattle.pal_meaning.specs.Grammar.{IsWritten, program_words}
+use Rattle.pal_meaning.specs.Grammar.{IsWritten}
 use Rattle.pal_meaning.specs.Grammar.{words_of}
 use Rattle.pal_meaning.specs.Resolve.{Entry, Scope, place_of, within, count_within, resolve_expr, resolve_arguments, resolve_stmt, resolve_block, resolve_body_block, scope_of, own_entries, resolve_body, resolve_stack_body, resolve_process, procedure_of, declared_entries, resolve}
 use Rattle.pal_meaning.specs.WellFormed.{verdict}
@@ -43,141 +44,201 @@ both xs ys a b = omega (arith, sum_by-append (λ x. x) xs ys, length-append xs y
 none : AreCheap []
 none = omega arith
 
-binary_cheap : (operator : BinaryOperator) → cost_of_binary operator ≤ MOST_WORK_TICKS
-binary_cheap Multiply = omega arith
-binary_cheap Divide = omega arith
-binary_cheap Remainder = omega arith
-binary_cheap _ = omega arith
-
-class_cheap : (c : ServiceClass) → cost_of_class c ≤ MOST_WORK_TICKS
-class_cheap Creation = omega arith
-class_cheap WithArray = omega arith
-class_cheap Other = omega arith
-
-service_cheap : (s : Service) → cost_of_service s ≤ MOST_WORK_TICKS
-service_cheap s = class_cheap (class_of s)
+-- a written cost is at most a thousand ticks
+low_at : (ns : List ℕ) (i : ℕ) → are_costs ns ≡ true → get_or ns i 0 ≤ MOST_WORK_TICKS
+low_at [] i h = omega arith
+low_at (n ∷ ns) zero h = omega (arith, leb-true n MOST_COST (and_parts (nat_le 1 n) (nat_le n MOST_COST) (and_parts (is_cost n) (are_costs ns) h).0).1)
+low_at (n ∷ ns) (suc i) h = low_at ns i (and_parts (is_cost n) (are_costs ns) h).1
 
 work_cheap : (ticks : Option ℕ) → within MOST_WORK_TICKS ticks ≤ MOST_WORK_TICKS
 work_cheap None = omega arith
 work_cheap (Some t) = cond_both (nat_le t MOST_WORK_TICKS) t 0 (λ x. x ≤ MOST_WORK_TICKS) (λ e. leb-true t MOST_WORK_TICKS e) (λ e. omega arith)
 
-mutual
-  expr_cheap : (e : program.Expr) → AreCheap (costs_of_expr e)
-  expr_cheap (program.Literal value) = more LITERAL_COST [] (omega arith) none
-  expr_cheap (program.Read place) = more SCALAR_COST [] (omega arith) none
-  expr_cheap (program.Element place size index) = both (costs_of_expr index) (ELEMENT_COST ∷ []) (expr_cheap index) (more ELEMENT_COST [] (omega arith) none)
-  expr_cheap (program.Unary operator operand) = both (costs_of_expr operand) (UNARY_COST ∷ []) (expr_cheap operand) (more UNARY_COST [] (omega arith) none)
-  expr_cheap (program.Chain first rest) = both (costs_of_expr first) (costs_of_links rest) (expr_cheap first) (links_cheap rest)
-  expr_cheap (program.Apply procedure arguments) = both (costs_of_exprs arguments) (CALL_COST ∷ []) (exprs_cheap arguments) (more CALL_COST [] (omega arith) none)
+abbrev in_order : Costs → List ℕ
+in_order costs = costs.literal ∷ costs.scalar ∷ costs.array ∷ costs.add ∷ costs.mul ∷ costs.div ∷ costs.logic ∷ costs.branch ∷ costs.jump ∷ costs.call ∷ costs.ret ∷ costs.create ∷ costs.message ∷ costs.service ∷ costs.end ∷ []
 
-  links_cheap : (ls : program.Links) → AreCheap (costs_of_links ls)
-  links_cheap program.NoLink = none
-  links_cheap (program.MoreLinks operator operand rest) = both (costs_of_expr operand) (cost_of_binary operator ∷ costs_of_links rest) (expr_cheap operand) (more (cost_of_binary operator) (costs_of_links rest) (binary_cheap operator) (links_cheap rest))
+module _ (costs : Costs) where
+  low : (i : ℕ) → get_or (in_order costs) i 0 ≤ MOST_WORK_TICKS
+  low i = low_at (in_order costs) i costs.within
 
-  exprs_cheap : (es : program.Exprs) → AreCheap (costs_of_exprs es)
-  exprs_cheap program.NoExpr = none
-  exprs_cheap (program.MoreExprs first rest) = both (costs_of_expr first) (costs_of_exprs rest) (expr_cheap first) (exprs_cheap rest)
+  literal_low : costs.literal ≤ MOST_WORK_TICKS
+  literal_low = low 0
 
-targets_cheap : (places : List Place) → AreCheap (map (λ _. SCALAR_COST) places)
-targets_cheap [] = none
-targets_cheap (place ∷ places) = more SCALAR_COST (map (λ _. SCALAR_COST) places) (omega arith) (targets_cheap places)
+  scalar_low : costs.scalar ≤ MOST_WORK_TICKS
+  scalar_low = low 1
 
-module _ (scope : Scope) where
+  array_low : costs.array ≤ MOST_WORK_TICKS
+  array_low = low 2
+
+  add_low : costs.add ≤ MOST_WORK_TICKS
+  add_low = low 3
+
+  mul_low : costs.mul ≤ MOST_WORK_TICKS
+  mul_low = low 4
+
+  div_low : costs.div ≤ MOST_WORK_TICKS
+  div_low = low 5
+
+  logic_low : costs.logic ≤ MOST_WORK_TICKS
+  logic_low = low 6
+
+  branch_low : costs.branch ≤ MOST_WORK_TICKS
+  branch_low = low 7
+
+  jump_low : costs.jump ≤ MOST_WORK_TICKS
+  jump_low = low MOST_PARAMETERS
+
+  call_low : costs.call ≤ MOST_WORK_TICKS
+  call_low = low 9
+
+  ret_low : costs.ret ≤ MOST_WORK_TICKS
+  ret_low = low 10
+
+  create_low : costs.create ≤ MOST_WORK_TICKS
+  create_low = low 11
+
+  message_low : costs.message ≤ MOST_WORK_TICKS
+  message_low = low 12
+
+  service_low : costs.service ≤ MOST_WORK_TICKS
+  service_low = low 13
+
+  end_low : costs.end ≤ MOST_WORK_TICKS
+  end_low = low 14
+
+  binary_cheap : (operator : BinaryOperator) → cost_of_binary costs operator ≤ MOST_WORK_TICKS
+  binary_cheap Add = add_low
+  binary_cheap Subtract = add_low
+  binary_cheap Multiply = mul_low
+  binary_cheap Divide = div_low
+  binary_cheap Remainder = div_low
+  binary_cheap _ = logic_low
+
+  class_cheap : (c : ServiceClass) → cost_of_class costs c ≤ MOST_WORK_TICKS
+  class_cheap Creation = create_low
+  class_cheap WithArray = message_low
+  class_cheap Other = service_low
+
+  service_cheap : (s : Service) → cost_of_service costs s ≤ MOST_WORK_TICKS
+  service_cheap s = class_cheap (class_of s)
+
   mutual
-    stmt_cheap : (s : written.Stmt) → AreCheap (costs_of_stmt (resolve_stmt scope s))
-    stmt_cheap (written.Assign target value) =
-        let v = resolve_expr scope value in
-        both (costs_of_expr v) (SCALAR_COST ∷ []) (expr_cheap v) (more SCALAR_COST [] (omega arith) none)
-    stmt_cheap (written.AssignElement array index value) =
-        let i = resolve_expr scope index in
-        let v = resolve_expr scope value in
-        both (costs_of_expr i ++ costs_of_expr v) (ELEMENT_COST ∷ []) (both (costs_of_expr i) (costs_of_expr v) (expr_cheap i) (expr_cheap v)) (more ELEMENT_COST [] (omega arith) none)
-    stmt_cheap (written.If test block) =
-        let t = resolve_expr scope test in
-        let b = costs_of_block (resolve_block scope block) in
-        both (costs_of_expr t) (BRANCH_COST ∷ b) (expr_cheap t) (more BRANCH_COST b (omega arith) (block_cheap block))
-    stmt_cheap (written.IfElse test block other) =
-        let t = resolve_expr scope test in
-        let b = costs_of_block (resolve_block scope block) in
-        let o = costs_of_block (resolve_block scope other) in
-        both (costs_of_expr t ++ (BRANCH_COST ∷ b)) (JUMP_COST ∷ o) (both (costs_of_expr t) (BRANCH_COST ∷ b) (expr_cheap t) (more BRANCH_COST b (omega arith) (block_cheap block))) (more JUMP_COST o (omega arith) (block_cheap other))
-    stmt_cheap (written.While test block) =
-        let t = resolve_expr scope test in
-        let b = costs_of_block (resolve_block scope block) in
-        both (costs_of_expr t ++ (BRANCH_COST ∷ b)) (JUMP_COST ∷ []) (both (costs_of_expr t) (BRANCH_COST ∷ b) (expr_cheap t) (more BRANCH_COST b (omega arith) (block_cheap block))) (more JUMP_COST [] (omega arith) none)
-    stmt_cheap (written.Work ticks) = more (within MOST_WORK_TICKS ticks) [] (work_cheap ticks) none
-    stmt_cheap (written.Return value) =
-        let v = resolve_expr scope value in
-        both (costs_of_expr v) (RETURN_COST ∷ []) (expr_cheap v) (more RETURN_COST [] (omega arith) none)
-    stmt_cheap (written.CallService service arguments targets) =
-        let es = resolve_arguments scope (arguments_of service) arguments in
-        let places = map (λ x. place_of (scope x)) targets in
-        both (costs_of_exprs es) (cost_of_service service ∷ map (λ _. SCALAR_COST) places) (exprs_cheap es) (more (cost_of_service service) (map (λ _. SCALAR_COST) places) (service_cheap service) (targets_cheap places))
+    expr_cheap : (e : program.Expr) → AreCheap (costs_of_expr costs e)
+    expr_cheap (program.Literal value) = more costs.literal [] literal_low none
+    expr_cheap (program.Read place) = more costs.scalar [] scalar_low none
+    expr_cheap (program.Element place size index) = both (costs_of_expr costs index) (costs.array ∷ []) (expr_cheap index) (more costs.array [] array_low none)
+    expr_cheap (program.Unary operator operand) = both (costs_of_expr costs operand) (costs.logic ∷ []) (expr_cheap operand) (more costs.logic [] logic_low none)
+    expr_cheap (program.Chain first rest) = both (costs_of_expr costs first) (costs_of_links costs rest) (expr_cheap first) (links_cheap rest)
+    expr_cheap (program.Apply procedure arguments) = both (costs_of_exprs costs arguments) (costs.call ∷ []) (exprs_cheap arguments) (more costs.call [] call_low none)
 
-    block_cheap : (b : written.Block) → AreCheap (costs_of_block (resolve_block scope b))
-    block_cheap written.NoStmt = none
-    block_cheap (written.MoreStmts first rest) = both (costs_of_stmt (resolve_stmt scope first)) (costs_of_block (resolve_block scope rest)) (stmt_cheap first) (block_cheap rest)
+    links_cheap : (ls : program.Links) → AreCheap (costs_of_links costs ls)
+    links_cheap program.NoLink = none
+    links_cheap (program.MoreLinks operator operand rest) = both (costs_of_expr costs operand) (cost_of_binary costs operator ∷ costs_of_links costs rest) (expr_cheap operand) (more (cost_of_binary costs operator) (costs_of_links costs rest) (binary_cheap operator) (links_cheap rest))
 
--- ---- bodies of at most 2^21 constructs
+    exprs_cheap : (es : program.Exprs) → AreCheap (costs_of_exprs costs es)
+    exprs_cheap program.NoExpr = none
+    exprs_cheap (program.MoreExprs first rest) = both (costs_of_expr costs first) (costs_of_exprs costs rest) (expr_cheap first) (exprs_cheap rest)
 
-few_counted : (limit n : ℕ) → count_within limit n ≤ limit
-few_counted limit n = cond_both (nat_le n limit) n 0 (λ x. x ≤ limit) (λ e. leb-true n limit e) (λ e. omega arith)
+  targets_cheap : (places : List Place) → AreCheap (map (λ _. costs.scalar) places)
+  targets_cheap [] = none
+  targets_cheap (place ∷ places) = more costs.scalar (map (λ _. costs.scalar) places) scalar_low (targets_cheap places)
 
-module _ (declared : List Entry) where
-  body_held : (stack : Option ℕ) (b : written.Body) → size_of_body (resolve_body declared stack b) ≤ 2097152 → IsBodyHeld (resolve_body declared stack b)
-  body_held stack b few =
-      let made = resolve_body declared stack b in
-      let costs : AreCheap (costs_of_body made) = both (costs_of_block made.block) (END_COST ∷ []) (block_cheap (scope_of (own_entries 0 ([] ++ b.locals)) declared) b.block) (more END_COST [] (omega arith) none) in
-      (omega arith, omega arith, omega (arith, body_counts made, block_operands made.block, few_counted MOST_LOCALS (length b.locals)))
+  module _ (scope : Scope) where
+    mutual
+      stmt_cheap : (s : written.Stmt) → AreCheap (costs_of_stmt costs (resolve_stmt scope s))
+      stmt_cheap (written.Assign target value) =
+          let v = resolve_expr scope value in
+          both (costs_of_expr costs v) (costs.scalar ∷ []) (expr_cheap v) (more costs.scalar [] scalar_low none)
+      stmt_cheap (written.AssignElement array index value) =
+          let i = resolve_expr scope index in
+          let v = resolve_expr scope value in
+          both (costs_of_expr costs i ++ costs_of_expr costs v) (costs.array ∷ []) (both (costs_of_expr costs i) (costs_of_expr costs v) (expr_cheap i) (expr_cheap v)) (more costs.array [] array_low none)
+      stmt_cheap (written.If test block) =
+          let t = resolve_expr scope test in
+          let b = costs_of_block costs (resolve_block scope block) in
+          both (costs_of_expr costs t) (costs.branch ∷ b) (expr_cheap t) (more costs.branch b branch_low (block_cheap block))
+      stmt_cheap (written.IfElse test block other) =
+          let t = resolve_expr scope test in
+          let b = costs_of_block costs (resolve_block scope block) in
+          let o = costs_of_block costs (resolve_block scope other) in
+          both (costs_of_expr costs t ++ (costs.branch ∷ b)) (costs.jump ∷ o) (both (costs_of_expr costs t) (costs.branch ∷ b) (expr_cheap t) (more costs.branch b branch_low (block_cheap block))) (more costs.jump o jump_low (block_cheap other))
+      stmt_cheap (written.While test block) =
+          let t = resolve_expr scope test in
+          let b = costs_of_block costs (resolve_block scope block) in
+          both (costs_of_expr costs t ++ (costs.branch ∷ b)) (costs.jump ∷ []) (both (costs_of_expr costs t) (costs.branch ∷ b) (expr_cheap t) (more costs.branch b branch_low (block_cheap block))) (more costs.jump [] jump_low none)
+      stmt_cheap (written.Work ticks) = more (within MOST_WORK_TICKS ticks) [] (work_cheap ticks) none
+      stmt_cheap (written.Return value) =
+          let v = resolve_expr scope value in
+          both (costs_of_expr costs v) (costs.ret ∷ []) (expr_cheap v) (more costs.ret [] ret_low none)
+      stmt_cheap (written.CallService service arguments targets) =
+          let es = resolve_arguments scope (arguments_of service) arguments in
+          let places = map (λ x. place_of (scope x)) targets in
+          both (costs_of_exprs costs es) (cost_of_service costs service ∷ map (λ _. costs.scalar) places) (exprs_cheap es) (more (cost_of_service costs service) (map (λ _. costs.scalar) places) (service_cheap service) (targets_cheap places))
 
-  procedure_held : (parameters : List (List ℕ)) (b : written.Body) (p : program.Procedure)
-      → p ≡ record { parameters = count_within MOST_PARAMETERS (length parameters); locals = count_within MOST_LOCALS (length b.locals); block = resolve_body_block declared parameters b } → size_of_procedure p ≤ 2097152 → IsProcedureHeld p
-  procedure_held parameters b p is few =
-      let block : AreCheap (costs_of_block p.block) = subst (λ (q : program.Procedure). AreCheap (costs_of_block q.block)) (sym is) (block_cheap (scope_of (own_entries 0 (parameters ++ b.locals)) declared) b.block) in
-      let costs : AreCheap (costs_of_procedure p) = both (costs_of_block p.block) (LITERAL_COST ∷ RETURN_COST ∷ []) block (more LITERAL_COST (RETURN_COST ∷ []) (omega arith) (more RETURN_COST [] (omega arith) none)) in
-      let own : p.parameters ≤ MOST_PARAMETERS = subst (λ (q : program.Procedure). q.parameters ≤ MOST_PARAMETERS) (sym is) (few_counted MOST_PARAMETERS (length parameters)) in
-      let locals : p.locals ≤ MOST_LOCALS = subst (λ (q : program.Procedure). q.locals ≤ MOST_LOCALS) (sym is) (few_counted MOST_LOCALS (length b.locals)) in
-      (omega arith, omega arith, omega (arith, procedure_counts p, block_operands p.block))
+      block_cheap : (b : written.Block) → AreCheap (costs_of_block costs (resolve_block scope b))
+      block_cheap written.NoStmt = none
+      block_cheap (written.MoreStmts first rest) = both (costs_of_stmt costs (resolve_stmt scope first)) (costs_of_block costs (resolve_block scope rest)) (stmt_cheap first) (block_cheap rest)
 
-  handler_held : (h : Option written.StackBody) → size_of_handler (option_map (resolve_stack_body declared) h) ≤ 2097152 → IsHandlerHeld (option_map (resolve_stack_body declared) h)
-  handler_held None few = tt
-  handler_held (Some b) few = body_held b.stack b.body few
+  -- ---- bodies of at most 2^21 constructs
 
-  processes_held : (ps : List written.Process) → sum_by size_of_process (map (resolve_process declared) ps) ≤ 2097152 → AreProcessesHeld (map (resolve_process declared) ps)
-  processes_held [] few = tt
-  processes_held (p ∷ ps) few =
-      let all = sum_by-cons size_of_process (resolve_process declared p) (map (resolve_process declared) ps) in
-      (body_held p.stack p.body (omega arith), processes_held ps (omega arith))
+  few_counted : (limit n : ℕ) → count_within limit n ≤ limit
+  few_counted limit n = cond_both (nat_le n limit) n 0 (λ x. x ≤ limit) (λ e. leb-true n limit e) (λ e. omega arith)
 
-  kind_held : (k : written.Kind) (ps : List program.Procedure) → sum_by size_of_procedure (cons_option (procedure_of declared k) ps) ≤ 2097152 → (sum_by size_of_procedure ps ≤ 2097152 → AreProceduresHeld ps) → AreProceduresHeld (cons_option (procedure_of declared k) ps)
-  kind_held (written.Procedure parameters b) ps few others =
-      let made : program.Procedure = record { parameters = count_within MOST_PARAMETERS (length parameters); locals = count_within MOST_LOCALS (length b.locals); block = resolve_body_block declared parameters b } in
-      let all = sum_by-cons size_of_procedure made ps in
-      (procedure_held parameters b made refl (omega arith), others (omega arith))
-  kind_held (written.Variable value) ps few others = others few
-  kind_held (written.Array size values) ps few others = others few
-  kind_held (written.Semaphore first maximum d) ps few others = others few
-  kind_held written.Event ps few others = others few
-  kind_held (written.Buffer words messages d) ps few others = others few
-  kind_held (written.Blackboard words) ps few others = others few
-  kind_held written.Port ps few others = others few
+  module _ (declared : List Entry) where
+    body_held : (stack : Option ℕ) (b : written.Body) → size_of_body (resolve_body declared stack b) ≤ 2097152 → IsBodyHeld costs (resolve_body declared stack b)
+    body_held stack b few =
+        let made = resolve_body declared stack b in
+        let cheap : AreCheap (costs_of_body costs made) = both (costs_of_block costs made.block) (costs.end ∷ []) (block_cheap (scope_of (own_entries 0 ([] ++ b.locals)) declared) b.block) (more costs.end [] end_low none) in
+        (omega arith, omega (arith, body_counts costs made), omega (arith, block_operands made.block, few_counted MOST_LOCALS (length b.locals)))
 
-  procedures_held : (ds : List written.Declaration) → sum_by size_of_procedure (filter_map (λ (d : written.Declaration). procedure_of declared d.kind) ds) ≤ 2097152 → AreProceduresHeld (filter_map (λ (d : written.Declaration). procedure_of declared d.kind) ds)
-  procedures_held [] few = tt
-  procedures_held (d ∷ ds) few = kind_held d.kind (filter_map (λ (e : written.Declaration). procedure_of declared e.kind) ds) few (procedures_held ds)
+    procedure_held : (parameters : List (List ℕ)) (b : written.Body) (p : program.Procedure)
+        → p ≡ record { parameters = count_within MOST_PARAMETERS (length parameters); locals = count_within MOST_LOCALS (length b.locals); block = resolve_body_block declared parameters b } → size_of_procedure p ≤ 2097152 → IsProcedureHeld costs p
+    procedure_held parameters b p is few =
+        let block : AreCheap (costs_of_block costs p.block) = subst (λ (q : program.Procedure). AreCheap (costs_of_block costs q.block)) (sym is) (block_cheap (scope_of (own_entries 0 (parameters ++ b.locals)) declared) b.block) in
+        let cheap : AreCheap (costs_of_procedure costs p) = both (costs_of_block costs p.block) (costs.literal ∷ costs.ret ∷ []) block (more costs.literal (costs.ret ∷ []) literal_low (more costs.ret [] ret_low none)) in
+        let own : p.parameters ≤ MOST_PARAMETERS = subst (λ (q : program.Procedure). q.parameters ≤ MOST_PARAMETERS) (sym is) (few_counted MOST_PARAMETERS (length parameters)) in
+        let locals : p.locals ≤ MOST_LOCALS = subst (λ (q : program.Procedure). q.locals ≤ MOST_LOCALS) (sym is) (few_counted MOST_LOCALS (length b.locals)) in
+        (omega arith, omega (arith, procedure_counts costs p), omega (arith, block_operands p.block))
 
--- ---- the program
+    handler_held : (h : Option written.StackBody) → size_of_handler (option_map (resolve_stack_body declared) h) ≤ 2097152 → IsHandlerHeld costs (option_map (resolve_stack_body declared) h)
+    handler_held None few = tt
+    handler_held (Some b) few = body_held b.stack b.body few
 
-held : (ports : List PortRow) (p : written.Program) → size_of (resolve ports p) ≤ 2097152 → AreCostsHeld (resolve ports p)
-held ports p few =
-    let declared = declared_entries ports p in
-    (body_held declared p.init.stack p.init.body (omega arith), handler_held declared p.handler (omega arith), processes_held declared p.processes (omega arith), procedures_held declared p.declarations (omega arith))
+    processes_held : (ps : List written.Process) → sum_by size_of_process (map (resolve_process declared) ps) ≤ 2097152 → AreProcessesHeld costs (map (resolve_process declared) ps)
+    processes_held [] few = tt
+    processes_held (p ∷ ps) few =
+        let all = sum_by-cons size_of_process (resolve_process declared p) (map (resolve_process declared) ps) in
+        (body_held p.stack p.body (omega arith), processes_held ps (omega arith))
+
+    kind_held : (k : written.Kind) (ps : List program.Procedure) → sum_by size_of_procedure (cons_option (procedure_of declared k) ps) ≤ 2097152 → (sum_by size_of_procedure ps ≤ 2097152 → AreProceduresHeld costs ps) → AreProceduresHeld costs (cons_option (procedure_of declared k) ps)
+    kind_held (written.Procedure parameters b) ps few others =
+        let made : program.Procedure = record { parameters = count_within MOST_PARAMETERS (length parameters); locals = count_within MOST_LOCALS (length b.locals); block = resolve_body_block declared parameters b } in
+        let all = sum_by-cons size_of_procedure made ps in
+        (procedure_held parameters b made refl (omega arith), others (omega arith))
+    kind_held (written.Variable value) ps few others = others few
+    kind_held (written.Array size values) ps few others = others few
+    kind_held (written.Semaphore first maximum d) ps few others = others few
+    kind_held written.Event ps few others = others few
+    kind_held (written.Buffer words messages d) ps few others = others few
+    kind_held (written.Blackboard words) ps few others = others few
+    kind_held written.Port ps few others = others few
+
+    procedures_held : (ds : List written.Declaration) → sum_by size_of_procedure (filter_map (λ (d : written.Declaration). procedure_of declared d.kind) ds) ≤ 2097152 → AreProceduresHeld costs (filter_map (λ (d : written.Declaration). procedure_of declared d.kind) ds)
+    procedures_held [] few = tt
+    procedures_held (d ∷ ds) few = kind_held d.kind (filter_map (λ (e : written.Declaration). procedure_of declared e.kind) ds) few (procedures_held ds)
+
+  -- ---- the program
+
+  held : (ports : List PortRow) (p : written.Program) → size_of (resolve ports p) ≤ 2097152 → AreCostsHeld costs (resolve ports p)
+  held ports p few =
+      let declared = declared_entries ports p in
+      (body_held declared p.init.stack p.init.body (omega arith), handler_held declared p.handler (omega arith), processes_held declared p.processes (omega arith), procedures_held declared p.declarations (omega arith))
 
 -- The constructs of an accepted program are at most twice as many as the bytes of its text.
 pub accepted_size : (ports : List PortRow) (period : ℕ) (text : List ℕ) (p : written.Program) (r : program.Program) → IsWritten (words_of text) p → verdict ports period p ≡ Ok r → size_of r ≤ 2 * length text
 accepted_size ports period text p r written judged =
     subst (λ (q : program.Program). size_of q ≤ 2 * length text) (accepted ports period p r judged).is (text_few ports p text written.1)
 
-pub accepted_costs : (ports : List PortRow) (period : ℕ) (text : List ℕ) (p : written.Program) (r : program.Program) → IsWritten (words_of text) p → length text ≤ 1_048_576 → verdict ports period p ≡ Ok r → AreCostsHeld r
-accepted_costs ports period text p r written short judged =
-    subst AreCostsHeld (accepted ports period p r judged).is (held ports p (omega (arith, text_few ports p text written.1)))
+pub accepted_costs : (costs : Costs) (ports : List PortRow) (period : ℕ) (text : List ℕ) (p : written.Program) (r : program.Program) → IsWritten (words_of text) p → length text ≤ 1_048_576 → verdict ports period p ≡ Ok r → AreCostsHeld costs r
+accepted_costs costs ports period text p r written short judged =
+    subst (AreCostsHeld costs) (accepted ports period p r judged).is (held costs ports p (omega (arith, text_few ports p text written.1)))

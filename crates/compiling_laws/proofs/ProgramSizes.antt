@@ -1,6 +1,6 @@
 -- The constructs of a program are at most twice as many as the words that it is written with: an array
 -- that is handed to a service is one word and two constructs.
-use Rattle.std.proofs.Common.{◌≡◌, ℕ, zero, suc, ◌+◌, ◌*◌, ◌≤◌, ◌<◌, Bool, true, false, cond, List, [], ◌∷◌, ◌++◌, length, map, pos, Option, Some, None, ap, arith, length-append}
+use Rattle.std.proofs.Common.{◌≡◌, ℕ, zero, suc, ◌+◌, ◌*◌, ◌≤◌, ◌<◌, Bool, true, false, cond, List, [], ◌∷◌, ◌++◌, length, map, pos, Option, Some, None, ap, arith}
 use Rattle.std.specs.Prelude.{codes, filter_map, option_map}
 use Rattle.std.specs.List.{cons_option, sum_by}
 use Rattle.std.proofs.lemmas.List.{length-map}
@@ -13,11 +13,9 @@ use Rattle.pal_meaning.specs.Program as program
 use Rattle.pal_meaning.specs.Syntax as written
 use Rattle.apex_types.specs.ServiceShape.{arguments_of}
 use Rattle.pal_meaning.specs.Program.{size_of_expr, size_of_links, size_of_exprs, size_of_stmt, size_of_block, size_of_procedure, size_of_body, size_of_handler, size_of_process, size_of}
-use Rattle.pal_meaning.specs.Grammar.{integer_words, all_words, next_name, names_words, targets_words, sign_of, comma, expr_words, links_words, arguments_words, stmt_words, block_words, local_words, body_words, discipline_word, first_words, values_words, kind_words, declaration_words, stack_body_words, handler_words, process_words, program_words}
-use Rattle.pal_meaning.specs.Grammar.{operator_mark}
-use Rattle.pal_meaning.specs.Grammar.{Word, Name, Number, ServiceWord, Mark, behind_blanks, word_at, words_within, words_from, words_of}
-use Rattle.pal_meaning.specs.Resolve.{Entry, Scope, place_of, array_place_of, array_size_of, object_number_of, procedure_number_of, named, within, count_within, resolve_expr, resolve_links, resolve_exprs, resolve_argument, resolve_arguments, resolve_stmt, resolve_block, resolve_body_block, scope_of, own_entries, resolve_body, resolve_stack_body, resolve_process, procedure_of, declared_entries, resolve}
-use Rattle.compiling_laws.proofs.Counts.{element_size, unary_size, chain_size, apply_size, more_links_size, more_exprs_size, assign_size, assign_element_size, if_size, if_else_size, while_size, return_size, call_service_size, more_stmts_size, procedure_counts, body_counts}
+use Rattle.pal_meaning.specs.Grammar.{integer_words, all_words, next_name, names_words, targets_words, comma, expr_words, links_words, arguments_words, stmt_words, block_words, local_words, body_words, kind_words, declaration_words, stack_body_words, handler_words, process_words, program_words}
+use Rattle.pal_meaning.specs.Grammar.{Word, Number, Mark, behind_blanks, word_at, words_within, words_from, words_of}
+use Rattle.pal_meaning.specs.Resolve.{Entry, Scope, place_of, array_place_of, array_size_of, named, count_within, resolve_expr, resolve_links, resolve_exprs, resolve_argument, resolve_arguments, resolve_stmt, resolve_block, resolve_body_block, scope_of, own_entries, resolve_body, resolve_stack_body, resolve_process, procedure_of, declared_entries, resolve}
 use Rattle.pal_laws.proofs.WordsOf.{blanks_shorter}
 
 -- ---- words before others
@@ -56,21 +54,21 @@ module _ (scope : Scope) where
     expr_few : (e : written.Expr) (rest : List Word) → size_of_expr (resolve_expr scope e) + 2 * length rest ≤ 2 * length (expr_words e rest)
     expr_few (written.Number value) rest = omega arith
     expr_few (written.Name name) rest = omega arith
-    expr_few (written.Element array index) rest = omega (arith, element_size (array_place_of (scope array)) (array_size_of (scope array)) (resolve_expr scope index), expr_few index (Mark (codes "]") ∷ rest))
-    expr_few (written.Apply procedure arguments) rest = omega (arith, apply_size (procedure_number_of (scope procedure)) (resolve_exprs scope arguments), exprs_few arguments true (Mark (codes ")") ∷ rest))
+    expr_few (written.Element array index) rest = omega (arith, expr_few index (Mark (codes "]") ∷ rest))
+    expr_few (written.Apply procedure arguments) rest = omega (arith, exprs_few arguments true (Mark (codes ")") ∷ rest))
     expr_few (written.Parenthesis inside) rest = omega (arith, expr_few inside (Mark (codes ")") ∷ rest))
-    expr_few (written.Unary operator operand) rest = omega (arith, unary_size operator (resolve_expr scope operand), expr_few operand rest)
-    expr_few (written.Chain first links) rest = omega (arith, chain_size (resolve_expr scope first) (resolve_links scope links), expr_few first (links_words links rest), links_few links rest)
+    expr_few (written.Unary operator operand) rest = omega (arith, expr_few operand rest)
+    expr_few (written.Chain first links) rest = omega (arith, expr_few first (links_words links rest), links_few links rest)
 
     links_few : (ls : written.Links) (rest : List Word) → size_of_links (resolve_links scope ls) + 2 * length rest ≤ 2 * length (links_words ls rest)
     links_few written.NoLink rest = omega arith
-    links_few (written.MoreLinks operator operand links) rest = omega (arith, more_links_size operator (resolve_expr scope operand) (resolve_links scope links), expr_few operand (links_words links rest), links_few links rest)
+    links_few (written.MoreLinks operator operand links) rest = omega (arith, expr_few operand (links_words links rest), links_few links rest)
 
     exprs_few : (es : written.Exprs) (first : Bool) (rest : List Word) → size_of_exprs (resolve_exprs scope es) + 2 * length rest ≤ 2 * length (arguments_words es first rest)
     exprs_few written.NoExpr first rest = omega arith
     exprs_few (written.MoreExprs e es) first rest =
         let words = expr_words e (arguments_words es false rest) in
-        omega (arith, more_exprs_size (resolve_expr scope e) (resolve_exprs scope es), comma_long first words, expr_few e (arguments_words es false rest), exprs_few es false rest)
+        omega (arith, comma_long first words, expr_few e (arguments_words es false rest), exprs_few es false rest)
 
   -- each expression has a word
   expr_some : (e : written.Expr) (rest : List Word) → length rest < length (expr_words e rest)
@@ -83,12 +81,12 @@ module _ (scope : Scope) where
   expr_some (written.Chain first links) rest = omega (arith, expr_some first (links_words links rest), links_few links rest)
 
   argument_few : (k : ArgumentKind) (e : written.Expr) (es : program.Exprs) (words : List Word) → size_of_exprs (resolve_argument scope k e es) + 2 * length words ≤ size_of_exprs es + 2 * length (expr_words e words)
-  argument_few argument.Word e es words = omega (arith, more_exprs_size (resolve_expr scope e) es, expr_few e words)
+  argument_few argument.Word e es words = omega (arith, expr_few e words)
   argument_few argument.Array e es words =
       let place = program.Literal (pos (array_place_of (named scope e))) in
       let size = program.Literal (array_size_of (named scope e)) in
-      omega (arith, more_exprs_size place (program.MoreExprs size es), more_exprs_size size es, expr_some e words)
-  argument_few (argument.Object kind) e es words = omega (arith, more_exprs_size (program.Literal (pos (object_number_of (named scope e)))) es, expr_some e words)
+      omega (arith, expr_some e words)
+  argument_few (argument.Object kind) e es words = omega (arith, expr_some e words)
 
   arguments_few : (ks : List ArgumentKind) (es : written.Exprs) (first : Bool) (rest : List Word) → size_of_exprs (resolve_arguments scope ks es) + 2 * length rest ≤ 2 * length (arguments_words es first rest)
   arguments_few [] written.NoExpr first rest = omega arith
@@ -100,29 +98,29 @@ module _ (scope : Scope) where
 
   mutual
     stmt_few : (s : written.Stmt) (rest : List Word) → size_of_stmt (resolve_stmt scope s) + 2 * length rest ≤ 2 * length (stmt_words s rest)
-    stmt_few (written.Assign target value) rest = omega (arith, assign_size (place_of (scope target)) (resolve_expr scope value), expr_few value (Mark (codes ";") ∷ rest))
+    stmt_few (written.Assign target value) rest = omega (arith, expr_few value (Mark (codes ";") ∷ rest))
     stmt_few (written.AssignElement array index value) rest =
         let behind = Mark (codes "]") ∷ Mark (codes ":=") ∷ expr_words value (Mark (codes ";") ∷ rest) in
-        omega (arith, assign_element_size (array_place_of (scope array)) (array_size_of (scope array)) (resolve_expr scope index) (resolve_expr scope value), expr_few index behind, expr_few value (Mark (codes ";") ∷ rest))
+        omega (arith, expr_few index behind, expr_few value (Mark (codes ";") ∷ rest))
     stmt_few (written.If test block) rest =
         let inside = Mark (codes "{") ∷ block_words block (Mark (codes "}") ∷ rest) in
-        omega (arith, if_size (resolve_expr scope test) (resolve_block scope block), expr_few test inside, block_few block (Mark (codes "}") ∷ rest))
+        omega (arith, expr_few test inside, block_few block (Mark (codes "}") ∷ rest))
     stmt_few (written.IfElse test block other) rest =
         let behind = Mark (codes "}") ∷ Mark (codes "else") ∷ Mark (codes "{") ∷ block_words other (Mark (codes "}") ∷ rest) in
-        omega (arith, if_else_size (resolve_expr scope test) (resolve_block scope block) (resolve_block scope other), expr_few test (Mark (codes "{") ∷ block_words block behind), block_few block behind, block_few other (Mark (codes "}") ∷ rest))
+        omega (arith, expr_few test (Mark (codes "{") ∷ block_words block behind), block_few block behind, block_few other (Mark (codes "}") ∷ rest))
     stmt_few (written.While test block) rest =
         let inside = Mark (codes "{") ∷ block_words block (Mark (codes "}") ∷ rest) in
-        omega (arith, while_size (resolve_expr scope test) (resolve_block scope block), expr_few test inside, block_few block (Mark (codes "}") ∷ rest))
+        omega (arith, expr_few test inside, block_few block (Mark (codes "}") ∷ rest))
     stmt_few (written.Work ticks) rest = omega arith
-    stmt_few (written.Return value) rest = omega (arith, return_size (resolve_expr scope value), expr_few value (Mark (codes ";") ∷ rest))
+    stmt_few (written.Return value) rest = omega (arith, expr_few value (Mark (codes ";") ∷ rest))
     stmt_few (written.CallService service arguments targets) rest =
         let places = map (λ x. place_of (scope x)) targets in
         let behind = Mark (codes ")") ∷ targets_words targets (Mark (codes ";") ∷ rest) in
-        omega (arith, call_service_size service (resolve_arguments scope (arguments_of service) arguments) places, length-map targets (λ x. place_of (scope x)), arguments_few (arguments_of service) arguments true behind, targets_many targets (Mark (codes ";") ∷ rest))
+        omega (arith, length-map targets (λ x. place_of (scope x)), arguments_few (arguments_of service) arguments true behind, targets_many targets (Mark (codes ";") ∷ rest))
 
     block_few : (b : written.Block) (rest : List Word) → size_of_block (resolve_block scope b) + 2 * length rest ≤ 2 * length (block_words b rest)
     block_few written.NoStmt rest = omega arith
-    block_few (written.MoreStmts first block) rest = omega (arith, more_stmts_size (resolve_stmt scope first) (resolve_block scope block), stmt_few first (block_words block rest), block_few block rest)
+    block_few (written.MoreStmts first block) rest = omega (arith, stmt_few first (block_words block rest), block_few block rest)
 
 -- ---- bodies and declarations
 
@@ -137,7 +135,7 @@ module _ (declared : List Entry) where
       omega (arith, block_few (scope_of (own_entries 0 (parameters ++ b.locals)) declared) b.block closed, all_long local_words local_long b.locals (block_words b.block closed))
 
   body_few : (stack : Option ℕ) (b : written.Body) (rest : List Word) → size_of_body (resolve_body declared stack b) + 2 * length rest ≤ 2 * length (body_words b rest)
-  body_few stack b rest = omega (arith, body_counts (resolve_body declared stack b), inside_few [] b rest)
+  body_few stack b rest = omega (arith, inside_few [] b rest)
 
   stack_body_few : (mark : List ℕ) (b : written.StackBody) (rest : List Word) → size_of_body (resolve_stack_body declared b) + 2 * length rest ≤ 2 * length (stack_body_words mark b rest)
   stack_body_few mark b rest = omega (arith, body_few b.stack b.body rest)
@@ -167,7 +165,7 @@ module _ (declared : List Entry) where
   kind_few x written.Port ps rest = omega arith
   kind_few x (written.Procedure parameters b) ps rest =
       let made : program.Procedure = record { parameters = count_within MOST_PARAMETERS (length parameters); locals = count_within MOST_LOCALS (length b.locals); block = resolve_body_block declared parameters b } in
-      omega (arith, sum_by-cons size_of_procedure made ps, procedure_counts made, inside_few parameters b rest, names_long parameters (Mark (codes ")") ∷ body_words b rest))
+      omega (arith, sum_by-cons size_of_procedure made ps, inside_few parameters b rest, names_long parameters (Mark (codes ")") ∷ body_words b rest))
 
   declarations_few : (ds : List written.Declaration) (rest : List Word) → sum_by size_of_procedure (filter_map (λ (d : written.Declaration). procedure_of declared d.kind) ds) + 2 * length rest ≤ 2 * length (all_words declaration_words ds rest)
   declarations_few [] rest = omega arith

@@ -10,54 +10,53 @@ use Rattle.pal_meaning.specs.Program.{Assign, AssignElement, If, IfElse, While, 
 use Rattle.apex_types.specs.ServiceShape.{number_of}
 use Rattle.pal_meaning.specs.Program.{size_of_expr, size_of_links, size_of_exprs, size_of_stmt, size_of_block, size_of_procedure, size_of_body, size_of_handler, size_of_process, size_of}
 use Rattle.compiling_laws.specs.CompiledCode.{store, expr_code, links_code, exprs_code, stmt_code, block_code, procedure_code, body_code, handler_code, processes_code, procedures_code, slots_of, code_of, handler_place, processes_place, procedures_place}
-use Rattle.compiling_laws.proofs.Counts.{element_size, unary_size, chain_size, apply_size, more_links_size, more_exprs_size, assign_size, assign_element_size, if_size, if_else_size, while_size, return_size, call_service_size, more_stmts_size, procedure_counts, body_counts}
 
 mutual
   pub expr_size : (e : Expr) → length (expr_code e) ≡ size_of_expr e
   expr_size (Literal v) = refl
   expr_size (Read place) = refl
-  expr_size (Element place size index) = omega (arith, element_size place size index, length-append (expr_code index) (instr.LoadElement place size ∷ []), expr_size index)
-  expr_size (Unary operator operand) = omega (arith, unary_size operator operand, length-append (expr_code operand) (instr.Unary operator ∷ []), expr_size operand)
-  expr_size (Chain first rest) = omega (arith, chain_size first rest, length-append (expr_code first) (links_code rest), expr_size first, links_size rest)
-  expr_size (Apply procedure arguments) = omega (arith, apply_size procedure arguments, length-append (exprs_code arguments) (instr.Call procedure ∷ []), exprs_size arguments)
+  expr_size (Element place size index) = omega (arith, length-append (expr_code index) (instr.LoadElement place size ∷ []), expr_size index)
+  expr_size (Unary operator operand) = omega (arith, length-append (expr_code operand) (instr.Unary operator ∷ []), expr_size operand)
+  expr_size (Chain first rest) = omega (arith, length-append (expr_code first) (links_code rest), expr_size first, links_size rest)
+  expr_size (Apply procedure arguments) = omega (arith, length-append (exprs_code arguments) (instr.Call procedure ∷ []), exprs_size arguments)
 
   pub links_size : (ls : Links) → length (links_code ls) ≡ size_of_links ls
   links_size NoLink = refl
-  links_size (MoreLinks operator operand rest) = omega (arith, more_links_size operator operand rest, length-append (expr_code operand) (instr.Binary operator ∷ links_code rest), expr_size operand, links_size rest)
+  links_size (MoreLinks operator operand rest) = omega (arith, length-append (expr_code operand) (instr.Binary operator ∷ links_code rest), expr_size operand, links_size rest)
 
   pub exprs_size : (es : Exprs) → length (exprs_code es) ≡ size_of_exprs es
   exprs_size NoExpr = refl
-  exprs_size (MoreExprs first rest) = omega (arith, more_exprs_size first rest, length-append (expr_code first) (exprs_code rest), expr_size first, exprs_size rest)
+  exprs_size (MoreExprs first rest) = omega (arith, length-append (expr_code first) (exprs_code rest), expr_size first, exprs_size rest)
 
 mutual
   pub stmt_size : (s : Stmt) (k at : ℕ) → length (stmt_code k at s) ≡ size_of_stmt s
-  stmt_size (Assign place value) k at = omega (arith, assign_size place value, length-append (expr_code value) (store place ∷ []), expr_size value)
-  stmt_size (AssignElement place size index value) k at = omega (arith, assign_element_size place size index value, length-append (expr_code index ++ expr_code value) (instr.StoreElement place size ∷ []), length-append (expr_code index) (expr_code value), expr_size index, expr_size value)
+  stmt_size (Assign place value) k at = omega (arith, length-append (expr_code value) (store place ∷ []), expr_size value)
+  stmt_size (AssignElement place size index value) k at = omega (arith, length-append (expr_code index ++ expr_code value) (instr.StoreElement place size ∷ []), length-append (expr_code index) (expr_code value), expr_size index, expr_size value)
   stmt_size (If test block) k at =
       let inside = at + size_of_expr test + 1 in
-      omega (arith, if_size test block, length-append (expr_code test) (instr.JumpIfZero (inside + size_of_block block) ∷ block_code k inside block), expr_size test, block_size block k inside)
+      omega (arith, length-append (expr_code test) (instr.JumpIfZero (inside + size_of_block block) ∷ block_code k inside block), expr_size test, block_size block k inside)
   stmt_size (IfElse test block other) k at =
       let inside = at + size_of_expr test + 1 in
       let behind = inside + size_of_block block + 1 in
       let front = instr.JumpIfZero behind ∷ block_code k inside block in
-      omega (arith, if_else_size test block other, length-append (expr_code test ++ front) (instr.Jump (behind + size_of_block other) ∷ block_code k behind other), length-append (expr_code test) front, expr_size test, block_size block k inside, block_size other k behind)
+      omega (arith, length-append (expr_code test ++ front) (instr.Jump (behind + size_of_block other) ∷ block_code k behind other), length-append (expr_code test) front, expr_size test, block_size block k inside, block_size other k behind)
   stmt_size (While test block) k at =
       let inside = at + size_of_expr test + 1 in
       let front = instr.JumpIfZero (inside + size_of_block block + 1) ∷ block_code k inside block in
-      omega (arith, while_size test block, length-append (expr_code test ++ front) (instr.Jump at ∷ []), length-append (expr_code test) front, expr_size test, block_size block k inside)
+      omega (arith, length-append (expr_code test ++ front) (instr.Jump at ∷ []), length-append (expr_code test) front, expr_size test, block_size block k inside)
   stmt_size (Work ticks) k at = refl
-  stmt_size (Return value) k at = omega (arith, return_size value, length-append (expr_code value) (instr.Return k ∷ []), expr_size value)
-  stmt_size (CallService service arguments targets) k at = omega (arith, call_service_size service arguments targets, length-append (exprs_code arguments) (instr.Service (number_of service) ∷ map store targets), exprs_size arguments, length-map targets store)
+  stmt_size (Return value) k at = omega (arith, length-append (expr_code value) (instr.Return k ∷ []), expr_size value)
+  stmt_size (CallService service arguments targets) k at = omega (arith, length-append (exprs_code arguments) (instr.Service (number_of service) ∷ map store targets), exprs_size arguments, length-map targets store)
 
   pub block_size : (b : Block) (k at : ℕ) → length (block_code k at b) ≡ size_of_block b
   block_size NoStmt k at = refl
-  block_size (MoreStmts first rest) k at = omega (arith, more_stmts_size first rest, length-append (stmt_code k at first) (block_code k (at + size_of_stmt first) rest), stmt_size first k at, block_size rest k (at + size_of_stmt first))
+  block_size (MoreStmts first rest) k at = omega (arith, length-append (stmt_code k at first) (block_code k (at + size_of_stmt first) rest), stmt_size first k at, block_size rest k (at + size_of_stmt first))
 
 pub procedure_size : (p : Procedure) (at : ℕ) → length (procedure_code at p) ≡ size_of_procedure p
-procedure_size p at = omega (arith, procedure_counts p, length-append (block_code (slots_of p) at p.block) (instr.Push (pos 0) ∷ instr.Return (slots_of p) ∷ []), block_size p.block (slots_of p) at)
+procedure_size p at = omega (arith, length-append (block_code (slots_of p) at p.block) (instr.Push (pos 0) ∷ instr.Return (slots_of p) ∷ []), block_size p.block (slots_of p) at)
 
 pub body_size : (b : Body) (at : ℕ) → length (body_code at b) ≡ size_of_body b
-body_size b at = omega (arith, body_counts b, length-append (block_code b.locals at b.block) (instr.End ∷ []), block_size b.block b.locals at)
+body_size b at = omega (arith, length-append (block_code b.locals at b.block) (instr.End ∷ []), block_size b.block b.locals at)
 
 pub handler_size : (b : Option Body) (at : ℕ) → length (handler_code at b) ≡ size_of_handler b
 handler_size None at = refl

@@ -4,6 +4,7 @@ use Rattle.std.specs.Prelude.{slice_get, get_or}
 use Rattle.std.specs.Option.{option_map}
 use Rattle.std.proofs.lemmas.List.{length-map, length-replicate}
 use Rattle.apex_types.specs.declared.limits.TheConstants.{MOST_INSTRUCTIONS}
+use Rattle.apex_types.specs.declared.cost.Costs.{Costs}
 use Rattle.apex_types.specs.declared.instruction.Instr.TheVariants as instr
 use Rattle.apex_types.specs.declared.row.RoutineRow.{RoutineRow}
 use Rattle.apex_types.specs.declared.row.BodyRow.{BodyRow}
@@ -136,8 +137,8 @@ append_nothing : (xs : Code) → xs ++ [] ≡ xs
 append_nothing [] = refl
 append_nothing (x ∷ xs) = ap (λ l. x ∷ l) (append_nothing xs)
 
-pub correct_over : (program : Program) → Fits program → (code : Code) → code ≡ map Some (code_of program) → Simulates (Keeps code program.procedures) (source_engine program) (machine_engine code (section_of program).routines (body_row_at (section_of program)))
-correct_over program fits code e =
+pub correct_over : (program : Program) → Fits program → (code : Code) → code ≡ map Some (code_of program) → (costs : Costs) → Simulates (Keeps code program.procedures) (source_engine costs program) (machine_engine costs code (section_of program).routines (body_row_at (section_of program)))
+correct_over program fits code e costs =
     let whole : map Some (code_of program) ++ [] ≡ code = append_nothing (map Some (code_of program)) ∙ sym e in
     let has : HasAt code 0 (code_of program) = subst (λ d. HasAt d 0 (code_of program)) whole (has_list [] [] (code_of program)) in
     let all = parts code program has in
@@ -147,9 +148,9 @@ correct_over program fits code e =
     let placed : Placed code program (section_of program).routines = record { short = short; routine = procedures_placed code program.procedures program.procedures (procedures_place program) fits.procedures all.procedures } in
     record {
       start = starts_by code program fits all;
-      tick = λ c m words k. keeps_tick code program (section_of program).routines placed c m words k;
+      tick = λ c m words k. keeps_tick costs code program (section_of program).routines placed c m words k;
       reply = λ c m answer k. keeps_reply code program.procedures c m answer k;
     }
 
 pub compiled_correctly : (program : Program) → Fits program → CompiledCorrectly program
-compiled_correctly program fits = λ e. correct_over program fits (map reading (section_of program).code) e
+compiled_correctly program fits = λ e costs. correct_over program fits (map reading (section_of program).code) e costs

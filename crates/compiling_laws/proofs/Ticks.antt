@@ -7,6 +7,7 @@ use Rattle.std.proofs.lemmas.Option.{slice_get_within}
 use Rattle.apex_types.specs.declared.limits.TheConstants.{MOST_INSTRUCTIONS, MOST_WORK_TICKS}
 use Rattle.apex_types.specs.declared.codes.ErrorKind.{ErrorKind}
 use Rattle.apex_types.specs.declared.codes.ErrorKind.TheVariants as error
+use Rattle.apex_types.specs.declared.cost.Costs.{Costs}
 use Rattle.apex_types.specs.declared.instruction.Instr.{Instr}
 use Rattle.apex_types.specs.declared.instruction.Instr.TheVariants as instr
 use Rattle.apex_types.specs.declared.instruction.BinaryOperator.{BinaryOperator}
@@ -87,7 +88,7 @@ put_length : (s ws : List ℤ) (i : ℕ) → length (put_words s i ws) ≡ lengt
 put_length s [] i = refl
 put_length s (w ∷ ws) i = put_length (slice_set s i w) ws (i + 1) ∙ length-set s i w
 
-module _ (code : Code) (program : Program) (rs : List RoutineRow) (c : SourceControl) (m : MachineControl) (words : List ℤ) (k : Keeps code program.procedures c m) (idle : c.awaits ≡ 0) where
+module _ (costs : Costs) (code : Code) (program : Program) (rs : List RoutineRow) (c : SourceControl) (m : MachineControl) (words : List ℤ) (k : Keeps code program.procedures c m) (idle : c.awaits ≡ 0) where
   abbrev here : List ℤ
   here = base k.laid c.slots
 
@@ -655,21 +656,21 @@ module _ (code : Code) (program : Program) (rs : List RoutineRow) (c : SourceCon
   counts_or true x y h = counts_same
   counts_or false x y h = h
 
-  by_instr : (s : Simple) (rest : List Part) (i : Instr) → Fetches code m.pc i → cost_of i ≡ cost_of_simple s → Same code program (effect program s rest c c.values words) (executes rs i m words) → Same code program (tick_at program (front s rest) c words) (fetched rs (slice_get code m.pc) m words)
+  by_instr : (s : Simple) (rest : List Part) (i : Instr) → Fetches code m.pc i → cost_of costs i ≡ cost_of_simple costs s → Same code program (effect program s rest c c.values words) (executes rs i m words) → Same code program (tick_at costs program (front s rest) c words) (fetched costs rs (slice_get code m.pc) m words)
   by_instr s rest i fetch cost h =
-      by_machine code program _ _ (if nat_lt (c.spent + 1) (cost_of_simple s) then machine.counts m words else executes rs i m words)
-      (ap (λ o. fetched rs o m words) fetch ∙ ap (λ t. if nat_lt (m.spent + 1) t then machine.counts m words else executes rs i m words) cost ∙ ap (λ t. if nat_lt (t + 1) (cost_of_simple s) then machine.counts m words else executes rs i m words) (sym k.spent))
-      (counts_or (nat_lt (c.spent + 1) (cost_of_simple s)) _ _ h)
+      by_machine code program _ _ (if nat_lt (c.spent + 1) (cost_of_simple costs s) then machine.counts m words else executes rs i m words)
+      (ap (λ o. fetched costs rs o m words) fetch ∙ ap (λ t. if nat_lt (m.spent + 1) t then machine.counts m words else executes rs i m words) cost ∙ ap (λ t. if nat_lt (t + 1) (cost_of_simple costs s) then machine.counts m words else executes rs i m words) (sym k.spent))
+      (counts_or (nat_lt (c.spent + 1) (cost_of_simple costs s)) _ _ h)
 
-  load_cost : (place : Place) → cost_of (load place) ≡ 1
+  load_cost : (place : Place) → cost_of costs (load place) ≡ costs.scalar
   load_cost (Data x) = refl
   load_cost (Slot x) = refl
 
-  store_cost : (place : Place) → cost_of (store place) ≡ 1
+  store_cost : (place : Place) → cost_of costs (store place) ≡ costs.scalar
   store_cost (Data x) = refl
   store_cost (Slot x) = refl
 
-  does : Placed code program rs → (s : Simple) (rest : List Part) (n : ℕ) → n ≡ length c.values → Goes code program.procedures k.limits m.pc n (Do s ∷ rest) → Same code program (tick_at program (front s rest) c words) (fetched rs (slice_get code m.pc) m words)
+  does : Placed code program rs → (s : Simple) (rest : List Part) (n : ℕ) → n ≡ length c.values → Goes code program.procedures k.limits m.pc n (Do s ∷ rest) → Same code program (tick_at costs program (front s rest) c words) (fetched costs rs (slice_get code m.pc) m words)
   does placed (Value v) rest n en g = by_instr (Value v) rest (instr.Push v) g.0 refl (does_value v rest n c.values refl en g)
   does placed (ReadScalar place) rest n en g = by_instr (ReadScalar place) rest (load place) g.0 (load_cost place) (does_read place rest n c.values refl en g)
   does placed (ReadElement place size) rest n en g = by_instr (ReadElement place size) rest (instr.LoadElement place size) g.0 refl (does_element place size rest n c.values refl en g)
@@ -685,25 +686,25 @@ module _ (code : Code) (program : Program) (rs : List RoutineRow) (c : SourceCon
   does placed (GoBack test block) rest n en g = by_instr (GoBack test block) rest (instr.Jump g.0.0) g.0.1 refl (does_go_back test block rest n c.values refl en g)
   does placed (Spend ticks) rest n en g = by_instr (Spend ticks) rest (instr.Work (pos ticks)) g.0 (ap (λ b. if b then ticks else 1) (work_allowed ticks g.1)) (does_spend ticks rest n c.values refl en g)
   does placed ReturnValue rest n en g = by_instr ReturnValue rest (instr.Return k.limits.slots) g.0 refl (does_return rest n c.values refl en g)
-  does placed (Ask s) rest n en g = by_instr (Ask s) rest (instr.Service (number_of s)) g.0 (ap (λ o. Rattle.machine_meaning.specs.Instructions.cost_of_service_call o) (service_of_number s)) (does_ask s rest n c.values refl en g)
+  does placed (Ask s) rest n en g = by_instr (Ask s) rest (instr.Service (number_of s)) g.0 (ap (λ o. Rattle.machine_meaning.specs.Instructions.cost_of_service_call costs o) (service_of_number s)) (does_ask s rest n c.values refl en g)
   does placed EndBody rest n en g = by_instr EndBody rest instr.End g refl (stays_same Ends)
 
-  ticks : Placed code program rs → Same code program (tick_at program (front_of c.parts) c words) (fetched rs (slice_get code m.pc) m words)
+  ticks : Placed code program rs → Same code program (tick_at costs program (front_of c.parts) c words) (fetched costs rs (slice_get code m.pc) m words)
   ticks placed =
       let count : length c.values + c.awaits ≡ length c.values = omega arith in
       does placed (front_of c.parts).construct (front_of c.parts).rest (length c.values) refl (moved code program.procedures k.limits (unfolded (front_of c.parts)) m.pc m.pc (length c.values + c.awaits) (length c.values) refl count (front_goes code program.procedures k.limits c.parts m.pc (length c.values + c.awaits) k.goes))
 
-tick_by : (code : Code) (program : Program) (rs : List RoutineRow) → Placed code program rs → (c : SourceControl) (m : MachineControl) (words : List ℤ) → Keeps code program.procedures c m → (a : ℕ) → c.awaits ≡ a → Same code program (tick_awaiting program a c words) (machine_tick code rs m words)
-tick_by code program rs placed c m words k zero e =
+tick_by : (costs : Costs) (code : Code) (program : Program) (rs : List RoutineRow) → Placed code program rs → (c : SourceControl) (m : MachineControl) (words : List ℤ) → Keeps code program.procedures c m → (a : ℕ) → c.awaits ≡ a → Same code program (tick_awaiting costs program a c words) (machine_tick costs code rs m words)
+tick_by costs code program rs placed c m words k zero e =
     let none : m.awaits ≡ 0 = sym k.awaits ∙ e in
-    by_machine code program _ _ (fetched rs (slice_get code m.pc) m words) (ap (λ b. if b then fetched rs (slice_get code m.pc) m words else asks_only Nothing m words) (eq-eqb m.awaits 0 none)) (ticks code program rs c m words k e placed)
-tick_by code program rs placed c m words k (suc a) e =
+    by_machine code program _ _ (fetched costs rs (slice_get code m.pc) m words) (ap (λ b. if b then fetched costs rs (slice_get code m.pc) m words else asks_only Nothing m words) (eq-eqb m.awaits 0 none)) (ticks costs code program rs c m words k e placed)
+tick_by costs code program rs placed c m words k (suc a) e =
     let some : m.awaits ≡ suc a = sym k.awaits ∙ e in
     let more : m.awaits ≢ 0 = omega arith in
-    by_machine code program _ _ (asks_only Nothing m words) (ap (λ b. if b then fetched rs (slice_get code m.pc) m words else asks_only Nothing m words) (ne_eqb m.awaits 0 more)) (record { control = k; words = refl; asks = refl })
+    by_machine code program _ _ (asks_only Nothing m words) (ap (λ b. if b then fetched costs rs (slice_get code m.pc) m words else asks_only Nothing m words) (ne_eqb m.awaits 0 more)) (record { control = k; words = refl; asks = refl })
 
-pub keeps_tick : (code : Code) (program : Program) (rs : List RoutineRow) → Placed code program rs → (c : SourceControl) (m : MachineControl) (words : List ℤ) → Keeps code program.procedures c m → Same code program (source_tick program c words) (machine_tick code rs m words)
-keeps_tick code program rs placed c m words k = tick_by code program rs placed c m words k c.awaits refl
+pub keeps_tick : (costs : Costs) (code : Code) (program : Program) (rs : List RoutineRow) → Placed code program rs → (c : SourceControl) (m : MachineControl) (words : List ℤ) → Keeps code program.procedures c m → Same code program (source_tick costs program c words) (machine_tick costs code rs m words)
+keeps_tick costs code program rs placed c m words k = tick_by costs code program rs placed c m words k c.awaits refl
 
 -- an answer
 answered : (code : Code) (ps : List Procedure) (c : SourceControl) (m : MachineControl) (answer : List ℤ) → Keeps code ps c m → length answer ≡ c.awaits → Keeps code ps (record { parts = c.parts; values = answer ++ c.values; slots = c.slots; callers = c.callers; spent = c.spent; awaits = 0; stack = c.stack }) (record m { sp = m.sp + length answer; stack = pushed m.stack m.sp answer; awaits = 0 })

@@ -25,7 +25,6 @@ use Rattle.machine_meaning.specs.ImageLimits.{EachBeside, IsRoutine, IsBody, IsD
 use Rattle.compiling_laws.specs.Fits.{Fits, FitsBody, FitsHandler, FitsProcedure}
 use Rattle.pal_meaning.specs.Resolve.{no_counts, Entry, find, declaration_entries, process_entries, declared_entries, within, count_within, resolve_body, resolve_stack_body, resolve_process, procedure_of, resolve}
 use Rattle.pal_meaning.specs.WellFormed.{verdict, names_hold, limits_hold, periods_hold, are_new, is_between, keeps_period, keeps_stack_body, keeps_process, keeps_handler, keeps_counts, keeps_declaration, is_written_multiple}
-use Rattle.compiling_laws.proofs.Counts.{procedure_counts, body_counts}
 use Rattle.compiling_laws.proofs.Sizes.{code_size}
 use Rattle.compiling_laws.proofs.WellFormedFits.{accepted, keeps_within, well_formed_fits}
 use Rattle.compiling_laws.proofs.WellFormedObjects.{one_or_none, each_option, all_totals, objects_lawful, AreWords, initial_words}
@@ -76,7 +75,7 @@ routines_enter : (at total : ℕ) (ps : List program.Procedure) → at + sum_by 
 routines_enter at total [] room = refl
 routines_enter at total (p ∷ ps) room =
     let more = sum_by-cons size_of_procedure p ps in
-    and_from (nat_lt at total) _ (lt-ltb at total (omega (arith, procedure_counts p))) (routines_enter (at + size_of_procedure p) total ps (omega arith))
+    and_from (nat_lt at total) _ (lt-ltb at total (omega arith)) (routines_enter (at + size_of_procedure p) total ps (omega arith))
 
 routine_count : (at : ℕ) (ps : List program.Procedure) → length (routine_rows at ps) ≡ length ps
 routine_count at [] = refl
@@ -105,7 +104,7 @@ handler_is declared procedures at (Some b) fits keeps room = body_is declared pr
 
 handler_enters_within : (at total : ℕ) (h : Option program.Body) → at + size_of_handler h ≤ total → handler_enters total (option_map (body_row at) h) ≡ true
 handler_enters_within at total None room = refl
-handler_enters_within at total (Some b) room = lt-ltb at total (omega (arith, body_counts b))
+handler_enters_within at total (Some b) room = lt-ltb at total (omega arith)
 
 -- ---- processes
 
@@ -185,7 +184,7 @@ processes_enter : (at total : ℕ) (ps : List program.Process) → at + sum_by s
 processes_enter at total [] room = refl
 processes_enter at total (p ∷ ps) room =
     let more = sum_by-cons size_of_process p ps in
-    and_from (nat_lt at total) _ (lt-ltb at total (omega (arith, body_counts p.body))) (processes_enter (at + size_of_process p) total ps (omega arith))
+    and_from (nat_lt at total) _ (lt-ltb at total (omega arith)) (processes_enter (at + size_of_process p) total ps (omega arith))
 
 process_count : (at : ℕ) (ps : List program.Process) → length (process_rows at ps) ≡ length ps
 process_count at [] = refl
@@ -226,12 +225,12 @@ code_lawful : (r : program.Program) → size_of r ≤ MOST_INSTRUCTIONS → IsCo
 code_lawful r small =
     let total = length (section_of r).code in
     let size : total ≡ size_of r = length-map (code_of r) bytes_of ∙ code_size r in
-    let init : nat_lt 0 total ≡ true = lt-ltb 0 total (omega (arith, size, body_counts r.init)) in
+    let init : nat_lt 0 total ≡ true = lt-ltb 0 total (omega (arith, size)) in
     let handler = handler_enters_within (handler_place r) total r.handler (omega (arith, size)) in
     let processes = processes_enter (processes_place r) total r.processes (omega (arith, size)) in
     let routines = routines_enter (procedures_place r) total r.procedures (omega (arith, size)) in
     record {
-      count = record { least = omega (arith, size, body_counts r.init); most = omega (arith, size) };
+      count = record { least = omega (arith, size); most = omega (arith, size) };
       entries = and_from _ _ (and_from _ _ (and_from _ _ routines processes) init) handler;
       instructions = each_beside (λ bytes. length bytes ≡ 16) [] _ (sixteen_bytes (code_of r));
     }

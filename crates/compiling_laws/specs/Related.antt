@@ -4,6 +4,7 @@
 -- it holds while others change them.
 use Rattle.std.specs.Prelude.{◌≡◌, ℕ, ◌+◌, ◌-◌, ◌≤◌, ◌<◌, ℤ, pos, Bool, true, List, [], ◌∷◌, ◌++◌, Option, Some, map, length, slice_get}
 use Rattle.apex_types.specs.declared.limits.TheConstants.{MOST_INSTRUCTIONS}
+use Rattle.apex_types.specs.declared.cost.Costs.{Costs}
 use Rattle.apex_types.specs.declared.instruction.Instr.{Instr}
 use Rattle.apex_types.specs.declared.instruction.Instr.TheVariants as instr
 use Rattle.apex_types.specs.declared.identity.Runner.{Runner}
@@ -158,9 +159,9 @@ abbrev pub body_row_at : Section → Runner → BodyRow
 body_row_at s p = body_at s.init s.handler (map row_of_process s.processes) p
 
 -- Compilation is correct: where each instruction is what its bytes read as, the processor over the
--- section of a program that fits cannot be told apart from the program's source.
+-- section of a program that fits cannot be told apart from the program's source, whatever both cost.
 abbrev pub CompiledCorrectly : Program → Type 0
 CompiledCorrectly program =
     let section = section_of program in
     let code = map reading section.code in
-    code ≡ map Some (code_of program) → Simulates (Keeps code program.procedures) (source_engine program) (machine_engine code section.routines (body_row_at section))
+    code ≡ map Some (code_of program) → (costs : Costs) → Simulates (Keeps code program.procedures) (source_engine costs program) (machine_engine costs code section.routines (body_row_at section))

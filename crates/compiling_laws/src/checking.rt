@@ -2,6 +2,7 @@
 
 ghost use Rattle.std.specs.Prelude.{◌≡◌, ℕ, ◌*◌, ◌≤◌, List, length, Ok, All, FitsSigned};
 ghost use Rattle.std.specs.Int.{w64};
+ghost use Rattle.apex_types.specs.declared.cost.Costs.{Costs};
 ghost use Rattle.apex_types.specs.declared.row.PortRow.{PortRow};
 ghost use Rattle.pal_meaning.specs.Syntax as written;
 ghost use Rattle.pal_meaning.specs.Program as program;
@@ -20,10 +21,10 @@ pub fn accepted_program_fits()
 {}
 
 /// What is accepted has at most twice as many constructs as its text has bytes, and what its bodies come
-/// to, where that text may be a source, has 64 bits.
+/// to, where that text may be a source, has 64 bits, whatever constructs cost.
 pub fn accepted_program_is_short()
     ensures size { (ports : List PortRow) (period : ℕ) (text : List ℕ) (p : written.Program) (r : program.Program) → IsWritten (words_of text) p → verdict ports period p ≡ Ok r → size_of r ≤ 2 * length text }
-    ensures costs { (ports : List PortRow) (period : ℕ) (text : List ℕ) (p : written.Program) (r : program.Program) → IsWritten (words_of text) p → length text ≤ 1_048_576 → verdict ports period p ≡ Ok r → AreCostsHeld r }
+    ensures costs { (costs : Costs) (ports : List PortRow) (period : ℕ) (text : List ℕ) (p : written.Program) (r : program.Program) → IsWritten (words_of text) p → length text ≤ 1_048_576 → verdict ports period p ≡ Ok r → AreCostsHeld costs r }
 {}
 
 /// What is accepted and has words as its data becomes a section that an image may have, in a partition

@@ -8,6 +8,7 @@ use Rattle.apex_types.specs.declared.limits.TheConstants.{MOST_WORDS}
 use Rattle.apex_types.specs.declared.codes.ErrorKind.{ErrorKind}
 use Rattle.apex_types.specs.declared.codes.ErrorKind.TheVariants as error
 use Rattle.apex_types.specs.declared.identity.Runner.{Runner}
+use Rattle.apex_types.specs.declared.cost.Costs.{Costs}
 use Rattle.apex_types.specs.declared.instruction.Instr.{Instr}
 use Rattle.apex_types.specs.declared.instruction.Instr.TheVariants as instr
 use Rattle.apex_types.specs.declared.row.BodyRow.{BodyRow}
@@ -167,11 +168,11 @@ executes_safe rs instr.End m words = record { array = tt }
 executes_safe rs (instr.LoadRegion x) m words = either (nat_lt 2 x) _ _ (quiet m words error.IllegalRequest) (either (nat_lt (m.sp - m.fp) 1) _ _ (quiet m words error.IllegalRequest) (loads_safe x m words))
 executes_safe rs (instr.StoreRegion x) m words = either (nat_lt 2 x) _ _ (quiet m words error.IllegalRequest) (either (nat_lt (m.sp - m.fp) 2) _ _ (quiet m words error.IllegalRequest) (stores_safe x m words))
 
-fetched_safe : (rs : List RoutineRow) (o : Option (Option Instr)) → IsSafe (machine.fetched rs o)
-fetched_safe rs None m words = quiet m words error.MemoryViolation
-fetched_safe rs (Some None) m words = quiet m words error.IllegalRequest
-fetched_safe rs (Some (Some i)) m words = either (nat_lt (m.spent + 1) (cost_of i)) _ _ (done _ words) (executes_safe rs i m words)
+fetched_safe : (costs : Costs) (rs : List RoutineRow) (o : Option (Option Instr)) → IsSafe (machine.fetched costs rs o)
+fetched_safe costs rs None m words = quiet m words error.MemoryViolation
+fetched_safe costs rs (Some None) m words = quiet m words error.IllegalRequest
+fetched_safe costs rs (Some (Some i)) m words = either (nat_lt (m.spent + 1) (cost_of costs i)) _ _ (done _ words) (executes_safe rs i m words)
 
 -- The calls of the processor have their arrays within the data.
-pub machine_keeps_within : (instructions : List (Option Instr)) (rs : List RoutineRow) (bodies : Runner → BodyRow) → KeepsWithin (machine_engine instructions rs bodies)
-machine_keeps_within instructions rs bodies m words = either (nat_eq m.awaits 0) _ _ (fetched_safe rs (slice_get instructions m.pc) m words) (done m words)
+pub machine_keeps_within : (costs : Costs) (instructions : List (Option Instr)) (rs : List RoutineRow) (bodies : Runner → BodyRow) → KeepsWithin (machine_engine costs instructions rs bodies)
+machine_keeps_within costs instructions rs bodies m words = either (nat_eq m.awaits 0) _ _ (fetched_safe costs rs (slice_get instructions m.pc) m words) (done m words)

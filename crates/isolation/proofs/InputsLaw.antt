@@ -3,6 +3,7 @@ use Rattle.std.proofs.Common.{◌≡◌, sym, ℕ, zero, suc, ◌+◌, ◌^◌, 
 use Rattle.std.specs.Prelude.{slice_get, is_some, option_map}
 use Rattle.std.proofs.lemmas.Option.{slice_get-map}
 use Rattle.apex_types.specs.declared.limits.TheConstants.{MOST_DEVICE_LINES, MOST_TICKS, MOST_WORDS}
+use Rattle.apex_types.specs.WrittenCosts.{written_costs}
 use Rattle.apex_types.specs.declared.codes.StartCondition.TheVariants as condition
 use Rattle.apex_types.specs.declared.device.DeviceLine.{DeviceLine}
 use Rattle.apex_types.specs.declared.row.PortRow.{PortRow}
@@ -86,7 +87,7 @@ first_sound s n (i ∷ is) zero x e =
     subst (λ (y : Member MachineControl). IsSoundMember i.partition.ports y) (same_some (record_of s n i) x e)
     (record {
       kernel = fresh_sound i.partition.ports (fixed_of s n i.partition) (map machine_row i.section.processes) (section_objects i.section) (is_some i.section.handler);
-      engine = machine_keeps_within (map reading i.section.code) i.section.routines (machine_body i.section);
+      engine = machine_keeps_within written_costs (map reading i.section.code) i.section.routines (machine_body i.section);
     })
 first_sound s n (i ∷ is) (suc place) x e = first_sound s (n + 1) is place x e
 

@@ -4,6 +4,7 @@ use Rattle.std.specs.Prelude.{slice_get, slice_set}
 use Rattle.std.proofs.lemmas.List.{length-set}
 use Rattle.apex_types.specs.declared.codes.ErrorKind.{ErrorKind}
 use Rattle.apex_types.specs.declared.codes.ErrorKind.TheVariants.{NumericError, IllegalRequest, StackOverflow, MemoryViolation}
+use Rattle.apex_types.specs.declared.cost.Costs.{Costs}
 use Rattle.apex_types.specs.declared.instruction.Instr.{Instr}
 use Rattle.apex_types.specs.declared.instruction.Instr.TheVariants as instr
 use Rattle.apex_types.specs.declared.service.Service.{Service}
@@ -163,16 +164,16 @@ keeps_executes rs instr.End m words = keeps_asks Ends m words
 keeps_executes rs (instr.LoadRegion x) m words = keeps_region x (with_operands 1 (loads_region x)) m words (keeps_operands 1 (loads_region x) m words (keeps_loads x m words))
 keeps_executes rs (instr.StoreRegion x) m words = keeps_region x (with_operands 2 (stores_region x)) m words (keeps_operands 2 (stores_region x) m words (keeps_stores x m words))
 
-keeps_spends : (rs : List RoutineRow) (i : Instr) (m : MachineControl) (words : List ℤ) → KeepsLengths m words (spends rs i m words)
-keeps_spends rs i m words = keeps_if (nat_lt (m.spent + 1) (cost_of i)) m words (counts m words) (executes rs i m words) (record { stack = refl; words = refl }) (keeps_executes rs i m words)
+keeps_spends : (costs : Costs) (rs : List RoutineRow) (i : Instr) (m : MachineControl) (words : List ℤ) → KeepsLengths m words (spends costs rs i m words)
+keeps_spends costs rs i m words = keeps_if (nat_lt (m.spent + 1) (cost_of costs i)) m words (counts m words) (executes rs i m words) (record { stack = refl; words = refl }) (keeps_executes rs i m words)
 
-keeps_fetched : (rs : List RoutineRow) (i : Option (Option Instr)) (m : MachineControl) (words : List ℤ) → KeepsLengths m words (fetched rs i m words)
-keeps_fetched rs None m words = keeps_refused MemoryViolation m words
-keeps_fetched rs (Some None) m words = keeps_refused IllegalRequest m words
-keeps_fetched rs (Some (Some i)) m words = keeps_spends rs i m words
+keeps_fetched : (costs : Costs) (rs : List RoutineRow) (i : Option (Option Instr)) (m : MachineControl) (words : List ℤ) → KeepsLengths m words (fetched costs rs i m words)
+keeps_fetched costs rs None m words = keeps_refused MemoryViolation m words
+keeps_fetched costs rs (Some None) m words = keeps_refused IllegalRequest m words
+keeps_fetched costs rs (Some (Some i)) m words = keeps_spends costs rs i m words
 
-pub tick_keeps : (code : List (Option Instr)) (rs : List RoutineRow) (m : MachineControl) (words : List ℤ) → KeepsLengths m words (machine_tick code rs m words)
-tick_keeps code rs m words = keeps_if (nat_eq m.awaits 0) m words (fetched rs (slice_get code m.pc) m words) (asks_only Nothing m words) (keeps_fetched rs (slice_get code m.pc) m words) (keeps_asks Nothing m words)
+pub tick_keeps : (costs : Costs) (code : List (Option Instr)) (rs : List RoutineRow) (m : MachineControl) (words : List ℤ) → KeepsLengths m words (machine_tick costs code rs m words)
+tick_keeps costs code rs m words = keeps_if (nat_eq m.awaits 0) m words (fetched costs rs (slice_get code m.pc) m words) (asks_only Nothing m words) (keeps_fetched costs rs (slice_get code m.pc) m words) (keeps_asks Nothing m words)
 
 stack_if : (b : Bool) (m t u : MachineControl) → length t.stack ≡ length m.stack → length u.stack ≡ length m.stack → length (cond b t u).stack ≡ length m.stack
 stack_if true m t u first second = first
@@ -181,8 +182,8 @@ stack_if false m t u first second = second
 pub reply_keeps : (m : MachineControl) (answer : List ℤ) → length (machine_reply m answer).stack ≡ length m.stack
 reply_keeps m answer = stack_if (nat_eq (length answer) m.awaits) m (record m { sp = m.sp + length answer; stack = pushed m.stack m.sp answer; awaits = 0 }) m (length_pushed m.stack m.sp answer) refl
 
-pub tick_keeps_stack : (code : List (Option Instr)) (rs : List RoutineRow) (m : MachineControl) (words : List ℤ) → length (machine_tick code rs m words).control.stack ≡ length m.stack
-tick_keeps_stack code rs m words = (tick_keeps code rs m words).stack
+pub tick_keeps_stack : (costs : Costs) (code : List (Option Instr)) (rs : List RoutineRow) (m : MachineControl) (words : List ℤ) → length (machine_tick costs code rs m words).control.stack ≡ length m.stack
+tick_keeps_stack costs code rs m words = (tick_keeps costs code rs m words).stack
 
-pub tick_keeps_words : (code : List (Option Instr)) (rs : List RoutineRow) (m : MachineControl) (words : List ℤ) → length (machine_tick code rs m words).words ≡ length words
-tick_keeps_words code rs m words = (tick_keeps code rs m words).words
+pub tick_keeps_words : (costs : Costs) (code : List (Option Instr)) (rs : List RoutineRow) (m : MachineControl) (words : List ℤ) → length (machine_tick costs code rs m words).words ≡ length words
+tick_keeps_words costs code rs m words = (tick_keeps costs code rs m words).words

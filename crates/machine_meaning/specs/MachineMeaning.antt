@@ -5,6 +5,7 @@ use Rattle.apex_types.specs.declared.event.Event.{Event}
 use Rattle.apex_types.specs.declared.event.Subject.TheVariants.{Process}
 use Rattle.apex_types.specs.declared.identity.Runner.{Runner}
 use Rattle.apex_types.specs.declared.process.ProcessStatus.{ProcessStatus}
+use Rattle.apex_types.specs.WrittenCosts.{written_costs}
 use Rattle.apex_types.specs.declared.row.BodyRow.{BodyRow}
 use Rattle.apex_types.specs.declared.row.PortRow.{PortRow}
 use Rattle.apex_types.specs.declared.row.ProcessRow.{ProcessRow}
@@ -34,9 +35,9 @@ body_of_row p = p.body
 abbrev pub machine_body : Section → Runner → BodyRow
 machine_body s p = body_at s.init s.handler (map body_of_row s.processes) p
 
--- the processor with a partition's code, each instruction read from its sixteen bytes
+-- the processor with the written costs and a partition's code, each instruction read from its sixteen bytes
 abbrev pub section_engine : Section → Engine MachineControl
-section_engine s = machine_engine (map reading s.code) s.routines (machine_body s)
+section_engine s = machine_engine written_costs (map reading s.code) s.routines (machine_body s)
 
 abbrev pub section_objects : Section → Objects
 section_objects s = fresh_objects s.semaphores s.events s.buffers s.blackboards

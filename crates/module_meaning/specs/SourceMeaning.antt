@@ -6,6 +6,7 @@ use Rattle.apex_types.specs.declared.device.DeviceLine.{DeviceLine}
 use Rattle.apex_types.specs.declared.event.Event.{Event}
 use Rattle.apex_types.specs.declared.event.Subject.TheVariants.{Process}
 use Rattle.apex_types.specs.declared.process.ProcessStatus.{ProcessStatus}
+use Rattle.apex_types.specs.WrittenCosts.{written_costs}
 use Rattle.apex_types.specs.declared.row.PortRow.{PortRow}
 use Rattle.module_meaning.specs.Table.{Partition, Table, fixed_of}
 use Rattle.kernel_meaning.specs.Kernel.{Fixed}
@@ -29,7 +30,7 @@ abbrev pub source_objects : program.Program → Objects
 source_objects s = fresh_objects s.semaphores s.events s.buffers s.blackboards
 
 abbrev pub source_member : Fixed → List PortRow → program.Program → Member SourceControl
-source_member fixed ports source = record { engine = source_engine source; world = fresh_world (fresh_kernel fixed (map source_row source.processes) (source_objects source) (fresh_ports ports) (is_some source.handler)) source.initial }
+source_member fixed ports source = record { engine = source_engine written_costs source; world = fresh_world (fresh_kernel fixed (map source_row source.processes) (source_objects source) (fresh_ports ports) (is_some source.handler)) source.initial }
 
 -- each partition with its source, in order, with their numbers
 abbrev pub source_members : Schedule → ℕ → List Partition → List program.Program → List (Member SourceControl)

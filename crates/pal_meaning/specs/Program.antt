@@ -8,7 +8,7 @@ use Rattle.apex_types.specs.declared.row.BufferRow.{BufferRow}
 use Rattle.apex_types.specs.declared.row.BlackboardRow.{BlackboardRow}
 use Rattle.apex_types.specs.declared.service.Service.{Service}
 use Rattle.std.specs.List.{sum, sum_by}
-use Rattle.apex_types.specs.declared.cost.TheConstants.{LITERAL_COST, SCALAR_COST, ELEMENT_COST, UNARY_COST, BRANCH_COST, JUMP_COST, CALL_COST, RETURN_COST, END_COST}
+use Rattle.apex_types.specs.declared.cost.Costs.{Costs}
 use Rattle.engine_meaning.specs.Operators.{cost_of_binary}
 use Rattle.apex_types.specs.ServiceShape.{cost_of_service, answer_words}
 
@@ -87,72 +87,90 @@ pub record Program : Type 0 where
 
 -- the costs of the constructs of an expression, in the order in which they take effect
 abbrev mutual
-  pub costs_of_expr : Expr → List ℕ
-  costs_of_expr (Literal value) = LITERAL_COST ∷ []
-  costs_of_expr (Read place) = SCALAR_COST ∷ []
-  costs_of_expr (Element place size index) = costs_of_expr index ++ (ELEMENT_COST ∷ [])
-  costs_of_expr (Unary operator operand) = costs_of_expr operand ++ (UNARY_COST ∷ [])
-  costs_of_expr (Chain first rest) = costs_of_expr first ++ costs_of_links rest
-  costs_of_expr (Apply procedure arguments) = costs_of_exprs arguments ++ (CALL_COST ∷ [])
+  pub costs_of_expr : Costs → Expr → List ℕ
+  costs_of_expr costs (Literal value) = costs.literal ∷ []
+  costs_of_expr costs (Read place) = costs.scalar ∷ []
+  costs_of_expr costs (Element place size index) = costs_of_expr costs index ++ (costs.array ∷ [])
+  costs_of_expr costs (Unary operator operand) = costs_of_expr costs operand ++ (costs.logic ∷ [])
+  costs_of_expr costs (Chain first rest) = costs_of_expr costs first ++ costs_of_links costs rest
+  costs_of_expr costs (Apply procedure arguments) = costs_of_exprs costs arguments ++ (costs.call ∷ [])
 
-  pub costs_of_links : Links → List ℕ
-  costs_of_links NoLink = []
-  costs_of_links (MoreLinks operator operand rest) = costs_of_expr operand ++ (cost_of_binary operator ∷ costs_of_links rest)
+  pub costs_of_links : Costs → Links → List ℕ
+  costs_of_links costs NoLink = []
+  costs_of_links costs (MoreLinks operator operand rest) = costs_of_expr costs operand ++ (cost_of_binary costs operator ∷ costs_of_links costs rest)
 
-  pub costs_of_exprs : Exprs → List ℕ
-  costs_of_exprs NoExpr = []
-  costs_of_exprs (MoreExprs first rest) = costs_of_expr first ++ costs_of_exprs rest
+  pub costs_of_exprs : Costs → Exprs → List ℕ
+  costs_of_exprs costs NoExpr = []
+  costs_of_exprs costs (MoreExprs first rest) = costs_of_expr costs first ++ costs_of_exprs costs rest
 
 -- The same for a statement. A service costs by its kind, and writing a target as much as a scalar.
 abbrev mutual
-  pub costs_of_stmt : Stmt → List ℕ
-  costs_of_stmt (Assign place value) = costs_of_expr value ++ (SCALAR_COST ∷ [])
-  costs_of_stmt (AssignElement place size index value) = costs_of_expr index ++ costs_of_expr value ++ (ELEMENT_COST ∷ [])
-  costs_of_stmt (If test then) = costs_of_expr test ++ (BRANCH_COST ∷ costs_of_block then)
-  costs_of_stmt (IfElse test then other) = costs_of_expr test ++ (BRANCH_COST ∷ costs_of_block then) ++ (JUMP_COST ∷ costs_of_block other)
-  costs_of_stmt (While test block) = costs_of_expr test ++ (BRANCH_COST ∷ costs_of_block block) ++ (JUMP_COST ∷ [])
-  costs_of_stmt (Work ticks) = ticks ∷ []
-  costs_of_stmt (Return value) = costs_of_expr value ++ (RETURN_COST ∷ [])
-  costs_of_stmt (CallService service arguments targets) = costs_of_exprs arguments ++ (cost_of_service service ∷ map (λ _. SCALAR_COST) targets)
+  pub costs_of_stmt : Costs → Stmt → List ℕ
+  costs_of_stmt costs (Assign place value) = costs_of_expr costs value ++ (costs.scalar ∷ [])
+  costs_of_stmt costs (AssignElement place size index value) = costs_of_expr costs index ++ costs_of_expr costs value ++ (costs.array ∷ [])
+  costs_of_stmt costs (If test then) = costs_of_expr costs test ++ (costs.branch ∷ costs_of_block costs then)
+  costs_of_stmt costs (IfElse test then other) = costs_of_expr costs test ++ (costs.branch ∷ costs_of_block costs then) ++ (costs.jump ∷ costs_of_block costs other)
+  costs_of_stmt costs (While test block) = costs_of_expr costs test ++ (costs.branch ∷ costs_of_block costs block) ++ (costs.jump ∷ [])
+  costs_of_stmt costs (Work ticks) = ticks ∷ []
+  costs_of_stmt costs (Return value) = costs_of_expr costs value ++ (costs.ret ∷ [])
+  costs_of_stmt costs (CallService service arguments targets) = costs_of_exprs costs arguments ++ (cost_of_service costs service ∷ map (λ _. costs.scalar) targets)
 
-  pub costs_of_block : Block → List ℕ
-  costs_of_block NoStmt = []
-  costs_of_block (MoreStmts first rest) = costs_of_stmt first ++ costs_of_block rest
+  pub costs_of_block : Costs → Block → List ℕ
+  costs_of_block costs NoStmt = []
+  costs_of_block costs (MoreStmts first rest) = costs_of_stmt costs first ++ costs_of_block costs rest
 
 -- a procedure closes with a literal 0 and a return
-abbrev pub costs_of_procedure : Procedure → List ℕ
-costs_of_procedure p = costs_of_block p.block ++ (LITERAL_COST ∷ RETURN_COST ∷ [])
+abbrev pub costs_of_procedure : Costs → Procedure → List ℕ
+costs_of_procedure costs p = costs_of_block costs p.block ++ (costs.literal ∷ costs.ret ∷ [])
 
-abbrev pub costs_of_body : Body → List ℕ
-costs_of_body b = costs_of_block b.block ++ (END_COST ∷ [])
+abbrev pub costs_of_body : Costs → Body → List ℕ
+costs_of_body costs b = costs_of_block costs b.block ++ (costs.end ∷ [])
 
--- Their number, which is that of the instructions, and the sum of their costs.
-abbrev pub size_of_expr : Expr → ℕ
-size_of_expr e = length (costs_of_expr e)
+-- the sum of the costs
+abbrev pub cost_of_procedure : Costs → Procedure → ℕ
+cost_of_procedure costs p = sum (costs_of_procedure costs p)
 
-abbrev pub size_of_links : Links → ℕ
-size_of_links ls = length (costs_of_links ls)
+abbrev pub cost_of_body : Costs → Body → ℕ
+cost_of_body costs b = sum (costs_of_body costs b)
 
-abbrev pub size_of_exprs : Exprs → ℕ
-size_of_exprs es = length (costs_of_exprs es)
+-- how many constructs there are, and so how many instructions
+abbrev mutual
+  pub size_of_expr : Expr → ℕ
+  size_of_expr (Literal value) = 1
+  size_of_expr (Read place) = 1
+  size_of_expr (Element place size index) = size_of_expr index + 1
+  size_of_expr (Unary operator operand) = size_of_expr operand + 1
+  size_of_expr (Chain first rest) = size_of_expr first + size_of_links rest
+  size_of_expr (Apply procedure arguments) = size_of_exprs arguments + 1
 
-abbrev pub size_of_stmt : Stmt → ℕ
-size_of_stmt s = length (costs_of_stmt s)
+  pub size_of_links : Links → ℕ
+  size_of_links NoLink = 0
+  size_of_links (MoreLinks operator operand rest) = size_of_expr operand + 1 + size_of_links rest
 
-abbrev pub size_of_block : Block → ℕ
-size_of_block b = length (costs_of_block b)
+  pub size_of_exprs : Exprs → ℕ
+  size_of_exprs NoExpr = 0
+  size_of_exprs (MoreExprs first rest) = size_of_expr first + size_of_exprs rest
+
+abbrev mutual
+  pub size_of_stmt : Stmt → ℕ
+  size_of_stmt (Assign place value) = size_of_expr value + 1
+  size_of_stmt (AssignElement place size index value) = size_of_expr index + size_of_expr value + 1
+  size_of_stmt (If test then) = size_of_expr test + 1 + size_of_block then
+  size_of_stmt (IfElse test then other) = size_of_expr test + 1 + size_of_block then + 1 + size_of_block other
+  size_of_stmt (While test block) = size_of_expr test + 1 + size_of_block block + 1
+  size_of_stmt (Work ticks) = 1
+  size_of_stmt (Return value) = size_of_expr value + 1
+  size_of_stmt (CallService service arguments targets) = size_of_exprs arguments + 1 + length targets
+
+  pub size_of_block : Block → ℕ
+  size_of_block NoStmt = 0
+  size_of_block (MoreStmts first rest) = size_of_stmt first + size_of_block rest
 
 abbrev pub size_of_procedure : Procedure → ℕ
-size_of_procedure p = length (costs_of_procedure p)
-
-abbrev pub cost_of_procedure : Procedure → ℕ
-cost_of_procedure p = sum (costs_of_procedure p)
+size_of_procedure p = size_of_block p.block + 2
 
 abbrev pub size_of_body : Body → ℕ
-size_of_body b = length (costs_of_body b)
-
-abbrev pub cost_of_body : Body → ℕ
-cost_of_body b = sum (costs_of_body b)
+size_of_body b = size_of_block b.block + 1
 
 abbrev pub size_of_handler : Option Body → ℕ
 size_of_handler None = 0

@@ -16,7 +16,7 @@ use Rattle.engine_meaning.specs.Operators.{apply_binary, apply_unary, is_zero, e
 use Rattle.apex_types.specs.ServiceShape.{argument_words, answer_words, cost_of_service}
 use Rattle.apex_types.specs.ServiceCalls.{call_of, array_of}
 use Rattle.engine_meaning.specs.Engine.{Engine, Ticked, Asks, Nothing, Calls, Faults, Ends, body_at}
-use Rattle.apex_types.specs.declared.cost.TheConstants.{LITERAL_COST, SCALAR_COST, ELEMENT_COST, UNARY_COST, BRANCH_COST, JUMP_COST, CALL_COST, RETURN_COST, END_COST}
+use Rattle.apex_types.specs.declared.cost.Costs.{Costs}
 
 -- A simple construct. `Choose`, `ChooseElse` and `Repeat` are the branches of if and while, `Leave`
 -- leaves a then part that has an else, `GoBack` goes back to the test of a while.
@@ -121,24 +121,24 @@ front_of (Execute stmt ∷ rest) = front_of_stmt stmt rest
 front_of (Do construct ∷ rest) = front construct rest
 
 -- the ticks of a simple construct
-abbrev pub cost_of_simple : Simple → ℕ
-cost_of_simple (Value value) = LITERAL_COST
-cost_of_simple (ReadScalar place) = SCALAR_COST
-cost_of_simple (ReadElement place size) = ELEMENT_COST
-cost_of_simple (OperateOne operator) = UNARY_COST
-cost_of_simple (OperateTwo operator) = cost_of_binary operator
-cost_of_simple (Open procedure) = CALL_COST
-cost_of_simple (WriteScalar place) = SCALAR_COST
-cost_of_simple (WriteElement place size) = ELEMENT_COST
-cost_of_simple (Choose block) = BRANCH_COST
-cost_of_simple (ChooseElse block other) = BRANCH_COST
-cost_of_simple (Repeat test block) = BRANCH_COST
-cost_of_simple Leave = JUMP_COST
-cost_of_simple (GoBack test block) = JUMP_COST
-cost_of_simple (Spend ticks) = ticks
-cost_of_simple ReturnValue = RETURN_COST
-cost_of_simple (Ask service) = cost_of_service service
-cost_of_simple EndBody = END_COST
+abbrev pub cost_of_simple : Costs → Simple → ℕ
+cost_of_simple costs (Value value) = costs.literal
+cost_of_simple costs (ReadScalar place) = costs.scalar
+cost_of_simple costs (ReadElement place size) = costs.array
+cost_of_simple costs (OperateOne operator) = costs.logic
+cost_of_simple costs (OperateTwo operator) = cost_of_binary costs operator
+cost_of_simple costs (Open procedure) = costs.call
+cost_of_simple costs (WriteScalar place) = costs.scalar
+cost_of_simple costs (WriteElement place size) = costs.array
+cost_of_simple costs (Choose block) = costs.branch
+cost_of_simple costs (ChooseElse block other) = costs.branch
+cost_of_simple costs (Repeat test block) = costs.branch
+cost_of_simple costs Leave = costs.jump
+cost_of_simple costs (GoBack test block) = costs.jump
+cost_of_simple costs (Spend ticks) = ticks
+cost_of_simple costs ReturnValue = costs.ret
+cost_of_simple costs (Ask service) = cost_of_service costs service
+cost_of_simple costs EndBody = costs.end
 
 -- the words of stack that open calls take: each its slots, 2 and its values that wait
 abbrev pub taken : List OpenCall → ℕ
@@ -241,17 +241,17 @@ effect program _ rest c values words = stays c words (Faults error.IllegalReques
 abbrev pub counts : SourceControl → List ℤ → Ticked SourceControl
 counts c words = record { control = record { parts = c.parts; values = c.values; slots = c.slots; callers = c.callers; spent = c.spent + 1; awaits = c.awaits; stack = c.stack }; words = words; asks = Nothing }
 
-abbrev pub tick_at : Program → Front → SourceControl → List ℤ → Ticked SourceControl
-tick_at program f c words = if nat_lt (c.spent + 1) (cost_of_simple f.construct) then counts c words else effect program f.construct f.rest c c.values words
+abbrev pub tick_at : Costs → Program → Front → SourceControl → List ℤ → Ticked SourceControl
+tick_at costs program f c words = if nat_lt (c.spent + 1) (cost_of_simple costs f.construct) then counts c words else effect program f.construct f.rest c c.values words
 
 -- While an answer is awaited a tick changes nothing. Below the cost of the front construct it is
 -- counted; at the cost the effect happens once.
-abbrev pub tick_awaiting : Program → ℕ → SourceControl → List ℤ → Ticked SourceControl
-tick_awaiting program zero c words = tick_at program (front_of c.parts) c words
-tick_awaiting program (suc n) c words = stays c words Nothing
+abbrev pub tick_awaiting : Costs → Program → ℕ → SourceControl → List ℤ → Ticked SourceControl
+tick_awaiting costs program zero c words = tick_at costs program (front_of c.parts) c words
+tick_awaiting costs program (suc n) c words = stays c words Nothing
 
-abbrev pub source_tick : Program → SourceControl → List ℤ → Ticked SourceControl
-source_tick program c words = tick_awaiting program c.awaits c words
+abbrev pub source_tick : Costs → Program → SourceControl → List ℤ → Ticked SourceControl
+source_tick costs program c words = tick_awaiting costs program c.awaits c words
 
 -- The words of an answer become values, the code as the last one; an answer of another length than
 -- the one that is awaited changes nothing.
@@ -271,10 +271,10 @@ parts_of_body b = block_then b.block (Do EndBody ∷ [])
 abbrev pub source_start : Body → SourceControl
 source_start b = record { parts = parts_of_body b; values = []; slots = replicate b.locals (pos 0); callers = []; spent = 0; awaits = 0; stack = b.stack }
 
--- the engine of a program's source
-abbrev pub source_engine : Program → Engine SourceControl
-source_engine program = record {
+-- the engine of a program's source, with the costs of its constructs
+abbrev pub source_engine : Costs → Program → Engine SourceControl
+source_engine costs program = record {
   start = λ p. source_start (source_body program p);
-  tick = source_tick program;
+  tick = source_tick costs program;
   reply = source_reply;
 }

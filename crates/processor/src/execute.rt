@@ -8,11 +8,7 @@ use crate::arithmetic::{apply_binary, apply_unary};
 use crate::code::Code;
 use crate::registers::Registers;
 use crate::turn::Turn;
-use apex_types::{
-    BRANCH_COST, BinaryOperator, CALL_COST, ELEMENT_COST, END_COST, ErrorKind, Instr, JUMP_COST,
-    LITERAL_COST, REGION_COST, RETURN_COST, SCALAR_COST, Service, UNARY_COST, UNKNOWN_COST,
-    UnaryOperator,
-};
+use apex_types::{BinaryOperator, Costs, ErrorKind, Instr, Service, UNKNOWN_COST, UnaryOperator};
 use regions::Reach;
 
 /// Whether WORK may take this many ticks.
@@ -31,35 +27,35 @@ fn cost_of_work(v: i64) -> u32
 }
 
 /// Ticks of SVC: those of the service, or 1 where there is none of that number.
-fn cost_of_service_call(x: u32) -> u32
-    ensures { result ≡ cost_of_service_call (service_of x) }
+fn cost_of_service_call(costs: &Costs, x: u32) -> u32
+    ensures { result ≡ cost_of_service_call costs.now (service_of x) }
 {
     match Service::from_number(x) {
-        Some(service) => service.cost(),
+        Some(service) => service.cost(costs),
         None => UNKNOWN_COST,
     }
 }
 
 /// The ticks that an instruction takes, also if it faults.
-pub(crate) fn cost_of(instruction: Instr) -> u32
-    ensures cost { result ≡ cost_of instruction }
+pub(crate) fn cost_of(costs: &Costs, instruction: Instr) -> u32
+    ensures cost { result ≡ cost_of costs.now instruction }
     ensures most { result ≤ 1_000_000 }
 {
     match instruction {
-        Instr::Push(_) => LITERAL_COST,
-        Instr::LoadData(_) | Instr::StoreData(_) => SCALAR_COST,
-        Instr::LoadLocal(_) | Instr::StoreLocal(_) => SCALAR_COST,
-        Instr::LoadElement(_, _) | Instr::StoreElement(_, _) => ELEMENT_COST,
-        Instr::Binary(operator) => operator.cost(),
-        Instr::Unary(_) => UNARY_COST,
-        Instr::Jump(_) => JUMP_COST,
-        Instr::JumpIfZero(_) => BRANCH_COST,
-        Instr::Call(_) => CALL_COST,
-        Instr::Return(_) => RETURN_COST,
+        Instr::Push(_) => costs.literal,
+        Instr::LoadData(_) | Instr::StoreData(_) => costs.scalar,
+        Instr::LoadLocal(_) | Instr::StoreLocal(_) => costs.scalar,
+        Instr::LoadElement(_, _) | Instr::StoreElement(_, _) => costs.array,
+        Instr::Binary(operator) => operator.cost(costs),
+        Instr::Unary(_) => costs.logic,
+        Instr::Jump(_) => costs.jump,
+        Instr::JumpIfZero(_) => costs.branch,
+        Instr::Call(_) => costs.call,
+        Instr::Return(_) => costs.ret,
         Instr::Work(v) => cost_of_work(v),
-        Instr::Service(x) => cost_of_service_call(x),
-        Instr::End => END_COST,
-        Instr::LoadRegion(_) | Instr::StoreRegion(_) => REGION_COST,
+        Instr::Service(x) => cost_of_service_call(costs, x),
+        Instr::End => costs.end,
+        Instr::LoadRegion(_) | Instr::StoreRegion(_) => costs.array,
     }
 }
 

@@ -3,7 +3,6 @@ use Rattle.pal_meaning.specs.Program as cost
 use Rattle.compiling_laws.specs.CompiledCode as code_of
 use Rattle.pal_base.specs.ProgramView.{expr_of, stmt_of, block_of}
 use Rattle.pal_base.proofs.ProgramRows.{seen_if, seen_if_else, seen_while}
-use Rattle.compiling_laws.proofs.Counts.{if_size, if_else_size, while_size, more_stmts_size}
 use Rattle.compiler.proofs.Emitted.{on_ok, block_step, block_done, none_left, if_emitted, if_else_emitted, while_emitted, next_index}
 use Rattle.compiling_laws.proofs.Operands.{expr_some}
 use Rattle.compiler.proofs.Views.{item_size}
@@ -22,19 +21,19 @@ emit_block-returns-clause-size t c =
 
 pub emit_stmt-overflow_add-branch-in-If : goal.emit_stmt-overflow_add-branch-in-If
 emit_stmt-overflow_add-branch-in-If t c =
-    let seen = ap cost.size_of_stmt (seen_if _ _ _ _ c.in-If.is c.deref.ensures.value) ∙ if_size (expr_of c.in-If.test) (block_of c.deref.result.now) in
+    let seen = ap cost.size_of_stmt (seen_if _ _ _ _ c.in-If.is c.deref.ensures.value) in
     omega (arith, c.requires, ap (λ n. n) c.in_ok-branch-in-If.ensures.size, ap (λ n. n) c.in_ok-branch-in-If.ensures.place, ap (λ n. n) c.size_of_block.ensures)
 
 pub emit_stmt-emit_block-requires : goal.emit_stmt-emit_block-requires
 emit_stmt-emit_block-requires t c =
-    let seen = ap cost.size_of_stmt (seen_if _ _ _ _ c.in-If.is c.deref-in-If.ensures.value) ∙ if_size (expr_of c.in-If.test) (block_of c.deref-in-If.result.now) in
+    let seen = ap cost.size_of_stmt (seen_if _ _ _ _ c.in-If.is c.deref-in-If.ensures.value) in
     (omega (arith, c.decreases, expr_some (expr_of c.in-If.test)), omega (arith, c.requires, ap (λ n. n) c.in_ok-branch-in-If.ensures.size, ap (λ n. n) c.in_ok-put-in-If.ensures.size))
 
 pub emit_stmt-returns-in_ok-put-in-If : goal.emit_stmt-returns-in_ok-put-in-If
 emit_stmt-returns-in_ok-put-in-If t c =
     let old = c.args.code.now.items in
     let seen = seen_if _ _ _ _ c.in-If.is c.deref-in-If.ensures.value in
-    let whole = ap cost.size_of_stmt seen ∙ if_size (expr_of c.in-If.test) (block_of c.deref-in-If.result.now) in
+    let whole = ap cost.size_of_stmt seen in
     let same : c.deref.result.now ≡ c.deref-in-If.result.now = c.deref.ensures.value ∙ sym c.deref-in-If.ensures.value in
     let size = c.size_of_block.ensures ∙ ap (λ ys. min (cost.size_of_block (block_of ys)) 4294967295) same in
     let test = expr_of c.in-If.test in
@@ -46,31 +45,31 @@ emit_stmt-returns-in_ok-put-in-If t c =
 
 pub emit_stmt-overflow_add-behind-in-IfElse : goal.emit_stmt-overflow_add-behind-in-IfElse
 emit_stmt-overflow_add-behind-in-IfElse t c =
-    omega (arith, ap cost.size_of_stmt (seen_if_else _ _ _ _ _ _ c.in-IfElse.is c.deref-in-IfElse.ensures.value refl) ∙ if_else_size (expr_of c.in-IfElse.test) (block_of c.deref-in-IfElse.result.now) (block_of c.in-IfElse.other.items), c.requires, ap (λ n. n) c.in_ok-branch-in-IfElse.ensures.size, ap (λ n. n) c.in_ok-branch-in-IfElse.ensures.place, ap (λ n. n) c.size_of_block-in-IfElse.ensures)
+    omega (arith, ap cost.size_of_stmt (seen_if_else _ _ _ _ _ _ c.in-IfElse.is c.deref-in-IfElse.ensures.value refl), c.requires, ap (λ n. n) c.in_ok-branch-in-IfElse.ensures.size, ap (λ n. n) c.in_ok-branch-in-IfElse.ensures.place, ap (λ n. n) c.size_of_block-in-IfElse.ensures)
 
 pub emit_stmt-overflow_add-behind-in-IfElse-2 : goal.emit_stmt-overflow_add-behind-in-IfElse-2
 emit_stmt-overflow_add-behind-in-IfElse-2 t c =
-    omega (arith, ap cost.size_of_stmt (seen_if_else _ _ _ _ _ _ c.in-IfElse.is c.deref-in-IfElse.ensures.value refl) ∙ if_else_size (expr_of c.in-IfElse.test) (block_of c.deref-in-IfElse.result.now) (block_of c.in-IfElse.other.items), c.requires, ap (λ n. n) c.in_ok-branch-in-IfElse.ensures.size, ap (λ n. n) c.in_ok-branch-in-IfElse.ensures.place, ap (λ n. n) c.size_of_block-in-IfElse.ensures)
+    omega (arith, ap cost.size_of_stmt (seen_if_else _ _ _ _ _ _ c.in-IfElse.is c.deref-in-IfElse.ensures.value refl), c.requires, ap (λ n. n) c.in_ok-branch-in-IfElse.ensures.size, ap (λ n. n) c.in_ok-branch-in-IfElse.ensures.place, ap (λ n. n) c.size_of_block-in-IfElse.ensures)
 
 pub emit_stmt-emit_block-requires-in-IfElse : goal.emit_stmt-emit_block-requires-in-IfElse
 emit_stmt-emit_block-requires-in-IfElse t c =
-    let seen = ap cost.size_of_stmt (seen_if_else _ _ _ _ _ _ c.in-IfElse.is c.deref-in-IfElse-2.ensures.value refl) ∙ if_else_size (expr_of c.in-IfElse.test) (block_of c.deref-in-IfElse-2.result.now) (block_of c.in-IfElse.other.items) in
+    let seen = ap cost.size_of_stmt (seen_if_else _ _ _ _ _ _ c.in-IfElse.is c.deref-in-IfElse-2.ensures.value refl) in
     (omega (arith, c.decreases, expr_some (expr_of c.in-IfElse.test)), omega (arith, c.requires, ap (λ n. n) c.in_ok-branch-in-IfElse.ensures.size, ap (λ n. n) c.in_ok-put-in-IfElse.ensures.size))
 
 pub emit_stmt-overflow_add-behind-in-IfElse-3 : goal.emit_stmt-overflow_add-behind-in-IfElse-3
 emit_stmt-overflow_add-behind-in-IfElse-3 t c =
-    omega (arith, ap cost.size_of_stmt (seen_if_else _ _ _ _ _ _ c.in-IfElse.is c.deref-in-IfElse.ensures.value c.deref-in-IfElse-3.ensures.value) ∙ if_else_size (expr_of c.in-IfElse.test) (block_of c.deref-in-IfElse.result.now) (block_of c.deref-in-IfElse-3.result.now), c.requires, ap (λ n. n) c.in_ok-branch-in-IfElse.ensures.size, ap (λ n. n) c.in_ok-branch-in-IfElse.ensures.place, ap (λ n. n) c.size_of_block-in-IfElse.ensures, ap (λ n. n) c.size_of_block-in-IfElse-2.ensures)
+    omega (arith, ap cost.size_of_stmt (seen_if_else _ _ _ _ _ _ c.in-IfElse.is c.deref-in-IfElse.ensures.value c.deref-in-IfElse-3.ensures.value), c.requires, ap (λ n. n) c.in_ok-branch-in-IfElse.ensures.size, ap (λ n. n) c.in_ok-branch-in-IfElse.ensures.place, ap (λ n. n) c.size_of_block-in-IfElse.ensures, ap (λ n. n) c.size_of_block-in-IfElse-2.ensures)
 
 pub emit_stmt-emit_block-requires-in-IfElse-2 : goal.emit_stmt-emit_block-requires-in-IfElse-2
 emit_stmt-emit_block-requires-in-IfElse-2 t c =
-    let seen = ap cost.size_of_stmt (seen_if_else _ _ _ _ _ _ c.in-IfElse.is c.deref-in-IfElse-2.ensures.value c.deref-in-IfElse-4.ensures.value) ∙ if_else_size (expr_of c.in-IfElse.test) (block_of c.deref-in-IfElse-2.result.now) (block_of c.deref-in-IfElse-4.result.now) in
+    let seen = ap cost.size_of_stmt (seen_if_else _ _ _ _ _ _ c.in-IfElse.is c.deref-in-IfElse-2.ensures.value c.deref-in-IfElse-4.ensures.value) in
     (omega (arith, c.decreases, expr_some (expr_of c.in-IfElse.test)), omega (arith, c.requires, ap (λ n. n) c.in_ok-branch-in-IfElse.ensures.size, ap (λ n. n) c.in_ok-put-in-IfElse.ensures.size, ap (λ n. n) c.in_ok-emit_block-in-IfElse.ensures.size, ap (λ n. n) c.in_ok-put-in-IfElse-2.ensures.size))
 
 pub emit_stmt-returns-in_ok-put-in-IfElse-2 : goal.emit_stmt-returns-in_ok-put-in-IfElse-2
 emit_stmt-returns-in_ok-put-in-IfElse-2 t c =
     let old = c.args.code.now.items in
     let seen = seen_if_else _ _ _ _ _ _ c.in-IfElse.is c.deref-in-IfElse-2.ensures.value c.deref-in-IfElse-4.ensures.value in
-    let whole = ap cost.size_of_stmt seen ∙ if_else_size (expr_of c.in-IfElse.test) (block_of c.deref-in-IfElse-2.result.now) (block_of c.deref-in-IfElse-4.result.now) in
+    let whole = ap cost.size_of_stmt seen in
     let same : c.deref-in-IfElse.result.now ≡ c.deref-in-IfElse-2.result.now = c.deref-in-IfElse.ensures.value ∙ sym c.deref-in-IfElse-2.ensures.value in
     let other_same : c.deref-in-IfElse-3.result.now ≡ c.deref-in-IfElse-4.result.now = c.deref-in-IfElse-3.ensures.value ∙ sym c.deref-in-IfElse-4.ensures.value in
     let size = c.size_of_block-in-IfElse.ensures ∙ ap (λ ys. min (cost.size_of_block (block_of ys)) 4294967295) same in
@@ -90,22 +89,22 @@ emit_stmt-returns-in_ok-put-in-IfElse-2 t c =
 
 pub emit_stmt-overflow_add-branch-in-While-2 : goal.emit_stmt-overflow_add-branch-in-While-2
 emit_stmt-overflow_add-branch-in-While-2 t c =
-    omega (arith, ap cost.size_of_stmt (seen_while _ _ _ _ c.in-While.is c.deref-in-While.ensures.value) ∙ while_size (expr_of c.in-While.test) (block_of c.deref-in-While.result.now), c.requires, ap (λ n. n) c.in_ok-branch-in-While.ensures.size, ap (λ n. n) c.in_ok-branch-in-While.ensures.place, ap (λ n. n) c.size_of_block-in-While.ensures)
+    omega (arith, ap cost.size_of_stmt (seen_while _ _ _ _ c.in-While.is c.deref-in-While.ensures.value), c.requires, ap (λ n. n) c.in_ok-branch-in-While.ensures.size, ap (λ n. n) c.in_ok-branch-in-While.ensures.place, ap (λ n. n) c.size_of_block-in-While.ensures)
 
 pub emit_stmt-overflow_add-branch-in-While-3 : goal.emit_stmt-overflow_add-branch-in-While-3
 emit_stmt-overflow_add-branch-in-While-3 t c =
-    omega (arith, ap cost.size_of_stmt (seen_while _ _ _ _ c.in-While.is c.deref-in-While.ensures.value) ∙ while_size (expr_of c.in-While.test) (block_of c.deref-in-While.result.now), c.requires, ap (λ n. n) c.in_ok-branch-in-While.ensures.size, ap (λ n. n) c.in_ok-branch-in-While.ensures.place, ap (λ n. n) c.size_of_block-in-While.ensures)
+    omega (arith, ap cost.size_of_stmt (seen_while _ _ _ _ c.in-While.is c.deref-in-While.ensures.value), c.requires, ap (λ n. n) c.in_ok-branch-in-While.ensures.size, ap (λ n. n) c.in_ok-branch-in-While.ensures.place, ap (λ n. n) c.size_of_block-in-While.ensures)
 
 pub emit_stmt-emit_block-requires-in-While : goal.emit_stmt-emit_block-requires-in-While
 emit_stmt-emit_block-requires-in-While t c =
-    let seen = ap cost.size_of_stmt (seen_while _ _ _ _ c.in-While.is c.deref-in-While-2.ensures.value) ∙ while_size (expr_of c.in-While.test) (block_of c.deref-in-While-2.result.now) in
+    let seen = ap cost.size_of_stmt (seen_while _ _ _ _ c.in-While.is c.deref-in-While-2.ensures.value) in
     (omega (arith, c.decreases, expr_some (expr_of c.in-While.test)), omega (arith, c.requires, ap (λ n. n) c.in_ok-branch-in-While.ensures.size, ap (λ n. n) c.in_ok-put-in-While.ensures.size))
 
 pub emit_stmt-returns-in_ok-emit_block-in-While : goal.emit_stmt-returns-in_ok-emit_block-in-While
 emit_stmt-returns-in_ok-emit_block-in-While t c =
     let old = c.args.code.now.items in
     let seen = seen_while _ _ _ _ c.in-While.is c.deref-in-While-2.ensures.value in
-    let whole = ap cost.size_of_stmt seen ∙ while_size (expr_of c.in-While.test) (block_of c.deref-in-While-2.result.now) in
+    let whole = ap cost.size_of_stmt seen in
     let same : c.deref-in-While.result.now ≡ c.deref-in-While-2.result.now = c.deref-in-While.ensures.value ∙ sym c.deref-in-While-2.ensures.value in
     let size = c.size_of_block-in-While.ensures ∙ ap (λ ys. min (cost.size_of_block (block_of ys)) 4294967295) same in
     let test = expr_of c.in-While.test in
@@ -123,5 +122,5 @@ emit_block-emit_stmt-requires t c =
     let xs = c.args.block.now in
     let small = item_size xs i c.stmt-item.result c.loop-stmt-test.true in
     let same = ap (λ x. cost.size_of_stmt (stmt_of x)) c.stmt-item.is in
-    let dropped = ap (λ ys. cost.size_of_block (block_of ys)) (drop-cons xs i c.stmt-item.result c.loop-stmt-test.true) ∙ more_stmts_size (stmt_of (get_or xs i c.stmt-item.result)) (block_of (drop (suc i) xs)) in
+    let dropped = ap (λ ys. cost.size_of_block (block_of ys)) (drop-cons xs i c.stmt-item.result c.loop-stmt-test.true) in
     (omega (arith, c.decreases), omega (arith, c.loop-stmt.invariant.1))
