@@ -1,10 +1,10 @@
 pub mod Levels
-pub mod Loops
 pub mod Repeats
 pub mod WordsOf
 pub mod Spelled
 pub mod Shaped
 pub mod Longer
+pub mod Extended
 pub mod Followed
 pub mod ReadSteps
 pub mod ReadExpressions

@@ -1,40 +1,40 @@
 -- What is read has its operators in the order of their ranks, and opens no more levels than it may.
-use Rattle.std.proofs.Common.{◌≡◌, ◌≤◌, ℕ, zero, suc, ◌-◌, Bool, true, false, cond, nat_eq, List, [], ◌∷◌, length, Option, Some, None, refl, arith, subst}
+use Rattle.std.proofs.Common.{◌≡◌, ◌≤◌, ℕ, zero, suc, ◌-◌, Bool, true, false, cond, nat_eq, List, [], ◌∷◌, length, Option, Some, None, Ok, Err, refl, arith, subst}
 use Rattle.std.specs.Prelude.{codes, nat_lt}
 use Rattle.apex_types.specs.declared.instruction.BinaryOperator.{BinaryOperator}
 use Rattle.apex_types.specs.declared.instruction.UnaryOperator.TheVariants as unary
 use Rattle.apex_types.specs.declared.service.Service.{Service}
 use Rattle.pal_meaning.specs.Grammar.{Word}
-use Rattle.pal_laws.specs.GrammarReading.{Reading, ◌>>=◌, each, until, expect, name_at, number_at, service_at, discipline_at, targets_at, locals_at, first_value_at, first_values_at, parameters_at, declared, integer_at, turned, repeat_within, repeat, operators_of, one_of, links_of, chain_of, exprs_of, block_of, link_at, one_or_none, links_at, chain_with, products_with, sums_with, comparisons_with, conjunctions_with, operand_with, ranked, arguments_with, named_with, unary_with, unary_at, expr_at, nested_at, arguments_at, service_call_at, assignment_at, work_at, return_at, branch_with, while_with, stmt_with, statements_with, block_at, stmt_at, statements_at, body_at, variable_at, array_at, semaphore_at, event_at, buffer_at, blackboard_at, port_at, procedure_at, declaration_at, declarations_at, stack_body_at, handler_at, process_at, processes_at, all_read, program_at}
+use Rattle.pal_laws.specs.GrammarReading.{Answer, Reading, Turn, no_level, ◌>>=◌, each, until, expect, name_at, number_at, service_at, discipline_at, targets_at, locals_at, first_value_at, first_values_at, parameters_at, declared, integer_at, turned, repeat_within, repeat, operators_of, one_of, links_of, chain_of, exprs_of, block_of, link_at, one_or_none, links_at, chain_with, products_with, sums_with, comparisons_with, conjunctions_with, operand_with, ranked, arguments_with, named_with, unary_with, unary_at, expr_at, nested_at, arguments_at, service_call_at, assignment_at, work_at, return_at, branch_with, while_with, stmt_with, statements_with, block_at, stmt_at, statements_at, body_at, variable_at, array_at, semaphore_at, event_at, buffer_at, blackboard_at, port_at, procedure_at, declaration_at, declarations_at, stack_body_at, handler_at, process_at, processes_at, all_read, program_at}
 use Rattle.pal_meaning.specs.Grammar.{Rank, Disjunction, Conjunction, Comparison, Sum, Product}
 use Rattle.pal_meaning.specs.Grammar.{rank_of, looseness, IsFew, IsExpr, AreLinks, AreArguments, IsStmt, IsBlock, IsBody, IsKind, Each, IsHandler, IsProgram, IsWritten}
 use Rattle.pal_meaning.specs.Syntax as tree
-use Rattle.pal_laws.proofs.Spelled.{found, nothing, and_then, one_way, each_some, until_some, passed, Turn, program_spells}
+use Rattle.pal_laws.proofs.Spelled.{found, nothing, and_then, one_way, each_some, until_some, passed, allowed, program_spells}
 
 abbrev Shapes : (X : Type 0) → (X → Type 0) → Reading X → Type 0
-Shapes X P read = (ws us : List Word) (x : X) → read ws ≡ Some (x, us) → P x
+Shapes X P read = (ws us : List Word) (x : X) → read ws ≡ Ok (x, us) → P x
 
-abbrev kept : {X : Type 0} → (X → Type 0) → Option (X × List Word) → Type 0
-kept P (Some r) = P r.0
-kept P None = Unit {0}
+abbrev kept : {X : Type 0} → (X → Type 0) → Answer (X × List Word) → Type 0
+kept P (Ok r) = P r.0
+kept P (Err left) = Unit {0}
 
 so : {X : Type 0} (P : X → Type 0) (vs us : List Word) (y x : X) → P y → found y vs ≡ found x us → P x
 so P vs us y x h e = subst (kept P) e h
 
 abbrev TurnShapes : (X : Type 0) → (X → Type 0) → Turn X → Type 0
-TurnShapes X P turn = (ws us : List Word) (x : X) → turn ws ≡ Some (Some (x, us)) → P x
+TurnShapes X P turn = (ws us : List Word) (x : X) → turn ws ≡ Ok (Some (x, us)) → P x
 
 turned_shapes : {X : Type 0} (P : X → Type 0) (turn : Turn X) (go : Reading (List X)) → TurnShapes X P turn → Shapes (List X) (Each P) go →
-    (ws us : List Word) (xs : List X) (r : Option (Option (X × List Word))) → turn ws ≡ r → turned go ws r ≡ Some (xs, us) → Each P xs
-turned_shapes P turn go s t ws us xs None e h = nothing (xs, us) h
-turned_shapes P turn go s t ws us xs (Some None) e h = so (Each P) ws us [] xs tt h
-turned_shapes P turn go s t ws us xs (Some (Some x)) e h =
-    and_then (go x.1) (λ ys. Some (x.0 ∷ ys.0, ys.1)) (xs, us) (passed (nat_lt (length x.1) (length ws)) (go x.1 >>= λ ys. Some (x.0 ∷ ys.0, ys.1)) (xs, us) h)
+    (ws us : List Word) (xs : List X) (r : Answer (Option (X × List Word))) → turn ws ≡ r → turned go ws r ≡ Ok (xs, us) → Each P xs
+turned_shapes P turn go s t ws us xs (Err left) e h = nothing left (xs, us) h
+turned_shapes P turn go s t ws us xs (Ok None) e h = so (Each P) ws us [] xs tt h
+turned_shapes P turn go s t ws us xs (Ok (Some x)) e h =
+    and_then (go x.1) (λ ys. Ok (x.0 ∷ ys.0, ys.1)) (xs, us) (passed (nat_lt (length x.1) (length ws)) (go x.1 >>= λ ys. Ok (x.0 ∷ ys.0, ys.1)) (length ws) (xs, us) h)
     (λ ys f h. so (Each P) ys.1 us (x.0 ∷ ys.0) xs (s ws x.1 x.0 e, t x.1 ys.1 ys.0 f) h)
 
 within_shapes : {X : Type 0} (P : X → Type 0) (turn : Turn X) → TurnShapes X P turn → (n : ℕ) → Shapes (List X) (Each P) (repeat_within n turn)
 unfolding repeat_within
-within_shapes P turn s zero ws us xs h = nothing (xs, us) h
+within_shapes P turn s zero ws us xs h = nothing (length ws) (xs, us) h
 within_shapes P turn s (suc n) ws us xs h = turned_shapes P turn (repeat_within n turn) s (within_shapes P turn s n) ws us xs (turn ws) refl h
 
 repeat_shapes : {X : Type 0} (P : X → Type 0) (turn : Turn X) → TurnShapes X P turn → Shapes (List X) (Each P) (repeat turn)
@@ -44,7 +44,7 @@ repeat_shapes P turn s ws us xs h = within_shapes P turn s (suc (length ws)) ws 
 -- operators
 one_of_shapes : (P : BinaryOperator → Type 0) (ops : List BinaryOperator) → Each P ops → Shapes BinaryOperator P (one_of ops)
 unfolding one_of
-one_of_shapes P [] all ws us op h = nothing (op, us) h
+one_of_shapes P [] all ws us op h = nothing (length ws) (op, us) h
 one_of_shapes P (o ∷ ops) all ws us op h = one_way _ _ _ _ h (λ vs e h. so P vs us o op all.0 h) (λ h. one_of_shapes P ops all.1 ws us op h)
 
 all_ranked : (rank : Rank) → Each (λ op. rank_of op ≡ rank) (operators_of rank)
@@ -74,11 +74,11 @@ links_list k rank [] h = tt
 links_list k rank (l ∷ ls) h = (h.0.0, h.0.1, links_list k rank ls h.1)
 
 all_links_shape : (k : ℕ) (rank : Rank) (operand : Reading tree.Expr) → Shapes tree.Expr (Fits k (looseness rank - 1)) operand → ((ls : tree.Links) → IsFew rank ls) →
-    Shapes tree.Links (AreFit k rank) (λ ws. repeat (link_at operand rank) ws >>= λ ls. Some (links_of ls.0, ls.1))
+    Shapes tree.Links (AreFit k rank) (λ ws. repeat (link_at operand rank) ws >>= λ ls. Ok (links_of ls.0, ls.1))
 all_links_shape k rank operand s few ws us ls h = and_then _ _ _ h (λ r e h. so (AreFit k rank) r.1 us (links_of r.0) ls
     (links_list k rank r.0 (repeat_shapes (IsLink k rank) (link_at operand rank) (link_shapes k rank operand s) ws r.1 r.0 e), few (links_of r.0)) h)
 
-one_shapes : (k : ℕ) (operand : Reading tree.Expr) → Shapes tree.Expr (Fits k (looseness Comparison - 1)) operand → (ws : List Word) (l : Option ((BinaryOperator × tree.Expr) × List Word)) → link_at operand Comparison ws ≡ Some l →
+one_shapes : (k : ℕ) (operand : Reading tree.Expr) → Shapes tree.Expr (Fits k (looseness Comparison - 1)) operand → (ws : List Word) (l : Option ((BinaryOperator × tree.Expr) × List Word)) → link_at operand Comparison ws ≡ Ok l →
     AreFit k Comparison (links_of (one_or_none ws l).0)
 one_shapes k operand s ws (Some x) e = let h = link_shapes k Comparison operand s ws x.1 x.0 e in ((h.0, h.1, tt), tt)
 one_shapes k operand s ws None e = (tt, tt)
@@ -187,7 +187,7 @@ more k = omega arith
 
 unary_at_shapes : (k : ℕ) → Shapes tree.Expr (Fits k 0) (unary_at k)
 unfolding unary_at
-unary_at_shapes zero ws us x h = unary_shapes zero (λ vs. None) (λ vs. None) (λ vs. None) (λ ws us x h. nothing (x, us) h) (λ ws us x h. nothing (x, us) h) (λ ws us x h. nothing (x, us) h) ws us x h
+unary_at_shapes zero ws us x h = unary_shapes zero no_level no_level no_level (λ ws us x h. nothing (suc (length ws)) (x, us) h) (λ ws us x h. nothing (suc (length ws)) (x, us) h) (λ ws us x h. nothing (suc (length ws)) (x, us) h) ws us x h
 unary_at_shapes (suc k) ws us x h =
     unary_shapes (suc k) (unary_at k) (ranked (unary_at k) Disjunction) (arguments_with (ranked (unary_at k) Disjunction))
     (λ ws us x h. (more k, down k (λ m. IsExpr x m 0) (unary_at_shapes k ws us x h)))
@@ -199,9 +199,9 @@ unfolding expr_at
 expr_shapes k ws us x h = whole_shapes k (unary_at k) (unary_at_shapes k) ws us x h
 
 -- a level is left where one is opened
-opened : {B P : Type 0} (k : ℕ) (t : Bool) (o : Option B) (y : B) → (t ≡ false → 1 ≤ k) → cond t None o ≡ Some y → (1 ≤ k → o ≡ Some y → P) → P
-opened k true o y le h go = nothing y h
-opened k false o y le h go = go (le refl) h
+opened : {B P : Type 0} (k : ℕ) (t : Bool) (left : ℕ) (o : Answer B) (y : B) → (t ≡ false → 1 ≤ k) → cond t (Err left) o ≡ Ok y → (1 ≤ k → o ≡ Ok y → P) → P
+opened k true left o y le h go = nothing left y h
+opened k false left o y le h go = go (le refl) h
 
 positive : (k : ℕ) → nat_eq k 0 ≡ false → 1 ≤ k
 positive zero h = absurd (let e : ⊥ = cc in e)
@@ -209,11 +209,11 @@ positive (suc k) h = more k
 
 nested_shapes : (k : ℕ) → Shapes tree.Expr (Inner k 5) (nested_at k)
 unfolding nested_at
-nested_shapes k ws us x h = opened k (nat_eq k 0) (expr_at (k - 1) ws) (x, us) (positive k) h (λ le h. (le, expr_shapes (k - 1) ws us x h))
+nested_shapes k ws us x h = opened k (nat_eq k 0) (suc (length ws)) (expr_at (k - 1) ws) (x, us) (positive k) h (λ le h. (le, expr_shapes (k - 1) ws us x h))
 
 arguments_at_shape : (k : ℕ) → Shapes tree.Exprs (InnerArguments k) (arguments_at k)
 unfolding arguments_at
-arguments_at_shape k ws us es h = opened k (nat_eq k 0) (arguments_with (expr_at (k - 1)) ws) (es, us) (positive k) h (λ le h. (le, arguments_shape (k - 1) (expr_at (k - 1)) (expr_shapes (k - 1)) ws us es h))
+arguments_at_shape k ws us es h = opened k (nat_eq k 0) (suc (length ws)) (arguments_with (expr_at (k - 1)) ws) (es, us) (positive k) h (λ le h. (le, arguments_shape (k - 1) (expr_at (k - 1)) (expr_shapes (k - 1)) ws us es h))
 
 -- statements
 abbrev Stands : ℕ → tree.Stmt → Type 0
@@ -227,7 +227,7 @@ InnerBlock k b = (1 ≤ k) × IsBlock b (k - 1)
 
 service_call_shapes : (k : ℕ) (service : Service) → Shapes tree.Stmt (Stands k) (service_call_at k service)
 unfolding service_call_at
-service_call_shapes k service ws us y h = and_then (expect _ ws) _ _ h (λ vs e h. and_then (arguments_at k vs) _ _ h (λ es f h. and_then (targets_at es.1) _ _ h (λ xs g h. and_then (expect _ xs.1) _ _ h (λ zs i h.
+service_call_shapes k service ws us y h = and_then (expect _ ws) _ _ (allowed (nat_eq k 0) (suc (length ws)) _ (y, us) h) (λ vs e h. and_then (arguments_at k vs) _ _ h (λ es f h. and_then (targets_at es.1) _ _ h (λ xs g h. and_then (expect _ xs.1) _ _ h (λ zs i h.
     so (Stands k) zs us (tree.CallService service es.0 xs.0) y (arguments_at_shape k vs es.1 es.0 f) h))))
 
 assignment_shapes : (k : ℕ) (x : List ℕ) → Shapes tree.Stmt (Stands k) (assignment_at k x)
@@ -261,7 +261,7 @@ stmt_shapes k block s ws us y h = one_way (name_at ws) _ _ _ h (λ x e h. assign
     (λ h. one_way (service_at ws) _ _ _ h (λ x e h. service_call_shapes k x.0 x.1 us y h)
     (λ h. one_way (expect _ ws) _ _ _ h (λ vs e h. work_shapes k vs us y h)
     (λ h. one_way (expect _ ws) _ _ _ h (λ vs e h. return_shapes k vs us y h)
-    (λ h. one_way (expect _ ws) _ _ _ h (λ vs e h. branch_shapes k block s vs us y h)
+    (λ h. one_way (expect _ ws) _ _ _ (allowed (nat_eq k 0) (length ws) _ (y, us) h) (λ vs e h. branch_shapes k block s vs us y h)
     (λ h. and_then (expect _ ws) _ _ h (λ vs e h. while_shapes k block s vs us y h))))))
 
 abbrev stmt_turn : Reading tree.Stmt → Turn tree.Stmt
@@ -281,7 +281,7 @@ statements_shape k stmt s ws us b h = and_then (repeat (stmt_turn stmt) ws) _ _ 
 
 block_shapes : (k : ℕ) → Shapes tree.Block (InnerBlock k) (block_at k)
 unfolding block_at
-block_shapes zero ws us b h = nothing (b, us) h
+block_shapes zero ws us b h = nothing (length ws) (b, us) h
 block_shapes (suc k) ws us b h = and_then _ _ _ h (λ vs e h. (more k, down k (λ m. IsBlock b m) (statements_shape k (stmt_with (block_at k) k) (stmt_shapes k (block_at k) (block_shapes k)) vs us b h)))
 
 statements_at_shape : (k : ℕ) → Shapes tree.Block (Holds k) (statements_at k)
@@ -382,15 +382,15 @@ processes_shape : Shapes (List tree.Process) (Each IsProcess) processes_at
 unfolding processes_at
 processes_shape ws us ps h = repeat_shapes IsProcess process_turn process_shapes ws us ps h
 
-all_of : {X : Type 0} (P : X → Type 0) (x y : X) (us : List Word) → P x → all_read x us ≡ Some y → P y
+all_of : {X : Type 0} (P : X → Type 0) (x y : X) (us : List Word) → P x → all_read x us ≡ Ok y → P y
 all_of P x y [] h e = let same : x ≡ y = cc in subst P same h
-all_of P x y (u ∷ us) h e = nothing y e
+all_of P x y (u ∷ us) h e = nothing (suc (length us)) y e
 
-program_shapes : (ws : List Word) (p : tree.Program) → program_at ws ≡ Some p → IsProgram p
+program_shapes : (ws : List Word) (p : tree.Program) → program_at ws ≡ Ok p → IsProgram p
 unfolding program_at
 program_shapes ws p h = and_then (declarations_at ws) _ _ h (λ ds e h. and_then (stack_body_at (codes "init") ds.1) _ _ h (λ i f h. and_then (handler_at i.1) _ _ h (λ x g h. and_then (processes_at x.1) _ _ h (λ ps j h.
     all_of IsProgram (record { declarations = ds.0; init = i.0; handler = x.0; processes = ps.0 }) p ps.1
     (declarations_shape ws ds.1 ds.0 e, stack_body_shapes (codes "init") ds.1 i.1 i.0 f, handler_shapes i.1 x.1 x.0 g, processes_shape x.1 ps.1 ps.0 j) h))))
 
-pub program_is_written : (ws : List Word) (p : tree.Program) → program_at ws ≡ Some p → IsWritten ws p
+pub program_is_written : (ws : List Word) (p : tree.Program) → program_at ws ≡ Ok p → IsWritten ws p
 program_is_written ws p h = (program_shapes ws p h, program_spells ws p h)
