@@ -12,7 +12,7 @@ pub all_extend : {X : Type 0} (words : X → List Word → List Word) → Extend
 all_extend words extends [] rest more = refl
 all_extend words extends (x ∷ xs) rest more = ap (words x) (all_extend words extends xs rest more) ∙ extends x (all_words words xs rest) more
 
-next_name_extends : Extends next_name
+pub next_name_extends : Extends next_name
 next_name_extends x rest more = refl
 
 pub names_extend : Extends names_words

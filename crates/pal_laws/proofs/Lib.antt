@@ -5,6 +5,10 @@ pub mod Spelled
 pub mod Shaped
 pub mod Longer
 pub mod Extended
+pub mod Begun
+pub mod BegunExpressions
+pub mod BegunStatements
+pub mod BegunPrograms
 pub mod Followed
 pub mod ReadSteps
 pub mod ReadExpressions
