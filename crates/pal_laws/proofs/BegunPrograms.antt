@@ -270,3 +270,107 @@ handler_begins ws n h = one_way (expect (codes "handler") ws) _ _ _ h
     (λ f. inside (stack_body_words (codes "handler")) IsStackBody handler_words IsHandler ws ws n (λ us. us) (λ b. Some b) [] (λ rest more. refl) refl (λ b q. q) (λ b rest. refl) (stack_body_begins (codes "handler") ws n f))
     (λ b f g. something n _ g))
     (λ g. something n _ g)
+
+abbrev zero_integer : tree.Integer
+zero_integer = record { negative = false; magnitude = Some 0 }
+
+abbrev last_words : List Word
+last_words = Mark (codes "stack") ∷ Number (Some 0) ∷ body_end
+
+abbrev capacity_end : List Word
+capacity_end = Mark (codes "capacity") ∷ Number (Some 0) ∷ last_words
+
+abbrev period_end : List Word
+period_end = Mark (codes "period") ∷ Number (Some 0) ∷ capacity_end
+
+abbrev a_process : List ℕ → Option ℕ → tree.Integer → tree.Integer → Option ℕ → tree.Body → tree.Process
+a_process x priority period capacity stack body = record { name = x; priority = priority; period = period; capacity = capacity; stack = stack; body = body }
+
+process_begins : TurnBegins tree.Process process_words IsProcess process_turn
+unfolding process_at
+process_begins ws n h = each_refused (expect (codes "process") ws) process_at n h (λ vs e h. let is = expect_spells _ ws vs e in refused (name_at vs) _ n h
+    (λ f. stopped process_words IsProcess ws vs n (λ us. Mark (codes "process") ∷ us) (a_process a_name (Some 0) zero_integer zero_integer (Some 0) a_body) (Name a_name ∷ Mark (codes "priority") ∷ Number (Some 0) ∷ period_end)
+    (λ rest more. refl) is (name_left vs n f) tt (λ rest. refl))
+    (λ x f h. let is = is ∙ ap (λ (us : List Word). Mark (codes "process") ∷ us) (name_spells vs x.1 x.0 f) in refused (expect (codes "priority") x.1) _ n h
+    (λ g. stopped process_words IsProcess ws x.1 n (λ us. Mark (codes "process") ∷ Name x.0 ∷ us) (a_process x.0 (Some 0) zero_integer zero_integer (Some 0) a_body) (Mark (codes "priority") ∷ Number (Some 0) ∷ period_end)
+    (λ rest more. refl) is (expect_left _ x.1 n g) tt (λ rest. refl))
+    (λ ys g h. let is = is ∙ ap (λ (us : List Word). Mark (codes "process") ∷ Name x.0 ∷ us) (expect_spells _ x.1 ys g) in refused (number_at ys) _ n h
+    (λ i. stopped process_words IsProcess ws ys n (λ us. Mark (codes "process") ∷ Name x.0 ∷ Mark (codes "priority") ∷ us) (a_process x.0 (Some 0) zero_integer zero_integer (Some 0) a_body) (Number (Some 0) ∷ period_end)
+    (λ rest more. refl) is (number_left ys n i) tt (λ rest. refl))
+    (λ p i h. let is = is ∙ ap (λ (us : List Word). Mark (codes "process") ∷ Name x.0 ∷ Mark (codes "priority") ∷ us) (number_spells ys p.1 p.0 i) in refused (expect (codes "period") p.1) _ n h
+    (λ j. stopped process_words IsProcess ws p.1 n (λ us. Mark (codes "process") ∷ Name x.0 ∷ Mark (codes "priority") ∷ Number p.0 ∷ us) (a_process x.0 p.0 zero_integer zero_integer (Some 0) a_body) period_end
+    (λ rest more. refl) is (expect_left _ p.1 n j) tt (λ rest. refl))
+    (λ bs j h.
+    let is = is ∙ ap (λ (us : List Word). Mark (codes "process") ∷ Name x.0 ∷ Mark (codes "priority") ∷ Number p.0 ∷ us) (expect_spells _ p.1 bs j) in
+    refused (integer_at bs) _ n h
+    (λ k. inside integer_words No process_words IsProcess ws bs n (λ us. Mark (codes "process") ∷ Name x.0 ∷ Mark (codes "priority") ∷ Number p.0 ∷ Mark (codes "period") ∷ us) (λ q. a_process x.0 p.0 q zero_integer (Some 0) a_body) capacity_end
+    (λ rest more. refl) is (λ q r. tt) (λ q rest. refl) (integer_begins bs n k))
+    (λ q k h.
+    let front : List Word → List Word = λ us. Mark (codes "process") ∷ Name x.0 ∷ Mark (codes "priority") ∷ Number p.0 ∷ Mark (codes "period") ∷ integer_words q.0 us in
+    let passes : Front front = λ rest more. ap (λ (us : List Word). Mark (codes "process") ∷ Name x.0 ∷ Mark (codes "priority") ∷ Number p.0 ∷ Mark (codes "period") ∷ us) (integer_extends q.0 rest more) in
+    let is : ws ≡ front q.1 = is ∙ ap (λ (us : List Word). Mark (codes "process") ∷ Name x.0 ∷ Mark (codes "priority") ∷ Number p.0 ∷ Mark (codes "period") ∷ us) (integer_spells bs q.1 q.0 k) in
+    refused (expect (codes "capacity") q.1) _ n h
+    (λ l. stopped process_words IsProcess ws q.1 n front (a_process x.0 p.0 q.0 zero_integer (Some 0) a_body) capacity_end passes is (expect_left _ q.1 n l) tt (λ rest. refl))
+    (λ cs l h.
+    let is : ws ≡ front (Mark (codes "capacity") ∷ cs) = is ∙ ap front (expect_spells _ q.1 cs l) in
+    refused (integer_at cs) _ n h
+    (λ m. inside integer_words No process_words IsProcess ws cs n (λ us. front (Mark (codes "capacity") ∷ us)) (λ r. a_process x.0 p.0 q.0 r (Some 0) a_body) last_words
+    (λ rest more. passes (Mark (codes "capacity") ∷ rest) more) is (λ r s. tt) (λ r rest. refl) (integer_begins cs n m))
+    (λ r m h.
+    let behind : List Word → List Word = λ us. front (Mark (codes "capacity") ∷ integer_words r.0 us) in
+    let passes : Front behind = λ rest more. ap (λ (us : List Word). front (Mark (codes "capacity") ∷ us)) (integer_extends r.0 rest more) ∙ passes (Mark (codes "capacity") ∷ integer_words r.0 rest) more in
+    let is : ws ≡ behind r.1 = is ∙ ap (λ (us : List Word). front (Mark (codes "capacity") ∷ us)) (integer_spells cs r.1 r.0 m) in
+    refused (expect (codes "stack") r.1) _ n h
+    (λ o. stopped process_words IsProcess ws r.1 n behind (a_process x.0 p.0 q.0 r.0 (Some 0) a_body) last_words passes is (expect_left _ r.1 n o) tt (λ rest. refl))
+    (λ ds o h. let is : ws ≡ behind (Mark (codes "stack") ∷ ds) = is ∙ ap behind (expect_spells _ r.1 ds o) in refused (number_at ds) _ n h
+    (λ s. stopped process_words IsProcess ws ds n (λ us. behind (Mark (codes "stack") ∷ us)) (a_process x.0 p.0 q.0 r.0 (Some 0) a_body) (Number (Some 0) ∷ body_end)
+    (λ rest more. passes (Mark (codes "stack") ∷ rest) more) is (number_left ds n s) tt (λ rest. refl))
+    (λ t s h. refused (body_at t.1) _ n h
+    (λ u. inside body_words IsBody process_words IsProcess ws t.1 n (λ us. behind (Mark (codes "stack") ∷ Number t.0 ∷ us)) (λ b. a_process x.0 p.0 q.0 r.0 t.0 b) []
+    (λ rest more. passes (Mark (codes "stack") ∷ Number t.0 ∷ rest) more) (is ∙ ap (λ (us : List Word). behind (Mark (codes "stack") ∷ us)) (number_spells ds t.1 t.0 s)) (λ b v. v) (λ b rest. refl) (body_begins t.1 n u))
+    (λ b u g. something n _ g)))))))))))
+
+processes_begin : Begins (List tree.Process) (all_words process_words) (Each IsProcess) processes_at
+unfolding processes_at
+processes_begin ws n h = repeat_begins process_words IsProcess process_turn process_spells process_shapes process_longer process_extends process_begins ws n h
+
+-- programs
+abbrev pub whole_words : tree.Program → List Word → List Word
+whole_words p rest = all_words declaration_words p.declarations (stack_body_words (codes "init") p.init (handler_words p.handler (all_words process_words p.processes rest)))
+
+abbrev a_program : List tree.Declaration → tree.StackBody → Option tree.StackBody → List tree.Process → tree.Program
+a_program ds init handler ps = record { declarations = ds; init = init; handler = handler; processes = ps }
+
+all_left : {X : Type 0} (x : X) (us : List Word) (n : ℕ) → all_read x us ≡ Err n → length us ≡ n
+all_left x [] n h = something n x h
+all_left x (u ∷ us) n h = cc
+
+pub program_begins : (ws : List Word) (n : ℕ) → program_at ws ≡ Err n → Begun whole_words IsProgram ws n
+unfolding program_at
+program_begins ws n h = refused (declarations_at ws) _ n h
+    (λ e. inside (all_words declaration_words) (Each IsDeclared) whole_words IsProgram ws ws n (λ us. us) (λ ds. a_program ds a_stack_body None []) (Mark (codes "init") ∷ stack_words) (λ rest more. refl) refl (λ ds q. (q, tt, tt, tt)) (λ ds rest. refl) (declarations_begin ws n e))
+    (λ ds e h.
+    let first : List Word → List Word = all_words declaration_words ds.0 in
+    let passes : Front first = all_extend declaration_words declaration_extends ds.0 in
+    let is : ws ≡ first ds.1 = declarations_spell ws ds.1 ds.0 e in
+    let are = declarations_shape ws ds.1 ds.0 e in
+    refused (stack_body_at (codes "init") ds.1) _ n h
+    (λ f. inside (stack_body_words (codes "init")) IsStackBody whole_words IsProgram ws ds.1 n first (λ i. a_program ds.0 i None []) [] passes is (λ i q. (are, q, tt, tt)) (λ i rest. refl) (stack_body_begins (codes "init") ds.1 n f))
+    (λ i f h.
+    let second : List Word → List Word = λ us. first (stack_body_words (codes "init") i.0 us) in
+    let passes : Front second = λ rest more. ap first (stack_body_extends (codes "init") i.0 rest more) ∙ passes (stack_body_words (codes "init") i.0 rest) more in
+    let is : ws ≡ second i.1 = is ∙ ap first (stack_body_spells (codes "init") ds.1 i.1 i.0 f) in
+    let init = stack_body_shapes (codes "init") ds.1 i.1 i.0 f in
+    refused (handler_at i.1) _ n h
+    (λ g. inside handler_words IsHandler whole_words IsProgram ws i.1 n second (λ x. a_program ds.0 i.0 x []) [] passes is (λ x q. (are, init, q, tt)) (λ x rest. refl) (handler_begins i.1 n g))
+    (λ x g h.
+    let third : List Word → List Word = λ us. second (handler_words x.0 us) in
+    let passes : Front third = λ rest more. ap second (handler_extends x.0 rest more) ∙ passes (handler_words x.0 rest) more in
+    let is : ws ≡ third x.1 = is ∙ ap second (handler_spells i.1 x.1 x.0 g) in
+    let handler = handler_shapes i.1 x.1 x.0 g in
+    refused (processes_at x.1) _ n h
+    (λ j. inside (all_words process_words) (Each IsProcess) whole_words IsProgram ws x.1 n third (λ ps. a_program ds.0 i.0 x.0 ps) [] passes is (λ ps q. (are, init, handler, q)) (λ ps rest. refl) (processes_begin x.1 n j))
+    (λ ps j h.
+    stopped whole_words IsProgram ws ps.1 n (λ us. third (all_words process_words ps.0 us)) (a_program ds.0 i.0 x.0 ps.0) []
+    (λ rest more. ap third (all_extend process_words process_extends ps.0 rest more) ∙ passes (all_words process_words ps.0 rest) more)
+    (is ∙ ap third (processes_spell x.1 ps.1 ps.0 j)) (all_left _ ps.1 n h) (are, init, handler, processes_shape x.1 ps.1 ps.0 j) (λ rest. refl)))))
