@@ -1,5 +1,5 @@
 -- What may stand behind an expression: nothing that the expression would go on with.
-use Rattle.std.proofs.Common.{◌≡◌, ℕ, ◌-◌, ◌<◌, ◌≤◌, List, ◌∷◌, Some, None, refl, arith, subst, ap}
+use Rattle.std.proofs.Common.{◌≡◌, ℕ, suc, ◌-◌, ◌<◌, ◌≤◌, List, ◌∷◌, length, Ok, Err, refl, arith, subst, ap}
 use Rattle.std.specs.Prelude.{codes}
 use Rattle.apex_types.specs.declared.instruction.BinaryOperator.{BinaryOperator}
 use Rattle.apex_types.specs.declared.instruction.BinaryOperator.TheVariants as binary
@@ -11,13 +11,13 @@ use Rattle.pal_meaning.specs.Syntax as tree
 
 -- no index, no arguments, and no operator that binds as loosely as this or more tightly
 pub record Ends (loosest : ℕ) (rest : List Word) : Type 0 where
-  pub no_index : expect (codes "[") rest ≡ None
-  pub no_arguments : expect (codes "(") rest ≡ None
-  pub no_operator : (rank : Rank) → looseness rank ≤ loosest → operator_at rank rest ≡ None
+  pub no_index : expect (codes "[") rest ≡ Err (length rest)
+  pub no_arguments : expect (codes "(") rest ≡ Err (length rest)
+  pub no_operator : (rank : Rank) → looseness rank ≤ loosest → operator_at rank rest ≡ Err (length rest)
 
 -- no rank has an operator with this mark
 abbrev IsForeign : List ℕ → Type 0
-IsForeign mark = (rank : Rank) (rest : List Word) → operator_at rank (Mark mark ∷ rest) ≡ None
+IsForeign mark = (rank : Rank) (rest : List Word) → operator_at rank (Mark mark ∷ rest) ≡ Err (suc (length rest))
 
 parenthesis_foreign : IsForeign (codes ")")
 unfolding expect one_of
@@ -80,7 +80,7 @@ unfolding expect
 brace_ends n rest = record { no_index = refl; no_arguments = refl; no_operator = λ rank le. brace_foreign rank rest }
 
 -- an operator is found at its rank
-own_operator : (op : BinaryOperator) (rest : List Word) → operator_at (rank_of op) (Mark (operator_mark op) ∷ rest) ≡ Some (op, rest)
+own_operator : (op : BinaryOperator) (rest : List Word) → operator_at (rank_of op) (Mark (operator_mark op) ∷ rest) ≡ Ok (op, rest)
 unfolding expect one_of
 own_operator binary.Add rest = refl
 own_operator binary.Subtract rest = refl
@@ -96,8 +96,8 @@ own_operator binary.GreaterOrEqual rest = refl
 own_operator binary.And rest = refl
 own_operator binary.Or rest = refl
 
-pub operator_found : (op : BinaryOperator) (rank : Rank) (rest : List Word) → rank_of op ≡ rank → operator_at rank (Mark (operator_mark op) ∷ rest) ≡ Some (op, rest)
-operator_found op rank rest e = subst (λ r. operator_at r (Mark (operator_mark op) ∷ rest) ≡ Some (op, rest)) e (own_operator op rest)
+pub operator_found : (op : BinaryOperator) (rank : Rank) (rest : List Word) → rank_of op ≡ rank → operator_at rank (Mark (operator_mark op) ∷ rest) ≡ Ok (op, rest)
+operator_found op rank rest e = subst (λ r. operator_at r (Mark (operator_mark op) ∷ rest) ≡ Ok (op, rest)) e (own_operator op rest)
 
 -- every rank binds more loosely than an operand that is no chain
 pub some_looseness : (rank : Rank) → 1 ≤ looseness rank
@@ -111,7 +111,7 @@ none_tighter : (rank : Rank) → looseness rank < 1 → ⊥
 none_tighter rank l = omega (arith, some_looseness rank, l)
 
 -- and at no rank that binds more tightly
-tighter_fails : (op : BinaryOperator) (rank : Rank) (rest : List Word) → looseness rank < looseness (rank_of op) → operator_at rank (Mark (operator_mark op) ∷ rest) ≡ None
+tighter_fails : (op : BinaryOperator) (rank : Rank) (rest : List Word) → looseness rank < looseness (rank_of op) → operator_at rank (Mark (operator_mark op) ∷ rest) ≡ Err (suc (length rest))
 unfolding expect one_of
 tighter_fails binary.Or Disjunction rest l = absurd (omega arith)
 tighter_fails binary.Or rank rest l = refl
@@ -144,7 +144,7 @@ tighter_fails binary.Multiply rank rest l = absurd (none_tighter rank l)
 tighter_fails binary.Divide rank rest l = absurd (none_tighter rank l)
 tighter_fails binary.Remainder rank rest l = absurd (none_tighter rank l)
 
-no_index_mark : (op : BinaryOperator) (rest : List Word) → expect (codes "[") (Mark (operator_mark op) ∷ rest) ≡ None
+no_index_mark : (op : BinaryOperator) (rest : List Word) → expect (codes "[") (Mark (operator_mark op) ∷ rest) ≡ Err (suc (length rest))
 unfolding expect
 no_index_mark binary.Add rest = refl
 no_index_mark binary.Subtract rest = refl
@@ -160,7 +160,7 @@ no_index_mark binary.GreaterOrEqual rest = refl
 no_index_mark binary.And rest = refl
 no_index_mark binary.Or rest = refl
 
-no_arguments_mark : (op : BinaryOperator) (rest : List Word) → expect (codes "(") (Mark (operator_mark op) ∷ rest) ≡ None
+no_arguments_mark : (op : BinaryOperator) (rest : List Word) → expect (codes "(") (Mark (operator_mark op) ∷ rest) ≡ Err (suc (length rest))
 unfolding expect
 no_arguments_mark binary.Add rest = refl
 no_arguments_mark binary.Subtract rest = refl

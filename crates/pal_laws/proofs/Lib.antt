@@ -1,10 +1,14 @@
 pub mod Levels
-pub mod Loops
 pub mod Repeats
 pub mod WordsOf
 pub mod Spelled
 pub mod Shaped
 pub mod Longer
+pub mod Extended
+pub mod Begun
+pub mod BegunExpressions
+pub mod BegunStatements
+pub mod BegunPrograms
 pub mod Followed
 pub mod ReadSteps
 pub mod ReadExpressions

@@ -1,6 +1,6 @@
 //! Programs and their words.
 
-ghost use Rattle.std.specs.Prelude.{◌≡◌, List, Some};
+ghost use Rattle.std.specs.Prelude.{◌≡◌, List, Ok};
 ghost use Rattle.pal_meaning.specs.Grammar.{IsWritten};
 ghost use Rattle.pal_laws.specs.GrammarReading.{program_at};
 ghost use Rattle.pal_meaning.specs.Grammar.{Word};
@@ -9,12 +9,12 @@ ghost use Rattle.pal_meaning.specs.Syntax.{Program};
 /// What is read as a program is written so: the words are those of the program, its operators stand
 /// in the order of their ranks, and it opens at most 64 levels.
 pub fn program_is_written_so()
-    ensures { (words : List Word) (program : Program) → program_at words ≡ Some program → IsWritten words program }
+    ensures { (words : List Word) (program : Program) → program_at words ≡ Ok program → IsWritten words program }
 {}
 
 /// What is written as a program is read as it.
 pub fn written_program_is_read()
-    ensures { (words : List Word) (program : Program) → IsWritten words program → program_at words ≡ Some program }
+    ensures { (words : List Word) (program : Program) → IsWritten words program → program_at words ≡ Ok program }
 {}
 
 /// Words are written as one program at most.
