@@ -3,7 +3,7 @@
 ghost use Rattle.std.specs.Prelude.{◌≡◌, ◌≤◌};
 ghost use Rattle.apex_types.specs.declared.limits.TheConstants.{MOST_TICKS};
 
-/// A count of processor ticks, or the tick of that number. Ticks of a run are below 2^40.
+/// A count of processor ticks, or the tick of that number.
 #[derive(Clone, Copy, Debug, PartialEq, Eq, PartialOrd, Ord)]
 pub struct Ticks(pub u64);
 
