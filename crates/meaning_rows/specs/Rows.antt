@@ -2,6 +2,7 @@
 -- text of a trace, over the sources and over the image.
 use Rattle.std.specs.Prelude.{ℕ, ℤ, pos, zero, suc, ◌+◌, true, false, List, [], ◌∷◌, ◌++◌, flat_map, map, Option, Some, None, Result, Ok, Err, option_map, unwrap_or, replicate, codes}
 use Rattle.toml.specs.Parse.{parse_document}
+use Rattle.apex_types.specs.WrittenCosts.{written_costs}
 use Rattle.apex_types.specs.Line.{text_of}
 use Rattle.apex_types.specs.declared.codes.ErrorKind.{ErrorKind}
 use Rattle.apex_types.specs.declared.codes.ModuleAction.TheVariants as of_module
@@ -16,8 +17,8 @@ use Rattle.apex_types.specs.declared.row.WindowRow.{WindowRow}
 use Rattle.compiling_laws.specs.CompiledCode.{section_of}
 use Rattle.pal_meaning.specs.Program.{size_of_body, size_of_procedure, frame_of_body, frame_of_procedure, cost_of_body, cost_of_procedure}
 use Rattle.pal_meaning.specs.Grammar.{words_of}
-use Rattle.pal_laws.specs.GrammarReading.{program_at, ◌>>=◌}
-use Rattle.module_meaning.specs.Table.{Partition, Table}
+use Rattle.pal_laws.specs.GrammarReading.{Answer, program_at}
+use Rattle.module_meaning.specs.Table.{◌>>=◌, Partition, Table}
 use Rattle.machine_meaning.specs.Image.{Item, Image}
 use Rattle.machine_meaning.specs.ImageReading.{Fault, image_at}
 use Rattle.machine_meaning.specs.ImageSpelling.{u32, i64, spelling}
@@ -83,8 +84,13 @@ abbrev pub if_accepted : Result Program Refused → Option Program
 if_accepted (Ok program) = Some program
 if_accepted (Err refused) = None
 
+-- the tree of a source, if it has one
+abbrev pub tree_of : {X : Type 0} → Answer X → Option X
+tree_of (Ok tree) = Some tree
+tree_of (Err left) = None
+
 abbrev pub program_of : Partition → List ℕ → Option Program
-program_of p source = program_at (words_of source) >>= λ tree. if_accepted (verdict p.ports p.period tree)
+program_of p source = tree_of (program_at (words_of source)) >>= λ tree. if_accepted (verdict p.ports p.period tree)
 
 -- the number of the refusal of a source for a partition, 2 where it has no tree, 0 where it is accepted
 abbrev pub number_of_verdict : Result Program Refused → ℕ
@@ -95,14 +101,14 @@ number_of_verdict (Err ByLimit) = 5
 number_of_verdict (Err ByPeriod) = 6
 
 abbrev pub refusal_number : Partition → List ℕ → ℕ
-refusal_number p source = unwrap_or (option_map (λ tree. number_of_verdict (verdict p.ports p.period tree)) (program_at (words_of source))) 2
+refusal_number p source = unwrap_or (option_map (λ tree. number_of_verdict (verdict p.ports p.period tree)) (tree_of (program_at (words_of source)))) 2
 
 -- what each body of a program is: its instructions, the words of its frame, and the sum of its costs
 abbrev pub body_costs : Body → ℕ × ℕ × ℕ
-body_costs b = (size_of_body b, frame_of_body b, cost_of_body b)
+body_costs b = (size_of_body b, frame_of_body b, cost_of_body written_costs b)
 
 abbrev pub procedure_costs : Procedure → ℕ × ℕ × ℕ
-procedure_costs p = (size_of_procedure p, frame_of_procedure p, cost_of_procedure p)
+procedure_costs p = (size_of_procedure p, frame_of_procedure p, cost_of_procedure written_costs p)
 
 abbrev pub handler_costs : Option Body → List (ℕ × ℕ × ℕ)
 handler_costs None = []
