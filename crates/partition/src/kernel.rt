@@ -12,6 +12,7 @@ ghost use Rattle.kernel_meaning.specs.Windows.{tick_from};
 ghost use Rattle.bursts.specs.Quiet.{HasNothingDue};
 ghost use Rattle.partition.specs.Fresh.{AreWithinLimits, idle_kernel};
 ghost use Rattle.partition.specs.View.{fixed_of};
+ghost use Rattle.process_table_base.specs.declared.rooms.TheConstants.{ROOM_TO_TREAT_DUE};
 
 use crate::fixed::Fixed;
 use apex_types::{
@@ -137,10 +138,10 @@ impl Kernel {
     /// Due times and deadlines are treated; the mode of the Clear that a missed deadline leads to, if it
     /// leads to one.
     pub(crate) fn treat_due(&mut self, moment: Moment, out: &mut Out) -> Option<Mode>
-        requires room { HasRoom 93 out.old }
+        requires room { HasRoom ROOM_TO_TREAT_DUE out.old }
         ensures step { IsMade (of_processes self.old (tick.treats_due moment.at self.old).step) self.new out.old out.new }
         ensures clears { result ≡ (tick.treats_due moment.at self.old).clears }
-        ensures grows { Grows 93 out.old out.new }
+        ensures grows { Grows ROOM_TO_TREAT_DUE out.old out.new }
     {
         let action = self.action_of(ErrorKind::DeadlineMissed);
         let free = free_places(&self.processes, &self.errors, self.mode);

@@ -11,6 +11,7 @@ mod modes;
 mod object_services;
 mod partition;
 mod port_services;
+mod rooms;
 mod services;
 mod still;
 mod tick;

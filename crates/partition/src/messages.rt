@@ -1,6 +1,6 @@
 //! The messages that come to a partition and leave it.
 
-ghost use Rattle.std.specs.Prelude.{◌≡◌, ◌≤◌, ◌-◌, ◌+◌, ◌++◌, ◌^◌, [], length, option_map};
+ghost use Rattle.std.specs.Prelude.{◌≡◌, ◌≤◌, ◌<◌, ◌-◌, ◌+◌, ◌++◌, ◌^◌, [], length, option_map};
 ghost use Rattle.apex_types.specs.Room.{HasRoom, Grows};
 ghost use Rattle.kernel_meaning.specs.PortServices as arrival;
 ghost use Rattle.module_meaning.specs.Table.{at_number};
@@ -10,6 +10,7 @@ ghost use Rattle.kernel_meaning.specs.Objects.{port_at, is_source};
 ghost use Rattle.kernel_meaning.specs.Made.{IsMade};
 ghost use Rattle.partition.specs.Members.{member_of, IsMoved, IsTold};
 ghost use Rattle.ports.specs.Held.{message_behind};
+ghost use Rattle.process_table_base.specs.declared.rooms.TheConstants.{ROOM_TO_RELEASE_ALL};
 
 use crate::kernel::Kernel;
 use crate::partition::Partition;
@@ -47,9 +48,9 @@ impl Kernel {
 
     /// The senders that wait at a port enter it in their order, as long as there is room.
     fn admit(&mut self, port: PortId, out: &mut Out)
-        requires { HasRoom 62 out.old }
+        requires { HasRoom ROOM_TO_RELEASE_ALL out.old }
         ensures step { IsMade (of_ports self.old (arrival.admits (with_ports self.old) (meaning.place_of_port port))) self.new out.old out.new }
-        ensures grows { Grows 62 out.old out.new }
+        ensures grows { Grows ROOM_TO_RELEASE_ALL out.old out.new }
     {
         admit(&mut self.processes, &mut self.ports, place_of(port), out);
     }
@@ -158,7 +159,7 @@ impl<E: Executor> Partition<E> {
         message: Words,
         log: &mut L,
     )
-        requires empty { L.held log.old ≡ [] }
+        requires room { 0 < L.room log.old }
         ensures moved { let x = member_of E.Executor self.now mem.now in IsMoved (meaning.goes_out moment.at channel message x) x x (IsTold L.EventLog log.old log.new) }
     {
         let name = Some(self.kernel.name());

@@ -6,6 +6,7 @@ ghost use Rattle.kernel_meaning.specs.Kernel.{of_processes};
 ghost use Rattle.kernel_meaning.specs.PartitionServices as meaning;
 ghost use Rattle.kernel_meaning.specs.Processes.{rests_found, row_of};
 ghost use Rattle.kernel_meaning.specs.Made.{IsMade, IsTold};
+ghost use Rattle.partition.specs.declared.rooms.TheConstants.{ROOM_TO_SET_MODE, ROOM_TO_START_NORMALLY};
 
 use crate::kernel::Kernel;
 use apex_types::{
@@ -60,9 +61,9 @@ impl Kernel {
 
     /// INIT becomes dormant, the mode normal, then those that wait for it start in number order.
     fn start_normally(&mut self, moment: Moment, out: &mut Out)
-        requires room { HasRoom 33 out.old }
+        requires room { HasRoom ROOM_TO_START_NORMALLY out.old }
         ensures step { IsMade (meaning.starts_normally moment.at self.old) self.new out.old out.new }
-        ensures grows { Grows 33 out.old out.new }
+        ensures grows { Grows ROOM_TO_START_NORMALLY out.old out.new }
     {
         let points = self.points(moment);
         self.rest(Runner::Init, out);
@@ -103,9 +104,9 @@ impl Kernel {
     /// INVALID_PARAM: the number is no mode's; NO_ACTION: normal mode in normal mode; INVALID_MODE: a
     /// warm start in a cold start.
     pub fn set_partition_mode(&mut self, moment: Moment, caller: Runner, mode: i64, out: &mut Out)
-        requires room { HasRoom 34 out.old }
+        requires room { HasRoom ROOM_TO_SET_MODE out.old }
         ensures step { IsMade (meaning.set_partition_mode moment.at self.old caller mode) self.new out.old out.new }
-        ensures grows { Grows 34 out.old out.new }
+        ensures grows { Grows ROOM_TO_SET_MODE out.old out.new }
     {
         let service = Service::SetPartitionMode;
         let processes = &self.processes;

@@ -6,6 +6,8 @@ ghost use Rattle.kernel_meaning.specs.Partition as meaning;
 ghost use Rattle.kernel_meaning.specs.Made.{IsMade};
 ghost use Rattle.partition.specs.Members.{member_of, acts_all, IsMoved, IsTold};
 ghost use Rattle.processor.specs.Views.{asks_of};
+ghost use Rattle.partition.specs.declared.rooms.TheConstants.{ROOM_FOR_DUE, ROOM_FOR_TICK, ROOM_TO_CHOOSE, ROOM_TO_CLEAR, ROOM_TO_PREPARE, ROOM_TO_SERVE};
+ghost use Rattle.process_table_base.specs.declared.rooms.TheConstants.{ROOM_TO_TREAT_DUE};
 
 use crate::acting::{act_all, tell};
 use crate::partition::Partition;
@@ -81,12 +83,12 @@ impl<E: Executor> Partition<E> {
     fn treat<L: EventLog>(&mut self, mem: &mut E::Mem, moment: Moment, log: &mut L) -> Option<Mode>
         requires fits { E.laid mem.old ≡ E.layout self.old.executor }
         requires idle { IsEmpty self.old.out }
-        requires room { 93 ≤ L.room log.old }
+        requires room { ROOM_TO_TREAT_DUE ≤ L.room log.old }
         ensures fits { E.laid mem.new ≡ E.layout self.new.executor }
         ensures idle { IsEmpty self.new.out }
         ensures clears { result ≡ (meaning.treats_due moment.at (member_of E.Executor self.old mem.old).world.kernel).clears }
         ensures moved { let x = member_of E.Executor self.old mem.old in IsMoved (meaning.treating_phase x.engine moment.at x.world) x (member_of E.Executor self.new mem.new) (IsTold L.EventLog log.old log.new) }
-        ensures few { L.room log.old ≤ L.room log.new + 93 }
+        ensures few { L.room log.old ≤ L.room log.new + ROOM_TO_TREAT_DUE }
     {
         let name = self.kernel.name();
         let clears = self.kernel.treat_due(moment, &mut self.out);
@@ -104,11 +106,11 @@ impl<E: Executor> Partition<E> {
     )
         requires fits { E.laid mem.old ≡ E.layout self.old.executor }
         requires idle { IsEmpty self.old.out }
-        requires room { 3 ≤ L.room log.old }
+        requires room { ROOM_TO_CLEAR ≤ L.room log.old }
         ensures fits { E.laid mem.new ≡ E.layout self.new.executor }
         ensures idle { IsEmpty self.new.out }
         ensures moved { let x = member_of E.Executor self.old mem.old in IsMoved (meaning.clearing_phase x.engine moment.at clears x.world) x (member_of E.Executor self.new mem.new) (IsTold L.EventLog log.old log.new) }
-        ensures few { L.room log.old ≤ L.room log.new + 3 }
+        ensures few { L.room log.old ≤ L.room log.new + ROOM_TO_CLEAR }
     {
         if clears.is_some() {
             let name = self.kernel.name();
@@ -121,11 +123,11 @@ impl<E: Executor> Partition<E> {
     fn treat_due<L: EventLog>(&mut self, mem: &mut E::Mem, moment: Moment, log: &mut L)
         requires fits { E.laid mem.old ≡ E.layout self.old.executor }
         requires idle { IsEmpty self.old.out }
-        requires room { 96 ≤ L.room log.old }
+        requires room { ROOM_FOR_DUE ≤ L.room log.old }
         ensures fits { E.laid mem.new ≡ E.layout self.new.executor }
         ensures idle { IsEmpty self.new.out }
         ensures moved { let x = member_of E.Executor self.old mem.old in IsMoved (meaning.due_phase x.engine moment.at x.world) x (member_of E.Executor self.new mem.new) (IsTold L.EventLog log.old log.new) }
-        ensures few { L.room log.old ≤ L.room log.new + 96 }
+        ensures few { L.room log.old ≤ L.room log.new + ROOM_FOR_DUE }
     {
         let clears = self.treat(mem, moment, log);
         self.then_clear(mem, moment, clears, log);
@@ -135,11 +137,11 @@ impl<E: Executor> Partition<E> {
     fn choose<L: EventLog>(&mut self, mem: &mut E::Mem, moment: Moment, log: &mut L)
         requires fits { E.laid mem.old ≡ E.layout self.old.executor }
         requires idle { IsEmpty self.old.out }
-        requires room { 3 ≤ L.room log.old }
+        requires room { ROOM_TO_CHOOSE ≤ L.room log.old }
         ensures fits { E.laid mem.new ≡ E.layout self.new.executor }
         ensures idle { IsEmpty self.new.out }
         ensures moved { let x = member_of E.Executor self.old mem.old in IsMoved (meaning.choice_phase x.engine moment.at x.world) x (member_of E.Executor self.new mem.new) (IsTold L.EventLog log.old log.new) }
-        ensures few { L.room log.old ≤ L.room log.new + 3 }
+        ensures few { L.room log.old ≤ L.room log.new + ROOM_TO_CHOOSE }
     {
         let name = self.kernel.name();
         self.kernel.choose(&mut self.out);
@@ -150,11 +152,11 @@ impl<E: Executor> Partition<E> {
     fn prepare<L: EventLog>(&mut self, mem: &mut E::Mem, moment: Moment, log: &mut L)
         requires fits { E.laid mem.old ≡ E.layout self.old.executor }
         requires idle { IsEmpty self.old.out }
-        requires room { 99 ≤ L.room log.old }
+        requires room { ROOM_TO_PREPARE ≤ L.room log.old }
         ensures fits { E.laid mem.new ≡ E.layout self.new.executor }
         ensures idle { IsEmpty self.new.out }
         ensures moved { let x = member_of E.Executor self.old mem.old in IsMoved (meaning.prepares x.engine moment.at x.world) x (member_of E.Executor self.new mem.new) (IsTold L.EventLog log.old log.new) }
-        ensures few { L.room log.old ≤ L.room log.new + 99 }
+        ensures few { L.room log.old ≤ L.room log.new + ROOM_TO_PREPARE }
     {
         self.treat_due(mem, moment, log);
         self.choose(mem, moment, log);
@@ -164,7 +166,7 @@ impl<E: Executor> Partition<E> {
     fn spend<L: EventLog>(&mut self, mem: &mut E::Mem, moment: Moment, runner: Runner, log: &mut L)
         requires fits { E.laid mem.old ≡ E.layout self.old.executor }
         requires idle { IsEmpty self.old.out }
-        requires room { 94 ≤ L.room log.old }
+        requires room { ROOM_TO_SERVE ≤ L.room log.old }
         ensures fits { E.laid mem.new ≡ E.layout self.new.executor }
         ensures idle { IsEmpty self.new.out }
         ensures moved { let x = member_of E.Executor self.old mem.old in IsMoved (meaning.spends x.engine moment.at runner x.world) x (member_of E.Executor self.new mem.new) (IsTold L.EventLog log.old log.new) }
@@ -181,7 +183,7 @@ impl<E: Executor> Partition<E> {
     fn spend_chosen<L: EventLog>(&mut self, mem: &mut E::Mem, moment: Moment, log: &mut L)
         requires fits { E.laid mem.old ≡ E.layout self.old.executor }
         requires idle { IsEmpty self.old.out }
-        requires room { 94 ≤ L.room log.old }
+        requires room { ROOM_TO_SERVE ≤ L.room log.old }
         ensures fits { E.laid mem.new ≡ E.layout self.new.executor }
         ensures idle { IsEmpty self.new.out }
         ensures moved { let x = member_of E.Executor self.old mem.old in IsMoved (meaning.spending_phase x.engine moment.at x.world) x (member_of E.Executor self.new mem.new) (IsTold L.EventLog log.old log.new) }
@@ -214,6 +216,18 @@ impl<E: Executor> Partition<E> {
         ensures moved { let x = member_of E.Executor self.old mem.old in IsMoved (meaning.advances moment.at x) x (member_of E.Executor self.new mem.new) (IsTold L.EventLog log.old log.new) }
     {
         self.out.clear();
+        self.whole_tick(mem, moment, log);
+    }
+
+    /// The same, where no phase has told or asked for anything that is not yet done.
+    pub(crate) fn whole_tick<L: EventLog>(&mut self, mem: &mut E::Mem, moment: Moment, log: &mut L)
+        requires fits { E.laid mem.old ≡ E.layout self.old.executor }
+        requires idle { IsEmpty self.old.out }
+        requires room { ROOM_FOR_TICK ≤ L.room log.old }
+        ensures fits { E.laid mem.new ≡ E.layout self.new.executor }
+        ensures idle { IsEmpty self.new.out }
+        ensures moved { let x = member_of E.Executor self.old mem.old in IsMoved (meaning.advances moment.at x) x (member_of E.Executor self.new mem.new) (IsTold L.EventLog log.old log.new) }
+    {
         self.prepare(mem, moment, log);
         self.spend_chosen(mem, moment, log);
     }

@@ -2,7 +2,7 @@
 
 ghost use Rattle.std.specs.Prelude.{◌≡◌, ◌<◌, ◌≤◌, ◌*◌, length, true, None, Some};
 ghost use Rattle.apex_types.specs.Room.{HasRoom, Grows};
-ghost use Rattle.apex_types.specs.declared.limits.TheConstants.{MOST_OBJECTS, MOST_PROCESSES};
+ghost use Rattle.apex_types.specs.declared.limits.TheConstants.{MOST_OBJECTS};
 ghost use Rattle.kernel_meaning.specs.PortServices as meaning;
 ghost use Rattle.kernel_meaning.specs.Objects.{is_sampling, port_at};
 ghost use Rattle.kernel_meaning.specs.PortServices.{list};
@@ -10,6 +10,7 @@ ghost use Rattle.kernel_meaning.specs.Sharing.{both};
 ghost use Rattle.kernel_meaning.specs.Made.{IsMade};
 ghost use Rattle.kernel_meaning.specs.Sharing.{first_waiting};
 ghost use Rattle.ports.specs.Status.{placed_port, port_status};
+ghost use Rattle.process_table_base.specs.declared.rooms.TheConstants.{ROOM_TO_RELEASE_ALL};
 
 use crate::port::PortStatus;
 use crate::ports::Ports;
@@ -139,8 +140,7 @@ fn admit_each(
     place: u8,
     out: &mut Out,
 )
-    requires few { length entries.now ≤ MOST_PROCESSES }
-    requires room { HasRoom (2 * length entries.now) out.old }
+    requires { HasRoom (2 * length entries.now) out.old }
     ensures step { IsMade (meaning.all_enter entries.now place (both table.old ports.old)) (both table.new ports.new) out.old out.new }
     ensures grows { Grows (2 * length entries.now) out.old out.new }
 {
@@ -153,9 +153,9 @@ fn admit_each(
 /// The senders that wait at the port at a place enter it in their order, as long as there is room.
 #[tactic(auto, using(crate::proofs::Entering::entering))]
 pub fn admit(table: &mut ProcessTable, ports: &mut Ports, place: u8, out: &mut Out)
-    requires { HasRoom 62 out.old }
+    requires { HasRoom ROOM_TO_RELEASE_ALL out.old }
     ensures step { IsMade (meaning.admits (both table.old ports.old) place) (both table.new ports.new) out.old out.new }
-    ensures grows { Grows 62 out.old out.new }
+    ensures grows { Grows ROOM_TO_RELEASE_ALL out.old out.new }
 {
     if place < ports.count() {
         let entries = table.waiting(ListKey::Port(place));

@@ -6,10 +6,9 @@ ghost use Rattle.apex_types.specs.Runners.{place_of};
 ghost use Rattle.kernel_meaning.specs.Times as meaning;
 ghost use Rattle.kernel_meaning.specs.Processes.{row_of};
 ghost use Rattle.kernel_meaning.specs.Made.{IsMade};
-ghost use Rattle.links.specs.Timers.{IsDueMask};
 ghost use Rattle.process_table_base.specs.Bounds.{IsBounded};
+ghost use Rattle.process_table_base.specs.declared.rooms.TheConstants.{ROOM_TO_TREAT_DUE};
 ghost use Rattle.process_table_base.specs.DueMask.{IsSplit};
-ghost use Rattle.process_table_base.specs.Timed.{deadlines, due_times};
 ghost use Rattle.process_table_base.specs.Treating.{IsTreated};
 
 use crate::start::released_at;
@@ -144,34 +143,6 @@ impl ProcessTable {
         self.treat_deadline(moment, free, action, process, out)
     }
 
-    /// Each process of the mask in number order, until one of them leads to a Clear.
-    fn treat_all(
-        &mut self,
-        moment: Moment,
-        free: u8,
-        action: PartitionAction,
-        mask: u64,
-        out: &mut Out,
-    ) -> Treated
-        requires room { HasRoom 93 out.old }
-        requires few { length self.old.rows ≤ MOST_RUNNERS }
-        requires mask { IsDueMask moment.at.now.0 (due_times self.old.rows) (deadlines self.old.rows) mask }
-        ensures treated { IsTreated (meaning.due moment.at free action self.old) self.new out.old out.new result }
-        ensures grows { Grows 93 out.old out.new }
-    {
-        let mut left = mask;
-        let mut free = free;
-        while let Some((process, rest)) = split_first(left) {
-            let treated = self.treat(moment, free, action, process, out);
-            if treated.clears.is_some() {
-                return treated;
-            }
-            free = treated.free;
-            left = rest;
-        }
-        Treated { free, clears: None }
-    }
-
     /// Each process in number order: its due time if it is at most now, then its deadline if it is
     /// at most now. `free` more errors may wait for the error handler, and `action` is the
     /// partition's for a missed deadline: an action that leads to a Clear ends the treatment.
@@ -182,12 +153,21 @@ impl ProcessTable {
         action: PartitionAction,
         out: &mut Out,
     ) -> Treated
-        requires room { HasRoom 93 out.old }
+        requires room { HasRoom ROOM_TO_TREAT_DUE out.old }
         ensures treated { IsTreated (meaning.due moment.at free action self.old) self.new out.old out.new result }
-        ensures grows { Grows 93 out.old out.new }
+        ensures grows { Grows ROOM_TO_TREAT_DUE out.old out.new }
     {
-        let mask = self.due_mask(moment.at.now);
-        self.treat_all(moment, free, action, mask, out)
+        let mut left = self.due_mask(moment.at.now);
+        let mut free = free;
+        while let Some((process, rest)) = split_first(left) {
+            let treated = self.treat(moment, free, action, process, out);
+            if treated.clears.is_some() {
+                return treated;
+            }
+            free = treated.free;
+            left = rest;
+        }
+        Treated { free, clears: None }
     }
 }
 

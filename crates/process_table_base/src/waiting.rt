@@ -12,13 +12,14 @@ ghost use Rattle.kernel_meaning.specs.Made.{IsMade};
 ghost use Rattle.kernel_meaning.specs.Sharing as meaning;
 ghost use Rattle.kernel_laws.specs.WaitingOrder.{AreQueues};
 ghost use Rattle.process_table_base.specs.Bounds.{IsBounded};
+ghost use Rattle.process_table_base.specs.declared.rooms.TheConstants.{ROOM_TO_GIVE_ALL, ROOM_TO_RELEASE_ALL};
 ghost use Rattle.process_table_base.specs.LeastNumber.{IsLeast};
 
 use crate::change::zeros;
 use crate::duration::time_out;
 use crate::table::ProcessTable;
 use apex_types::{
-    Action, ArrayPlace, Entry, ListKey, MOST_PROCESSES, MOST_RUNNERS, Moment, Out, ProcessIndex,
+    Action, ArrayPlace, Entry, ListKey, MOST_RUNNERS, Moment, Out, ProcessIndex,
     ProcessStatus, ReturnCode, Runner, Wait, Waiting, Words, copied,
 };
 use links::Entries;
@@ -191,8 +192,7 @@ impl ProcessTable {
 
     /// Releases each of these in turn.
     fn release_each(&mut self, entries: &[Entry], out: &mut Out)
-        requires few { length entries.now ≤ MOST_PROCESSES }
-        requires room { HasRoom (2 * length entries.now) out.old }
+        requires { HasRoom (2 * length entries.now) out.old }
         ensures step { IsMade (meaning.releases_all entries.now self.old) self.new out.old out.new }
         ensures grows { Grows (2 * length entries.now) out.old out.new }
     {
@@ -204,9 +204,9 @@ impl ProcessTable {
 
     /// Releases all who wait in a list, in its order.
     pub fn release_all(&mut self, list: ListKey, out: &mut Out)
-        requires { HasRoom 62 out.old }
+        requires { HasRoom ROOM_TO_RELEASE_ALL out.old }
         ensures step { IsMade (meaning.releases_all (meaning.waiting self.old list) self.old) self.new out.old out.new }
-        ensures grows { Grows 62 out.old out.new }
+        ensures grows { Grows ROOM_TO_RELEASE_ALL out.old out.new }
     {
         let entries = self.waiting(list);
         self.release_each(entries.as_slice(), out);
@@ -245,8 +245,7 @@ impl ProcessTable {
 
     /// Gives a message to each of these in turn.
     fn give_each(&mut self, entries: &[Entry], message: &Words, out: &mut Out)
-        requires few { length entries.now ≤ MOST_PROCESSES }
-        requires room { HasRoom (3 * length entries.now) out.old }
+        requires { HasRoom (3 * length entries.now) out.old }
         ensures step { IsMade (meaning.gives_all entries.now message.now self.old) self.new out.old out.new }
         ensures grows { Grows (3 * length entries.now) out.old out.new }
     {
@@ -258,9 +257,9 @@ impl ProcessTable {
 
     /// Gives a message to all who wait in a list, in its order.
     pub fn give_all(&mut self, list: ListKey, message: &Words, out: &mut Out)
-        requires { HasRoom 93 out.old }
+        requires { HasRoom ROOM_TO_GIVE_ALL out.old }
         ensures step { IsMade (meaning.gives_all (meaning.waiting self.old list) message.now self.old) self.new out.old out.new }
-        ensures grows { Grows 93 out.old out.new }
+        ensures grows { Grows ROOM_TO_GIVE_ALL out.old out.new }
     {
         let entries = self.waiting(list);
         self.give_each(entries.as_slice(), message, out);

@@ -11,6 +11,7 @@ ghost use Rattle.kernel_meaning.specs.Sharing.{answers};
 ghost use Rattle.sync_objects_base.specs.Status.{blackboard_at};
 ghost use Rattle.kernel_meaning.specs.Sharing.{both};
 ghost use Rattle.sync_objects.specs.Both.{number_of_occupied};
+ghost use Rattle.process_table_base.specs.declared.rooms.TheConstants.{ROOM_TO_GIVE_ALL};
 
 use apex_types::{
     Action, ArrayPlace, Discipline, ListKey, Mode, Moment, Out, ReturnCode, Runner, Service,
@@ -81,9 +82,9 @@ fn display(
     out: &mut Out,
 )
     requires place { place < MOST_OBJECTS }
-    requires room { HasRoom 94 out.old }
+    requires room { HasRoom (1 + ROOM_TO_GIVE_ALL) out.old }
     ensures step { let b = both table.old objects.old in IsMade (after (answers b caller Service.DisplayBlackboard ReturnCode.NoError []) (meaning.displays b message place (blackboard_at objects.old place))) (both table.new objects.new) out.old out.new }
-    ensures grows { Grows 94 out.old out.new }
+    ensures grows { Grows (1 + ROOM_TO_GIVE_ALL) out.old out.new }
 {
     let service = Service::DisplayBlackboard;
     table.answer(caller, service, ReturnCode::NoError, &[], out);
@@ -105,9 +106,9 @@ pub fn display_blackboard(
     words: &Words,
     out: &mut Out,
 )
-    requires { HasRoom 94 out.old }
+    requires { HasRoom (1 + ROOM_TO_GIVE_ALL) out.old }
     ensures step { IsMade (meaning.display_blackboard (both table.old objects.old) caller id array length words.now.items) (both table.new objects.new) out.old out.new }
-    ensures grows { Grows 94 out.old out.new }
+    ensures grows { Grows (1 + ROOM_TO_GIVE_ALL) out.old out.new }
 {
     let service = Service::DisplayBlackboard;
     let Some((place, blackboard)) = objects.blackboard(id) else {

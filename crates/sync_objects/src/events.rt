@@ -5,6 +5,7 @@ ghost use Rattle.apex_types.specs.Room.{HasRoom, Grows};
 ghost use Rattle.kernel_meaning.specs.EventServices as meaning;
 ghost use Rattle.kernel_meaning.specs.Made.{IsMade};
 ghost use Rattle.kernel_meaning.specs.Sharing.{both};
+ghost use Rattle.process_table_base.specs.declared.rooms.TheConstants.{ROOM_TO_RELEASE_ALL};
 
 use apex_types::{
     Discipline, ListKey, Mode, Moment, Out, ReturnCode, Runner, Service, Waiting, Words,
@@ -72,9 +73,9 @@ pub fn set_event(
     id: i64,
     out: &mut Out,
 )
-    requires { HasRoom 63 out.old }
+    requires { HasRoom (1 + ROOM_TO_RELEASE_ALL) out.old }
     ensures step { IsMade (meaning.set_event (both table.old objects.old) caller id) (both table.new objects.new) out.old out.new }
-    ensures grows { Grows 63 out.old out.new }
+    ensures grows { Grows (1 + ROOM_TO_RELEASE_ALL) out.old out.new }
 {
     let service = Service::SetEvent;
     match objects.event(id) {

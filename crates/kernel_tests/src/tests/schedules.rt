@@ -1,8 +1,9 @@
 //! A schedule with gaps: whose ticks they are, when windows end, and when partitions are released.
 
-ghost use Rattle.std.specs.Prelude.{◌≤◌, ◌^◌};
+ghost use Rattle.std.specs.Prelude.{◌≤◌};
+ghost use Rattle.apex_types.specs.declared.limits.TheConstants.{MOST_TICKS};
 
-use apex_types::{At, PartitionId, Ticks};
+use apex_types::{At, Moment, PartitionId, Ticks};
 use std::alloc::Global;
 use std::process::Abort;
 use window_table::{Schedule, read_table};
@@ -78,13 +79,15 @@ fn expect_frames(
     requires { origin ≤ 1000 }
 {
     for tick in 0..60u64 {
-        let at = At {
-            now: Ticks(origin + tick),
-            origin: Ticks(origin),
+        let moment = Moment {
+            at: At {
+                now: Ticks(origin + tick),
+                origin: Ticks(origin),
+            },
         };
-        let owner = number(schedule.owner(at));
+        let owner = number(schedule.owner(moment));
         assert_eq!(rt; owner, at_place(owners, tick), "owner at {tick}");
-        let ends = number(schedule.ended(at));
+        let ends = number(schedule.ended(moment));
         assert_eq!(rt; ends, at_place(ended, tick), "ended at {tick}");
     }
 }
@@ -92,13 +95,15 @@ fn expect_frames(
 /// The next release of a partition after a tick.
 fn next(schedule: &Schedule, partition: u8, now: u64, origin: u64) -> u64
     requires past { origin ≤ now }
-    requires tick_limit { now ≤ 2 ^ 40 }
+    requires within { now ≤ MOST_TICKS }
 {
-    let at = At {
-        now: Ticks(now),
-        origin: Ticks(origin),
+    let moment = Moment {
+        at: At {
+            now: Ticks(now),
+            origin: Ticks(origin),
+        },
     };
-    schedule.next_release(PartitionId(partition), at).0
+    schedule.next_release(PartitionId(partition), moment).0
 }
 
 /// A partition, a tick, the origin, and the partition's next release after the tick.
@@ -211,6 +216,9 @@ fn the_end_of_a_frame(rt: HostRuntime) {
     for (now, ended) in [(3, 0), (10, 0), (11, 1), (12, 0), (19, 1)] {
         let now = Ticks(now);
         assert!(rt; now >= origin && now.0 < 100);
-        assert_eq!(rt; number(schedule.ended(At { now, origin })), ended);
+        let moment = Moment {
+            at: At { now, origin },
+        };
+        assert_eq!(rt; number(schedule.ended(moment)), ended);
     }
 }

@@ -5,7 +5,7 @@ ghost use Rattle.partition.specs.Fresh.{AreWithinLimits};
 ghost use Rattle.scripted.specs.Plays.{laid_of, layout_of};
 
 use apex_types::{
-    At, BodyRow, Call, ErrorKind, Events, HealthTable, Name, PartitionAction, PartitionId,
+    At, BodyRow, Call, ErrorKind, Events, HealthTable, Moment, Name, PartitionAction, PartitionId,
     Priority, ProcessRow, Section, StartCondition, Ticks, TraceBuffer, WriterSink,
 };
 use partition::{Fixed, Partition};
@@ -182,11 +182,13 @@ fn expect_tick(
     ensures { laid_of mem.new ≡ layout_of partition.new.executor }
 {
     let mut trace = TraceBuffer::new();
-    let at = At {
-        now: Ticks(u64::from(now)),
-        origin: Ticks(0),
+    let moment = Moment {
+        at: At {
+            now: Ticks(u64::from(now)),
+            origin: Ticks(0),
+        },
     };
-    partition.tick(mem, at, &mut trace);
+    partition.tick(mem, moment, &mut trace);
     expect_lines(rt, alloc, &mut trace, lines);
 }
 
@@ -205,9 +207,11 @@ fn scripts_are_played(rt: HostRuntime) {
     let mut memory = memory(alloc).expect(&rt, "memory");
     let mem = memory.lend(PartitionId(1));
     let mut events = Events::new();
-    let start = At {
-        now: Ticks(0),
-        origin: Ticks(0),
+    let start = Moment {
+        at: At {
+            now: Ticks(0),
+            origin: Ticks(0),
+        },
     };
     partition.clear(mem, start, StartCondition::NormalStart, &mut events);
     expect_tick(&rt, alloc, &mut partition, mem, 0, CREATED);
@@ -231,9 +235,11 @@ fn a_thousand_silent_ticks_are_at_most_two_calls(rt: HostRuntime) {
     let mut memory = memory(alloc).expect(&rt, "memory");
     let mem = memory.lend(PartitionId(1));
     let mut events = Events::new();
-    let start = At {
-        now: Ticks(0),
-        origin: Ticks(0),
+    let start = Moment {
+        at: At {
+            now: Ticks(0),
+            origin: Ticks(0),
+        },
     };
     partition.clear(mem, start, StartCondition::NormalStart, &mut events);
     expect_tick(&rt, alloc, &mut partition, mem, 0, CREATED);
@@ -241,12 +247,14 @@ fn a_thousand_silent_ticks_are_at_most_two_calls(rt: HostRuntime) {
     expect_tick(&rt, alloc, &mut partition, mem, 2, NORMAL);
     expect_tick(&rt, alloc, &mut partition, mem, 3, RUNNING);
     let before = partition.executor().calls();
-    let at = At {
-        now: Ticks(4),
-        origin: Ticks(0),
+    let moment = Moment {
+        at: At {
+            now: Ticks(4),
+            origin: Ticks(0),
+        },
     };
     let mut events = Events::new();
-    assert_eq!(rt; partition.advance(mem, at, 1000, &mut events), 1000);
+    assert_eq!(rt; partition.advance(mem, moment, 1000, &mut events), 1000);
     assert!(rt; events.is_empty());
     assert!(rt; partition.executor().calls().saturating_sub(before) <= 2);
 }

@@ -9,9 +9,9 @@ use Rattle.partition.proofs.partition.Partition.phase.Goals as goal
 pub returns-then-quiet-eq0-clause-gone : goal.returns-then-quiet-eq0-clause-gone
 returns-then-quiet-eq0-clause-gone g c =
     let x = member_of g.E.Executor c.args.self.now c.args.mem.now in
-    let y = member_of g.E.Executor c.tick.new.self c.tick.new.mem in
+    let y = member_of g.E.Executor c.whole_tick.new.self c.whole_tick.new.mem in
     let m = advances c.args.moment.at x in
-    let done = c.tick.ensures.moved in (
+    let done = c.whole_tick.ensures.moved in (
       m.lines,
       done.1,
       (

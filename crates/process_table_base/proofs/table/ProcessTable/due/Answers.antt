@@ -4,7 +4,7 @@ use Rattle.kernel_meaning.specs.Processes.{Processes}
 use Rattle.kernel_laws.proofs.Steps.{goes_on, due_ends, due_rest}
 use Rattle.process_table_base.specs.DueMask.{IsFirstOf}
 use Rattle.process_table_base.proofs.Treating.{IsLeft, ended, first_is_left, first_left, next_left}
-use Rattle.process_table_base.proofs.table.ProcessTable.treat_all.Goals as goal
+use Rattle.process_table_base.proofs.table.ProcessTable.due.Goals as goal
 
 pub returns-then-is_some-clause-treated : goal.returns-then-is_some-clause-treated
 returns-then-is_some-clause-treated c =
