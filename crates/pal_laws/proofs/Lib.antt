@@ -9,6 +9,7 @@ pub mod Begun
 pub mod BegunExpressions
 pub mod BegunStatements
 pub mod BegunPrograms
+pub mod Steady
 pub mod Followed
 pub mod ReadSteps
 pub mod ReadExpressions
