@@ -3,6 +3,7 @@
 use Rattle.std.specs.Prelude.{ℕ, ℤ, pos, zero, suc, ◌+◌, true, false, List, [], ◌∷◌, ◌++◌, flat_map, map, Option, Some, None, Result, Ok, Err, option_map, unwrap_or, replicate, codes}
 use Rattle.toml.specs.Parse.{parse_document}
 use Rattle.apex_types.specs.Line.{text_of}
+use Rattle.apex_types.specs.WrittenCosts.{written_costs}
 use Rattle.apex_types.specs.declared.codes.ErrorKind.{ErrorKind}
 use Rattle.apex_types.specs.declared.codes.ModuleAction.TheVariants as of_module
 use Rattle.apex_types.specs.declared.codes.PartitionAction.TheVariants.{Ignore}
@@ -99,10 +100,10 @@ refusal_number p source = unwrap_or (option_map (λ tree. number_of_verdict (ver
 
 -- what each body of a program is: its instructions, the words of its frame, and the sum of its costs
 abbrev pub body_costs : Body → ℕ × ℕ × ℕ
-body_costs b = (size_of_body b, frame_of_body b, cost_of_body b)
+body_costs b = (size_of_body b, frame_of_body b, cost_of_body written_costs b)
 
 abbrev pub procedure_costs : Procedure → ℕ × ℕ × ℕ
-procedure_costs p = (size_of_procedure p, frame_of_procedure p, cost_of_procedure p)
+procedure_costs p = (size_of_procedure p, frame_of_procedure p, cost_of_procedure written_costs p)
 
 abbrev pub handler_costs : Option Body → List (ℕ × ℕ × ℕ)
 handler_costs None = []
