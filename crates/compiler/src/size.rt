@@ -8,8 +8,8 @@ ghost use Rattle.pal_meaning.specs.Program as cost;
 ghost use Rattle.pal_base.specs.ProgramView.{block_of, body_of, procedure_of, process_of, program_of};
 
 use pal_base::checked::Checked;
-use pal_base::cost::{cost_of_block, cost_of_body, cost_of_procedure};
 use pal_base::program::{Body, Procedure, Process, Program, Stmt};
+use pal_base::sizes;
 
 /// A size as 32 bits hold it.
 fn held(size: u64) -> u32
@@ -22,14 +22,14 @@ fn held(size: u64) -> u32
 pub fn size_of_block(block: &[Stmt]) -> u32
     ensures { result ≡ min (cost.size_of_block (block_of block.now)) u32.MAX }
 {
-    held(cost_of_block(block).size)
+    held(sizes::size_of_block(block))
 }
 
 /// The instructions of the body of INIT, of the handler or of a process.
 fn size_of_body(body: &Body) -> u32
     ensures { result ≡ min (cost.size_of_body (body_of body.now)) u32.MAX }
 {
-    held(cost_of_body(body).size)
+    held(sizes::size_of_body(body))
 }
 
 fn size_of_handler(handler: &Option<Body>) -> u32
@@ -55,7 +55,7 @@ fn size_of_processes(processes: &[Process]) -> u32
 fn size_of_procedure(procedure: &Procedure) -> u32
     ensures { result ≡ min (cost.size_of_procedure (procedure_of procedure.now)) u32.MAX }
 {
-    held(cost_of_procedure(procedure).size)
+    held(sizes::size_of_procedure(procedure))
 }
 
 fn size_of_procedures(procedures: &[Procedure]) -> u32

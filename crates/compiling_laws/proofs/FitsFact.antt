@@ -1,5 +1,5 @@
 -- That a program fits the compiler is one fact: it has at most one proof.
-use Rattle.std.specs.Prelude.{◌≡◌, ℕ, Bool, List, [], ◌∷◌, Option, Some, None}
+use Rattle.std.specs.Prelude.{◌≡◌, ℕ, Bool, List, [], ◌∷◌, Option, Some, None, length}
 use Rattle.std.specs.Coded.{×_prop, Unit-prop, Coded-set, coded_option, coded_ℕ, coded_bool}
 use Rattle.std.proofs.Props.{props}
 use Rattle.apex_types.specs.declared.place.Place.{Place}

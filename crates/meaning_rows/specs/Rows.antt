@@ -4,6 +4,7 @@ use Rattle.std.specs.Prelude.{ℕ, ℤ, pos, zero, suc, ◌+◌, true, false, Li
 use Rattle.toml.specs.Parse.{parse_document}
 use Rattle.apex_types.specs.WrittenCosts.{written_costs}
 use Rattle.apex_types.specs.Line.{text_of}
+use Rattle.apex_types.specs.WrittenCosts.{written_costs}
 use Rattle.apex_types.specs.declared.codes.ErrorKind.{ErrorKind}
 use Rattle.apex_types.specs.declared.codes.ModuleAction.TheVariants as of_module
 use Rattle.apex_types.specs.declared.codes.PartitionAction.TheVariants.{Ignore}

@@ -2,6 +2,8 @@
 use Rattle.std.proofs.Common.{◌≡◌, ℕ, ◌+◌, ◌<◌, List, [], ◌∷◌, ◌++◌, length, map, take, get_or, Option, Some, None, Result, Ok, Err, IfOk, refl, sym, ap, ◌∙◌, arith}
 use Rattle.std.specs.Option.{option_map}
 use Rattle.std.proofs.lemmas.List.{map-append, take_more}
+use Rattle.apex_types.specs.declared.cost.Costs.{Costs}
+use Rattle.apex_types.specs.WrittenCosts.{written_costs}
 use Rattle.module_meaning.specs.Table.{Partition, Table}
 use Rattle.image.specs.Items.{partition_of}
 use Rattle.pal_base.specs.ProgramView.{body_of, procedure_of, process_of, program_of}
@@ -24,21 +26,21 @@ use Rattle.module.specs.declared.fault.BuildFault.TheVariants as fault
 
 -- ---- one program
 
-handler_costs : (h : Option code_body.Body) → report.cost_of_handler h ≡ costs_of_handler (option_map body_of h)
-handler_costs None = refl
-handler_costs (Some b) = refl
+handler_costs : (costs : Costs) (h : Option code_body.Body) → report.cost_of_handler costs h ≡ costs_of_handler costs (option_map body_of h)
+handler_costs costs None = refl
+handler_costs costs (Some b) = refl
 
-process_costs : (ps : List code_process.Process) → map report.cost_of_process ps ≡ map cost_of_process (map process_of ps)
-process_costs [] = refl
-process_costs (p ∷ ps) = ap (λ (costs : List BodyCost). report.cost_of_process p ∷ costs) (process_costs ps)
+process_costs : (costs : Costs) (ps : List code_process.Process) → map (report.cost_of_process costs) ps ≡ map (cost_of_process costs) (map process_of ps)
+process_costs costs [] = refl
+process_costs costs (p ∷ ps) = ap (λ (rows : List BodyCost). report.cost_of_process costs p ∷ rows) (process_costs costs ps)
 
-procedure_costs : (ps : List code_procedure.Procedure) → map report.cost_of_procedure ps ≡ costs_of_procedures (names_of_procedures ps) (map procedure_of ps)
-procedure_costs [] = refl
-procedure_costs (p ∷ ps) = ap (λ (costs : List BodyCost). report.cost_of_procedure p ∷ costs) (procedure_costs ps)
+procedure_costs : (costs : Costs) (ps : List code_procedure.Procedure) → map (report.cost_of_procedure costs) ps ≡ costs_of_procedures costs (names_of_procedures ps) (map procedure_of ps)
+procedure_costs costs [] = refl
+procedure_costs costs (p ∷ ps) = ap (λ (rows : List BodyCost). report.cost_of_procedure costs p ∷ rows) (procedure_costs costs ps)
 
-costs_of_code : (p : code_program.Program) → report.costs_of p ≡ costs_of_program (names_of_procedures p.procedures.items) (program_of p)
-costs_of_code p =
-    rw (sym (handler_costs p.handler), sym (process_costs p.processes.items), sym (procedure_costs p.procedures.items)) refl
+costs_of_code : (costs : Costs) (p : code_program.Program) → report.costs_of costs p ≡ costs_of_program costs (names_of_procedures p.procedures.items) (program_of p)
+costs_of_code costs p =
+    rw (sym (handler_costs costs p.handler), sym (process_costs costs p.processes.items), sym (procedure_costs costs p.procedures.items)) refl
 
 is_costed : (row : Partition) (source : List ℕ) (a : Checked) (c : PartitionCosts) → IsSource row source a → IsCostOf row a c → IsCosted row source c
 is_costed row source a c is of = record {
@@ -47,7 +49,7 @@ is_costed row source a c is of = record {
   written = is.written;
   program = program_of a.program;
   judged = is.judged;
-  bodies = of.bodies ∙ costs_of_code a.program ∙ ap (λ (names : List (List ℕ)). costs_of_program names (program_of a.program)) is.named;
+  bodies = of.bodies ∙ costs_of_code written_costs a.program ∙ ap (λ (names : List (List ℕ)). costs_of_program written_costs names (program_of a.program)) is.named;
 }
 
 pub are_costed : (rows : List Partition) (sources : List (List ℕ)) (given : List Checked) (costs : List PartitionCosts)

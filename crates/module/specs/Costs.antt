@@ -1,5 +1,7 @@
 -- What the bodies of the partitions of a module cost.
 use Rattle.std.specs.Prelude.{◌≡◌, ℕ, List, [], ◌∷◌, ◌++◌, map, Option, Some, None, Ok}
+use Rattle.apex_types.specs.declared.cost.Costs.{Costs}
+use Rattle.apex_types.specs.WrittenCosts.{written_costs}
 use Rattle.pal_meaning.specs.Program as cost
 use Rattle.module_meaning.specs.Table.{Partition, Table}
 use Rattle.pal_meaning.specs.Program.{Program, Procedure, Body, Process}
@@ -21,27 +23,27 @@ use Rattle.module.specs.declared.fault.BuildFault.TheVariants as fault
 -- ---- the costs of a program
 
 -- its instructions, its frame, and the sum of the costs of its constructs
-abbrev pub cost_of_body : BodyName → Body → BodyCost
-cost_of_body name b = record { name = name; instructions = cost.size_of_body b; frame = cost.frame_of_body b; cost = cost.cost_of_body b }
+abbrev pub cost_of_body : Costs → BodyName → Body → BodyCost
+cost_of_body costs name b = record { name = name; instructions = cost.size_of_body b; frame = cost.frame_of_body b; cost = cost.cost_of_body costs b }
 
-abbrev pub cost_of_procedure : List ℕ → Procedure → BodyCost
-cost_of_procedure name p = record { name = body.Procedure name; instructions = cost.size_of_procedure p; frame = cost.frame_of_procedure p; cost = cost.cost_of_procedure p }
+abbrev pub cost_of_procedure : Costs → List ℕ → Procedure → BodyCost
+cost_of_procedure costs name p = record { name = body.Procedure name; instructions = cost.size_of_procedure p; frame = cost.frame_of_procedure p; cost = cost.cost_of_procedure costs p }
 
-abbrev pub cost_of_process : Process → BodyCost
-cost_of_process p = cost_of_body (body.Process p.name) p.body
+abbrev pub cost_of_process : Costs → Process → BodyCost
+cost_of_process costs p = cost_of_body costs (body.Process p.name) p.body
 
-abbrev pub costs_of_handler : Option Body → List BodyCost
-costs_of_handler None = []
-costs_of_handler (Some b) = cost_of_body body.Handler b ∷ []
+abbrev pub costs_of_handler : Costs → Option Body → List BodyCost
+costs_of_handler costs None = []
+costs_of_handler costs (Some b) = cost_of_body costs body.Handler b ∷ []
 
 -- procedures with these names: a program with its names resolved has numbers in place of them
-abbrev pub costs_of_procedures : List (List ℕ) → List Procedure → List BodyCost
-costs_of_procedures (name ∷ names) (p ∷ ps) = cost_of_procedure name p ∷ costs_of_procedures names ps
-costs_of_procedures _ _ = []
+abbrev pub costs_of_procedures : Costs → List (List ℕ) → List Procedure → List BodyCost
+costs_of_procedures costs (name ∷ names) (p ∷ ps) = cost_of_procedure costs name p ∷ costs_of_procedures costs names ps
+costs_of_procedures costs _ _ = []
 
 -- INIT, the handler, the processes, and the procedures with these names
-abbrev pub costs_of_program : List (List ℕ) → Program → List BodyCost
-costs_of_program names p = cost_of_body body.Init p.init ∷ costs_of_handler p.handler ++ map cost_of_process p.processes ++ costs_of_procedures names p.procedures
+abbrev pub costs_of_program : Costs → List (List ℕ) → Program → List BodyCost
+costs_of_program costs names p = cost_of_body costs body.Init p.init ∷ costs_of_handler costs p.handler ++ map (cost_of_process costs) p.processes ++ costs_of_procedures costs names p.procedures
 
 -- ---- the costs of a module
 
@@ -52,7 +54,7 @@ pub record IsCosted (row : Partition) (source : List ℕ) (c : PartitionCosts) :
   pub written : IsProgramOf source tree
   pub program : Program
   pub judged : verdict row.ports row.period tree ≡ Ok program
-  pub bodies : c.bodies.items ≡ costs_of_program (procedure_names tree.declarations) program
+  pub bodies : c.bodies.items ≡ costs_of_program written_costs (procedure_names tree.declarations) program
 
 -- one for each partition, in order
 abbrev pub AreCosted : List Partition → List (List ℕ) → List PartitionCosts → Type 0
@@ -70,7 +72,7 @@ pub record AreCosts (table : List ℕ) (sources : List (List ℕ)) (costs : List
 
 pub record IsCostOf (row : Partition) (a : Checked) (c : PartitionCosts) : Type 0 where
   pub partition : c.partition ≡ row.name
-  pub bodies : c.bodies.items ≡ costs_of a.program
+  pub bodies : c.bodies.items ≡ costs_of written_costs a.program
 
 abbrev pub AreCostsOf : List Partition → List Checked → List PartitionCosts → Type 0
 AreCostsOf [] [] [] = Unit {0}

@@ -8,7 +8,7 @@ ghost use Rattle.module.specs.Costs.{AreCosted, AreCosts, AreCostsOf, IsCostOf, 
 use crate::accepting::accept_sources;
 use crate::building::read;
 use crate::fault::BuildFault;
-use apex_types::Name;
+use apex_types::{Costs, Name};
 use pal::{BodyCost, Checked, cost_report};
 use std::alloc::{AllocError, Global};
 use window_table::{ModuleTable, PartitionRow};
@@ -83,7 +83,7 @@ fn partition_costs(
 ) -> Result<PartitionCosts, AllocError>
     ensures { IfOk result (λ costs. IsCostOf (partition_of row.now) source costs) }
 {
-    match cost_report(alloc, &source) {
+    match cost_report(alloc, &Costs::written(), &source) {
         Ok(bodies) => Ok(PartitionCosts {
             partition: row.name,
             bodies,

@@ -5,6 +5,7 @@ use Rattle.std.specs.List.{sum}
 use Rattle.std.proofs.Math.Logic.{∥∥₁_elim}
 use Rattle.std.proofs.lemmas.List.{drop_more}
 use Rattle.std.proofs.Props.{props}
+use Rattle.apex_types.specs.declared.cost.Costs.{Costs}
 use Rattle.compiling_laws.specs.Bounds.{IsHeld, IsBodyHeld, IsProcedureHeld, IsHandlerHeld, AreProcessesHeld, AreProceduresHeld, AreCostsHeld}
 use Rattle.pal_meaning.specs.Program as program
 use Rattle.compiling_laws.proofs.ProgramCosts.{accepted_costs}
@@ -22,23 +23,23 @@ use Rattle.pal.specs.declared.report.BodyName.{BodyName}
 
 -- ---- that costs have 64 bits is one fact
 
-handler_prop : (o : Option program.Body) → IsProp (IsHandlerHeld o)
-handler_prop None = hlevel props
-handler_prop (Some b) = hlevel props
+handler_prop : (costs : Costs) (o : Option program.Body) → IsProp (IsHandlerHeld costs o)
+handler_prop costs None = hlevel props
+handler_prop costs (Some b) = hlevel props
 
-processes_prop : (ps : List program.Process) → IsProp (AreProcessesHeld ps)
-processes_prop [] = hlevel props
-processes_prop (p ∷ ps) = let rest = processes_prop ps in hlevel (props, rest)
+processes_prop : (costs : Costs) (ps : List program.Process) → IsProp (AreProcessesHeld costs ps)
+processes_prop costs [] = hlevel props
+processes_prop costs (p ∷ ps) = let rest = processes_prop costs ps in hlevel (props, rest)
 
-procedures_prop : (ps : List program.Procedure) → IsProp (AreProceduresHeld ps)
-procedures_prop [] = hlevel props
-procedures_prop (p ∷ ps) = let rest = procedures_prop ps in hlevel (props, rest)
+procedures_prop : (costs : Costs) (ps : List program.Procedure) → IsProp (AreProceduresHeld costs ps)
+procedures_prop costs [] = hlevel props
+procedures_prop costs (p ∷ ps) = let rest = procedures_prop costs ps in hlevel (props, rest)
 
-costs_prop : (p : program.Program) → IsProp (AreCostsHeld p)
-costs_prop p = hlevel (props, handler_prop, processes_prop, procedures_prop)
+costs_prop : (costs : Costs) (p : program.Program) → IsProp (AreCostsHeld costs p)
+costs_prop costs p = hlevel (props, handler_prop costs, processes_prop costs, procedures_prop costs)
 
-pub checked_costs : (p : code_program.Program) → ∥ IsAccepted (program_of p) ∥₁ → AreCostsHeld (program_of p)
-checked_costs p a = ∥∥₁_elim a (costs_prop (program_of p)) (λ h. accepted_costs h.ports h.period h.text h.tree (program_of p) h.written.1 h.written.0.1 h.judged)
+pub checked_costs : (costs : Costs) (p : code_program.Program) → ∥ IsAccepted (program_of p) ∥₁ → AreCostsHeld costs (program_of p)
+checked_costs costs p a = ∥∥₁_elim a (costs_prop costs (program_of p)) (λ h. accepted_costs costs h.ports h.period h.text h.tree (program_of p) h.written.1 h.written.0.1 h.judged)
 
 -- ---- what is counted is the sum
 
@@ -46,28 +47,26 @@ held_is : (n : ℕ) → IsHeld n → held n ≡ n
 held_is n h = omega arith
 
 -- a row of the report, from what was counted
-abbrev row : BodyName → Cost → ℕ → BodyCost
-row name c f = record { name = name; instructions = c.size; frame = f; cost = c.ticks }
+same_row : (name : BodyName) (ticks : List ℕ) (c : Cost) (size n f frame : ℕ) → n ≡ min size 18446744073709551615 → f ≡ min frame 18446744073709551615 → c ≡ comes_to ticks → IsHeld size → IsHeld (sum ticks) → IsHeld frame
+    → record { name = name; instructions = n; frame = f; cost = c.ticks } ≡ record { name = name; instructions = size; frame = frame; cost = sum ticks }
+same_row name ticks c size n f frame n_is f_is c_is size_fits ticks_fit frame_fits =
+    let row : ℕ → ℕ → ℕ → BodyCost = λ i j k. record { name = name; instructions = i; frame = j; cost = k } in
+    ap (λ i. row i f c.ticks) (n_is ∙ held_is size size_fits)
+    ∙ ap (λ j. row size j c.ticks) (f_is ∙ held_is frame frame_fits)
+    ∙ ap (row size frame) (ap (λ (d : Cost). d.ticks) c_is ∙ held_is (sum ticks) ticks_fit)
 
-same_row : (name : BodyName) (costs : List ℕ) (c : Cost) (f frame : ℕ) → c ≡ comes_to costs → f ≡ held frame → IsHeld (length costs) → IsHeld (sum costs) → IsHeld frame
-    → row name c f ≡ record { name = name; instructions = length costs; frame = frame; cost = sum costs }
-same_row name costs c f frame is frame_is size ticks fits =
-    ap (λ d. row name d f) is ∙ ap (row name (comes_to costs)) (frame_is ∙ held_is frame fits)
-    ∙ ap (λ n. record { name = name; instructions = n; frame = frame; cost = held (sum costs) }) (held_is (length costs) size)
-    ∙ ap (λ n. record { name = name; instructions = length costs; frame = frame; cost = n }) (held_is (sum costs) ticks)
+pub body_is : (costs : Costs) (name : BodyName) (b : Body) (c : Cost) (n f : ℕ) → n ≡ min (program.size_of_body (body_of b)) 18446744073709551615 → f ≡ min (program.frame_of_body (body_of b)) 18446744073709551615 → c ≡ comes_to (program.costs_of_body costs (body_of b)) → IsBodyHeld costs (body_of b)
+    → record { name = name; instructions = n; frame = f; cost = c.ticks } ≡ cost_of_body costs name b
+body_is costs name b c n f n_is f_is c_is h = same_row name (program.costs_of_body costs (body_of b)) c (program.size_of_body (body_of b)) n f (program.frame_of_body (body_of b)) n_is f_is c_is h.0 h.1 h.2
 
-pub body_is : (name : BodyName) (b : Body) (c : Cost) (f : ℕ) → c ≡ comes_to (program.costs_of_body (body_of b)) → f ≡ min (program.frame_of_body (body_of b)) 18446744073709551615 → IsBodyHeld (body_of b)
-    → record { name = name; instructions = c.size; frame = f; cost = c.ticks } ≡ cost_of_body name b
-body_is name b c f is frame_is h = same_row name (program.costs_of_body (body_of b)) c f (program.frame_of_body (body_of b)) is frame_is h.0 h.1 h.2
-
-pub procedure_is : (name : BodyName) (p : code_procedure.Procedure) (c : Cost) (f : ℕ) → c ≡ comes_to (program.costs_of_procedure (procedure_of p)) → f ≡ min (program.frame_of_procedure (procedure_of p)) 18446744073709551615 → IsProcedureHeld (procedure_of p)
-    → record { name = name; instructions = c.size; frame = f; cost = c.ticks } ≡ cost_of_procedure_body name p
-procedure_is name p c f is frame_is h = same_row name (program.costs_of_procedure (procedure_of p)) c f (program.frame_of_procedure (procedure_of p)) is frame_is h.0 h.1 h.2
+pub procedure_is : (costs : Costs) (name : BodyName) (p : code_procedure.Procedure) (c : Cost) (n f : ℕ) → n ≡ min (program.size_of_procedure (procedure_of p)) 18446744073709551615 → f ≡ min (program.frame_of_procedure (procedure_of p)) 18446744073709551615 → c ≡ comes_to (program.costs_of_procedure costs (procedure_of p)) → IsProcedureHeld costs (procedure_of p)
+    → record { name = name; instructions = n; frame = f; cost = c.ticks } ≡ cost_of_procedure_body costs name p
+procedure_is costs name p c n f n_is f_is c_is h = same_row name (program.costs_of_procedure costs (procedure_of p)) c (program.size_of_procedure (procedure_of p)) n f (program.frame_of_procedure (procedure_of p)) n_is f_is c_is h.0 h.1 h.2
 
 -- ---- one after the other
 
-pub next_process : (ps : List code_process.Process) (i : ℕ) (p : code_process.Process) → i < length ps → p ≡ get_or ps i p → AreProcessesHeld (map process_of (drop i ps)) → IsBodyHeld (body_of p.body) × AreProcessesHeld (map process_of (drop (i + 1) ps))
-next_process ps i p within is h = subst (λ qs. AreProcessesHeld (map process_of qs)) (drop_more ps i p within ∙ ap (λ q. q ∷ drop (i + 1) ps) (sym is)) h
+pub next_process : (costs : Costs) (ps : List code_process.Process) (i : ℕ) (p : code_process.Process) → i < length ps → p ≡ get_or ps i p → AreProcessesHeld costs (map process_of (drop i ps)) → IsBodyHeld costs (body_of p.body) × AreProcessesHeld costs (map process_of (drop (i + 1) ps))
+next_process costs ps i p within is h = subst (λ qs. AreProcessesHeld costs (map process_of qs)) (drop_more ps i p within ∙ ap (λ q. q ∷ drop (i + 1) ps) (sym is)) h
 
-pub next_procedure : (ps : List code_procedure.Procedure) (i : ℕ) (p : code_procedure.Procedure) → i < length ps → p ≡ get_or ps i p → AreProceduresHeld (map procedure_of (drop i ps)) → IsProcedureHeld (procedure_of p) × AreProceduresHeld (map procedure_of (drop (i + 1) ps))
-next_procedure ps i p within is h = subst (λ qs. AreProceduresHeld (map procedure_of qs)) (drop_more ps i p within ∙ ap (λ q. q ∷ drop (i + 1) ps) (sym is)) h
+pub next_procedure : (costs : Costs) (ps : List code_procedure.Procedure) (i : ℕ) (p : code_procedure.Procedure) → i < length ps → p ≡ get_or ps i p → AreProceduresHeld costs (map procedure_of (drop i ps)) → IsProcedureHeld costs (procedure_of p) × AreProceduresHeld costs (map procedure_of (drop (i + 1) ps))
+next_procedure costs ps i p within is h = subst (λ qs. AreProceduresHeld costs (map procedure_of qs)) (drop_more ps i p within ∙ ap (λ q. q ∷ drop (i + 1) ps) (sym is)) h

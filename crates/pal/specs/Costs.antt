@@ -1,6 +1,7 @@
 -- What the report of a program's costs has: a row for each body, INIT, the handler, the processes and
 -- the procedures, in this order.
 use Rattle.std.specs.Prelude.{List, [], ◌∷◌, ◌++◌, map, Option, Some, None}
+use Rattle.apex_types.specs.declared.cost.Costs.{Costs}
 use Rattle.pal_meaning.specs.Program as cost
 use Rattle.pal_base.specs.declared.program.Body.{Body}
 use Rattle.pal_base.specs.declared.program.Procedure as code_procedure
@@ -12,31 +13,31 @@ use Rattle.pal.specs.declared.report.BodyName.{BodyName}
 use Rattle.pal.specs.declared.report.BodyName.TheVariants as name
 
 -- its instructions, its frame, and the sum of the costs of its constructs
-abbrev pub cost_of_body : BodyName → Body → BodyCost
-cost_of_body n b = record {
+abbrev pub cost_of_body : Costs → BodyName → Body → BodyCost
+cost_of_body costs n b = record {
   name = n;
   instructions = cost.size_of_body (body_of b);
   frame = cost.frame_of_body (body_of b);
-  cost = cost.cost_of_body (body_of b);
+  cost = cost.cost_of_body costs (body_of b);
 }
 
-abbrev pub cost_of_handler : Option Body → List BodyCost
-cost_of_handler None = []
-cost_of_handler (Some b) = cost_of_body name.Handler b ∷ []
+abbrev pub cost_of_handler : Costs → Option Body → List BodyCost
+cost_of_handler costs None = []
+cost_of_handler costs (Some b) = cost_of_body costs name.Handler b ∷ []
 
-abbrev pub cost_of_process : code_process.Process → BodyCost
-cost_of_process p = cost_of_body (name.Process p.name) p.body
+abbrev pub cost_of_process : Costs → code_process.Process → BodyCost
+cost_of_process costs p = cost_of_body costs (name.Process p.name) p.body
 
-abbrev pub cost_of_procedure_body : BodyName → code_procedure.Procedure → BodyCost
-cost_of_procedure_body n p = record {
+abbrev pub cost_of_procedure_body : Costs → BodyName → code_procedure.Procedure → BodyCost
+cost_of_procedure_body costs n p = record {
   name = n;
   instructions = cost.size_of_procedure (procedure_of p);
   frame = cost.frame_of_procedure (procedure_of p);
-  cost = cost.cost_of_procedure (procedure_of p);
+  cost = cost.cost_of_procedure costs (procedure_of p);
 }
 
-abbrev pub cost_of_procedure : code_procedure.Procedure → BodyCost
-cost_of_procedure p = cost_of_procedure_body (name.Procedure p.name) p
+abbrev pub cost_of_procedure : Costs → code_procedure.Procedure → BodyCost
+cost_of_procedure costs p = cost_of_procedure_body costs (name.Procedure p.name) p
 
-abbrev pub costs_of : Program → List BodyCost
-costs_of p = cost_of_body name.Init p.init ∷ cost_of_handler p.handler ++ map cost_of_process p.processes.items ++ map cost_of_procedure p.procedures.items
+abbrev pub costs_of : Costs → Program → List BodyCost
+costs_of costs p = cost_of_body costs name.Init p.init ∷ cost_of_handler costs p.handler ++ map (cost_of_process costs) p.processes.items ++ map (cost_of_procedure costs) p.procedures.items

@@ -1,5 +1,5 @@
--- What a list of costs comes to, as 64 bits hold it: its length and its sum.
-use Rattle.std.specs.Prelude.{ℕ, List, length, min}
+-- What a list of costs comes to, as 64 bits hold it: its sum.
+use Rattle.std.specs.Prelude.{ℕ, List, min}
 use Rattle.std.specs.List.{sum}
 use Rattle.pal_base.specs.declared.cost.Cost.{Cost}
 
@@ -8,4 +8,4 @@ abbrev pub held : ℕ → ℕ
 held n = min n 18446744073709551615
 
 abbrev pub comes_to : List ℕ → Cost
-comes_to costs = record { size = held (length costs); ticks = held (sum costs) }
+comes_to costs = record { ticks = held (sum costs) }

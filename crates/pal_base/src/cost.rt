@@ -1,7 +1,6 @@
-//! What the constructs of a program's parts come to: how many they are, and their ticks.
+//! What the constructs of a program's parts cost: the sum of their ticks.
 
 ghost use Rattle.std.specs.Prelude.{◌≡◌, ◌∷◌, ◌++◌, [], ℕ, List, map};
-ghost use Rattle.apex_types.specs.declared.cost.TheConstants as constant;
 ghost use Rattle.pal_meaning.specs.Program as cost;
 ghost use Rattle.apex_types.specs.ServiceShape as services;
 ghost use Rattle.engine_meaning.specs.Operators as operators;
@@ -9,29 +8,24 @@ ghost use Rattle.pal_base.specs.ProgramView.{expr_of, exprs_of, links_of, stmt_o
 ghost use Rattle.pal_base.specs.Costs.{comes_to};
 
 use crate::program::{Body, Expr, Link, Procedure, Stmt};
-use apex_types::{
-    BRANCH_COST, CALL_COST, ELEMENT_COST, END_COST, JUMP_COST, LITERAL_COST, Place, RETURN_COST,
-    SCALAR_COST, Service, UNARY_COST,
-};
+use apex_types::{Costs, Place, Service};
 
-/// What constructs come to, each once: how many they are, and so how many instructions they become,
-/// and the sum of their ticks. What does not fit 64 bits is the greatest number that does.
+/// What constructs cost, each once: the sum of their ticks. What does not fit 64 bits is the greatest
+/// number that does.
 #[derive(Clone, Copy, Debug, PartialEq, Eq)]
 pub struct Cost {
-    pub size: u64,
     pub ticks: u64,
 }
 
 impl Cost {
-    /// What no construct comes to.
-    pub const NONE: Cost = Cost { size: 0, ticks: 0 };
+    /// What no construct costs.
+    pub const NONE: Cost = Cost { ticks: 0 };
 
-    /// What one construct of so many ticks comes to.
+    /// What one construct of so many ticks costs.
     fn one(ticks: u32) -> Self
         ensures { result ≡ comes_to (ticks ∷ []) }
     {
         Cost {
-            size: 1,
             ticks: u64::from(ticks),
         }
     }
@@ -41,7 +35,6 @@ impl Cost {
         ensures { (xs ys : List ℕ) → self ≡ comes_to xs → others ≡ comes_to ys → result ≡ comes_to (xs ++ ys) }
     {
         Cost {
-            size: self.size.saturating_add(others.size),
             ticks: self.ticks.saturating_add(others.ticks),
         }
     }
@@ -63,117 +56,120 @@ impl Cost {
 
 /// What the constructs of an expression come to.
 #[cycle(cost_of_expr)]
-pub fn cost_of_expr(expr: &Expr) -> Cost
-    ensures { result ≡ comes_to (cost.costs_of_expr (expr_of expr.now)) }
+pub fn cost_of_expr(costs: &Costs, expr: &Expr) -> Cost
+    ensures { result ≡ comes_to (cost.costs_of_expr costs.now (expr_of expr.now)) }
 {
     match expr {
-        Expr::Literal(_) => Cost::one(LITERAL_COST),
-        Expr::Read(_) => Cost::one(SCALAR_COST),
-        Expr::Element(_, _, index) => cost_of_expr(index).and(ELEMENT_COST),
-        Expr::Unary(_, operand) => cost_of_expr(operand).and(UNARY_COST),
-        Expr::Chain(first, links) => cost_of_expr(first).plus(cost_of_links(links)),
-        Expr::Apply(_, arguments) => cost_of_exprs(arguments).and(CALL_COST),
+        Expr::Literal(_) => Cost::one(costs.literal),
+        Expr::Read(_) => Cost::one(costs.scalar),
+        Expr::Element(_, _, index) => cost_of_expr(costs, index).and(costs.array),
+        Expr::Unary(_, operand) => cost_of_expr(costs, operand).and(costs.logic),
+        Expr::Chain(first, links) => cost_of_expr(costs, first).plus(cost_of_links(costs, links)),
+        Expr::Apply(_, arguments) => cost_of_exprs(costs, arguments).and(costs.call),
     }
 }
 
 /// An operator with its right operand.
 #[cycle(cost_of_expr)]
-fn cost_of_link(link: &Link) -> Cost
-    ensures { result ≡ comes_to (cost.costs_of_expr (expr_of link.now.operand) ++ operators.cost_of_binary link.now.operator ∷ []) }
+fn cost_of_link(costs: &Costs, link: &Link) -> Cost
+    ensures { result ≡ comes_to (cost.costs_of_expr costs.now (expr_of link.now.operand) ++ operators.cost_of_binary costs.now link.now.operator ∷ []) }
 {
-    cost_of_expr(&link.operand).and(link.operator.cost())
+    cost_of_expr(costs, &link.operand).and(link.operator.cost(costs))
 }
 
 #[cycle(cost_of_expr)]
-fn cost_of_links(links: &[Link]) -> Cost
-    ensures { result ≡ comes_to (cost.costs_of_links (links_of links.now)) }
+fn cost_of_links(costs: &Costs, links: &[Link]) -> Cost
+    ensures { result ≡ comes_to (cost.costs_of_links costs.now (links_of links.now)) }
 {
     let mut cost = Cost::NONE;
     for link in links {
-        cost = cost.plus(cost_of_link(link));
+        cost = cost.plus(cost_of_link(costs, link));
     }
     cost
 }
 
 /// Expressions one after the other.
 #[cycle(cost_of_expr)]
-fn cost_of_exprs(exprs: &[Expr]) -> Cost
-    ensures { result ≡ comes_to (cost.costs_of_exprs (exprs_of exprs.now)) }
+fn cost_of_exprs(costs: &Costs, exprs: &[Expr]) -> Cost
+    ensures { result ≡ comes_to (cost.costs_of_exprs costs.now (exprs_of exprs.now)) }
 {
     let mut cost = Cost::NONE;
     for expr in exprs {
-        cost = cost.plus(cost_of_expr(expr));
+        cost = cost.plus(cost_of_expr(costs, expr));
     }
     cost
 }
 
 /// The writes of the targets of a service.
-fn cost_of_targets(targets: &[Place]) -> Cost
-    ensures { result ≡ comes_to (map (λ _. constant.SCALAR_COST) targets.now) }
+fn cost_of_targets(costs: &Costs, targets: &[Place]) -> Cost
+    ensures { result ≡ comes_to (map (λ _. costs.now.scalar) targets.now) }
 {
     let mut cost = Cost::NONE;
     for _ in targets {
-        cost = cost.and(SCALAR_COST);
+        cost = cost.and(costs.scalar);
     }
     cost
 }
 
 /// A call of a service with its arguments, and the writes of its targets.
-fn cost_of_service(service: Service, arguments: &[Expr], targets: &[Place]) -> Cost
-    ensures { result ≡ comes_to (cost.costs_of_exprs (exprs_of arguments.now) ++ (services.cost_of_service service ∷ map (λ _. constant.SCALAR_COST) targets.now)) }
+fn cost_of_service(costs: &Costs, service: Service, arguments: &[Expr], targets: &[Place]) -> Cost
+    ensures { result ≡ comes_to (cost.costs_of_exprs costs.now (exprs_of arguments.now) ++ (services.cost_of_service costs.now service ∷ map (λ _. costs.now.scalar) targets.now)) }
 {
-    cost_of_exprs(arguments).joined_by(service.cost(), cost_of_targets(targets))
+    cost_of_exprs(costs, arguments).joined_by(service.cost(costs), cost_of_targets(costs, targets))
 }
 
 /// What the constructs of a statement come to.
 #[cycle(cost_of_stmt)]
-fn cost_of_stmt(stmt: &Stmt) -> Cost
-    ensures { result ≡ comes_to (cost.costs_of_stmt (stmt_of stmt.now)) }
+fn cost_of_stmt(costs: &Costs, stmt: &Stmt) -> Cost
+    ensures { result ≡ comes_to (cost.costs_of_stmt costs.now (stmt_of stmt.now)) }
 {
     match stmt {
-        Stmt::Assign(_, value) => cost_of_expr(value).and(SCALAR_COST),
+        Stmt::Assign(_, value) => cost_of_expr(costs, value).and(costs.scalar),
         Stmt::AssignElement(_, _, index, value) => {
-            cost_of_expr(index)
-                .plus(cost_of_expr(value))
-                .and(ELEMENT_COST)
+            cost_of_expr(costs, index)
+                .plus(cost_of_expr(costs, value))
+                .and(costs.array)
         }
-        Stmt::If(test, block) => cost_of_expr(test).joined_by(BRANCH_COST, cost_of_block(block)),
-        Stmt::IfElse(test, block, other) => cost_of_expr(test)
-            .joined_by(BRANCH_COST, cost_of_block(block))
-            .joined_by(JUMP_COST, cost_of_block(other)),
-        Stmt::While(test, block) => cost_of_expr(test)
-            .joined_by(BRANCH_COST, cost_of_block(block))
-            .and(JUMP_COST),
+        Stmt::If(test, block) => cost_of_expr(costs, test).joined_by(
+            costs.branch,
+            cost_of_block(costs, block),
+        ),
+        Stmt::IfElse(test, block, other) => cost_of_expr(costs, test)
+            .joined_by(costs.branch, cost_of_block(costs, block))
+            .joined_by(costs.jump, cost_of_block(costs, other)),
+        Stmt::While(test, block) => cost_of_expr(costs, test)
+            .joined_by(costs.branch, cost_of_block(costs, block))
+            .and(costs.jump),
         Stmt::Work(ticks) => Cost::one(*ticks),
-        Stmt::Return(value) => cost_of_expr(value).and(RETURN_COST),
+        Stmt::Return(value) => cost_of_expr(costs, value).and(costs.ret),
         Stmt::CallService(service, arguments, targets) => {
-            cost_of_service(*service, arguments, targets)
+            cost_of_service(costs, *service, arguments, targets)
         }
     }
 }
 
 /// What the constructs of a block come to.
 #[cycle(cost_of_stmt)]
-pub fn cost_of_block(block: &[Stmt]) -> Cost
-    ensures { result ≡ comes_to (cost.costs_of_block (block_of block.now)) }
+pub fn cost_of_block(costs: &Costs, block: &[Stmt]) -> Cost
+    ensures { result ≡ comes_to (cost.costs_of_block costs.now (block_of block.now)) }
 {
     let mut cost = Cost::NONE;
     for stmt in block {
-        cost = cost.plus(cost_of_stmt(stmt));
+        cost = cost.plus(cost_of_stmt(costs, stmt));
     }
     cost
 }
 
 /// What the constructs of the body of INIT, of the handler or of a process come to, its end among them.
-pub fn cost_of_body(body: &Body) -> Cost
-    ensures { result ≡ comes_to (cost.costs_of_body (body_of body.now)) }
+pub fn cost_of_body(costs: &Costs, body: &Body) -> Cost
+    ensures { result ≡ comes_to (cost.costs_of_body costs.now (body_of body.now)) }
 {
-    cost_of_block(&body.block).and(END_COST)
+    cost_of_block(costs, &body.block).and(costs.end)
 }
 
 /// What the constructs of a procedure come to, the `return 0` with which it closes among them.
-pub fn cost_of_procedure(procedure: &Procedure) -> Cost
-    ensures { result ≡ comes_to (cost.costs_of_procedure (procedure_of procedure.now)) }
+pub fn cost_of_procedure(costs: &Costs, procedure: &Procedure) -> Cost
+    ensures { result ≡ comes_to (cost.costs_of_procedure costs.now (procedure_of procedure.now)) }
 {
-    cost_of_block(&procedure.block).joined_by(LITERAL_COST, Cost::one(RETURN_COST))
+    cost_of_block(costs, &procedure.block).joined_by(costs.literal, Cost::one(costs.ret))
 }

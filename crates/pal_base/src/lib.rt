@@ -12,6 +12,7 @@ pub mod mark;
 mod operands;
 pub mod parse;
 pub mod program;
+pub mod sizes;
 mod source;
 mod statement;
 pub mod syntax;

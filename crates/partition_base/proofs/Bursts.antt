@@ -1,6 +1,7 @@
 -- Bursts of slots.
 use Rattle.std.proofs.Common.{◌≡◌, ℕ, zero, suc, ◌+◌, ◌≤◌, ℤ, Bool, true, false, cond, List, length, refl, ap, sym, ◌∙◌, arith}
 use Rattle.std.specs.Prelude.{Option, Some, None, slice_set}
+use Rattle.apex_types.specs.declared.cost.Costs.{Costs}
 use Rattle.apex_types.specs.declared.instruction.Instr.{Instr}
 use Rattle.apex_types.specs.declared.row.RoutineRow.{RoutineRow}
 use Rattle.engine_meaning.specs.Engine.{Engine, Asks, Nothing}
@@ -35,26 +36,26 @@ burst_some e (suc n) c w =
     step (is_nothing t.asks)
 
 -- a burst keeps the lengths of the stack and of the data
-pub burst_keeps_stack : (code : List (Option Instr)) (rs : List RoutineRow) (n : ℕ) (m : MachineControl) (w : List ℤ) → length (machine_burst code rs n m w).control.stack ≡ length m.stack
-burst_keeps_stack code rs zero m w = refl
-burst_keeps_stack code rs (suc n) m w =
-    let t = machine_tick code rs m w in
-    let kept = tick_keeps_stack code rs m w in
-    let step : (q : Bool) → length (cond q (later 1 (machine_burst code rs n t.control t.words)) (alone (told_of t))).control.stack ≡ length m.stack =
-    λ q. elim q as (λ q. length (cond q (later 1 (machine_burst code rs n t.control t.words)) (alone (told_of t))).control.stack ≡ length m.stack) [
-      | true ↦ burst_keeps_stack code rs n t.control t.words ∙ kept
+pub burst_keeps_stack : (costs : Costs) (code : List (Option Instr)) (rs : List RoutineRow) (n : ℕ) (m : MachineControl) (w : List ℤ) → length (machine_burst costs code rs n m w).control.stack ≡ length m.stack
+burst_keeps_stack costs code rs zero m w = refl
+burst_keeps_stack costs code rs (suc n) m w =
+    let t = machine_tick costs code rs m w in
+    let kept = tick_keeps_stack costs code rs m w in
+    let step : (q : Bool) → length (cond q (later 1 (machine_burst costs code rs n t.control t.words)) (alone (told_of t))).control.stack ≡ length m.stack =
+    λ q. elim q as (λ q. length (cond q (later 1 (machine_burst costs code rs n t.control t.words)) (alone (told_of t))).control.stack ≡ length m.stack) [
+      | true ↦ burst_keeps_stack costs code rs n t.control t.words ∙ kept
       | false ↦ kept
     ] in
     step (is_nothing t.asks)
 
-pub burst_keeps_words : (code : List (Option Instr)) (rs : List RoutineRow) (n : ℕ) (m : MachineControl) (w : List ℤ) → length (machine_burst code rs n m w).words ≡ length w
-burst_keeps_words code rs zero m w = refl
-burst_keeps_words code rs (suc n) m w =
-    let t = machine_tick code rs m w in
-    let kept = tick_keeps_words code rs m w in
-    let step : (q : Bool) → length (cond q (later 1 (machine_burst code rs n t.control t.words)) (alone (told_of t))).words ≡ length w =
-    λ q. elim q as (λ q. length (cond q (later 1 (machine_burst code rs n t.control t.words)) (alone (told_of t))).words ≡ length w) [
-      | true ↦ burst_keeps_words code rs n t.control t.words ∙ kept
+pub burst_keeps_words : (costs : Costs) (code : List (Option Instr)) (rs : List RoutineRow) (n : ℕ) (m : MachineControl) (w : List ℤ) → length (machine_burst costs code rs n m w).words ≡ length w
+burst_keeps_words costs code rs zero m w = refl
+burst_keeps_words costs code rs (suc n) m w =
+    let t = machine_tick costs code rs m w in
+    let kept = tick_keeps_words costs code rs m w in
+    let step : (q : Bool) → length (cond q (later 1 (machine_burst costs code rs n t.control t.words)) (alone (told_of t))).words ≡ length w =
+    λ q. elim q as (λ q. length (cond q (later 1 (machine_burst costs code rs n t.control t.words)) (alone (told_of t))).words ≡ length w) [
+      | true ↦ burst_keeps_words costs code rs n t.control t.words ∙ kept
       | false ↦ kept
     ] in
     step (is_nothing t.asks)

@@ -10,7 +10,7 @@ use Rattle.partition_base.specs.declared.machine.Machine.{Machine}
 
 -- The engine that it is: its code, its routines, and the body of each that may run.
 abbrev pub engine_of : Machine → Engine MachineControl
-engine_of m = machine_engine m.code.instructions.items m.code.routines.items (body_at m.init m.handler m.processes.items)
+engine_of m = machine_engine m.code.costs m.code.instructions.items m.code.routines.items (body_at m.init m.handler m.processes.items)
 
 -- the control of INIT, of the handler and of each process, where it has something left to do
 abbrev pub controls_of : Machine → Space → List (Option MachineControl)

@@ -1,5 +1,6 @@
 -- What the processor of a partition counts on in a loaded section, and how it is seen.
 use Rattle.std.specs.Prelude.{◌≤◌, List, ◌∷◌, map, length}
+use Rattle.apex_types.specs.WrittenCosts.{written_costs}
 use Rattle.apex_types.specs.declared.limits.TheConstants.{MOST_PROCESSES}
 use Rattle.apex_types.specs.declared.row.BodyRow.{BodyRow}
 use Rattle.apex_types.specs.declared.row.Section.{Section}
@@ -16,9 +17,9 @@ use Rattle.partition_base.specs.Slots.{AreFittingBodies, stack_of_body}
 abbrev pub bodies_of : Section → List BodyRow
 bodies_of s = map body_of_row s.processes.items
 
--- The processor with a section's code, each instruction read from its sixteen bytes.
+-- The processor with the written costs and a section's code, each instruction read from its sixteen bytes.
 abbrev pub engine_of_section : Section → Engine MachineControl
-engine_of_section s = machine_engine (map reading s.code.items) s.routines.items (body_at s.init s.handler (bodies_of s))
+engine_of_section s = machine_engine written_costs (map reading s.code.items) s.routines.items (body_at s.init s.handler (bodies_of s))
 
 -- At most 65,536 instructions, and no more processes than a partition may have; each routine and each
 -- body has room for its slots and two saved words.

@@ -13,7 +13,7 @@ ghost use Rattle.partition_base.specs.Slots.{AreFittingBodies, stack_of_body, is
 
 use crate::executor::Executor;
 use crate::slot::{self, Slot};
-use apex_types::{BodyRow, ProcessRow, Runner, Section, Words};
+use apex_types::{BodyRow, Costs, ProcessRow, Runner, Section, Words};
 use processor::{Burst, Code, Outcome};
 use regions::{MemoryPlan, PartitionMem, Region};
 use std::alloc::{AllocError, Global};
@@ -141,7 +141,7 @@ impl Machine {
         let processes = bodies(alloc, &section.processes)?;
         let handler = section.handler.unwrap_or(section.init);
         Ok(Machine {
-            code: Code::read(alloc, &section.code, routines)?,
+            code: Code::read(alloc, &Costs::written(), &section.code, routines)?,
             init: section.init,
             handler: section.handler,
             slots: fresh_slots(alloc, &section.init, &handler, &processes)?,

@@ -55,10 +55,10 @@ impl Slot {
 
     /// One tick on the own stack, where something is left to do.
     fn tick(&mut self, memory: &mut PartitionMem, code: &Code) -> Outcome
-        ensures control { (bodies : Runner → BodyRow) → control_of_slot self.new memory.new.stack ≡ (ticked (machine_engine code.now.instructions.items code.now.routines.items bodies) (control_of_slot self.old memory.old.stack) memory.old.words).control }
+        ensures control { (bodies : Runner → BodyRow) → control_of_slot self.new memory.new.stack ≡ (ticked (machine_engine code.now.costs code.now.instructions.items code.now.routines.items bodies) (control_of_slot self.old memory.old.stack) memory.old.words).control }
         ensures memory { memory.new ≡ put memory.old memory.new.stack memory.new.words }
-        ensures words { (bodies : Runner → BodyRow) → memory.new.words ≡ (ticked (machine_engine code.now.instructions.items code.now.routines.items bodies) (control_of_slot self.old memory.old.stack) memory.old.words).words }
-        ensures asks { (bodies : Runner → BodyRow) → asks_of result ≡ (ticked (machine_engine code.now.instructions.items code.now.routines.items bodies) (control_of_slot self.old memory.old.stack) memory.old.words).asks }
+        ensures words { (bodies : Runner → BodyRow) → memory.new.words ≡ (ticked (machine_engine code.now.costs code.now.instructions.items code.now.routines.items bodies) (control_of_slot self.old memory.old.stack) memory.old.words).words }
+        ensures asks { (bodies : Runner → BodyRow) → asks_of result ≡ (ticked (machine_engine code.now.costs code.now.instructions.items code.now.routines.items bodies) (control_of_slot self.old memory.old.stack) memory.old.words).asks }
         ensures stack { length memory.new.stack ≡ length memory.old.stack }
         ensures length { length memory.new.words ≡ length memory.old.words }
     {
@@ -71,7 +71,7 @@ impl Slot {
     /// So many ticks on the own stack, or those up to the first in which something is asked, where
     /// something is left to do.
     fn advance(&mut self, memory: &mut PartitionMem, code: &Code, k: u32) -> Burst
-        ensures burst { (bodies : Runner → BodyRow) → record { control = control_of_slot self.new memory.new.stack; words = memory.new.words; told = asks_of result.outcome; ticks = result.ticks } ≡ burst (ticked (machine_engine code.now.instructions.items code.now.routines.items bodies)) k (control_of_slot self.old memory.old.stack) memory.old.words }
+        ensures burst { (bodies : Runner → BodyRow) → record { control = control_of_slot self.new memory.new.stack; words = memory.new.words; told = asks_of result.outcome; ticks = result.ticks } ≡ burst (ticked (machine_engine code.now.costs code.now.instructions.items code.now.routines.items bodies)) k (control_of_slot self.old memory.old.stack) memory.old.words }
         ensures memory { memory.new ≡ put memory.old memory.new.stack memory.new.words }
         ensures stack { length memory.new.stack ≡ length memory.old.stack }
         ensures length { length memory.new.words ≡ length memory.old.words }
@@ -88,7 +88,7 @@ impl Slot {
 
     /// The answer to a service call, where something is left to do.
     fn reply(&mut self, memory: &mut PartitionMem, answer: &[i64])
-        ensures control { (code : _) (routines : _) (bodies : Runner → BodyRow) → control_of_slot self.new memory.new.stack ≡ replied (machine_engine code routines bodies) (control_of_slot self.old memory.old.stack) answer.now }
+        ensures control { (costs : _) (code : _) (routines : _) (bodies : Runner → BodyRow) → control_of_slot self.new memory.new.stack ≡ replied (machine_engine costs code routines bodies) (control_of_slot self.old memory.old.stack) answer.now }
         ensures memory { memory.new ≡ put memory.old memory.new.stack memory.old.words }
         ensures stack { length memory.new.stack ≡ length memory.old.stack }
     {
@@ -153,9 +153,9 @@ pub(crate) fn tick_at(
     memory: &mut PartitionMem,
     code: &Code,
 ) -> Outcome
-    ensures controls { (bodies : Runner → BodyRow) → controls_from slots.new.items (stacks_of memory.new) ≡ slice_set (controls_from slots.old.items (stacks_of memory.old)) place (ticked (machine_engine code.now.instructions.items code.now.routines.items bodies) (control_at (controls_from slots.old.items (stacks_of memory.old)) place) memory.old.words).control }
-    ensures words { (bodies : Runner → BodyRow) → memory.new.words ≡ (ticked (machine_engine code.now.instructions.items code.now.routines.items bodies) (control_at (controls_from slots.old.items (stacks_of memory.old)) place) memory.old.words).words }
-    ensures asks { (bodies : Runner → BodyRow) → asks_of result ≡ (ticked (machine_engine code.now.instructions.items code.now.routines.items bodies) (control_at (controls_from slots.old.items (stacks_of memory.old)) place) memory.old.words).asks }
+    ensures controls { (bodies : Runner → BodyRow) → controls_from slots.new.items (stacks_of memory.new) ≡ slice_set (controls_from slots.old.items (stacks_of memory.old)) place (ticked (machine_engine code.now.costs code.now.instructions.items code.now.routines.items bodies) (control_at (controls_from slots.old.items (stacks_of memory.old)) place) memory.old.words).control }
+    ensures words { (bodies : Runner → BodyRow) → memory.new.words ≡ (ticked (machine_engine code.now.costs code.now.instructions.items code.now.routines.items bodies) (control_at (controls_from slots.old.items (stacks_of memory.old)) place) memory.old.words).words }
+    ensures asks { (bodies : Runner → BodyRow) → asks_of result ≡ (ticked (machine_engine code.now.costs code.now.instructions.items code.now.routines.items bodies) (control_at (controls_from slots.old.items (stacks_of memory.old)) place) memory.old.words).asks }
     ensures stacks { stack_lengths memory.new ≡ stack_lengths memory.old }
     ensures length { length memory.new.words ≡ length memory.old.words }
 {
@@ -177,7 +177,7 @@ pub(crate) fn advance_at(
     code: &Code,
     k: u32,
 ) -> Burst
-    ensures burst { (bodies : Runner → BodyRow) → record { control = controls_from slots.new.items (stacks_of memory.new); words = memory.new.words; told = asks_of result.outcome; ticks = result.ticks } ≡ burst_at (machine_engine code.now.instructions.items code.now.routines.items bodies) k place (controls_from slots.old.items (stacks_of memory.old)) memory.old.words }
+    ensures burst { (bodies : Runner → BodyRow) → record { control = controls_from slots.new.items (stacks_of memory.new); words = memory.new.words; told = asks_of result.outcome; ticks = result.ticks } ≡ burst_at (machine_engine code.now.costs code.now.instructions.items code.now.routines.items bodies) k place (controls_from slots.old.items (stacks_of memory.old)) memory.old.words }
     ensures stacks { stack_lengths memory.new ≡ stack_lengths memory.old }
     ensures length { length memory.new.words ≡ length memory.old.words }
     ensures whole { is_nothing (asks_of result.outcome) ≡ true → result.ticks ≡ k }
@@ -205,7 +205,7 @@ pub(crate) fn reply_at(
     memory: &mut PartitionMem,
     answer: &[i64],
 )
-    ensures controls { (code : _) (routines : _) (bodies : Runner → BodyRow) → controls_from slots.new.items (stacks_of memory.new) ≡ slice_set (controls_from slots.old.items (stacks_of memory.old)) place (replied (machine_engine code routines bodies) (control_at (controls_from slots.old.items (stacks_of memory.old)) place) answer.now) }
+    ensures controls { (costs : _) (code : _) (routines : _) (bodies : Runner → BodyRow) → controls_from slots.new.items (stacks_of memory.new) ≡ slice_set (controls_from slots.old.items (stacks_of memory.old)) place (replied (machine_engine costs code routines bodies) (control_at (controls_from slots.old.items (stacks_of memory.old)) place) answer.now) }
     ensures words { memory.new.words ≡ memory.old.words }
     ensures stacks { stack_lengths memory.new ≡ stack_lengths memory.old }
 {

@@ -2,6 +2,7 @@ pub mod Arguments
 pub mod Bursts
 pub mod Bytes
 pub mod Entries
+pub mod Low
 pub mod Outcomes
 pub mod Spelling
 pub mod Spent

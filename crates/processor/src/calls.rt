@@ -1,6 +1,6 @@
 //! Routines and services: CALL, RET and SVC.
 
-ghost use Rattle.std.specs.Prelude.{◌≡◌, ◌-◌, ◌+◌, ◌≤◌, ◌++◌, ◌∷◌, [], pos, replicate, slice_get, slice_set};
+ghost use Rattle.std.specs.Prelude.{◌≡◌, ◌-◌, ◌+◌, ◌≤◌, ◌++◌, ◌∷◌, [], option_map, pos, replicate, slice_get, slice_set};
 ghost use Rattle.machine_meaning.specs.MachineControl.{popped, saved_within};
 ghost use Rattle.engine_meaning.specs.Operators.{put_words};
 ghost use Rattle.processor.specs.Fitting.{IsFittingRoutine};
@@ -59,6 +59,13 @@ fn popped(memory: &PartitionMem, from: u32, to: u32) -> Words
     words
 }
 
+/// The routine of that number, from 0, where there is one.
+fn routine_at(routines: &[RoutineRow], x: u32) -> Option<&RoutineRow>
+    ensures { option_map (λ r. r.now) result ≡ slice_get routines.now x }
+{
+    routines.get(x as usize)
+}
+
 /// A saved word of a stack up to a limit.
 fn saved(stack: &[i64], place: usize, limit: u32) -> Option<u32>
     ensures { result ≡ saved_within limit (slice_get stack.now place) }
@@ -100,7 +107,7 @@ impl Registers {
         ensures effect { after result self.new reach.new ≡ does (executes code.now.routines.items (Instr.Call x)) self.old reach.old }
         ensures done { is_done result ≡ true }
     {
-        match code.routines.get(x as usize) {
+        match routine_at(&code.routines, x) {
             Some(routine) => {
                 let parameters = u32::from(routine.parameters);
                 if self.operands() < parameters {

@@ -37,6 +37,7 @@ fn cost_of_service_call(costs: &Costs, x: u32) -> u32
 }
 
 /// The ticks that an instruction takes, also if it faults.
+#[tactic(auto, using(crate::proofs::Low::binary_low))]
 pub(crate) fn cost_of(costs: &Costs, instruction: Instr) -> u32
     ensures cost { result ≡ cost_of costs.now instruction }
     ensures most { result ≤ 1_000_000 }

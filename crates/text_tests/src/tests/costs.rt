@@ -1,6 +1,6 @@
 //! Programs that are checked for a partition and priced.
 
-use apex_types::{HealthTable, Name, PartitionAction};
+use apex_types::{Costs, HealthTable, Name, PartitionAction};
 use pal::{BodyCost, BodyName, Checked, check, cost_report};
 use pal_base::fault::PalFault;
 use pal_base::parse::parse;
@@ -69,7 +69,7 @@ fn costs_of_bodies(rt: HostRuntime) {
         },
     ];
     let checked = checked(rt.alloc(), name(&rt, "a"), SOURCE).expect(&rt, "accepted");
-    let report = cost_report(rt.alloc(), &checked).expect(&rt, "memory");
+    let report = cost_report(rt.alloc(), &Costs::written(), &checked).expect(&rt, "memory");
     assert_eq!(rt; report.as_slice(), wanted.as_slice());
 }
 

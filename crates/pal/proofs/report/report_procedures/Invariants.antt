@@ -5,4 +5,4 @@ use Rattle.pal.specs.Costs.{cost_of_procedure}
 use Rattle.pal.proofs.report.report_procedures.Given as goal
 
 abbrev pub invariant-loop-procedure : goal.invariant-loop-procedure
-invariant-loop-procedure l = (l.report.items ++ map cost_of_procedure (drop l.procedure-index l.procedures) ≡ l.fn.report.items ++ map cost_of_procedure l.procedures) × AreProceduresHeld (map procedure_of (drop l.procedure-index l.procedures))
+invariant-loop-procedure l = (l.report.items ++ map (cost_of_procedure l.costs) (drop l.procedure-index l.procedures) ≡ l.fn.report.items ++ map (cost_of_procedure l.costs) l.procedures) × AreProceduresHeld l.costs (map procedure_of (drop l.procedure-index l.procedures))

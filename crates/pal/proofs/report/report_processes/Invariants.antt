@@ -5,4 +5,4 @@ use Rattle.pal.specs.Costs.{cost_of_process}
 use Rattle.pal.proofs.report.report_processes.Given as goal
 
 abbrev pub invariant-loop-process : goal.invariant-loop-process
-invariant-loop-process l = (l.report.items ++ map cost_of_process (drop l.process-index l.processes) ≡ l.fn.report.items ++ map cost_of_process l.processes) × AreProcessesHeld (map process_of (drop l.process-index l.processes))
+invariant-loop-process l = (l.report.items ++ map (cost_of_process l.costs) (drop l.process-index l.processes) ≡ l.fn.report.items ++ map (cost_of_process l.costs) l.processes) × AreProcessesHeld l.costs (map process_of (drop l.process-index l.processes))

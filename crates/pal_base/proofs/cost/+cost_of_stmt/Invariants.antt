@@ -5,4 +5,4 @@ use Rattle.pal_base.proofs.Costs.{UnderWay}
 use Rattle.pal_base.proofs.cost.+cost_of_stmt.Given as goal
 
 abbrev pub invariant-cost_of_block-loop-stmt : goal.invariant-cost_of_block-loop-stmt
-invariant-cost_of_block-loop-stmt l = UnderWay l.cost (cost.costs_of_block (block_of (drop l.stmt-index l.block))) (cost.costs_of_block (block_of l.block))
+invariant-cost_of_block-loop-stmt l = UnderWay l.cost (cost.costs_of_block l.costs (block_of (drop l.stmt-index l.block))) (cost.costs_of_block l.costs (block_of l.block))

@@ -18,7 +18,7 @@ returns-then-not-select-clause-burst c bodies =
     let old = c.args.memory.now in
     let slots = c.args.slots.now.items in
     let p = c.args.place in
-    let e = machine_engine c.args.code.now.instructions.items c.args.code.now.routines.items bodies in
+    let e = machine_engine c.args.code.now.costs c.args.code.now.instructions.items c.args.code.now.routines.items bodies in
     let same : c.select.new.self ≡ old = search rules in
     let past : length old.rest ≤ p = search (rules, ltb-false, c.select.ensures.there, c.if-not-select.true) in
     let shows : Space → Burst (List (Option MachineControl)) (List ℤ) Asks = λ s. record { control = controls_from slots (stacks_of s); words = s.words; told = Nothing; ticks = c.args.k } in
@@ -30,7 +30,7 @@ returns-in-None-clause-burst c bodies =
     let slots = c.args.slots.now.items in
     let ks = stacks_of old in
     let p = c.args.place in
-    let e = machine_engine c.args.code.now.instructions.items c.args.code.now.routines.items bodies in
+    let e = machine_engine c.args.code.now.costs c.args.code.now.instructions.items c.args.code.now.routines.items bodies in
     let chosen : c.select.new.self ≡ seen old.words ks p = search rules in
     let behind : length slots ≤ p = search (rules, views) in
     let shows : List (List ℤ) → List ℤ → Burst (List (Option MachineControl)) (List ℤ) Asks = λ ks words. record { control = controls_from slots ks; words = words; told = Nothing; ticks = c.args.k } in
@@ -44,7 +44,7 @@ returns-in-Some-clause-burst c bodies =
     let ks = stacks_of old in
     let p = c.args.place in
     let slots = c.args.slots.now.items in
-    let e = machine_engine c.args.code.now.instructions.items c.args.code.now.routines.items bodies in
+    let e = machine_engine c.args.code.now.costs c.args.code.now.instructions.items c.args.code.now.routines.items bodies in
     let slot = c.in-Some.slot.now in
     let now = c.advance.new in
     let chosen : c.select.new.self ≡ seen old.words ks p = search rules in

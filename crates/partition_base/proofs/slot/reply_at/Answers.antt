@@ -8,12 +8,12 @@ use Rattle.partition_base.proofs.Places.{put_stacks, put_one, there, views}
 use Rattle.partition_base.proofs.slot.reply_at.Goals as goal
 
 pub returns-in-Some-clause-controls : goal.returns-in-Some-clause-controls
-returns-in-Some-clause-controls c code routines bodies =
+returns-in-Some-clause-controls c costs code routines bodies =
     let old = c.args.memory.now in
     let ks = stacks_of old in
     let p = c.args.place in
     let slots = c.args.slots.now.items in
-    let e = machine_engine code routines bodies in
+    let e = machine_engine costs code routines bodies in
     let answer = c.args.answer.now in
     let slot = c.in-Some.slot.now in
     let chosen : c.select.new.self ≡ seen old.words ks p = search rules in
@@ -22,4 +22,4 @@ returns-in-Some-clause-controls c code routines bodies =
     let own : control_at (controls_from slots ks) p ≡ control_of_slot slot c.select.new.self.stack = there slots ks p slot here within ∙ ap (λ (s : Space). control_of_slot slot s.stack) (sym chosen) in
     ap (λ l. controls_from (slice_set slots p c.reply.new.self) l) (put_stacks old.words c.select.new.self.words ks p c.reply.new.memory.stack c.select.new.self c.reply.new.memory chosen c.reply.ensures.memory)
     ∙ put_one slots ks p c.reply.new.self c.reply.new.memory.stack
-    ∙ ap (λ k. slice_set (controls_from slots ks) p k) (c.reply.ensures.control code routines bodies ∙ ap (λ k. replied e k answer) (sym own))
+    ∙ ap (λ k. slice_set (controls_from slots ks) p k) (c.reply.ensures.control costs code routines bodies ∙ ap (λ k. replied e k answer) (sym own))

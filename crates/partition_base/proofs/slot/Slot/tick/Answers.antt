@@ -9,10 +9,10 @@ pub returns-clause-stack : goal.returns-clause-stack
 returns-clause-stack c =
     let code = c.args.code.now in
     let memory = c.args.memory.now in
-    ap (λ (m : MachineControl). length m.stack) c.step.ensures.control ∙ tick_keeps_stack code.instructions.items code.routines.items (control_of c.args.self.now.context memory) memory.words
+    ap (λ (m : MachineControl). length m.stack) c.step.ensures.control ∙ tick_keeps_stack code.costs code.instructions.items code.routines.items (control_of c.args.self.now.context memory) memory.words
 
 pub returns-clause-length : goal.returns-clause-length
 returns-clause-length c =
     let code = c.args.code.now in
     let memory = c.args.memory.now in
-    ap (λ (s : Space). length s.words) c.step.ensures.memory ∙ tick_keeps_words code.instructions.items code.routines.items (control_of c.args.self.now.context memory) memory.words
+    ap (λ (s : Space). length s.words) c.step.ensures.memory ∙ tick_keeps_words code.costs code.instructions.items code.routines.items (control_of c.args.self.now.context memory) memory.words
