@@ -64,7 +64,7 @@ block_end = Mark (codes "}") ∷ []
 no_statement : (k : ℕ) (ws : List Word) (n : ℕ) → length ws ≡ n → Begun stmt_words (Stands k) ws n
 no_statement k ws n l = stopped stmt_words (Stands k) ws ws n (λ us. us) (tree.Work (Some 0)) work_words (λ rest more. refl) refl l tt (λ rest. refl)
 
-abbrev called_at : ℕ → Service → Reading tree.Stmt
+abbrev pub called_at : ℕ → Service → Reading tree.Stmt
 called_at k service ws = expect (codes "(") ws >>= λ rest. arguments_at k rest >>= λ es. targets_at es.1 >>= λ xs. expect (codes ";") xs.1 >>= λ rest. Ok (tree.CallService service es.0 xs.0, rest)
 
 service_call_from : (k : ℕ) (service : Service) (ws : List Word) (n : ℕ) →
