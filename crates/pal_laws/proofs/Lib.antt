@@ -11,6 +11,7 @@ pub mod BegunStatements
 pub mod BegunPrograms
 pub mod Steady
 pub mod SteadyReadings
+pub mod Places
 pub mod Followed
 pub mod ReadSteps
 pub mod ReadExpressions
