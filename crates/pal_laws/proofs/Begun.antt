@@ -1,12 +1,11 @@
 -- Where the words of a thing are refused, those before that place begin a thing: some more words complete it.
-use Rattle.std.proofs.Common.{◌≡◌, ℕ, zero, suc, ◌<◌, ◌≤◌, Bool, true, false, cond, inl, inr, List, [], ◌∷◌, ◌++◌, length, Option, Some, None, Ok, Err, refl, sym, ap, ◌∙◌, arith, append_assoc}
-use Rattle.std.specs.Prelude.{nat_lt, ◌⊎◌}
+use Rattle.std.proofs.Common.{◌≡◌, ℕ, zero, suc, ◌<◌, Bool, true, false, cond, List, [], ◌∷◌, ◌++◌, length, Option, Some, None, Ok, Err, refl, sym, ap, ◌∙◌, arith, append_assoc}
 use Rattle.std.proofs.lemmas.Bool.{lt-ltb}
 use Rattle.pal_meaning.specs.Grammar.{Word, Name, Number, ServiceWord, Mark, Stray}
 use Rattle.pal_meaning.specs.Grammar.{all_words, Each}
 use Rattle.engine_meaning.specs.Digits.{same}
-use Rattle.pal_laws.specs.GrammarReading.{Answer, Reading, Turn, ◌>>=◌, either, each, until, expect, name_at, number_at, turned, repeat_within, repeat}
-use Rattle.pal_laws.proofs.Extended.{Extends, all_extend}
+use Rattle.pal_laws.specs.GrammarReading.{Answer, Reading, Turn, ◌>>=◌, each, until, expect, name_at, number_at, turned, repeat_within, repeat}
+use Rattle.pal_laws.proofs.Extended.{Extends}
 use Rattle.pal_laws.proofs.Spelled.{TurnSpells}
 use Rattle.pal_laws.proofs.Shaped.{TurnShapes}
 use Rattle.pal_laws.proofs.Longer.{Longer}

@@ -1,19 +1,19 @@
 -- Where the words of a statement or of a block are refused, those before that place begin one.
-use Rattle.std.proofs.Common.{◌≡◌, ℕ, zero, suc, ◌-◌, ◌≤◌, Bool, true, false, cond, nat_eq, inl, inr, List, [], ◌∷◌, ◌++◌, length, Option, Some, None, Ok, Err, refl, sym, ap, ◌∙◌, subst, arith}
+use Rattle.std.proofs.Common.{◌≡◌, ℕ, zero, suc, ◌≤◌, nat_eq, inl, inr, List, [], ◌∷◌, length, Some, Ok, Err, refl, sym, ap, ◌∙◌, subst, arith}
 use Rattle.std.specs.Prelude.{codes, ◌⊎◌}
 use Rattle.apex_types.specs.declared.service.Service.{Service}
 use Rattle.pal_meaning.specs.Grammar.{Word, Name, Number, ServiceWord, Mark}
-use Rattle.pal_meaning.specs.Grammar.{all_words, next_name, targets_words, expr_words, stmt_words, block_words, IsBlock, Each}
+use Rattle.pal_meaning.specs.Grammar.{all_words, next_name, targets_words, expr_words, stmt_words, IsBlock, Each}
 use Rattle.pal_meaning.specs.Syntax as tree
-use Rattle.pal_laws.specs.GrammarReading.{Answer, Reading, ◌>>=◌, either, each, expect, name_at, number_at, service_at, repeat, block_of, expr_at, nested_at, arguments_at, names_at, targets_at, service_call_at, assignment_at, work_at, return_at, branch_with, while_with, stmt_with, statements_with, block_at, stmt_at, statements_at}
-use Rattle.pal_laws.proofs.Extended.{Extends, all_extend, next_name_extends, targets_extend, expr_extends, closed_extends, stmt_extends, braced_extends}
+use Rattle.pal_laws.specs.GrammarReading.{Reading, ◌>>=◌, either, expect, name_at, number_at, service_at, repeat, block_of, expr_at, nested_at, arguments_at, names_at, targets_at, service_call_at, assignment_at, work_at, return_at, branch_with, while_with, stmt_with, statements_with, block_at, stmt_at, statements_at}
+use Rattle.pal_laws.proofs.Extended.{all_extend, next_name_extends, targets_extend, expr_extends, closed_extends, stmt_extends, braced_extends}
 use Rattle.pal_laws.proofs.Longer.{next_name_longer, stmt_longer}
 use Rattle.pal_laws.proofs.ReadSteps.{Any}
 use Rattle.pal_laws.proofs.Spelled.{one_way, Spells, expect_spells, name_spells, number_spells, service_spells, name_turn, next_name_spells, targets_spell, closed_words, opened_words, braced_words, repeat_spells, expr_spells, nested_spells, arguments_at_spell, stmt_turn, stmt_turn_spells, stmt_spells, block_list, block_spells}
 use Rattle.pal_laws.proofs.Shaped as shaped
 use Rattle.pal_laws.proofs.Shaped.{Shapes, Fits, Inner, InnerArguments, Stands, Holds, InnerBlock, down, more, positive, expr_shapes, nested_shapes, arguments_at_shape, stmt_turn_shapes, stmt_shapes, block_shapes, repeat_shapes}
 use Rattle.pal_laws.proofs.Begun.{Begun, Begins, TurnBegins, Front, stopped, inside, something, refused, each_refused, until_refused, expect_left, name_left, number_left, repeat_begins}
-use Rattle.pal_laws.proofs.BegunExpressions.{expr_begins, nested_begins, arguments_at_begins, opened, level, zero_words}
+use Rattle.pal_laws.proofs.BegunExpressions.{expr_begins, nested_begins, arguments_at_begins, opened, level}
 
 -- one or more names
 abbrev pub some_names : List ℕ × List (List ℕ) → List Word → List Word
@@ -64,7 +64,7 @@ block_end = Mark (codes "}") ∷ []
 no_statement : (k : ℕ) (ws : List Word) (n : ℕ) → length ws ≡ n → Begun stmt_words (Stands k) ws n
 no_statement k ws n l = stopped stmt_words (Stands k) ws ws n (λ us. us) (tree.Work (Some 0)) work_words (λ rest more. refl) refl l tt (λ rest. refl)
 
-abbrev called_at : ℕ → Service → Reading tree.Stmt
+abbrev pub called_at : ℕ → Service → Reading tree.Stmt
 called_at k service ws = expect (codes "(") ws >>= λ rest. arguments_at k rest >>= λ es. targets_at es.1 >>= λ xs. expect (codes ";") xs.1 >>= λ rest. Ok (tree.CallService service es.0 xs.0, rest)
 
 service_call_from : (k : ℕ) (service : Service) (ws : List Word) (n : ℕ) →

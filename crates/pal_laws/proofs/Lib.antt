@@ -10,6 +10,8 @@ pub mod BegunExpressions
 pub mod BegunStatements
 pub mod BegunPrograms
 pub mod Steady
+pub mod SteadyReadings
+pub mod Places
 pub mod Followed
 pub mod ReadSteps
 pub mod ReadExpressions

@@ -1,5 +1,5 @@
 -- A statement that is written is read, and so is a block.
-use Rattle.std.proofs.Common.{◌≡◌, ℕ, zero, suc, ◌-◌, ◌≤◌, true, false, cond, List, [], ◌∷◌, length, Option, Some, None, Ok, Err, refl, ap, ◌∙◌}
+use Rattle.std.proofs.Common.{◌≡◌, ℕ, suc, ◌-◌, ◌≤◌, true, false, cond, List, [], ◌∷◌, length, Option, Some, None, Ok, Err, refl, ap, ◌∙◌}
 use Rattle.std.specs.Prelude.{codes, ◌==◌}
 use Rattle.apex_types.specs.declared.service.Service.{Service}
 use Rattle.pal_meaning.specs.Grammar.{Word, Mark}

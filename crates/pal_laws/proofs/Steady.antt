@@ -16,11 +16,11 @@ Within (Err left) n = left ≤ n
 
 -- What was answered where more words follow: the same where a word was left, and nothing that stops before them where
 -- none was.
-abbrev StaysFound : {X : Type 0} → List Word → X → List Word → Answer (X × List Word) → Type 0
+abbrev pub StaysFound : {X : Type 0} → List Word → X → List Word → Answer (X × List Word) → Type 0
 StaysFound more x [] b = Within b (length more)
 StaysFound more x (u ∷ us) b = b ≡ Ok (x, u ∷ us ++ more)
 
-abbrev StaysRefused : {X : Type 0} → List Word → ℕ → Answer (X × List Word) → Type 0
+abbrev pub StaysRefused : {X : Type 0} → List Word → ℕ → Answer (X × List Word) → Type 0
 StaysRefused more zero b = Within b (length more)
 StaysRefused more (suc n) b = b ≡ Err (suc (n + length more))
 
@@ -166,7 +166,7 @@ module _ {A X : Type 0} (one : Reading A) (peeks : Peeks one) (F : A × List Wor
   pub one_or : Steady (λ ws. either (one ws) F (G ws))
   one_or ws more = (one_within ws, one_stays ws more)
 
-left_steady : (X : Type 0) → Steady {X = X} (λ ws. Err (length ws))
+pub left_steady : (X : Type 0) → Steady {X = X} (λ ws. Err (length ws))
 left_steady X [] more = (omega arith, omega arith)
 left_steady X (w ∷ ws) more = (omega arith, refused_more ws more)
 
@@ -247,12 +247,15 @@ pub level_steady : {X : Type 0} (t : Bool) (read : Reading X) → SteadyBehind r
 level_steady true read s ws more = (omega arith, refused_more ws more)
 level_steady false read s ws more = s ws more
 
+pub blocked_steady : (X : Type 0) → SteadyBehind {X = X} (λ ws. Err (suc (length ws)))
+blocked_steady X ws more = (omega arith, refused_more ws more)
+
 pub statement_steady : {X : Type 0} (t : Bool) (read : Reading X) → Steady read → Steady (λ ws. cond t (Err (length ws)) (read ws))
 statement_steady {X} true read s ws more = left_steady X ws more
 statement_steady {X} false read s ws more = s ws more
 
 -- the turns of a repetition
-abbrev viewed : {X : Type 0} → List Word → Answer (Option (X × List Word)) → Answer (Option X × List Word)
+abbrev pub viewed : {X : Type 0} → List Word → Answer (Option (X × List Word)) → Answer (Option X × List Word)
 viewed ws (Ok None) = Ok (None, ws)
 viewed ws (Ok (Some x)) = Ok (Some x.0, x.1)
 viewed ws (Err n) = Err n

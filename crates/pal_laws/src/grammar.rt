@@ -1,6 +1,7 @@
 //! Programs and their words.
 
-ghost use Rattle.std.specs.Prelude.{◌≡◌, List, Ok};
+ghost use Rattle.std.specs.Prelude.{◌≡◌, ◌≤◌, ◌-◌, ℕ, List, length, Ok, Err};
+ghost use Rattle.pal_meaning.specs.Beginning.{LeavesAt};
 ghost use Rattle.pal_meaning.specs.Grammar.{IsWritten};
 ghost use Rattle.pal_laws.specs.GrammarReading.{program_at};
 ghost use Rattle.pal_meaning.specs.Grammar.{Word};
@@ -20,4 +21,10 @@ pub fn written_program_is_read()
 /// Words are written as one program at most.
 pub fn words_are_of_one_program()
     ensures { (words : List Word) (first second : Program) → IsWritten words first → IsWritten words second → first ≡ second }
+{}
+
+/// What is refused leaves the grammar there: the words before the place begin a program, and with
+/// the word at the place none does.
+pub fn refused_words_leave_the_grammar()
+    ensures { (words : List Word) (left : ℕ) → program_at words ≡ Err left → (left ≤ length words) × LeavesAt words (length words - left) }
 {}

@@ -1,5 +1,6 @@
 pub mod Syntax
 pub mod Grammar
+pub mod Beginning
 pub mod Program
 pub mod Resolve
 pub mod WellFormed
