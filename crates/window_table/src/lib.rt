@@ -4,6 +4,7 @@
 mod channels;
 mod durations;
 mod fault;
+mod few;
 mod keys;
 mod limits;
 mod members;

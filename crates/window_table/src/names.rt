@@ -1,12 +1,13 @@
 //! The names of a module table, and the numbers that they stand for.
 
-ghost use Rattle.std.specs.Prelude.{◌≡◌, ◌≤◌, ◌||◌, ◌++◌, ◌∷◌, map, option_map, length, is_none, false};
+ghost use Rattle.std.specs.Prelude.{◌≡◌, ◌≤◌, ◌||◌, ◌++◌, ◌∷◌, map, option_map, length, is_none};
 ghost use Rattle.std.specs.List.{list_any};
 ghost use Rattle.module_meaning.specs.TableRules.{same};
 ghost use Rattle.module_meaning.specs.Table.{has_twice};
-ghost use Rattle.module_meaning.specs.TableRules.{has_same_names, has_unknown_name, partition_number, port_number, end_of, number_from, has_many_ports, is_unknown_window, has_unknown_end};
+ghost use Rattle.module_meaning.specs.TableRules.{has_same_names, has_unknown_name, partition_number, port_number, end_of, number_from, is_unknown_window, has_unknown_end};
 ghost use Rattle.window_table.specs.Views.{port_text, partition_text, window_text, channel_text, table_text};
 
+use crate::few::FewPartitions;
 use crate::written::{WrittenChannel, WrittenPartition, WrittenPort, WrittenTable, WrittenWindow};
 use apex_types::{ChannelEnd, PartitionId, PortId};
 
@@ -106,12 +107,11 @@ pub fn has_same_names(table: &WrittenTable<'_>) -> bool
 
 /// The number of the partition with a name, if there is one.
 #[tactic(auto, using(std::proofs::lemmas::List::drop_more), unfolding(module_meaning::specs::TableRules::number_from))]
-pub fn partition_number(partitions: &[WrittenPartition<'_>], name: &str) -> Option<PartitionId>
-    requires { length partitions.now ≤ 16 }
-    ensures { option_map (λ n. n.0) result ≡ partition_number (map partition_text partitions.now) name.now }
+pub fn partition_number(partitions: FewPartitions<'_>, name: &str) -> Option<PartitionId>
+    ensures { option_map (λ n. n.0) result ≡ partition_number (map partition_text partitions.entry.rows.now) name.now }
 {
     let mut number: u8 = 1;
-    for partition in partitions {
+    for partition in partitions.rows {
         if partition.name == name {
             return Some(PartitionId(number));
         }
@@ -152,16 +152,14 @@ fn port_number(partition: &WrittenPartition<'_>, text: &str) -> Option<PortId>
 
 /// The end of a channel that a text names: a port or the device.
 #[tactic(auto, using(std::proofs::lemmas::List::drop_more), unfolding(module_meaning::specs::TableRules::end_of, module_meaning::specs::TableRules::port_from))]
-pub fn channel_end(partitions: &[WrittenPartition<'_>], text: &str) -> Option<ChannelEnd>
-    requires few { length partitions.now ≤ 16 }
-    requires few_ports { list_any has_many_ports (map partition_text partitions.now) ≡ false }
-    ensures { result ≡ end_of (map partition_text partitions.now) text.now }
+pub fn channel_end(partitions: FewPartitions<'_>, text: &str) -> Option<ChannelEnd>
+    ensures { result ≡ end_of (map partition_text partitions.entry.rows.now) text.now }
 {
     if text == "DEVICE" {
         return Some(ChannelEnd::Device);
     }
     let mut number: u8 = 1;
-    for partition in partitions {
+    for partition in partitions.rows {
         if let Some(port) = port_number(partition, text) {
             return Some(ChannelEnd::Port(PartitionId(number), port));
         }
@@ -171,10 +169,8 @@ pub fn channel_end(partitions: &[WrittenPartition<'_>], text: &str) -> Option<Ch
 }
 
 #[tactic(auto, using(std::proofs::lemmas::List::drop_more))]
-fn has_unknown_text(partitions: &[WrittenPartition<'_>], texts: &[&str]) -> bool
-    requires few { length partitions.now ≤ 16 }
-    requires few_ports { list_any has_many_ports (map partition_text partitions.now) ≡ false }
-    ensures { result ≡ list_any (λ d. is_none (end_of (map partition_text partitions.now) d)) (map (λ d. d.now) texts.now) }
+fn has_unknown_text(partitions: FewPartitions<'_>, texts: &[&str]) -> bool
+    ensures { result ≡ list_any (λ d. is_none (end_of (map partition_text partitions.entry.rows.now) d)) (map (λ d. d.now) texts.now) }
 {
     for text in texts {
         if channel_end(partitions, text).is_none() {
@@ -184,20 +180,16 @@ fn has_unknown_text(partitions: &[WrittenPartition<'_>], texts: &[&str]) -> bool
     false
 }
 
-fn has_unknown_end(partitions: &[WrittenPartition<'_>], channel: &WrittenChannel<'_>) -> bool
-    requires few { length partitions.now ≤ 16 }
-    requires few_ports { list_any has_many_ports (map partition_text partitions.now) ≡ false }
-    ensures { result ≡ has_unknown_end (map partition_text partitions.now) (channel_text channel.now) }
+fn has_unknown_end(partitions: FewPartitions<'_>, channel: &WrittenChannel<'_>) -> bool
+    ensures { result ≡ has_unknown_end (map partition_text partitions.entry.rows.now) (channel_text channel.now) }
 {
     channel_end(partitions, channel.source).is_none()
         || has_unknown_text(partitions, channel.destinations.as_slice())
 }
 
 #[tactic(auto, using(std::proofs::lemmas::List::drop_more))]
-fn has_unknown_ends(partitions: &[WrittenPartition<'_>], channels: &[WrittenChannel<'_>]) -> bool
-    requires few { length partitions.now ≤ 16 }
-    requires few_ports { list_any has_many_ports (map partition_text partitions.now) ≡ false }
-    ensures { result ≡ list_any (has_unknown_end (map partition_text partitions.now)) (map channel_text channels.now) }
+fn has_unknown_ends(partitions: FewPartitions<'_>, channels: &[WrittenChannel<'_>]) -> bool
+    ensures { result ≡ list_any (has_unknown_end (map partition_text partitions.entry.rows.now)) (map channel_text channels.now) }
 {
     for channel in channels {
         if has_unknown_end(partitions, channel) {
@@ -208,9 +200,8 @@ fn has_unknown_ends(partitions: &[WrittenPartition<'_>], channels: &[WrittenChan
 }
 
 #[tactic(auto, using(std::proofs::lemmas::List::drop_more))]
-fn has_unknown_partition(partitions: &[WrittenPartition<'_>], windows: &[WrittenWindow<'_>]) -> bool
-    requires { length partitions.now ≤ 16 }
-    ensures { result ≡ list_any (is_unknown_window (map partition_text partitions.now)) (map window_text windows.now) }
+fn has_unknown_partition(partitions: FewPartitions<'_>, windows: &[WrittenWindow<'_>]) -> bool
+    ensures { result ≡ list_any (is_unknown_window (map partition_text partitions.entry.rows.now)) (map window_text windows.now) }
 {
     for window in windows {
         if partition_number(partitions, window.partition).is_none() {
@@ -222,11 +213,10 @@ fn has_unknown_partition(partitions: &[WrittenPartition<'_>], windows: &[Written
 
 /// Whether a window's partition or an end of a channel is not there.
 #[tactic(auto, unfolding(module_meaning::specs::TableRules::has_unknown_name))]
-pub fn has_unknown_name(table: &WrittenTable<'_>) -> bool
-    requires few { length table.now.partitions.items ≤ 16 }
-    requires few_ports { list_any has_many_ports (map partition_text table.now.partitions.items) ≡ false }
+pub fn has_unknown_name(partitions: FewPartitions<'_>, table: &WrittenTable<'_>) -> bool
+    requires { partitions.rows.now ≡ table.now.partitions.items }
     ensures { result ≡ has_unknown_name (table_text table.now) }
 {
-    has_unknown_partition(table.partitions.as_slice(), table.windows.as_slice())
-        || has_unknown_ends(table.partitions.as_slice(), table.channels.as_slice())
+    has_unknown_partition(partitions, table.windows.as_slice())
+        || has_unknown_ends(partitions, table.channels.as_slice())
 }

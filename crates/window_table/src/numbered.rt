@@ -2,14 +2,15 @@
 
 ghost use Rattle.std.specs.Prelude.{◌≡◌, ◌≤◌, ◌||◌, ◌+ℤ◌, map, length, pos, nat_abs, option_map, int_lt, false, None, Some, IfOk, IfErr, if◌then◌else◌};
 ghost use Rattle.std.specs.List.{list_any};
-ghost use Rattle.module_meaning.specs.TableRules.{exceeds_window, exceeds_channel, overlaps_after, window_row, channel_row, has_many_ports, is_unknown_window, has_unknown_end};
+ghost use Rattle.module_meaning.specs.TableRules.{exceeds_window, exceeds_channel, overlaps_after, window_row, channel_row, is_unknown_window, has_unknown_end};
 ghost use Rattle.window_table.specs.Answers.{RefusesOverlap};
 ghost use Rattle.window_table.specs.Views.{partition_text, window_text, channel_text, channel_view};
 
 use crate::fault::TableFault;
+use crate::few::FewPartitions;
 use crate::names::{channel_end, partition_number};
 use crate::table::ChannelRow;
-use crate::written::{WrittenChannel, WrittenPartition, WrittenWindow};
+use crate::written::{WrittenChannel, WrittenWindow};
 use apex_types::{ChannelEnd, Name, PartitionId, WindowRow};
 use std::alloc::Global;
 
@@ -54,13 +55,12 @@ fn placed_row(window: &WrittenWindow<'_>, end: u32, partition: PartitionId) -> W
 pub fn window_rows(
     alloc: Global,
     frame: u32,
-    partitions: &[WrittenPartition<'_>],
+    partitions: FewPartitions<'_>,
     windows: &[WrittenWindow<'_>],
 ) -> Result<Vec<WindowRow>, TableFault>
-    requires few { length partitions.now ≤ 16 }
     requires numbers { list_any exceeds_window (map window_text windows.now) ≡ false }
-    requires known { list_any (is_unknown_window (map partition_text partitions.now)) (map window_text windows.now) ≡ false }
-    ensures kept { IfOk result (λ rows. (overlaps_after (pos frame) (pos 0) (map window_text windows.now) ≡ false) × (map (window_row (map partition_text partitions.now)) (map window_text windows.now) ≡ rows.items)) }
+    requires known { list_any (is_unknown_window (map partition_text partitions.rows.now)) (map window_text windows.now) ≡ false }
+    ensures kept { IfOk result (λ rows. (overlaps_after (pos frame) (pos 0) (map window_text windows.now) ≡ false) × (map (window_row (map partition_text partitions.entry.rows.now)) (map window_text windows.now) ≡ rows.items)) }
     ensures refused { RefusesOverlap result (overlaps_after (pos frame) (pos 0) (map window_text windows.now)) }
 {
     let mut rows = Vec::new(alloc);
@@ -78,14 +78,12 @@ pub fn window_rows(
 #[tactic(auto, unfolding(module_meaning::specs::TableRules::exceeds_channel))]
 fn channel_row(
     alloc: Global,
-    partitions: &[WrittenPartition<'_>],
+    partitions: FewPartitions<'_>,
     channel: &WrittenChannel<'_>,
 ) -> Result<ChannelRow, TableFault>
-    requires few { length partitions.now ≤ 16 }
-    requires few_ports { list_any has_many_ports (map partition_text partitions.now) ≡ false }
     requires name { exceeds_channel (channel_text channel.now) ≡ false }
-    requires known { has_unknown_end (map partition_text partitions.now) (channel_text channel.now) ≡ false }
-    ensures ok { IfOk result (λ row. channel_view row ≡ channel_row (map partition_text partitions.now) (channel_text channel.now)) }
+    requires known { has_unknown_end (map partition_text partitions.rows.now) (channel_text channel.now) ≡ false }
+    ensures ok { IfOk result (λ row. channel_view row ≡ channel_row (map partition_text partitions.entry.rows.now) (channel_text channel.now)) }
     ensures err { IfErr result (λ e. e ≡ TableFault.Memory) }
 {
     let name = Name::new(channel.name.as_bytes()).ok_or(TableFault::Limit)?;
@@ -108,14 +106,12 @@ fn channel_row(
 #[tactic(auto, using(std::proofs::lemmas::List::drop_more))]
 pub fn channel_rows(
     alloc: Global,
-    partitions: &[WrittenPartition<'_>],
+    partitions: FewPartitions<'_>,
     channels: &[WrittenChannel<'_>],
 ) -> Result<Vec<ChannelRow>, TableFault>
-    requires few { length partitions.now ≤ 16 }
-    requires few_ports { list_any has_many_ports (map partition_text partitions.now) ≡ false }
     requires name { list_any exceeds_channel (map channel_text channels.now) ≡ false }
-    requires known { list_any (has_unknown_end (map partition_text partitions.now)) (map channel_text channels.now) ≡ false }
-    ensures ok { IfOk result (λ rows. map channel_view rows.items ≡ map (channel_row (map partition_text partitions.now)) (map channel_text channels.now)) }
+    requires known { list_any (has_unknown_end (map partition_text partitions.rows.now)) (map channel_text channels.now) ≡ false }
+    ensures ok { IfOk result (λ rows. map channel_view rows.items ≡ map (channel_row (map partition_text partitions.entry.rows.now)) (map channel_text channels.now)) }
     ensures err { IfErr result (λ e. e ≡ TableFault.Memory) }
 {
     let mut rows = Vec::new(alloc);

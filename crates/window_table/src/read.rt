@@ -9,6 +9,7 @@ ghost use Rattle.window_table.specs.Views.{table_of, table_text, partition_text,
 use crate::channels::has_wrong_ends;
 use crate::durations::{has_odd_period, has_short_period, lacks_release};
 use crate::fault::TableFault;
+use crate::few::FewPartitions;
 use crate::limits::{exceeds_counts, exceeds_rows, partition_rows};
 use crate::names::{has_same_names, has_unknown_name};
 use crate::numbered::{channel_rows, window_rows};
@@ -42,6 +43,18 @@ fn frame_row(frame: i64) -> u32
     frame as u32
 }
 
+/// The partitions of a text that is within its limits.
+#[tactic(auto, using(crate::proofs::Rules::few_partitions, crate::proofs::Rules::few_ports))]
+fn few_partitions<'a>(written: &'a WrittenTable<'a>) -> FewPartitions<'a>
+    requires counts { exceeds_counts (table_text written.now) ≡ false }
+    requires limits { list_any (exceeds_partition written.now.frame) (map partition_text written.now.partitions.items) ≡ false }
+    ensures { result.rows.now ≡ written.now.partitions.items }
+{
+    FewPartitions {
+        rows: written.partitions.as_slice(),
+    }
+}
+
 /// The table of a text that is within its limits and has these rows of partitions.
 #[tactic(auto, using(crate::proofs::Rules::frame_kept, crate::proofs::Rules::few_partitions, crate::proofs::Rules::few_ports, crate::proofs::Rules::windows_within, crate::proofs::Rules::channels_within, crate::proofs::Rules::windows_known, crate::proofs::Rules::ends_known), unfolding(module_meaning::specs::TableRules::numbered))]
 fn numbered(
@@ -57,7 +70,7 @@ fn numbered(
     ensures kept { IfOk result (λ t. (overlaps (table_text written.now) ≡ false) × (numbered (table_text written.now) ≡ table_of t) × (t.partitions.items ≡ partitions.items)) }
     ensures refused { RefusesOverlap result (overlaps (table_text written.now)) }
 {
-    let rows = written.partitions.as_slice();
+    let rows = few_partitions(written);
     let channels = channel_rows(alloc, rows, written.channels.as_slice())?;
     let frame = frame_row(written.frame);
     let windows = window_rows(alloc, frame, rows, written.windows.as_slice())?;
@@ -95,7 +108,6 @@ fn broken_rule(
     written: &WrittenTable<'_>,
     table: &ModuleTable,
 ) -> Result<(), TableFault>
-    requires few { length table.now.partitions.items ≤ 16 }
     requires periods { list_any (λ p. p.period == 0) (map partition_view table.now.partitions.items) ≡ false }
     requires placed { overlaps (table_text written.now) ≡ false }
     ensures { Judges (λ u. table_of table.now) result (judge_table (table_text written.now) (table_of table.now)) }
@@ -129,7 +141,7 @@ fn judge(alloc: Global, written: &WrittenTable<'_>) -> Result<ModuleTable, Table
     if has_same_names(written) {
         return Err(TableFault::Name);
     }
-    if has_unknown_name(written) {
+    if has_unknown_name(few_partitions(written), written) {
         return Err(TableFault::Name);
     }
     let table = numbered(alloc, written, partitions)?;

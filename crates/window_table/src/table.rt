@@ -1,5 +1,8 @@
 //! An accepted module table as a record of its rows.
 
+ghost use Rattle.std.specs.Prelude.{◌≤◌, length};
+ghost use Rattle.apex_types.specs.declared.limits.TheConstants.{MOST_PARTITIONS};
+
 use crate::schedule::Schedule;
 use apex_types::{ChannelEnd, HealthTable, ModuleAction, Name, PortRow};
 
@@ -22,11 +25,13 @@ pub struct ChannelRow {
     pub destinations: Vec<ChannelEnd>,
 }
 
-/// A module table. Partitions, ports and windows stand in the order of the text.
+/// A module table. Partitions, ports and windows stand in the order of the text. There are no more
+/// partitions than a module has.
 #[derive(Drop)]
 pub struct ModuleTable {
     pub schedule: Schedule,
     pub fault: ModuleAction,
     pub partitions: Vec<PartitionRow>,
     pub channels: Vec<ChannelRow>,
+    pub ghost few: { length partitions.items ≤ MOST_PARTITIONS },
 }

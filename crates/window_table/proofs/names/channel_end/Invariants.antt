@@ -7,6 +7,6 @@ use Rattle.window_table.proofs.names.channel_end.Given as goal
 abbrev pub invariant-loop-partition : goal.invariant-loop-partition
 invariant-loop-partition l = record {
   counted : l.number ≡ l.partition-index + 1;
-  few : list_any has_many_ports (map partition_text (drop l.partition-index l.partitions)) ≡ false;
-  left : port_from 1 (map partition_text l.partitions) l.text ≡ port_from l.number (map partition_text (drop l.partition-index l.partitions)) l.text;
+  few : list_any has_many_ports (map partition_text (drop l.partition-index l.partitions.rows.now)) ≡ false;
+  left : port_from 1 (map partition_text l.partitions.rows.now) l.text ≡ port_from l.number (map partition_text (drop l.partition-index l.partitions.rows.now)) l.text;
 }

@@ -5,4 +5,4 @@ use Rattle.window_table.specs.Views.{partition_text, window_text}
 use Rattle.window_table.proofs.names.has_unknown_partition.Given as goal
 
 abbrev pub invariant-loop-window : goal.invariant-loop-window
-invariant-loop-window l = list_any (is_unknown_window (map partition_text l.partitions)) (map window_text l.windows) ≡ list_any (is_unknown_window (map partition_text l.partitions)) (map window_text (drop l.window-index l.windows))
+invariant-loop-window l = list_any (is_unknown_window (map partition_text l.partitions.rows.now)) (map window_text l.windows) ≡ list_any (is_unknown_window (map partition_text l.partitions.rows.now)) (map window_text (drop l.window-index l.windows))

@@ -7,7 +7,7 @@ use Rattle.window_table.proofs.numbered.window_rows.Given as goal
 abbrev pub invariant-loop-window : goal.invariant-loop-window
 invariant-loop-window l = record {
   numbers : list_any exceeds_window (map window_text (drop l.window-index l.windows)) ≡ false;
-  known : list_any (is_unknown_window (map partition_text l.partitions)) (map window_text (drop l.window-index l.windows)) ≡ false;
+  known : list_any (is_unknown_window (map partition_text l.partitions.rows.now)) (map window_text (drop l.window-index l.windows)) ≡ false;
   left : overlaps_after (pos l.frame) (pos 0) (map window_text l.windows) ≡ overlaps_after (pos l.frame) (pos l.end) (map window_text (drop l.window-index l.windows));
-  built : map (window_row (map partition_text l.partitions)) (map window_text l.windows) ≡ l.rows.items ++ map (window_row (map partition_text l.partitions)) (map window_text (drop l.window-index l.windows));
+  built : map (window_row (map partition_text l.partitions.rows.now)) (map window_text l.windows) ≡ l.rows.items ++ map (window_row (map partition_text l.partitions.rows.now)) (map window_text (drop l.window-index l.windows));
 }
