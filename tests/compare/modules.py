@@ -1,7 +1,8 @@
 #!/usr/bin/env python3
 """Compares programs on random modules, byte for byte: the images that they build, and the traces that they write.
 
-    modules.py --new PROGRAM --oracle FOLDER [--old PROGRAM] [--stages N..] [--count N] [--stretched N] [--first SEED] [--jobs N] [--keep FOLDER]
+    modules.py --new PROGRAM --oracle FOLDER [--old PROGRAM] [--stages N..] [--count N] [--stretched N] [--longest N]
+               [--first SEED] [--jobs N] [--keep FOLDER]
 
 The modules are those of an independent program, which lies in the folder of `--oracle` as the Python package `source_meaning`; beside it
 stands the generator, `later_stages.make(stage, seed)`. It is none of this repository, so no gate runs this.
@@ -10,13 +11,15 @@ Of each stage so many modules (`--count`) are built and run as they are made, ev
 `--new` and of the independent program have to be equal; with `--old`, an earlier `mb`, the images and traces of both programs, too.
 
 And so many modules (`--stretched`) have long quiet stretches: their waits, time-outs, delays, periods, capacities, windows and `work` are stretched
-by factors of up to 10^6, and their device lines lie far apart. They run for up to 10^9 ticks, and are compared with `--old`, which needs
-some 0.1 to 0.3 microseconds a tick; where they have at most 100,000 ticks, with the independent program, too. Their stages go round.
+by factors of up to 10^6, and their device lines lie far apart. They run for up to 10^9 ticks (`--longest`), and are compared with `--old`,
+which needs some 0.1 to 0.3 microseconds a tick; where they have at most 100,000 ticks, with the independent program, too. Their stages go round.
 
 Seeds count from `--first` on, and a stage and a seed make one module. The last line has the counts. At the first difference the files of
 the module are left in the folder of `--keep`, the line is named, and the exit status is 1. A run that is told to end (SIGTERM) says how far it came.
 
-A program without proof serves as well: see "Forms that worked" in docs/STATUS.md. To look at one module, give its stage, its seed and `--count 1`.
+To look at one module, give its stage, its seed and `--count 1`. A program without proof serves as well: `rt try` writes the file `module.bc` into
+its temporary folder. What clang makes of it with -O2 and nothing else, linked by `rattle-link`, still has the checks of its numbers, and is some
+times faster than the program that `rt try` runs.
 """
 
 import argparse
@@ -36,6 +39,7 @@ from pathlib import Path
 sys.dont_write_bytecode = True
 
 STAGES = (4, 5, 6, 7, 8)
+LEAST_TICKS = 10**4
 MOST_TICKS = 2**40
 MOST_FRAME = 2**24
 MOST_WORK = 10**6
@@ -70,6 +74,7 @@ class Settings:
     new: str
     old: str | None
     oracle: Path
+    longest: int
     keep: Path
 
 
@@ -83,7 +88,8 @@ class Task:
 class Oracle:
     """The independent program, with its generator of modules."""
 
-    def __init__(self, folder):
+    def __init__(self, folder, longest):
+        self.longest = longest
         if str(folder) not in sys.path:
             sys.path.insert(0, str(folder))
         import later_stages
@@ -98,9 +104,9 @@ class Oracle:
         made = Module(*self.make_of(task.stage, task.seed))
         chance = random.Random(f"{task.kind} {task.stage} {task.seed}")
         if task.kind == "stretched":
-            return Stretch(chance, task.seed, made).module()
+            return Stretch(chance, task.seed, self.longest, made).module()
         if task.seed % 10 == 0:
-            return Module(made.table, made.sources, made.devices, log_uniform(chance, 10**4, MOST_ORACLE_TICKS))
+            return Module(made.table, made.sources, made.devices, log_uniform(chance, LEAST_TICKS, MOST_ORACLE_TICKS))
         return made
 
     def trace(self, made):
@@ -118,21 +124,21 @@ def log_uniform(chance, least, most):
 class Stretch:
     """Makes a module quiet for long: the same module with other times."""
 
-    def __init__(self, chance, seed, made):
+    def __init__(self, chance, seed, longest, made):
         self.chance = chance
         self.made = made
-        self.ticks = self.ticks_of(seed)
+        self.ticks = self.ticks_of(seed, longest)
         self.factor = log_uniform(chance, 1, MOST_FACTOR)
         # A third of the tables keep their windows, so that a quiet stretch has many of them.
         frame = int(re.search(r"^frame = (\d+)$", made.table, re.M)[1])
         most = min(self.factor, MOST_FRAME // frame)
         self.table_factor = 1 if chance.random() < 1 / 3 else log_uniform(chance, 1, most)
 
-    def ticks_of(self, seed):
-        """Of a hundred modules one has 10^9 ticks, and some three have 10^8 to 10^9."""
+    def ticks_of(self, seed, longest):
+        """Of a hundred modules one has the most ticks, some three have a tenth of them or more, and all others less."""
         if seed % 100 == 0:
-            return 10**9
-        return log_uniform(self.chance, 10**8, 10**9) if seed % 30 == 15 else log_uniform(self.chance, 10**4, 10**8)
+            return longest
+        return log_uniform(self.chance, longest // 10, longest) if seed % 30 == 15 else log_uniform(self.chance, LEAST_TICKS, longest // 10)
 
     def module(self):
         return Module(self.table(), [self.source(it) for it in self.made.sources], self.devices(), self.ticks)
@@ -168,7 +174,7 @@ class Stretch:
 
     def devices(self):
         """The lines in the same order, over the whole run; or over its beginning."""
-        last = self.ticks if self.chance.random() < 2 / 3 else log_uniform(self.chance, 10**4, self.ticks)
+        last = self.ticks if self.chance.random() < 2 / 3 else log_uniform(self.chance, LEAST_TICKS, self.ticks)
         lines = [it.split(" ", 1) for it in self.made.devices.splitlines(keepends=True)]
         scaled = [(int(tick) * last // self.made.ticks, rest) for tick, rest in lines]
         moved = [(tick + self.chance.choice((0, 0, self.chance.randrange(1, 1 + max(1, last // 1000)))), rest) for tick, rest in scaled]
@@ -193,7 +199,7 @@ class Comparison:
     def __init__(self, settings, made, folder):
         self.settings, self.made, self.folder = settings, made, folder
         self.names = [f"source{number}" for number in range(len(made.sources))]
-        for name, text in [("table", made.table), ("devices", made.devices), *zip(self.names, made.sources)]:
+        for name, text in [("table", made.table), ("devices", made.devices), ("ticks", f"{made.ticks}\n"), *zip(self.names, made.sources)]:
             (folder / name).write_text(text)
 
     def build(self, program, image):
@@ -243,7 +249,7 @@ class Comparison:
 
 def compare(task, settings, room, counts):
     """Makes the module of a stage and a seed, and expects the same of all programs."""
-    oracle = Oracle(settings.oracle)
+    oracle = Oracle(settings.oracle, settings.longest)
     made = oracle.make(task)
     comparison = Comparison(settings, made, room)
     is_short = made.ticks <= MOST_ORACLE_TICKS
@@ -286,12 +292,15 @@ def words():
     told.add_argument("--stages", type=int, nargs="+", default=STAGES, help="the stages of the generator")
     told.add_argument("--count", type=int, default=0, help="how many modules of each stage")
     told.add_argument("--stretched", type=int, default=0, help="how many modules with long quiet stretches, with --old")
+    told.add_argument("--longest", type=int, default=10**9, help="the most ticks of these, 100,000 at least")
     told.add_argument("--first", type=int, default=1, help="the first seed")
     told.add_argument("--jobs", type=int, default=2, help="how many modules at a time")
     told.add_argument("--keep", type=Path, default=Path("differences"), help="the folder for the module that differs")
     given = told.parse_args()
     if given.stretched and not given.old:
         told.error("--stretched needs --old")
+    if given.longest < 10 * LEAST_TICKS:
+        told.error("--longest is 100,000 at least")
     return given
 
 
@@ -313,7 +322,8 @@ def text_of(counts):
 
 def main():
     given = words()
-    settings = Settings(str(given.new.resolve()), given.old and str(given.old.resolve()), given.oracle.resolve(), given.keep.resolve())
+    old = given.old and str(given.old.resolve())
+    settings = Settings(str(given.new.resolve()), old, given.oracle.resolve(), given.longest, given.keep.resolve())
     tasks = tasks_of(given)
     counts, done = {}, 0
     with multiprocessing.Pool(given.jobs, signal.signal, (signal.SIGTERM, signal.SIG_DFL)) as pool:

@@ -41,8 +41,6 @@ fn start(table: &mut ProcessTable) {
 #[test]
 fn a_deadline_ends_the_quiet_ticks(rt: HostRuntime) {
     let mut table = table(&rt, rt.alloc());
-    assert_eq!(rt; table.next_due(), None);
-    assert_eq!(rt; table.quiet_ticks(Ticks(10), 1000), 1000);
     start(&mut table);
     assert_eq!(rt; table.next_due(), Some(Ticks(30)));
     assert_eq!(rt; table.quiet_ticks(Ticks(10), 1000), 20);

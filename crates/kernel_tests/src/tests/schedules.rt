@@ -154,15 +154,13 @@ fn owners_and_ends(rt: HostRuntime) {
 #[test]
 fn changes(rt: HostRuntime) {
     let schedule = schedule(&rt, rt.alloc(), TABLE);
-    let origin = Ticks(7);
-    for (now, until) in (27..).zip(&UNTIL_CHANGE) {
-        let now = Ticks(now);
-        let until = u64::from(*until);
-        assert_eq!(rt;
-            schedule.until_change(At { now, origin }),
-            until,
-            "from {now:?}"
-        );
+    for tick in 0..20u64 {
+        let at = At {
+            now: Ticks(27 + tick),
+            origin: Ticks(7),
+        };
+        let until = u64::from(at_place(&UNTIL_CHANGE, tick));
+        assert_eq!(rt; schedule.until_change(at), until, "from {tick}");
     }
 }
 
