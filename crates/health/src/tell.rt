@@ -5,6 +5,7 @@ ghost use Rattle.apex_types.specs.Room.{HasRoom, Grows};
 ghost use Rattle.kernel_meaning.specs.HealthServices as meaning;
 ghost use Rattle.kernel_meaning.specs.Made.{IsTold};
 
+use apex_types::limits::MOST_REPORT_WORDS;
 use apex_types::{ArrayPlace, EventKind, Out, ReturnCode, Runner, Service, Words};
 use process_table_base::ProcessTable;
 
@@ -12,7 +13,7 @@ use process_table_base::ProcessTable;
 pub fn is_message_length(size: i64, length: i64) -> bool
     ensures { result ≡ meaning.is_message_length size length }
 {
-    1 <= length && length <= 16 && length <= size
+    1 <= length && length <= MOST_REPORT_WORDS as i64 && length <= size
 }
 
 /// REPORT_APPLICATION_MESSAGE (ARINC 653 Part 1, health monitoring): the first words of those that the

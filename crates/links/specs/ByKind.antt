@@ -16,10 +16,10 @@ lists_from first lists = take MOST_OBJECTS (drop first lists)
 abbrev pub by_kind : List (List Entry) → Queues
 by_kind lists = record {
   semaphores = lists_from 0 lists;
-  events = lists_from 16 lists;
-  buffers = lists_from 32 lists;
-  blackboards = lists_from 48 lists;
-  ports = lists_from 64 lists;
+  events = lists_from MOST_OBJECTS lists;
+  buffers = lists_from (2 * MOST_OBJECTS) lists;
+  blackboards = lists_from (3 * MOST_OBJECTS) lists;
+  ports = lists_from (4 * MOST_OBJECTS) lists;
 }
 
 -- the number of the list at a place; behind all lists where a kind has no such place
@@ -28,10 +28,10 @@ number_from first place = if nat_lt place MOST_OBJECTS then first + place else A
 
 abbrev pub number_of : ListKey → ℕ
 number_of (key.Semaphore place) = number_from 0 place
-number_of (key.Event place) = number_from 16 place
-number_of (key.Buffer place) = number_from 32 place
-number_of (key.Blackboard place) = number_from 48 place
-number_of (key.Port place) = number_from 64 place
+number_of (key.Event place) = number_from MOST_OBJECTS place
+number_of (key.Buffer place) = number_from (2 * MOST_OBJECTS) place
+number_of (key.Blackboard place) = number_from (3 * MOST_OBJECTS) place
+number_of (key.Port place) = number_from (4 * MOST_OBJECTS) place
 
 abbrev pub queues_of : Inside → Queues
 queues_of w = by_kind w.lists

@@ -1,6 +1,7 @@
 //! The waiting lists of a partition, each by its key.
 
 ghost use Rattle.std.specs.Prelude.{◌≡◌, ◌<◌, ◌≤◌, length, slice_get, IfOk, IfSome};
+ghost use Rattle.apex_types.specs.declared.limits.TheConstants.{MOST_OBJECTS, MOST_PROCESSES};
 ghost use Rattle.kernel_meaning.specs.Queues.{emptied, joins, list_at, without_in_all};
 ghost use Rattle.kernel_meaning.specs.Fresh.{fresh_queues};
 ghost use Rattle.links.specs.ByKind as by_kind;
@@ -8,7 +9,8 @@ ghost use Rattle.links.specs.ByKind as by_kind;
 use crate::entries::Entries;
 use crate::links::Links;
 use crate::lists::ListId;
-use apex_types::{Discipline, Entry, ListKey, MOST_OBJECTS, MOST_PROCESSES, ProcessIndex};
+use apex_types::limits::MOST_OBJECTS;
+use apex_types::{Discipline, Entry, ListKey, ProcessIndex};
 use std::alloc::{AllocError, Global};
 use std::marker::Model;
 
@@ -36,7 +38,7 @@ impl Model for WaitingLists {
 
 /// The number of the list at a place of a kind; no list has it where there is no such place.
 fn number_from(first: u8, place: u8) -> ListId
-    requires { first ≤ 64 }
+    requires { first ≤ 4 * MOST_OBJECTS }
     ensures { result.0 ≡ by_kind.number_from first place }
 {
     if place < MOST_OBJECTS {

@@ -1,6 +1,7 @@
 -- The services on processes and on time go on with the numbers.
 use Rattle.std.proofs.Common.{Bool, List, None, Option, Some, [], false, refl, subst, suc, sym, true, zero, ℕ, ℤ, ◌∷◌, ◌≡◌}
 use Rattle.std.specs.Prelude.{if◌then◌else◌, is_some, nat_le, negsuc, not, pos, ◌+◌, ◌==◌, ◌||◌}
+use Rattle.apex_types.specs.declared.limits.TheConstants.{MOST_LOCK_LEVEL}
 use Rattle.apex_types.specs.declared.codes.Discipline.{Discipline}
 use Rattle.apex_types.specs.declared.codes.Mode.{Mode}
 use Rattle.apex_types.specs.declared.codes.ReturnCode.TheVariants as code
@@ -130,7 +131,7 @@ module _ (d : ListKey → Discipline) (names : ℕ → List ℕ) where
 
   pub lock_preemption_goes : (may : May) (m : Mode) (s : Processes) (p : Runner) → Named d names s → Goes d names may s (lock_preemption m s p)
   lock_preemption_goes may m s p h =
-      row_goes d names may s (refuses s p service.LockPreemption) ((may_not_lock m p, code.NoAction) ∷ (nat_le 16 (level_of s.lock), code.InvalidConfig) ∷ [])
+      row_goes d names may s (refuses s p service.LockPreemption) ((may_not_lock m p, code.NoAction) ∷ (nat_le MOST_LOCK_LEVEL (level_of s.lock), code.InvalidConfig) ∷ [])
       (with_lock s p service.LockPreemption (locked_by p s.lock)) (refuse_goes d names may s p service.LockPreemption h)
       (lock_goes d names may s p service.LockPreemption (locked_by p s.lock) h)
 

@@ -1,6 +1,7 @@
 -- The services and the choice go on with the numbers.
 use Rattle.std.proofs.Common.{Bool, List, None, Option, Some, [], false, refl, true, ℕ, ℤ, ◌∙◌, ◌∷◌, ◌≡◌}
 use Rattle.std.specs.Prelude.{if◌then◌else◌, length, not, ◌&&◌}
+use Rattle.apex_types.specs.declared.limits.TheConstants.{MOST_REPORT_WORDS}
 use Rattle.apex_types.specs.Runners.{place_of}
 use Rattle.apex_types.specs.declared.codes.Discipline.{Discipline}
 use Rattle.apex_types.specs.declared.codes.Mode.{Mode}
@@ -114,7 +115,7 @@ module _ (d : ListKey → Discipline) (names : ℕ → List ℕ) where
   error_status_shares : (may : May) (b : sharing.Sharing Errors) (p : Runner) (array : ArrayPlace) → IsSet d names Errors (λ e. Unit {0}) b → ToErrors may b (get_error_status b p array)
   error_status_shares may b p array h =
       row_shares d names Errors (λ e. Unit {0}) may b (sharing.refuses b p service.GetErrorStatus)
-      ((not (is_same p runner.Handler), code.InvalidConfig) ∷ (not (is_large_enough 16 array), code.InvalidParam) ∷ []) _
+      ((not (is_same p runner.Handler), code.InvalidConfig) ∷ (not (is_large_enough MOST_REPORT_WORDS array), code.InvalidParam) ∷ []) _
       (refuses_shares d names Errors (λ e. Unit {0}) may b p service.GetErrorStatus h) (takes_error_shares may b p array b.shared.waiting h)
 
   report_goes : (may : May) (s : Processes) (p : Runner) (array : ArrayPlace) (length : ℤ) (words : List ℤ) → Named d names s → Goes d names may s (report s p array length words)

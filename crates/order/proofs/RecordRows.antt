@@ -2,6 +2,7 @@
 use Rattle.std.proofs.Common.{◌≡◌, ℕ, zero, suc, ◌+◌, ℤ, Bool, true, false, length, Option, Some, None, refl, sym, ap, ◌∙◌}
 use Rattle.std.proofs.lemmas.Bool.{false≢true}
 use Rattle.std.specs.Prelude.{◌==◌, ◌-◌, ◌||◌, if◌then◌else◌, is_some, nat_le, not, pos, negsuc}
+use Rattle.apex_types.specs.declared.limits.TheConstants.{MOST_LOCK_LEVEL}
 use Rattle.apex_types.specs.declared.codes.Mode.{Mode}
 use Rattle.apex_types.specs.declared.codes.ProcessState.{ProcessState}
 use Rattle.apex_types.specs.declared.codes.ProcessState.TheVariants.{Dormant, Ready, Running, Waiting}
@@ -236,7 +237,7 @@ module _ (s : Processes) (h : RecordsAgree s) (p : Runner) where
   pub lock_preemption_agrees : (m : Mode) → IsCaller s p → RecordsAgree (lock_preemption m s p).part
   lock_preemption_agrees m caller =
       unless s h (may_not_lock m p) _ _ h
-      (λ a. unless s h (nat_le 16 (level_of s.lock)) _ _ h (λ b. lock_agrees s h (locked_by p s.lock) (held_by_caller caller p refl s.lock refl)))
+      (λ a. unless s h (nat_le MOST_LOCK_LEVEL (level_of s.lock)) _ _ h (λ b. lock_agrees s h (locked_by p s.lock) (held_by_caller caller p refl s.lock refl)))
 
   still_held : (l : Lock) → s.lock ≡ l → (level : ℕ) (q : ProcessIndex) → unlocked l ≡ lock.Held level q → is_ready (record_at s.rows q) ≡ true
   still_held lock.Free e level q k = absurd (not_free level q k)

@@ -1,6 +1,7 @@
 //! A partition, tick by tick.
 
 ghost use Rattle.std.specs.Prelude.{◌≡◌, ◌≤◌, ◌+◌, ◌++◌, ◌^◌, [], length, true};
+ghost use Rattle.apex_types.specs.declared.limits.TheConstants.{MOST_WORDS};
 ghost use Rattle.apex_types.specs.Room.{IsEmpty};
 ghost use Rattle.kernel_meaning.specs.Partition as meaning;
 ghost use Rattle.kernel_meaning.specs.Made.{IsMade};
@@ -11,6 +12,7 @@ ghost use Rattle.process_table_base.specs.declared.rooms.TheConstants.{ROOM_TO_T
 
 use crate::acting::{act_all, tell};
 use crate::partition::Partition;
+use apex_types::limits::MOST_WORDS;
 use apex_types::{EventLog, Mode, Moment, Name, Out, Runner, StartCondition, Words, array_of};
 use partition_base::Executor;
 use processor::Outcome;
@@ -193,7 +195,7 @@ impl<E: Executor> Partition<E> {
         }
     }
 
-    /// The words that a call hands in: those of its array, at most 16.
+    /// The words that a call hands in: those of its array, at most those of a message.
     #[tactic(auto, using(kernel_laws::proofs::Numbers::handed_words))]
     pub(crate) fn given(&self, mem: &E::Mem, outcome: &Outcome) -> Words
         ensures { result.items ≡ meaning.given (asks_of outcome.now) (E.words mem.now) }
@@ -240,10 +242,10 @@ fn is_empty(out: &Out) -> bool
     out.lines.is_empty() && out.actions.is_empty()
 }
 
-/// How many words of an array of a size a call hands in, at most 16.
+/// How many words of an array of a size a call hands in, at most those of a message.
 fn most_words(size: i64) -> u8
     ensures words { result ≡ meaning.most_words size }
-    ensures most { result ≤ 16 }
+    ensures most { result ≤ MOST_WORDS }
 {
-    size.clamp(0, 16) as u8
+    size.clamp(0, MOST_WORDS as i64) as u8
 }

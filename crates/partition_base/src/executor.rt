@@ -1,6 +1,7 @@
 //! The processor as the kernel sees it: who runs, over a partition's memory.
 
 ghost use Rattle.std.specs.Prelude.{true, ◌≡◌, ◌≤◌, ℕ, ℤ, List, Option, Some, None, map, slice_set};
+ghost use Rattle.apex_types.specs.declared.limits.TheConstants.{MOST_WORDS};
 ghost use Rattle.apex_types.specs.Runners.{place_of};
 ghost use Rattle.engine_meaning.specs.Engine.{Engine, Ticked};
 ghost use Rattle.kernel_meaning.specs.Partition.{control_at, no_control, replied, ticked, message_from, written};
@@ -90,7 +91,7 @@ pub trait Executor {
 
     /// At most 16 words of the data, from a place on.
     fn read(&self, mem: &Self::Mem, place: i64, count: u8) -> Words
-        requires { count ≤ 16 }
+        requires { count ≤ MOST_WORDS }
         ensures { result.items ≡ message_from place count (words mem.now) };
 
     /// Words go into the data, one after the other from a place on. A word whose place is outside

@@ -1,6 +1,7 @@
 //! The processor of one partition.
 
 ghost use Rattle.std.specs.Prelude.{◌≡◌, ◌≤◌, ◌<◌, ◌+◌, ◌^◌, ◌∷◌, false, length, map, replicate, slice_get, Some, IfOk};
+ghost use Rattle.apex_types.specs.declared.limits.TheConstants.{MOST_WORDS};
 ghost use Rattle.apex_types.specs.Runners.{place_of};
 ghost use Rattle.kernel_meaning.specs.Partition.{message_from};
 ghost use Rattle.engine_meaning.specs.Engine.{or_init};
@@ -97,7 +98,7 @@ pub fn memory_plan(alloc: Global, section: &Section) -> Result<MemoryPlan, Alloc
 
 /// At most 16 words, from a place on.
 pub fn message(words: &[i64], place: i64, count: u8) -> Words
-    requires { count ≤ 16 }
+    requires { count ≤ MOST_WORDS }
     ensures { result.items ≡ message_from place count words.now }
 {
     let mut message = Words::new();

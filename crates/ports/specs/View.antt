@@ -1,6 +1,6 @@
 -- How the fields of ports are seen, and what always holds of them.
 use Rattle.std.specs.Prelude.{◌≤◌, ◌^◌, length}
-use Rattle.apex_types.specs.declared.limits.TheConstants.{MOST_OBJECTS}
+use Rattle.apex_types.specs.declared.limits.TheConstants.{MOST_OBJECTS, MOST_TICKS}
 use Rattle.kernel_meaning.specs.Objects as meaning
 use Rattle.ports.specs.declared.port.Port.TheInside as port
 use Rattle.ports.specs.declared.ports.Ports.TheInside as ports
@@ -12,7 +12,7 @@ port_of x = record { row = x.row; created = x.created; messages = x.messages.ite
 pub record HasRing (x : port.Inside) : Type 0 where
   pub few : length x.messages.items ≤ meaning.depth_of x.row.kind
   pub room : meaning.depth_of x.row.kind ≤ x.messages.capacity
-  pub short : meaning.refresh_of x.row.kind ≤ 2 ^ 40
+  pub short : meaning.refresh_of x.row.kind ≤ MOST_TICKS
 
 abbrev pub ports_of : ports.Inside → meaning.Ports
 ports_of o = record { ports = o.ports.items }

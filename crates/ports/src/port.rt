@@ -1,6 +1,7 @@
 //! One port, with its messages.
 
 ghost use Rattle.std.specs.Prelude.{◌≡◌, ◌<◌, ◌≤◌, ◌^◌, [], length, nat_le, pos, slice_get, IfOk, IsNone, if◌then◌else◌, true};
+ghost use Rattle.apex_types.specs.declared.limits.TheConstants.{MOST_TICKS};
 ghost use Rattle.kernel_meaning.specs.Objects as meaning;
 ghost use Rattle.kernel_meaning.specs.PortServices as services;
 ghost use Rattle.ports.specs.Status.{port_status, without_first};
@@ -156,7 +157,7 @@ impl PortStatus {
 impl Port {
     /// A port before it is created, with memory for its messages.
     pub(crate) fn fresh(alloc: Global, row: PortRow) -> Result<Port, AllocError>
-        requires { meaning.refresh_of row.kind ≤ 2 ^ 40 }
+        requires { meaning.refresh_of row.kind ≤ MOST_TICKS }
         ensures { IfOk result (λ port. port ≡ meaning.fresh_port row) }
     {
         let messages = HeapCircularBuffer::with_capacity(alloc, usize::from(depth_of(row.kind)))?;
@@ -279,7 +280,7 @@ impl Port {
     /// How it stands.
     pub(crate) fn status(&self) -> PortStatus
         ensures status { result ≡ port_status self.now }
-        ensures short { meaning.refresh_of result.row.kind ≤ 2 ^ 40 }
+        ensures short { meaning.refresh_of result.row.kind ≤ MOST_TICKS }
     {
         let messages = self.messages.len();
         prove!(messages <= usize::from(depth_of(self.row.kind)));

@@ -2,7 +2,7 @@
 
 ghost use Rattle.std.specs.Prelude.{◌≡◌, ◌<◌, ◌≤◌, ◌^◌, [], length, map, option_map, slice_get, true, false, IfOk, IfSome, IsNone, OnSome, None, Some};
 ghost use Rattle.apex_types.specs.Room.{HasRoom, Grows};
-ghost use Rattle.apex_types.specs.declared.limits.TheConstants.{MOST_OBJECTS};
+ghost use Rattle.apex_types.specs.declared.limits.TheConstants.{MOST_OBJECTS, MOST_TICKS};
 ghost use Rattle.kernel_meaning.specs.Objects.{numbered_in};
 ghost use Rattle.kernel_meaning.specs.Objects as meaning;
 ghost use Rattle.kernel_meaning.specs.PortServices as services;
@@ -129,7 +129,7 @@ impl Ports {
         ensures found { numbered_in self.now.ports id ≡ port_of_status self.now result }
         ensures status { IfSome result (λ found. found.1 ≡ port_status (placed_port self.now found.0)) }
         ensures within { IfSome result (λ found. found.0 < MOST_OBJECTS) }
-        ensures short { IfSome result (λ found. meaning.refresh_of found.1.row.kind ≤ 2 ^ 40) }
+        ensures short { IfSome result (λ found. meaning.refresh_of found.1.row.kind ≤ MOST_TICKS) }
     {
         let place = place_of(&self.ports, id)?;
         Some((place as u8, self.ports[place].status()))
@@ -140,7 +140,7 @@ impl Ports {
         ensures found { meaning.sampling self.now id ≡ port_of_status self.now result }
         ensures status { IfSome result (λ found. found.1 ≡ port_status (placed_port self.now found.0)) }
         ensures within { IfSome result (λ found. found.0 < MOST_OBJECTS) }
-        ensures short { IfSome result (λ found. meaning.refresh_of found.1.row.kind ≤ 2 ^ 40) }
+        ensures short { IfSome result (λ found. meaning.refresh_of found.1.row.kind ≤ MOST_TICKS) }
         ensures kind { IfSome result (λ found. meaning.is_sampling (placed_port self.now found.0) ≡ true) }
     {
         let (place, port) = self.numbered(id)?;

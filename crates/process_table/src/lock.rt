@@ -1,15 +1,14 @@
 //! The preemption lock, and who a process is.
 
 ghost use Rattle.std.specs.Prelude.{◌≡◌, ◌<◌, ◌≤◌, ◌+◌, length};
+ghost use Rattle.apex_types.specs.declared.limits.TheConstants.{MOST_LOCK_LEVEL};
 ghost use Rattle.apex_types.specs.Room.{HasRoom, Grows};
 ghost use Rattle.kernel_meaning.specs.ProcessServices as meaning;
 ghost use Rattle.kernel_meaning.specs.Made.{IsMade, IsTold};
 
+use apex_types::limits::MOST_LOCK_LEVEL;
 use apex_types::{Lock, Mode, Out, ReturnCode, Runner, Service};
 use process_table_base::ProcessTable;
-
-/// The most levels of the preemption lock.
-const MOST_LEVELS: u8 = 16;
 
 /// The handler, and anyone before normal mode, may neither lock nor unlock.
 pub(crate) fn may_not_lock(mode: Mode, caller: Runner) -> bool
@@ -32,7 +31,7 @@ fn level_of(lock: Lock) -> u8
 
 /// The lock a level up; from none the caller is its holder.
 fn locked_by(caller: Runner, lock: Lock) -> Lock
-    requires { meaning.level_of lock < 16 }
+    requires { meaning.level_of lock < MOST_LOCK_LEVEL }
     ensures { result ≡ meaning.locked_by caller lock }
 {
     match lock {
@@ -72,7 +71,7 @@ pub fn lock_preemption(table: &mut ProcessTable, mode: Mode, caller: Runner, out
     if may_not_lock(mode, caller) {
         return table.refuse(caller, service, ReturnCode::NoAction, &[0], out);
     }
-    if level_of(table.lock()) >= MOST_LEVELS {
+    if level_of(table.lock()) >= MOST_LOCK_LEVEL {
         return table.refuse(caller, service, ReturnCode::InvalidConfig, &[0], out);
     }
     let lock = locked_by(caller, table.lock());

@@ -3,17 +3,18 @@
 ghost use Rattle.std.specs.Prelude.{◌≡◌, ◌<◌, ◌≤◌, ◌+◌, ◌^◌, length, IfSome};
 ghost use Rattle.apex_types.specs.Room.{HasRoom, Grows};
 ghost use Rattle.apex_types.specs.Runners.{place_of};
-ghost use Rattle.apex_types.specs.declared.limits.TheConstants.{MOST_RUNNERS};
+ghost use Rattle.apex_types.specs.declared.limits.TheConstants.{LATEST_RELEASE_POINT};
 ghost use Rattle.kernel_meaning.specs.Times.{amount};
 ghost use Rattle.kernel_meaning.specs.ProcessServices as meaning;
 ghost use Rattle.kernel_meaning.specs.Made.{IsMade, IsTold};
 
+use apex_types::limits::GREATEST_PRIORITY;
 use apex_types::{Mode, Out, Priority, ProcessStatus, ReturnCode, Runner, Service, Ticks};
 use process_table_base::{Points, ProcessTable, is_delay, is_dormant, is_same};
 
 /// The number of a deadline's tick, -1 for none.
 fn word_of_deadline(deadline: Option<Ticks>) -> i64
-    requires { IfSome deadline (λ tick. tick.0 ≤ 2 ^ 41) }
+    requires { IfSome deadline (λ tick. tick.0 ≤ LATEST_RELEASE_POINT) }
     ensures { result ≡ meaning.word_of_deadline deadline }
 {
     match deadline {
@@ -99,7 +100,7 @@ pub fn set_priority(table: &mut ProcessTable, caller: Runner, id: i64, priority:
     let Some((process, row)) = table.process_at(id) else {
         return table.refuse(caller, service, ReturnCode::InvalidParam, &[], out);
     };
-    if !row.created || priority < 1 || priority > 239 {
+    if !row.created || priority < 1 || priority > GREATEST_PRIORITY as i64 {
         return table.refuse(caller, service, ReturnCode::InvalidParam, &[], out);
     }
     if is_dormant(&row) {

@@ -1,6 +1,7 @@
 //! The services on time.
 
 ghost use Rattle.std.specs.Prelude.{◌≡◌, ◌<◌, ◌≤◌, ◌≤ℤ◌, ◌+◌, ◌^◌, pos, length, true, Some};
+ghost use Rattle.apex_types.specs.declared.limits.TheConstants.{LATEST_RELEASE_POINT};
 ghost use Rattle.apex_types.specs.Room.{HasRoom, Grows};
 ghost use Rattle.kernel_meaning.specs.Made.{IsMade, IsTold};
 ghost use Rattle.kernel_meaning.specs.Times.{is_delay, is_duration};
@@ -85,7 +86,7 @@ pub fn periodic_wait(table: &mut ProcessTable, caller: Runner, out: &mut Out)
 fn deadline_in(moment: Moment, budget: i64) -> Option<Ticks>
     requires budget { is_duration budget ≡ true }
     ensures deadline { result ≡ meaning.deadline_in moment.at budget }
-    ensures bounded { IsAtMost (2 ^ 41) result }
+    ensures bounded { IsAtMost LATEST_RELEASE_POINT result }
 {
     if budget < 0 {
         None

@@ -2,6 +2,7 @@
 use Rattle.std.proofs.Common.{◌≡◌, ◌≤◌, ◌^◌, ℕ, zero, suc, List, [], ◌∷◌, map, length, refl, ap, arith}
 use Rattle.std.proofs.lemmas.List.{length-map}
 use Rattle.std.specs.Prelude.{slice_set, slice_get, Option, Some, None, IfSome}
+use Rattle.apex_types.specs.declared.limits.TheConstants.{LATEST_RELEASE_POINT, MOST_PROCESSES, MOST_RUNNERS, MOST_TICKS}
 use Rattle.apex_types.specs.declared.codes.Mode.{Mode}
 use Rattle.apex_types.specs.declared.codes.Mode.TheVariants as mode
 use Rattle.apex_types.specs.declared.identity.Ticks.{Ticks}
@@ -52,7 +53,7 @@ pub rows_bounded : (rows : List ProcessRow) → AreShort rows → AreAllBounded 
 rows_bounded [] all = tt
 rows_bounded (r ∷ rows) all = (all.0, rows_bounded rows all.1)
 
-pub fresh_few : (rows : List ProcessRow) → length rows ≤ 31 → length (init_row ∷ handler_row ∷ map machine_row rows) ≤ 33
+pub fresh_few : (rows : List ProcessRow) → length rows ≤ MOST_PROCESSES → length (init_row ∷ handler_row ∷ map machine_row rows) ≤ MOST_RUNNERS
 fresh_few rows few = omega (arith, length-map rows machine_row, few)
 
 pub fresh_bounded : (rows : List ProcessRow) → AreShort rows → AreAllBounded (init_row ∷ handler_row ∷ map machine_row rows)
@@ -65,19 +66,19 @@ pub wait_bounded : {release : Ticks} {period capacity deadline : Option Ticks} {
 wait_bounded next d b = record { released = b.released; every = b.every; within = b.within; until = b.until; delayed = d }
 
 -- another deadline
-pub deadline_bounded : {release : Ticks} {period capacity deadline : Option Ticks} {reason : Wait} (next : Option Ticks) → IsAtMost (2 ^ 41) next → AreBounded release period capacity deadline reason → AreBounded release period capacity next reason
+pub deadline_bounded : {release : Ticks} {period capacity deadline : Option Ticks} {reason : Wait} (next : Option Ticks) → IsAtMost LATEST_RELEASE_POINT next → AreBounded release period capacity deadline reason → AreBounded release period capacity next reason
 deadline_bounded next d b = record { released = b.released; every = b.every; within = b.within; until = d; delayed = b.delayed }
 
 -- a deadline goes
 pub without_deadline : {release : Ticks} {period capacity deadline : Option Ticks} {reason : Wait} → AreBounded release period capacity deadline reason → AreBounded release period capacity None reason
 without_deadline b = record { released = b.released; every = b.every; within = b.within; until = tt; delayed = b.delayed }
 
-later_bounded : (tick : Ticks) (capacity : Option Ticks) → tick.0 ≤ 2 ^ 40 → IsAtMost (2 ^ 40) capacity → IsAtMost (2 ^ 41) (later tick capacity)
+later_bounded : (tick : Ticks) (capacity : Option Ticks) → tick.0 ≤ MOST_TICKS → IsAtMost MOST_TICKS capacity → IsAtMost LATEST_RELEASE_POINT (later tick capacity)
 later_bounded tick None low high = tt
 later_bounded tick (Some n) low high = omega (arith, low, high)
 
 -- a release
-pub release_bounded : {release tick : Ticks} {period capacity deadline : Option Ticks} {reason : Wait} → tick.0 ≤ 2 ^ 40 → AreBounded release period capacity deadline reason → AreBounded tick period capacity (later tick capacity) reason
+pub release_bounded : {release tick : Ticks} {period capacity deadline : Option Ticks} {reason : Wait} → tick.0 ≤ MOST_TICKS → AreBounded release period capacity deadline reason → AreBounded tick period capacity (later tick capacity) reason
 release_bounded {tick = tick} {capacity = capacity} low b = record { released = low; every = b.every; within = b.within; until = later_bounded tick capacity low b.within; delayed = b.delayed }
 
 pub ruleset bounds = (set_bounded, bounded_at, wait_bounded, deadline_bounded, without_deadline, release_bounded)

@@ -1,5 +1,6 @@
 -- How great the ticks in a record are at most, so that no sum of them is too great for a word.
 use Rattle.std.specs.Prelude.{◌≤◌, ◌^◌, ℕ, List, [], ◌∷◌, Option, IfSome}
+use Rattle.apex_types.specs.declared.limits.TheConstants.{LATEST_RELEASE_POINT, MOST_TICKS}
 use Rattle.apex_types.specs.declared.identity.Ticks.{Ticks}
 use Rattle.apex_types.specs.declared.process.ProcessStatus.{ProcessStatus}
 use Rattle.apex_types.specs.declared.process.Wait.{Wait}
@@ -12,14 +13,14 @@ IsAtMost most count = IfSome count (λ (n : Ticks). n.0 ≤ most)
 
 -- the delay of one that waits for the normal start
 abbrev pub IsDelayed : Wait → Type 0
-IsDelayed (wait.NormalStart delay) = delay.0 ≤ 2 ^ 40
+IsDelayed (wait.NormalStart delay) = delay.0 ≤ MOST_TICKS
 IsDelayed _ = Unit {0}
 
 pub record AreBounded (release : Ticks) (period capacity deadline : Option Ticks) (reason : Wait) : Type 0 where
-  pub released : release.0 ≤ 2 ^ 40
-  pub every : IsAtMost (2 ^ 40) period
-  pub within : IsAtMost (2 ^ 40) capacity
-  pub until : IsAtMost (2 ^ 41) deadline
+  pub released : release.0 ≤ MOST_TICKS
+  pub every : IsAtMost MOST_TICKS period
+  pub within : IsAtMost MOST_TICKS capacity
+  pub until : IsAtMost LATEST_RELEASE_POINT deadline
   pub delayed : IsDelayed reason
 
 abbrev pub IsBounded : ProcessStatus → Type 0

@@ -1,6 +1,7 @@
 //! What is due in a tick: for each process in number order its due time, then its deadline.
 
 ghost use Rattle.std.specs.Prelude.{◌≡◌, ◌<◌, ◌≤◌, ◌+◌, ◌-◌, ◌*◌, ◌^◌, length};
+ghost use Rattle.apex_types.specs.declared.limits.TheConstants.{MOST_RUNNERS, MOST_TICKS};
 ghost use Rattle.apex_types.specs.Room.{HasRoom, Grows};
 ghost use Rattle.apex_types.specs.Runners.{place_of};
 ghost use Rattle.kernel_meaning.specs.Times as meaning;
@@ -13,10 +14,10 @@ ghost use Rattle.process_table_base.specs.Treating.{IsTreated};
 
 use crate::start::released_at;
 use crate::table::ProcessTable;
+use apex_types::limits::MOST_RUNNERS;
 use apex_types::{
-    Action, Due, ErrorKind, EventKind, MOST_RUNNERS, Mode, Moment, Out, PartitionAction,
-    ProcessIndex, ProcessStatus, Response, ReturnCode, Runner, Service, Ticks, Wait, WaitingError,
-    Words,
+    Action, Due, ErrorKind, EventKind, Mode, Moment, Out, PartitionAction, ProcessIndex,
+    ProcessStatus, Response, ReturnCode, Runner, Service, Ticks, Wait, WaitingError, Words,
 };
 
 /// What the treatment of processes comes to beside its lines: how many more errors may wait for the
@@ -32,7 +33,7 @@ impl ProcessTable {
     fn end_wait(&mut self, runner: Runner, row: ProcessStatus, due: Due, out: &mut Out)
         requires runner { place_of runner < MOST_RUNNERS }
         requires bounded { IsBounded row }
-        requires past { meaning.tick_of due ≤ 2 ^ 40 }
+        requires past { meaning.tick_of due ≤ MOST_TICKS }
         requires room { HasRoom 2 out.old }
         ensures step { IsMade (meaning.ends_wait self.old runner row due) self.new out.old out.new }
         ensures grows { Grows 2 out.old out.new }

@@ -4,16 +4,17 @@ ghost use Rattle.std.specs.Prelude.{◌≡◌, ◌≤◌, ◌^◌, true};
 ghost use Rattle.kernel_meaning.specs.Times as meaning;
 ghost use Rattle.kernel_meaning.specs.ProcessServices as services;
 
+use apex_types::limits::MOST_TICKS;
 use apex_types::{Due, Moment, Ticks};
 
-/// The greatest finite time of a service, in ticks: 2^40.
-const MOST_TICKS: i64 = 1_099_511_627_776;
+/// The greatest finite time of a service, in ticks.
+const GREATEST_TIME: i64 = MOST_TICKS as i64;
 
-/// Whether a word is a delay: 0 to 2^40 ticks.
+/// Whether a word is a delay: at least 0 and at most the ticks of a run.
 pub fn is_delay(ticks: i64) -> bool
     ensures { result ≡ meaning.is_delay ticks }
 {
-    0 <= ticks && ticks <= MOST_TICKS
+    0 <= ticks && ticks <= GREATEST_TIME
 }
 
 /// Whether a word is a time-out or a budget: a delay, or -1 for no limit.

@@ -1,6 +1,7 @@
 //! What services change of one process: its priority, its suspension, its deadline.
 
 ghost use Rattle.std.specs.Prelude.{◌≡◌, ◌<◌, ◌≤◌, ◌+◌, ◌^◌, length, true, Some};
+ghost use Rattle.apex_types.specs.declared.limits.TheConstants.{LATEST_RELEASE_POINT, MOST_TICKS};
 ghost use Rattle.apex_types.specs.Room.{HasRoom, Grows};
 ghost use Rattle.kernel_meaning.specs.Times.{is_duration};
 ghost use Rattle.kernel_meaning.specs.Processes.{put_row, row_of};
@@ -94,7 +95,7 @@ impl ProcessTable {
     /// last.
     #[tactic(auto, using(crate::proofs::Bounds::bounds))]
     pub fn wait_for_period(&mut self, process: Runner, period: Ticks, out: &mut Out)
-        requires period { period.0 ≤ 2 ^ 40 }
+        requires period { period.0 ≤ MOST_TICKS }
         requires room { HasRoom 1 out.old }
         ensures step { IsMade (own_step self.old process (λ r. meaning.waits_for_period self.old process r (Some period))) self.new out.old out.new }
         ensures grows { Grows 1 out.old out.new }
@@ -114,7 +115,7 @@ impl ProcessTable {
     /// Another deadline.
     #[tactic(auto, using(crate::proofs::Bounds::bounds))]
     pub fn set_deadline(&mut self, process: Runner, deadline: Option<Ticks>)
-        requires { IsAtMost (2 ^ 41) deadline }
+        requires { IsAtMost LATEST_RELEASE_POINT deadline }
         ensures { self.new ≡ own_change self.old process (λ r. put_row self.old process (record r { deadline = deadline })) }
     {
         if let Some(row) = self.row(process) {

@@ -19,8 +19,8 @@ use crate::change::zeros;
 use crate::duration::time_out;
 use crate::table::ProcessTable;
 use apex_types::{
-    Action, ArrayPlace, Entry, ListKey, MOST_RUNNERS, Moment, Out, ProcessIndex,
-    ProcessStatus, ReturnCode, Runner, Wait, Waiting, Words, copied,
+    Action, ArrayPlace, Entry, ListKey, MOST_RUNNERS, Moment, Out, ProcessIndex, ProcessStatus,
+    ReturnCode, Runner, Wait, Waiting, Words, copied,
 };
 use links::Entries;
 

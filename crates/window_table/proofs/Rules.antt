@@ -4,6 +4,7 @@ use Rattle.std.proofs.lemmas.List.{length-map}
 use Rattle.std.specs.List.{list_any}
 use Rattle.std.proofs.lemmas.Bool.{false≢true}
 use Rattle.std.proofs.lemmas.Bool.Decides.{nat_tests}
+use Rattle.apex_types.specs.declared.limits.TheConstants.{MOST_FRAME_TICKS, MOST_PARTITIONS, MOST_WINDOWS}
 use Rattle.apex_types.specs.NameText.{is_name}
 use Rattle.module_meaning.specs.TableRules.{PartitionText, TableText}
 use Rattle.module_meaning.specs.TableRules.{exceeds_partition, exceeds_times, exceeds_port, exceeds_counts, exceeds_window, is_outside, has_many_ports, is_count_outside, partition_row, exceeds_rows, exceeds_channel, has_unknown_name, is_unknown_window, has_unknown_end}
@@ -46,16 +47,16 @@ pub periods_there : (frame : ℤ) (ps : List PartitionText) → list_any (exceed
 periods_there frame [] h = refl
 periods_there frame (p ∷ ps) h = or_both (nat_abs p.period == 0) (list_any (λ p. p.period == 0) (map partition_row ps)) (period_there frame p.period (one_time frame p (or_first (exceeds_partition frame p) (list_any (exceeds_partition frame) ps) h))) (periods_there frame ps (or_second (exceeds_partition frame p) (list_any (exceeds_partition frame) ps) h))
 
-pub frame_kept : (t : TableText) → exceeds_counts t ≡ false → is_outside 1 (pos 16777216) t.frame ≡ false
+pub frame_kept : (t : TableText) → exceeds_counts t ≡ false → is_outside 1 (pos MOST_FRAME_TICKS) t.frame ≡ false
 unfolding exceeds_counts
-frame_kept t h = or_first (is_outside 1 (pos 16777216) t.frame) _ (or_first (is_outside 1 (pos 16777216) t.frame || is_count_outside 1 16 t.partitions) _ (or_first (is_outside 1 (pos 16777216) t.frame || is_count_outside 1 16 t.partitions || is_count_outside 1 64 t.windows) _ h))
+frame_kept t h = or_first (is_outside 1 (pos MOST_FRAME_TICKS) t.frame) _ (or_first (is_outside 1 (pos MOST_FRAME_TICKS) t.frame || is_count_outside 1 MOST_PARTITIONS t.partitions) _ (or_first (is_outside 1 (pos MOST_FRAME_TICKS) t.frame || is_count_outside 1 MOST_PARTITIONS t.partitions || is_count_outside 1 MOST_WINDOWS t.windows) _ h))
 
-few_kept : (n : ℕ) → (nat_lt n 1 || nat_lt 16 n) ≡ false → n ≤ 16
-few_kept n h = let k = or_second (nat_lt n 1) (nat_lt 16 n) h in grind (arith, nat_tests)
+few_kept : (n : ℕ) → (nat_lt n 1 || nat_lt MOST_PARTITIONS n) ≡ false → n ≤ MOST_PARTITIONS
+few_kept n h = let k = or_second (nat_lt n 1) (nat_lt MOST_PARTITIONS n) h in grind (arith, nat_tests)
 
-pub few_partitions : (t : TableText) → exceeds_counts t ≡ false → length t.partitions ≤ 16
+pub few_partitions : (t : TableText) → exceeds_counts t ≡ false → length t.partitions ≤ MOST_PARTITIONS
 unfolding exceeds_counts
-few_partitions t h = few_kept (length t.partitions) (or_second (is_outside 1 (pos 16777216) t.frame) (is_count_outside 1 16 t.partitions) (or_first (is_outside 1 (pos 16777216) t.frame || is_count_outside 1 16 t.partitions) _ (or_first (is_outside 1 (pos 16777216) t.frame || is_count_outside 1 16 t.partitions || is_count_outside 1 64 t.windows) _ h)))
+few_partitions t h = few_kept (length t.partitions) (or_second (is_outside 1 (pos MOST_FRAME_TICKS) t.frame) (is_count_outside 1 MOST_PARTITIONS t.partitions) (or_first (is_outside 1 (pos MOST_FRAME_TICKS) t.frame || is_count_outside 1 MOST_PARTITIONS t.partitions) _ (or_first (is_outside 1 (pos MOST_FRAME_TICKS) t.frame || is_count_outside 1 MOST_PARTITIONS t.partitions || is_count_outside 1 MOST_WINDOWS t.windows) _ h)))
 
 pub windows_within : (t : TableText) → exceeds_rows t ≡ false → list_any exceeds_window t.windows ≡ false
 unfolding exceeds_rows
@@ -74,5 +75,5 @@ unfolding has_unknown_name
 ends_known t h = or_second (list_any (is_unknown_window t.partitions) t.windows) (list_any (has_unknown_end t.partitions) t.channels) h
 
 -- two lists that give the same rows are as long
-pub rows_few : {X Y Z : Type 0} (f : X → Z) (g : Y → Z) (xs : List X) (ys : List Y) → map f xs ≡ map g ys → length xs ≤ 16 → length ys ≤ 16
+pub rows_few : {X Y Z : Type 0} (f : X → Z) (g : Y → Z) (xs : List X) (ys : List Y) → map f xs ≡ map g ys → length xs ≤ MOST_PARTITIONS → length ys ≤ MOST_PARTITIONS
 rows_few f g xs ys same few = let e = simp length-map at (ap length same) in omega arith

@@ -2,6 +2,7 @@
 
 ghost use Rattle.std.specs.Prelude.{◌≡◌, ◌≤◌, ◌<◌, ◌/◌, ◌==◌, ℕ, map, length, nat_lt, false};
 ghost use Rattle.std.specs.List.{list_any};
+ghost use Rattle.apex_types.specs.declared.limits.TheConstants.{MOST_PARTITIONS};
 ghost use Rattle.module_meaning.specs.Table.{is_wrong_window, has_wrong_window, has_odd_period, has_short_period, lacks_release, common, offered, falls_short};
 ghost use Rattle.kernel_meaning.specs.Windows.{has_release};
 ghost use Rattle.window_table.specs.Schedules.{schedule_of};
@@ -127,7 +128,7 @@ fn falls_short(
 /// Whether a partition's windows offer less than its duration in one of its periods.
 #[tactic(auto, using(std::proofs::lemmas::List::drop_more), unfolding(module_meaning::specs::Table::falls_short_from))]
 pub fn has_short_period<P: HasRow>(schedule: &Schedule, partitions: &[P]) -> bool
-    requires few { length partitions.now ≤ 16 }
+    requires few { length partitions.now ≤ MOST_PARTITIONS }
     requires periods { list_any (λ p. p.period == 0) (map P.row_of partitions.now) ≡ false }
     ensures { result ≡ has_short_period (schedule_of schedule.now) (map P.row_of partitions.now) }
 {
@@ -155,7 +156,7 @@ fn has_release(windows: &[WindowRow], partition: PartitionId) -> bool
 /// Whether a partition has no release window.
 #[tactic(auto, using(std::proofs::lemmas::List::drop_more), unfolding(module_meaning::specs::Table::lacks_release_from))]
 pub fn lacks_release<P: HasRow>(windows: &[WindowRow], partitions: &[P]) -> bool
-    requires { length partitions.now ≤ 16 }
+    requires { length partitions.now ≤ MOST_PARTITIONS }
     ensures { result ≡ lacks_release windows.now (map P.row_of partitions.now) }
 {
     let mut number: u8 = 1;

@@ -12,26 +12,12 @@ use crate::table::PartitionRow;
 use crate::written::{
     WrittenChannel, WrittenKind, WrittenPartition, WrittenPort, WrittenTable, WrittenWindow,
 };
+use apex_types::limits::{
+    MOST_CHANNELS, MOST_DEPTH, MOST_DESTINATIONS, MOST_FRAME_TICKS, MOST_PARTITIONS, MOST_PORTS,
+    MOST_TICKS, MOST_WINDOWS, MOST_WORDS,
+};
 use apex_types::{HealthTable, Name, PartitionAction, PortKind, PortRow};
 use std::alloc::Global;
-
-const LONGEST_FRAME: i64 = 1 << 24;
-
-const LONGEST_REFRESH: i64 = 1 << 40;
-
-const MOST_PARTITIONS: usize = 16;
-
-const MOST_PORTS: usize = 16;
-
-const MOST_WINDOWS: usize = 64;
-
-const MOST_CHANNELS: usize = 64;
-
-const MOST_DESTINATIONS: usize = 16;
-
-const MOST_WORDS: i64 = 16;
-
-const DEEPEST_QUEUE: i64 = 32;
 
 /// What stands for a health table with an unknown action until that is refused.
 const ALL_IGNORED: HealthTable = HealthTable {
@@ -57,7 +43,7 @@ fn kind_row(kind: WrittenKind) -> Option<PortKind>
 {
     match kind {
         WrittenKind::Sampling { refresh } => {
-            if is_outside(0, LONGEST_REFRESH, refresh) {
+            if is_outside(0, MOST_TICKS as i64, refresh) {
                 return None;
             }
             Some(PortKind::Sampling {
@@ -65,7 +51,7 @@ fn kind_row(kind: WrittenKind) -> Option<PortKind>
             })
         }
         WrittenKind::Queuing { depth, discipline } => {
-            if is_outside(1, DEEPEST_QUEUE, depth) {
+            if is_outside(1, MOST_DEPTH as i64, depth) {
                 return None;
             }
             Some(PortKind::Queuing {
@@ -82,7 +68,7 @@ fn port_row(port: &WrittenPort<'_>) -> Option<PortRow>
     ensures { result ≡ (if exceeds_port (port_text port.now) then None else Some (port_row (port_text port.now))) }
 {
     let name = Name::new(port.name.as_bytes())?;
-    if is_outside(1, MOST_WORDS, port.words) {
+    if is_outside(1, MOST_WORDS as i64, port.words) {
         return None;
     }
     let kind = kind_row(port.kind)?;
@@ -121,7 +107,7 @@ fn health_row(health: Option<HealthTable>) -> HealthTable
 fn has_many_ports(partition: &WrittenPartition<'_>) -> bool
     ensures { result ≡ has_many_ports (partition_text partition.now) }
 {
-    partition.ports.len() > MOST_PORTS
+    partition.ports.len() > MOST_PORTS as usize
 }
 
 fn exceeds_times(frame: i64, partition: &WrittenPartition<'_>) -> bool
@@ -189,7 +175,7 @@ fn exceeds_channel(channel: &WrittenChannel<'_>) -> bool
 {
     Name::new(channel.name.as_bytes()).is_none()
         || channel.destinations.is_empty()
-        || channel.destinations.len() > MOST_DESTINATIONS
+        || channel.destinations.len() > MOST_DESTINATIONS as usize
 }
 
 /// Whether the frame or a count of the whole table is outside its limits.
@@ -197,12 +183,12 @@ fn exceeds_channel(channel: &WrittenChannel<'_>) -> bool
 pub fn exceeds_counts(table: &WrittenTable<'_>) -> bool
     ensures { result ≡ exceeds_counts (table_text table.now) }
 {
-    is_outside(1, LONGEST_FRAME, table.frame)
+    is_outside(1, MOST_FRAME_TICKS as i64, table.frame)
         || table.partitions.is_empty()
-        || table.partitions.len() > MOST_PARTITIONS
+        || table.partitions.len() > MOST_PARTITIONS as usize
         || table.windows.is_empty()
-        || table.windows.len() > MOST_WINDOWS
-        || table.channels.len() > MOST_CHANNELS
+        || table.windows.len() > MOST_WINDOWS as usize
+        || table.channels.len() > MOST_CHANNELS as usize
 }
 
 #[tactic(auto, using(std::proofs::lemmas::List::drop_more))]

@@ -2,6 +2,7 @@
 
 ghost use Rattle.std.specs.Prelude.{◌≡◌, ◌≤◌, ◌||◌, ◌++◌, ◌∷◌, map, option_map, length, is_none};
 ghost use Rattle.std.specs.List.{list_any};
+ghost use Rattle.apex_types.specs.declared.limits.TheConstants.{MOST_PORTS};
 ghost use Rattle.module_meaning.specs.TableRules.{same};
 ghost use Rattle.module_meaning.specs.Table.{has_twice};
 ghost use Rattle.module_meaning.specs.TableRules.{has_same_names, has_unknown_name, partition_number, port_number, end_of, number_from, is_unknown_window, has_unknown_end};
@@ -137,7 +138,7 @@ fn is_port_name(text: &str, partition: &str, port: &str) -> bool
 /// The number of the port of a partition that a text names.
 #[tactic(auto, using(std::proofs::lemmas::List::drop_more), unfolding(module_meaning::specs::TableRules::number_from))]
 fn port_number(partition: &WrittenPartition<'_>, text: &str) -> Option<PortId>
-    requires { length partition.now.ports.items ≤ 16 }
+    requires { length partition.now.ports.items ≤ MOST_PORTS }
     ensures { option_map (λ n. n.0) result ≡ port_number (partition_text partition.now) text.now }
 {
     let mut number: u8 = 1;

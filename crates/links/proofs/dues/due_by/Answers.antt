@@ -1,6 +1,7 @@
 use Rattle.std.proofs.Common.{◌≡◌, suc, ◌+◌, ◌<◌, ◌≤◌, length, get_or, arith, rules, w64}
 use Rattle.std.proofs.Math.Seq.{drop-cons}
 use Rattle.std.proofs.lemmas.Nat.Bits.{bit_at_set_same, bit_at_set_other}
+use Rattle.apex_types.specs.declared.limits.TheConstants.{MOST_PROCESSES}
 use Rattle.links.specs.declared.dues.DueEntry.{DueEntry}
 use Rattle.links.proofs.DueMask.{all_there, none_later, one_more, process_below}
 use Rattle.links.proofs.dues.due_by.Goals as goal
@@ -11,7 +12,7 @@ nobody = record { process = record { 0 = 0 }; tick = record { 0 = 0 } }
 pub overflow_shl-mask : goal.overflow_shl-mask
 overflow_shl-mask c =
     let inside : c.loop-place.place < length c.args.dues.now.items = search rules in
-    let below : (get_or c.args.dues.now.items c.loop-place.place nobody).process.0 < 31 = process_below 31 c.loop-place.place c.args.dues.now.items nobody inside c.requires.below in
+    let below : (get_or c.args.dues.now.items c.loop-place.place nobody).process.0 < MOST_PROCESSES = process_below MOST_PROCESSES c.loop-place.place c.args.dues.now.items nobody inside c.requires.below in
     rw c.deref-in-loop-place.ensures.0 (omega (arith, below))
 
 pub loop-place-preserved : goal.loop-place-preserved
@@ -20,7 +21,7 @@ loop-place-preserved c =
     let place = c.loop-place.place in
     let e = get_or c.args.dues.now.items c.loop-place.place nobody in
     let inside : c.loop-place.place < length c.args.dues.now.items = search rules in
-    let below : (get_or c.args.dues.now.items c.loop-place.place nobody).process.0 < 31 = process_below 31 place es nobody inside c.requires.below in
+    let below : (get_or c.args.dues.now.items c.loop-place.place nobody).process.0 < MOST_PROCESSES = process_below MOST_PROCESSES place es nobody inside c.requires.below in
     let bit : (get_or c.args.dues.now.items c.loop-place.place nobody).process.0 < 64 = omega (arith, below) in
     let come : (get_or c.args.dues.now.items c.loop-place.place nobody).tick.0 ≤ c.args.now.0 = rw c.deref.ensures.0 at c.if-deref-place.true in
     let next : place + 1 ≡ suc place = omega arith in

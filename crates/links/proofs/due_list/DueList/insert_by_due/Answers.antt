@@ -1,4 +1,5 @@
 use Rattle.std.proofs.Common.{◌∙◌}
+use Rattle.apex_types.specs.declared.limits.TheConstants.{MOST_PROCESSES}
 use Rattle.links.specs.DueOrder.{due_at}
 use Rattle.links.proofs.DueOrder.{absent, room, behind-below, once-behind, behind-order}
 use Rattle.links.proofs.due_list.DueList.insert_by_due.Goals as goal
@@ -6,7 +7,7 @@ use Rattle.links.proofs.due_list.DueList.insert_by_due.Goals as goal
 pub enter-requires : goal.enter-requires
 enter-requires c =
     let none = absent c.args.process.0 _ _ (c.self.view_is ∙ c.remove.ensures) in
-    room 31 c.args.process.0 c.self.inside.dues.items c.self.invariant.below c.self.invariant.once c.requires none
+    room MOST_PROCESSES c.args.process.0 c.self.inside.dues.items c.self.invariant.below c.self.invariant.once c.requires none
 
 pub invariant_of-self : goal.invariant_of-self
 invariant_of-self c =
@@ -14,7 +15,7 @@ invariant_of-self c =
     let e = due_at c.args.process c.args.tick in
     let none = absent c.args.process.0 _ _ (c.self.view_is ∙ c.remove.ensures) in
     record {
-      below = rw c.enter.ensures (behind-below 31 e others c.requires c.self.invariant.below);
+      below = rw c.enter.ensures (behind-below MOST_PROCESSES e others c.requires c.self.invariant.below);
       once = rw c.enter.ensures (once-behind e others c.self.invariant.once none);
       ordered = rw c.enter.ensures (behind-order e others c.self.invariant.ordered);
     }

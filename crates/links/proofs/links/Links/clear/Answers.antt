@@ -1,6 +1,7 @@
 use Rattle.std.proofs.Common.{refl}
+use Rattle.apex_types.specs.declared.limits.TheConstants.{MOST_PROCESSES}
 use Rattle.links.proofs.OneHome.{IsHomed-emptied}
 use Rattle.links.proofs.links.Links.clear.Goals as goal
 
 pub invariant_of-self : goal.invariant_of-self
-invariant_of-self c = record { complete = refl; homed = rw c.clear_all.ensures (IsHomed-emptied 31 _) }
+invariant_of-self c = record { complete = refl; homed = rw c.clear_all.ensures (IsHomed-emptied MOST_PROCESSES _) }

@@ -1,12 +1,13 @@
 use Rattle.std.proofs.Common.{◌∙◌, length-set, arith}
 use Rattle.std.proofs.lemmas.List.{length-map}
+use Rattle.apex_types.specs.declared.limits.TheConstants.{MOST_PROCESSES}
 use Rattle.links.specs.OneHome.{entries_of}
 use Rattle.links.proofs.OneHome.{absent, room, IsHomed-joins}
 use Rattle.links.proofs.links.Links.join.Goals as goal
 
 pub join_at-requires : goal.join_at-requires
 join_at-requires c =
-    room 31 c.args.entry.process.0 _ _ c.self.invariant.complete c.self.invariant.homed c.requires.below c.args.list.0 (absent c.args.entry.process.0 _ _ (c.self.view_is ∙ c.remove.ensures) c.args.list.0)
+    room MOST_PROCESSES c.args.entry.process.0 _ _ c.self.invariant.complete c.self.invariant.homed c.requires.below c.args.list.0 (absent c.args.entry.process.0 _ _ (c.self.view_is ∙ c.remove.ensures) c.args.list.0)
 
 pub invariant_of-self : goal.invariant_of-self
 invariant_of-self c = record {

@@ -1,11 +1,12 @@
 use Rattle.std.proofs.Common.{◌∙◌, sym}
+use Rattle.apex_types.specs.declared.limits.TheConstants.{MOST_PROCESSES}
 use Rattle.links.proofs.OneHome.{first_below, pops-seen}
 use Rattle.links.proofs.links.Links.pop_front.Goals as goal
 
 pub returns-clause-below : goal.returns-clause-below
 returns-clause-below c =
     let found = rw c.deref.ensures.value at c.front_at.ensures in
-    rw (sym found ∙ c.in_ok-first.was) at (first_below 31 _ _ c.self.invariant.complete c.self.invariant.homed c.args.list.0)
+    rw (sym found ∙ c.in_ok-first.was) at (first_below MOST_PROCESSES _ _ c.self.invariant.complete c.self.invariant.homed c.args.list.0)
 
 pub returns-clause-lists : goal.returns-clause-lists
 returns-clause-lists c =

@@ -1,4 +1,5 @@
 use Rattle.std.proofs.Common.{◌≡◌, ◌+◌, ◌≤◌, ◌++◌, length}
+use Rattle.apex_types.specs.declared.limits.TheConstants.{MOST_PROCESSES}
 use Rattle.kernel_meaning.specs.Times.{start_from, start_all_waiting}
 use Rattle.process_table_base.proofs.table.ProcessTable.start_all_waiting.Given as goal
 
@@ -7,7 +8,7 @@ invariant-loop-left l = record {
   part : (start_from l.points.moment.at l.points.next.0 l.left l.place l.self).part ≡ (start_all_waiting l.points.moment.at l.points.next.0 l.fn.self).part;
   lines : l.out.lines.items ++ (start_from l.points.moment.at l.points.next.0 l.left l.place l.self).lines ≡ l.fn.out.lines.items ++ (start_all_waiting l.points.moment.at l.points.next.0 l.fn.self).lines;
   actions : l.out.actions.items ++ (start_from l.points.moment.at l.points.next.0 l.left l.place l.self).actions ≡ l.fn.out.actions.items ++ (start_all_waiting l.points.moment.at l.points.next.0 l.fn.self).actions;
-  count : l.place + l.left ≤ 31;
+  count : l.place + l.left ≤ MOST_PROCESSES;
   lines_room : length l.out.lines.items ≤ length l.fn.out.lines.items + l.place;
   actions_room : length l.out.actions.items ≤ length l.fn.out.actions.items + l.place;
 }
