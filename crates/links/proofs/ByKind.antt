@@ -1,5 +1,5 @@
 -- The waiting lists by their keys stand among the lists with numbers.
-use Rattle.std.proofs.Common.{◌≡◌, ◌∙◌, ◌⊎◌, inl, inr, ℕ, ◌+◌, ◌-◌, ◌<◌, ◌≤◌, true, false, List, [], length, map, refl, sym, ap, arith}
+use Rattle.std.proofs.Common.{◌*◌, ◌≡◌, ◌∙◌, ◌⊎◌, inl, inr, ℕ, ◌+◌, ◌-◌, ◌<◌, ◌≤◌, true, false, List, [], length, map, refl, sym, ap, arith}
 use Rattle.std.specs.Prelude.{nat_lt, take, drop, slice_set}
 use Rattle.std.proofs.lemmas.Bool.Decides.{nat_tests}
 use Rattle.std.proofs.lemmas.Bool.{cases_lt}

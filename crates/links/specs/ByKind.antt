@@ -1,6 +1,6 @@
 -- The waiting lists by their keys, and where each of them stands among lists with numbers: sixteen of a kind,
 -- one kind behind another.
-use Rattle.std.specs.Prelude.{ℕ, ◌≡◌, ◌+◌, nat_lt, List, length, take, drop, if◌then◌else◌}
+use Rattle.std.specs.Prelude.{◌*◌, ℕ, ◌≡◌, ◌+◌, nat_lt, List, length, take, drop, if◌then◌else◌}
 use Rattle.apex_types.specs.declared.identity.ListKey.{ListKey}
 use Rattle.apex_types.specs.declared.identity.ListKey.TheVariants as key
 use Rattle.apex_types.specs.declared.limits.TheConstants.{MOST_OBJECTS}
