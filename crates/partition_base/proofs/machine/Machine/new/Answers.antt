@@ -20,3 +20,9 @@ returns-clause-fits c =
     let words = sym (ap length (c.in_ok-from_slice.ensures.items ∙ c.deref-5.ensures.value)) in
     ap (λ n. n ∷ map length (map zeros (map stack_of_body (runners_of s)))) words
     ∙ ap (λ ns. length c.in_ok-from_slice.field-0.items ∷ ns) (fresh_lengths (map stack_of_body (runners_of s)) ∙ ap (λ ps. map stack_of_body (s.init ∷ or_init s.init s.handler ∷ ps)) (sym rows))
+
+pub returns-clause-engine : goal.returns-clause-engine
+returns-clause-engine c =
+    let s = c.args.section.now in
+    let probe : ℕ = c.in_ok-read.ensures in
+    refl
