@@ -1,6 +1,7 @@
 -- The trace of a built image is the trace of its sources.
 use Rattle.std.proofs.Common.{◌≡◌, ℕ, ◌+◌, ℤ, Bool, List, [], ◌∷◌, map, Option, Some, None, refl, ap, subst}
 use Rattle.std.specs.Prelude.{is_some, option_map}
+use Rattle.apex_types.specs.WrittenCosts.{written_costs}
 use Rattle.apex_types.specs.declared.device.DeviceLine.{DeviceLine}
 use Rattle.apex_types.specs.declared.process.ProcessStatus.{ProcessStatus}
 use Rattle.apex_types.specs.declared.row.PortRow.{PortRow}
@@ -50,7 +51,7 @@ member_same fixed ports p h =
     let kernel = λ (rows : List ProcessStatus) (has_handler : Bool). fresh_kernel fixed rows (source_objects p) (fresh_ports ports) has_handler in
     let own = kernel (map source_row p.processes) (is_some p.handler) in
     record {
-      engine = compiled_correctly p h.fits h.coded.code;
+      engine = compiled_correctly p h.fits h.coded.code written_costs;
       world = subst (λ (b : Bool). SameWorld (Related p) (fresh_world own p.initial) (fresh_world (kernel (map machine_row (section_of p).processes) b) p.initial)) (handler_same p)
           (subst (λ (rows : List ProcessStatus). SameWorld (Related p) (fresh_world own p.initial) (fresh_world (kernel rows (is_some p.handler)) p.initial)) (rows_same (processes_place p) p.processes) (fresh_same (Related p) own p.initial));
     }

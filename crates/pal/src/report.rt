@@ -40,14 +40,22 @@ pub struct BodyCost {
 ///
 /// 7 if memory ran out.
 #[tactic(auto, using(crate::proofs::Held::checked_costs))]
-pub fn cost_report(alloc: Global, costs: &Costs, checked: &Checked) -> Result<Vec<BodyCost>, PalFault>
+pub fn cost_report(
+    alloc: Global,
+    costs: &Costs,
+    checked: &Checked,
+) -> Result<Vec<BodyCost>, PalFault>
     ensures costs { IfOk result (λ report. report.items ≡ costs_of costs.now checked.now.program) }
     ensures memory { IfErr result (λ fault. fault.refusal ≡ Memory) }
 {
     Ok(report_program(alloc, costs, &checked.program)?)
 }
 
-fn report_program(alloc: Global, costs: &Costs, program: &Program) -> Result<Vec<BodyCost>, AllocError>
+fn report_program(
+    alloc: Global,
+    costs: &Costs,
+    program: &Program,
+) -> Result<Vec<BodyCost>, AllocError>
     requires { AreCostsHeld costs.now (program_of program.now) }
     ensures { IfOk result (λ report. report.items ≡ costs_of costs.now program.now) }
 {
@@ -59,7 +67,11 @@ fn report_program(alloc: Global, costs: &Costs, program: &Program) -> Result<Vec
     Ok(report)
 }
 
-fn report_handler(report: &mut Vec<BodyCost>, costs: &Costs, handler: &Option<Body>) -> Result<(), AllocError>
+fn report_handler(
+    report: &mut Vec<BodyCost>,
+    costs: &Costs,
+    handler: &Option<Body>,
+) -> Result<(), AllocError>
     requires { IsHandlerHeld costs.now (option_map body_of handler.now) }
     ensures { OnOk result (report.new.items ≡ report.old.items ++ cost_of_handler costs.now handler.now) }
 {
@@ -70,7 +82,11 @@ fn report_handler(report: &mut Vec<BodyCost>, costs: &Costs, handler: &Option<Bo
 }
 
 #[tactic(auto, using(crate::proofs::Held::next_process))]
-fn report_processes(report: &mut Vec<BodyCost>, costs: &Costs, processes: &[Process]) -> Result<(), AllocError>
+fn report_processes(
+    report: &mut Vec<BodyCost>,
+    costs: &Costs,
+    processes: &[Process],
+) -> Result<(), AllocError>
     requires { AreProcessesHeld costs.now (map process_of processes.now) }
     ensures { OnOk result (report.new.items ≡ report.old.items ++ map (cost_of_process costs.now) processes.now) }
 {
@@ -81,7 +97,11 @@ fn report_processes(report: &mut Vec<BodyCost>, costs: &Costs, processes: &[Proc
 }
 
 #[tactic(auto, using(crate::proofs::Held::next_procedure))]
-fn report_procedures(report: &mut Vec<BodyCost>, costs: &Costs, procedures: &[Procedure]) -> Result<(), AllocError>
+fn report_procedures(
+    report: &mut Vec<BodyCost>,
+    costs: &Costs,
+    procedures: &[Procedure],
+) -> Result<(), AllocError>
     requires { AreProceduresHeld costs.now (map procedure_of procedures.now) }
     ensures { OnOk result (report.new.items ≡ report.old.items ++ map (cost_of_procedure costs.now) procedures.now) }
 {

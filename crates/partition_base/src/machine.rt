@@ -7,10 +7,9 @@ ghost use Rattle.kernel_meaning.specs.Partition.{message_from};
 ghost use Rattle.engine_meaning.specs.Engine.{or_init};
 ghost use Rattle.engine_meaning.specs.Operators.{put_words};
 ghost use Rattle.machine_meaning.specs.MachineMeaning.{body_of_row};
-ghost use Rattle.processor.specs.Fitting.{IsFittingBody};
 ghost use Rattle.regions.specs.Space.{planned, put};
 ghost use Rattle.partition_base.specs.Sections.{fresh_memory};
-ghost use Rattle.partition_base.specs.Slots.{AreFittingBodies, stack_of_body, is_begun};
+ghost use Rattle.partition_base.specs.Slots.{stack_of_body, is_begun};
 
 use crate::executor::Executor;
 use crate::slot::{self, Slot};
@@ -30,9 +29,6 @@ pub struct Machine {
     processes: Vec<BodyRow>,
     slots: Vec<Slot>,
     initial: Vec<i64>,
-    ghost init_fits: { IsFittingBody init },
-    ghost handler_fits: { IsFittingBody (or_init init handler) },
-    ghost bodies_fit: { AreFittingBodies processes.items },
 }
 
 /// The bodies of processes, in order.
@@ -53,9 +49,6 @@ fn fresh_slots(
     handler: &BodyRow,
     processes: &[BodyRow],
 ) -> Result<Vec<Slot>, AllocError>
-    requires init_fits { IsFittingBody init.now }
-    requires handler_fits { IsFittingBody handler.now }
-    requires bodies_fit { AreFittingBodies processes.now }
     ensures { IfOk result (λ slots. map is_begun slots.items ≡ replicate (2 + length processes.now) false) }
 {
     let mut slots = Vec::with_capacity(alloc, processes.len() + 2)?;
@@ -154,7 +147,6 @@ impl Machine {
     /// The body of INIT, of the handler or of a process; INIT's where there is none.
     fn body(&self, runner: Runner) -> BodyRow
         ensures body { result ≡ body_at self.now.init self.now.handler self.now.processes.items runner }
-        ensures fits { IsFittingBody result }
         ensures stack { place_of runner < length (bodies_in self.now) → slice_get (map stack_of_body (bodies_in self.now)) (place_of runner) ≡ Some result.stack }
     {
         match runner {

@@ -5,7 +5,6 @@ ghost use Rattle.apex_types.specs.declared.identity.Runner.{Runner};
 ghost use Rattle.apex_types.specs.declared.row.BodyRow.{BodyRow};
 ghost use Rattle.machine_meaning.specs.MachineControl.{machine_engine, machine_start};
 ghost use Rattle.kernel_meaning.specs.Partition.{control_at, no_control, replied, ticked};
-ghost use Rattle.processor.specs.Fitting.{IsFittingBody};
 ghost use Rattle.bursts.specs.Bursts.{burst, is_nothing};
 ghost use Rattle.processor.specs.Views.{asks_of};
 ghost use Rattle.regions.specs.Space.{put, stacks_of, zeros};
@@ -26,7 +25,6 @@ pub(crate) struct Slot {
 impl Slot {
     /// The slot of a body that is not begun.
     pub(crate) fn new(body: &BodyRow) -> Slot
-        requires { IsFittingBody body.now }
         ensures { result.is_active ≡ false }
     {
         Slot {
@@ -37,8 +35,7 @@ impl Slot {
 
     /// Begins a body afresh on the own stack.
     fn begin(&mut self, memory: &mut PartitionMem, body: &BodyRow)
-        requires fits { IsFittingBody body.now }
-        requires stack { length memory.old.stack ≡ body.now.stack }
+        requires { length memory.old.stack ≡ body.now.stack }
         ensures control { control_of_slot self.new memory.new.stack ≡ Some (machine_start body.now) }
         ensures memory { memory.new ≡ put memory.old (zeros body.now.stack) memory.old.words }
     {
@@ -106,8 +103,7 @@ pub(crate) fn begin_at(
     memory: &mut PartitionMem,
     body: &BodyRow,
 )
-    requires fits { IsFittingBody body.now }
-    requires stack { place < length (stacks_of memory.old) → slice_get (stack_lengths memory.old) place ≡ Some body.now.stack }
+    requires { place < length (stacks_of memory.old) → slice_get (stack_lengths memory.old) place ≡ Some body.now.stack }
     ensures controls { controls_from slots.new.items (stacks_of memory.new) ≡ slice_set (controls_from slots.old.items (stacks_of memory.old)) place (Some (machine_start body.now)) }
     ensures words { memory.new.words ≡ memory.old.words }
     ensures stacks { stack_lengths memory.new ≡ stack_lengths memory.old }

@@ -87,7 +87,7 @@ impl Registers {
     fn enter_at(&mut self, reach: &mut Reach, frame: u32, routine: &RoutineRow) -> Turn
         requires next { self.old.pc + 1 < 2 ^ 32 }
         requires fits { IsFittingRoutine routine.now }
-        requires small { frame ≤ 65_536 }
+        requires small { frame ≤ 65_537 }
         ensures effect { after result self.new reach.new ≡ does (enters_at frame routine.now) self.old reach.old }
         ensures done { is_done result ≡ true }
     {
