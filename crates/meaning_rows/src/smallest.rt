@@ -1,6 +1,6 @@
 //! The words of a text, the tree of the smallest source, and its program.
 
-ghost use Rattle.std.specs.Prelude.{◌≡◌, ◌∷◌, [], Some, None, codes, pos};
+ghost use Rattle.std.specs.Prelude.{◌≡◌, ◌∷◌, [], Some, None, Ok, codes, pos};
 ghost use Rattle.apex_types.specs.declared.place.Place.TheVariants.{Slot};
 ghost use Rattle.apex_types.specs.declared.service.Service.TheVariants.{GetTime, SetPartitionMode};
 ghost use Rattle.pal_laws.specs.GrammarReading.{program_at};
@@ -12,7 +12,7 @@ ghost use Rattle.pal_meaning.specs.Syntax as written;
 /// From bytes to words, from words to a tree, and from that to a program.
 fn a_source_is_read()
     ensures words { words_of (codes "x1:=-2>=y;#:=\n GET_TIME 9223372036854775808 A!") ≡ Name (codes "x1") ∷ Mark (codes ":=") ∷ Mark (codes "-") ∷ Number (Some 2) ∷ Mark (codes ">=") ∷ Name (codes "y") ∷ Mark (codes ";") ∷ ServiceWord GetTime ∷ Number None ∷ Stray ∷ Stray ∷ [] }
-    ensures tree { program_at (words_of (codes "init stack 16 { local r; SET_PARTITION_MODE(3) -> r; }")) ≡ Some (record {
+    ensures tree { program_at (words_of (codes "init stack 16 { local r; SET_PARTITION_MODE(3) -> r; }")) ≡ Ok (record {
       declarations = [];
       init = record {
         stack = Some 16;
