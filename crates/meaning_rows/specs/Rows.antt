@@ -4,7 +4,6 @@ use Rattle.std.specs.Prelude.{ℕ, ℤ, pos, zero, suc, ◌+◌, true, false, Li
 use Rattle.toml.specs.Parse.{parse_document}
 use Rattle.apex_types.specs.WrittenCosts.{written_costs}
 use Rattle.apex_types.specs.Line.{text_of}
-use Rattle.apex_types.specs.WrittenCosts.{written_costs}
 use Rattle.apex_types.specs.declared.codes.ErrorKind.{ErrorKind}
 use Rattle.apex_types.specs.declared.codes.ModuleAction.TheVariants as of_module
 use Rattle.apex_types.specs.declared.codes.PartitionAction.TheVariants.{Ignore}
@@ -18,8 +17,9 @@ use Rattle.apex_types.specs.declared.row.WindowRow.{WindowRow}
 use Rattle.compiling_laws.specs.CompiledCode.{section_of}
 use Rattle.pal_meaning.specs.Program.{size_of_body, size_of_procedure, frame_of_body, frame_of_procedure, cost_of_body, cost_of_procedure}
 use Rattle.pal_meaning.specs.Grammar.{words_of}
-use Rattle.pal_laws.specs.GrammarReading.{Answer, program_at}
-use Rattle.module_meaning.specs.Table.{◌>>=◌, Partition, Table}
+use Rattle.pal_laws.specs.GrammarReading.{program_at}
+use Rattle.pal_meaning.specs.Syntax as written
+use Rattle.module_meaning.specs.Table.{Partition, Table}
 use Rattle.machine_meaning.specs.Image.{Item, Image}
 use Rattle.machine_meaning.specs.ImageReading.{Fault, image_at}
 use Rattle.machine_meaning.specs.ImageSpelling.{u32, i64, spelling}
@@ -80,18 +80,27 @@ single_table name frame = plain_table frame (plain_partition name frame frame �
 abbrev pub lines : List (List ℕ) → List ℕ
 lines texts = flat_map (λ text. text ++ 10 ∷ []) texts
 
+-- what follows from something, where it is there
+infixl 10 ◌>>=◌
+abbrev ◌>>=◌ : {A B : Type 0} → Option A → (A → Option B) → Option B
+(Some x) >>= f = f x
+None >>= f = None
+
+-- the tree of a source, if it has one
+abbrev if_read : Result written.Program ℕ → Option written.Program
+if_read (Ok program) = Some program
+if_read (Err left) = None
+
+abbrev tree_of : List ℕ → Option written.Program
+tree_of source = if_read (program_at (words_of source))
+
 -- the program that a partition's source is accepted as
 abbrev pub if_accepted : Result Program Refused → Option Program
 if_accepted (Ok program) = Some program
 if_accepted (Err refused) = None
 
--- the tree of a source, if it has one
-abbrev pub tree_of : {X : Type 0} → Answer X → Option X
-tree_of (Ok tree) = Some tree
-tree_of (Err left) = None
-
 abbrev pub program_of : Partition → List ℕ → Option Program
-program_of p source = tree_of (program_at (words_of source)) >>= λ tree. if_accepted (verdict p.ports p.period tree)
+program_of p source = tree_of source >>= λ tree. if_accepted (verdict p.ports p.period tree)
 
 -- the number of the refusal of a source for a partition, 2 where it has no tree, 0 where it is accepted
 abbrev pub number_of_verdict : Result Program Refused → ℕ
@@ -102,7 +111,7 @@ number_of_verdict (Err ByLimit) = 5
 number_of_verdict (Err ByPeriod) = 6
 
 abbrev pub refusal_number : Partition → List ℕ → ℕ
-refusal_number p source = unwrap_or (option_map (λ tree. number_of_verdict (verdict p.ports p.period tree)) (tree_of (program_at (words_of source)))) 2
+refusal_number p source = unwrap_or (option_map (λ tree. number_of_verdict (verdict p.ports p.period tree)) (tree_of source)) 2
 
 -- what each body of a program is: its instructions, the words of its frame, and the sum of its costs
 abbrev pub body_costs : Body → ℕ × ℕ × ℕ

@@ -1,10 +1,11 @@
 -- Which kinds of words are listed while one after another is tried.
-use Rattle.std.proofs.Common.{◌≡◌, ℕ, List, [], ◌∷◌, ◌++◌, length, refl, sym, ap, subst, arith, append_assoc, append-nil, take-append-drop, length-append, ◌≤◌, map, take, drop, Option, Some, ◌∙◌, ◌⊎◌, inl, inr}
-use Rattle.std.proofs.lemmas.List.{map-append, length-map, take_at, drop_at}
+use Rattle.std.proofs.Common.{◌≡◌, ℕ, List, [], ◌∷◌, ◌++◌, length, refl, sym, ap, subst, arith, append_assoc, append-nil, take-append-drop, length-append, ◌≤◌, map, take, Option, ◌-◌, Some, ◌∙◌, ◌⊎◌, inl, inr}
+use Rattle.std.proofs.lemmas.List.{length-map, length-take-le, take-map}
 use Rattle.std.specs.List.{Contains}
 use Rattle.std.proofs.lemmas.List.Elements.{Contains-append_cases, Contains-append_left, Contains-append_right, Contains-push_cases}
 use Rattle.pal_meaning.specs.Grammar.{Word, words_of}
-use Rattle.pal_base.specs.Next.{IsWhole, IsMisfit, MayFollow, AreNext, IsFirstFit, IsLookedFor, IsFit, IsNoted}
+use Rattle.pal_meaning.specs.Beginning.{IsWhole, LeavesAt}
+use Rattle.pal_base.specs.Next.{IsMisfit, MayFollow, AreNext, IsLookedFor, IsFit, IsNoted}
 use Rattle.pal_base.specs.declared.looking.Fit.{Fit}
 use Rattle.pal_base.specs.declared.looking.Fit.TheVariants as fit
 use Rattle.pal_base.specs.declared.looking.LookedFor.{LookedFor}
@@ -14,9 +15,9 @@ use Rattle.pal_base.specs.declared.looking.WordKind.{WordKind}
 use Rattle.pal_base.specs.declared.looking.WordKind.TheVariants as kind
 use Rattle.pal_base.specs.declared.mark.Mark.TheVariants as mark
 
--- what may follow is listed or still to be tried
+-- what may follow is listed or still to be tried, and what is listed may follow
 abbrev pub Listing : List ℕ → List Word → List WordKind → List WordKind → Type 0
-Listing name before words kinds = ((k : WordKind) → MayFollow name before k → Contains (words ++ kinds) k) × (Contains words kind.End → IsWhole before)
+Listing name before words kinds = ((k : WordKind) → MayFollow name before k → Contains (words ++ kinds) k) × ((k : WordKind) → Contains words k → MayFollow name before k)
 
 abbrev pub kinds : List WordKind
 kinds =
@@ -90,7 +91,7 @@ nothing_in : (k : WordKind) → Contains {X = WordKind} [] k → ⊥
 nothing_in k h = omega (arith, h.1)
 
 starts : (name : List ℕ) (before : List Word) → Listing name before [] kinds
-starts name before = (λ k follows. all_kinds k, λ h. absurd (nothing_in kind.End h))
+starts name before = (λ k follows. all_kinds k, λ k h. absurd (nothing_in k h))
 
 pub listing_starts : (name : List ℕ) (before : List Word) (words : List WordKind) → words ≡ [] → Listing name before words kinds
 listing_starts name before words none = subst (λ xs. Listing name before xs kinds) (sym none) (starts name before)
@@ -102,13 +103,13 @@ pub listing_ends : (name : List ℕ) (before : List Word) (words left : List Wor
 listing_ends name before words [] so_far none = ends name before words so_far
 listing_ends name before words (k ∷ ks) so_far none = absurd (omega (arith, none))
 
-end_is : (before : List Word) (words : List WordKind) (k : WordKind) → (Contains words kind.End → IsWhole before) → (k ≡ kind.End → IsWhole before) → Contains words kind.End ⊎ (k ≡ kind.End) → IsWhole before
-end_is before words k old new (inl h) = old h
-end_is before words k old new (inr h) = new h
+pushed : (name : List ℕ) (before : List Word) (words : List WordKind) (k j : WordKind) → (Contains words j → MayFollow name before j) → MayFollow name before k → Contains words j ⊎ (k ≡ j) → MayFollow name before j
+pushed name before words k j old fits (inl h) = old h
+pushed name before words k j old fits (inr h) = subst (λ i. MayFollow name before i) h fits
 
-listing_fits : (name : List ℕ) (before : List Word) (words others : List WordKind) (k : WordKind) → Listing name before words (k ∷ others) → (k ≡ kind.End → IsWhole before) → Listing name before (words ++ k ∷ []) others
+listing_fits : (name : List ℕ) (before : List Word) (words others : List WordKind) (k : WordKind) → Listing name before words (k ∷ others) → MayFollow name before k → Listing name before (words ++ k ∷ []) others
 listing_fits name before words others k so_far fits =
-    (λ j follows. subst (λ xs. Contains xs j) (sym (append_assoc words (k ∷ []) others)) (so_far.0 j follows), λ h. end_is before words k so_far.1 fits (Contains-push_cases words k kind.End h))
+    (λ j follows. subst (λ xs. Contains xs j) (sym (append_assoc words (k ∷ []) others)) (so_far.0 j follows), λ j h. pushed name before words k j (so_far.1 j) fits (Contains-push_cases words k j h))
 
 first_is : (k j : WordKind) → Contains {X = WordKind} [] j ⊎ (k ≡ j) → k ≡ j
 first_is k j (inl h) = absurd (nothing_in j h)
@@ -132,28 +133,17 @@ listing_goes_on name before old new others k fit.Fits so_far fits noted = subst 
 listing_goes_on name before old new others k fit.TooDeep so_far fits noted = subst (λ xs. Listing name before xs others) (sym noted) (listing_skips name before old others k so_far fits)
 listing_goes_on name before old new others k fit.Misfit so_far fits noted = subst (λ xs. Listing name before xs others) (sym noted) (listing_skips name before old others k so_far fits)
 
--- what is looked for at the misfit of a text
-front_is : (place : ℕ) (words xs ys : List Word) → words ≡ xs ++ ys → place ≡ length xs → xs ≡ take place words
-front_is place words xs ys whole at = sym (take_at xs ys place (sym at)) ∙ ap (λ (ws : List Word). take place ws) (sym whole)
-
-within : (place : ℕ) (words xs ys : List Word) → words ≡ xs ++ ys → place ≡ length xs → place ≤ length words
-within place words xs ys whole at = omega (arith, at, ap length whole, length-append xs ys)
-
-behind_is : (place : ℕ) (words xs ys : List Word) → words ≡ xs ++ ys → place ≡ length xs → ys ≡ drop place words
-behind_is place words xs ys whole at = sym (drop_at xs ys place (sym at)) ∙ ap (λ (ws : List Word). drop place ws) (sym whole)
-
-pub looked_so : (text : List ℕ) (view : Token → Word) (all ts whole front back : List Token) (count : ℕ) (found : Option Misfit) (misfit : Misfit) (name : List ℕ) (fit : Fit) (looked_for : LookedFor) →
-    map view all ≡ words_of text → ts ≡ all → found ≡ Some misfit → IsMisfit (map view ts) found → whole ≡ all → front ≡ take count whole → back ≡ drop count whole →
-    IsFirstFit (map view front) (map view back) fit → looked_for.place ≡ length front → looked_for.found ≡ fit → AreNext name (map view front) looked_for.words.items → IsLookedFor text (Some looked_for)
-looked_so text view all ts whole front back count found misfit name fit looked_for words same is given again cut left fits at so next =
-    let parts : all ≡ front ++ back = sym again ∙ sym (take-append-drop count whole) ∙ ap (λ (xs : List Token). xs ++ drop count whole) (sym cut) ∙ ap (λ (xs : List Token). front ++ xs) (sym left) in
-    let all_words : words_of text ≡ map view front ++ map view back = sym words ∙ ap (map view) parts ∙ map-append view front back in
-    let here : looked_for.place ≡ length (map view front) = at ∙ sym (length-map front view) in
-    let front_words : map view front ≡ take looked_for.place (words_of text) = front_is looked_for.place (words_of text) (map view front) (map view back) all_words here in
-    let back_words : map view back ≡ drop looked_for.place (words_of text) = behind_is looked_for.place (words_of text) (map view front) (map view back) all_words here in (
-      λ program. (subst (λ o. IsMisfit (map view ts) o) is given).0 (subst IsWhole (sym words ∙ ap (map view) (sym same)) program),
-      within looked_for.place (words_of text) (map view front) (map view back) all_words here,
-      subst (λ f. IsFirstFit (take looked_for.place (words_of text)) (drop looked_for.place (words_of text)) f) (sym so)
-          (subst (λ (ws : List Word). IsFirstFit (take looked_for.place (words_of text)) ws fit) back_words (subst (λ (ws : List Word). IsFirstFit ws (map view back) fit) front_words fits)),
+-- what is looked for where a text leaves the grammar
+pub looked_so : (text : List ℕ) (view : Token → Word) (all ts whole front : List Token) (count : ℕ) (found : Option Misfit) (misfit : Misfit) (name : List ℕ) (looked_for : LookedFor) →
+    map view all ≡ words_of text → ts ≡ all → found ≡ Some misfit → IsMisfit (map view ts) found → whole ≡ all → count ≡ length all - misfit.left → front ≡ take count whole →
+    looked_for.place ≡ length front → AreNext name (map view front) looked_for.words.items → IsLookedFor text (Some looked_for)
+looked_so text view all ts whole front count found misfit name looked_for words same is given again at cut so next =
+    let so_many : length (map view ts) ≡ length all = length-map ts view ∙ ap length same in
+    let place : looked_for.place ≡ count = so ∙ ap length (cut ∙ ap (take count) again) ∙ length-take-le count all (omega (arith, at)) in
+    let leaves : LeavesAt (map view ts) (length (map view ts) - misfit.left) = (subst (λ o. IsMisfit (map view ts) o) is given).1 in
+    let here : length (map view ts) - misfit.left ≡ looked_for.place = omega (arith, so_many, at, place) in
+    let front_words : map view front ≡ take looked_for.place (words_of text) =
+        ap (map view) (cut ∙ ap (take count) again) ∙ sym (take-map view count all) ∙ ap (take count) words ∙ ap (λ n. take n (words_of text)) (sym place) in (
+      subst (λ (ws : List Word). LeavesAt ws looked_for.place) (ap (map view) same ∙ words) (subst (λ n. LeavesAt (map view ts) n) here leaves),
       (name, subst (λ (ws : List Word). AreNext name ws looked_for.words.items) front_words next),
     )

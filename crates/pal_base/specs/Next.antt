@@ -1,10 +1,9 @@
 -- What may come next behind some words.
-use Rattle.std.specs.Prelude.{◌≡◌, ℕ, ◌<◌, ◌≤◌, List, [], ◌∷◌, ◌++◌, Option, Some, None, slice_get, take, drop, length}
+use Rattle.std.specs.Prelude.{◌≡◌, ℕ, ◌-◌, ◌<◌, ◌≤◌, List, [], ◌∷◌, ◌++◌, Option, Some, None, slice_get, take, length}
 use Rattle.std.specs.List.{Contains}
 use Rattle.apex_types.specs.declared.service.Service.TheVariants.{GetTime}
+use Rattle.pal_meaning.specs.Beginning.{IsWhole, IsBeginning, LeavesAt}
 use Rattle.pal_meaning.specs.Grammar.{Word, Name, Number, ServiceWord, Mark, words_of}
-use Rattle.pal_meaning.specs.Grammar.{IsWritten}
-use Rattle.pal_meaning.specs.Syntax as tree
 use Rattle.pal_base.specs.Marks.{mark_text}
 use Rattle.pal_base.specs.View.{text_or_none}
 use Rattle.pal_base.specs.declared.looking.Fit.{Fit}
@@ -13,13 +12,6 @@ use Rattle.pal_base.specs.declared.looking.LookedFor.{LookedFor}
 use Rattle.pal_base.specs.declared.looking.WordKind.{WordKind}
 use Rattle.pal_base.specs.declared.looking.WordKind.TheVariants as kind
 use Rattle.pal_base.specs.declared.source.Misfit.{Misfit}
-
--- the words of a program, and how they begin
-abbrev pub IsWhole : List Word → Type 0
-IsWhole words = (program : tree.Program) × IsWritten words program
-
-abbrev pub IsBeginning : List Word → Type 0
-IsBeginning words = (more : List Word) × IsWhole (words ++ more)
 
 -- A word of this kind may stand behind these words, or the end of the text. The grammar never asks which
 -- name, which number or which service stands at a place; so one of each is taken for all.
@@ -30,46 +22,40 @@ MayFollow name before kind.Service = IsBeginning (before ++ ServiceWord GetTime 
 MayFollow name before (kind.Mark mark) = IsBeginning (before ++ Mark (mark_text mark) ∷ [])
 MayFollow name before kind.End = IsWhole before
 
--- Behind these words no kind of word may stand but those that are listed; the end may if it is listed.
+-- a kind of word may stand behind these words exactly if it is listed
 abbrev pub AreNext : List ℕ → List Word → List WordKind → Type 0
-AreNext name before kinds = ((k : WordKind) → MayFollow name before k → Contains kinds k) × (Contains kinds kind.End → IsWhole before)
+AreNext name before kinds = ((k : WordKind) → MayFollow name before k → Contains kinds k) × ((k : WordKind) → Contains kinds k → MayFollow name before k)
 
--- how the last of these words fits behind the others
-abbrev pub IsWordFit : List Word → Fit → Type 0
-IsWordFit words fit.Fits = Unit {0}
-IsWordFit words fit.TooDeep = IsBeginning words → ⊥
-IsWordFit words fit.Misfit = IsBeginning words → ⊥
-
--- how the first of some words fits behind others; nothing is said of their end
-abbrev pub IsFirstFit : List Word → List Word → Fit → Type 0
-IsFirstFit before [] f = Unit {0}
-IsFirstFit before (word ∷ behind) f = IsWordFit (before ++ word ∷ []) f
-
--- What is looked for in a text that is not in the grammar: how the word at a place fits there, and what may stand there.
+-- What is looked for in a text that is not in the grammar: the place where its words leave the grammar, and what may
+-- stand there.
 abbrev pub IsLookedFor : List ℕ → Option LookedFor → Type 0
 IsLookedFor text None = IsWhole (words_of text)
 IsLookedFor text (Some looked_for) =
-    (IsWhole (words_of text) → ⊥) × (looked_for.place ≤ length (words_of text)) ×
-    IsFirstFit (take looked_for.place (words_of text)) (drop looked_for.place (words_of text)) looked_for.found ×
-    ((name : List ℕ) × AreNext name (take looked_for.place (words_of text)) looked_for.words.items)
+    LeavesAt (words_of text) looked_for.place × ((name : List ℕ) × AreNext name (take looked_for.place (words_of text)) looked_for.words.items)
 
--- where these words leave the grammar: at their end, or at one of them, and then whatever follows
+-- where these words leave the grammar, if they do
 abbrev pub IsMisfit : List Word → Option Misfit → Type 0
 IsMisfit words None = IsWhole words
-IsMisfit words (Some misfit) = (IsWhole words → ⊥) × (0 < misfit.left → IsBeginning words → ⊥)
+IsMisfit words (Some misfit) = (misfit.left ≤ length words) × LeavesAt words (length words - misfit.left)
 
 -- the first name of a text, where there is one
 abbrev pub first_name : List (List ℕ) → List ℕ
 first_name names = text_or_none (slice_get names 0)
 
--- how a word fits behind others
+-- how the last of some words fits behind the others
+abbrev pub IsWordFit : List Word → Fit → Type 0
+IsWordFit words fit.Fits = IsBeginning words
+IsWordFit words fit.TooDeep = IsBeginning words → ⊥
+IsWordFit words fit.Misfit = IsBeginning words → ⊥
+
+-- how a word of this kind fits behind these
 abbrev pub IsFit : List ℕ → List Word → WordKind → Fit → Type 0
-IsFit name before k fit.Fits = k ≡ kind.End → IsWhole before
+IsFit name before k fit.Fits = MayFollow name before k
 IsFit name before k fit.TooDeep = MayFollow name before k → ⊥
 IsFit name before k fit.Misfit = MayFollow name before k → ⊥
 
 abbrev pub IsFitAt : Fit → Misfit → Type 0
-IsFitAt fit.Fits misfit = Unit {0}
+IsFitAt fit.Fits misfit = misfit.left ≡ 0
 IsFitAt fit.TooDeep misfit = 0 < misfit.left
 IsFitAt fit.Misfit misfit = 0 < misfit.left
 

@@ -1,5 +1,5 @@
 -- What the definitions see of the words and readers of the code.
-use Rattle.std.specs.Prelude.{◌≡◌, ℕ, ◌<◌, List, map, Option, Some, None, Result, Ok, Err}
+use Rattle.std.specs.Prelude.{◌≡◌, ℕ, List, length, map, Option, Some, None, Result, Ok, Err}
 use Rattle.pal_base.specs.declared.fault.Refusal.{Refusal}
 use Rattle.pal_base.specs.declared.fault.Refusal.TheVariants as refusal
 use Rattle.pal_base.specs.declared.source.Rank.{Rank}
@@ -10,6 +10,7 @@ use Rattle.pal_base.specs.declared.source.Source.{Source}
 use Rattle.pal_base.specs.declared.word.Token.{Token}
 use Rattle.pal_base.specs.View.{texts}
 use Rattle.pal_base.specs.WordView.{token_of}
+use Rattle.pal_laws.specs.GrammarReading.{Answer}
 use Rattle.pal_meaning.specs.Grammar as grammar
 
 abbrev pub rank_of : Rank → grammar.Rank
@@ -34,10 +35,15 @@ names_of s = texts s.names.keys
 abbrev pub seen : Source → List Token → List grammar.Word
 seen s ts = map (token_of (names_of s)) ts
 
--- A refusal is given where there is no reading; want of memory may always be answered.
-abbrev pub Refuses : {Y : Type 0} → ReadError → Option Y → Type 0
+-- A refusal is given where reading refuses, and so many words are left; want of memory may always be answered.
+abbrev pub Refuses : {Y : Type 0} → ReadError → Answer Y → Type 0
 Refuses Memory read = Unit {0}
-Refuses (Refused line) read = read ≡ None
+Refuses (Refused misfit) read = read ≡ Err misfit.left
+
+-- so many words are left where reading refuses them
+abbrev pub IsLeft : ReadError → ℕ → Type 0
+IsLeft Memory left = ⊥
+IsLeft (Refused misfit) left = misfit.left ≡ left
 
 -- the refusal of a whole text
 abbrev pub refusal_of : ReadError → Refusal
@@ -45,25 +51,11 @@ refusal_of Memory = refusal.Memory
 refusal_of (Refused line) = refusal.Grammar
 
 -- What the code found is what reading finds, unless memory ran out.
-abbrev pub Gives : {X Y : Type 0} → (X → Y) → Result X ReadError → Option Y → Type 0
-Gives view (Ok x) read = read ≡ Some (view x)
+abbrev pub Gives : {X Y : Type 0} → (X → Y) → Result X ReadError → Answer Y → Type 0
+Gives view (Ok x) read = read ≡ Ok (view x)
 Gives view (Err error) read = Refuses error read
 
-abbrev pub Finds : {X Y : Type 0} → (X → Y) → Option X → Option Y → Type 0
-Finds view (Some x) read = read ≡ Some (view x)
-Finds view None read = read ≡ None
-
--- the misfit is one of the tokens, and not their end
-abbrev pub IsSettled : ReadError → Type 0
-IsSettled Memory = ⊥
-IsSettled (Refused misfit) = 0 < misfit.left
-
--- What the code found, reading finds whatever words follow the tokens. Nothing is said where what follows
--- them may matter: where none of them is left, or the misfit is their end.
-abbrev pub Ahead : {X Y : Type 0} → (X → Y) → (X → ℕ) → Result X ReadError → Option Y → Type 0
-Ahead view left (Ok x) read = 0 < left x → read ≡ Some (view x)
-Ahead view left (Err error) read = IsSettled error → read ≡ None
-
-abbrev pub FindsAhead : {X Y : Type 0} → (X → Y) → ℕ → Option X → Option Y → Type 0
-FindsAhead view left (Some x) read = read ≡ Some (view x)
-FindsAhead view left None read = 0 < left → read ≡ None
+-- The same of what may stand at the front of some words; where it does not, all of them are left.
+abbrev pub Finds : {X Y : Type 0} → (X → Y) → List grammar.Word → Option X → Answer Y → Type 0
+Finds view words (Some x) read = read ≡ Ok (view x)
+Finds view words None read = read ≡ Err (length words)

@@ -1,10 +1,9 @@
 //! Reading of declarations.
 
-ghost use Rattle.std.specs.Prelude.{◌≡◌, ◌<◌, ◌≤◌, List, ◌++◌, length, map, option_map, codes, IfOk, IfErr};
-ghost use Rattle.pal_meaning.specs.Grammar as grammar;
+ghost use Rattle.std.specs.Prelude.{◌<◌, ◌≤◌, length, map, option_map, codes, IfOk};
 ghost use Rattle.pal_laws.specs.GrammarReading as reading;
 ghost use Rattle.pal_base.specs.Reads.{and_more, up_to, integers_read};
-ghost use Rattle.pal_base.specs.Seen.{seen, names_of, Gives, Ahead, IsSettled};
+ghost use Rattle.pal_base.specs.Seen.{seen, names_of, Gives};
 ghost use Rattle.pal_base.specs.View.{name_of, integer_of, declaration_of};
 
 use crate::mark::Mark;
@@ -18,8 +17,6 @@ impl Source {
     pub fn declarations<'a>(&self, alloc: Global, tokens: &'a [Token]) -> Read<'a, Vec<Declaration>>
         ensures shorter { IfOk result (λ x. length x.1.now ≤ length tokens.now) }
         ensures exact { Gives (λ x. (map (declaration_of (names_of self.now)) x.0.items, seen self.now x.1.now)) result (reading.declarations_at (seen self.now tokens.now)) }
-        ensures ahead { (more : List grammar.Word) → Ahead (λ x. (map (declaration_of (names_of self.now)) x.0.items, seen self.now x.1.now ++ more)) (λ x. length x.1.now) result (reading.declarations_at (seen self.now tokens.now ++ more)) }
-        ensures within { IfErr result (λ e. IsSettled e → 0 < length tokens.now) }
     {
         let mut declarations = Vec::new(alloc);
         let mut rest = tokens;
@@ -36,8 +33,6 @@ impl Source {
     fn declaration<'a>(&self, alloc: Global, tokens: &'a [Token]) -> Read<'a, Declaration>
         ensures shorter { IfOk result (λ x. length x.1.now < length tokens.now) }
         ensures exact { Gives (λ x. (declaration_of (names_of self.now) x.0, seen self.now x.1.now)) result (reading.declaration_at (seen self.now tokens.now)) }
-        ensures ahead { (more : List grammar.Word) → Ahead (λ x. (declaration_of (names_of self.now) x.0, seen self.now x.1.now ++ more)) (λ x. length x.1.now) result (reading.declaration_at (seen self.now tokens.now ++ more)) }
-        ensures within { IfErr result (λ e. IsSettled e → 0 < length tokens.now) }
     {
         let line = self.line_of(tokens);
         if let Some(rest) = self.behind(tokens, Mark::Var) {
@@ -70,8 +65,6 @@ impl Source {
     fn variable<'a>(&self, line: u32, tokens: &'a [Token]) -> Read<'a, Declaration>
         ensures shorter { IfOk result (λ x. length x.1.now < length tokens.now) }
         ensures exact { Gives (λ x. (declaration_of (names_of self.now) x.0, seen self.now x.1.now)) result (reading.variable_at (seen self.now tokens.now)) }
-        ensures ahead { (more : List grammar.Word) → Ahead (λ x. (declaration_of (names_of self.now) x.0, seen self.now x.1.now ++ more)) (λ x. length x.1.now) result (reading.variable_at (seen self.now tokens.now ++ more)) }
-        ensures within { IfErr result (λ e. IsSettled e → 0 < length tokens.now) }
     {
         let (name, rest) = self.name(tokens)?;
         let (value, rest) = self.first_value(rest)?;
@@ -85,8 +78,6 @@ impl Source {
     fn first_value<'a>(&self, tokens: &'a [Token]) -> Read<'a, Option<Numeral>>
         ensures shorter { IfOk result (λ x. length x.1.now ≤ length tokens.now) }
         ensures exact { Gives (λ x. (option_map integer_of x.0, seen self.now x.1.now)) result (reading.first_value_at (seen self.now tokens.now)) }
-        ensures ahead { (more : List grammar.Word) → Ahead (λ x. (option_map integer_of x.0, seen self.now x.1.now ++ more)) (λ x. length x.1.now) result (reading.first_value_at (seen self.now tokens.now ++ more)) }
-        ensures within { IfErr result (λ e. IsSettled e → 0 < length tokens.now) }
     {
         match self.behind(tokens, Mark::Equal) {
             Some(rest) => {
@@ -102,8 +93,6 @@ impl Source {
     fn array<'a>(&self, alloc: Global, line: u32, tokens: &'a [Token]) -> Read<'a, Declaration>
         ensures shorter { IfOk result (λ x. length x.1.now < length tokens.now) }
         ensures exact { Gives (λ x. (declaration_of (names_of self.now) x.0, seen self.now x.1.now)) result (reading.array_at (seen self.now tokens.now)) }
-        ensures ahead { (more : List grammar.Word) → Ahead (λ x. (declaration_of (names_of self.now) x.0, seen self.now x.1.now ++ more)) (λ x. length x.1.now) result (reading.array_at (seen self.now tokens.now ++ more)) }
-        ensures within { IfErr result (λ e. IsSettled e → 0 < length tokens.now) }
     {
         let (name, rest) = self.name(tokens)?;
         let rest = self.expect(rest, Mark::BracketOpens)?;
@@ -119,8 +108,6 @@ impl Source {
     fn first_values<'a>(&self, alloc: Global, tokens: &'a [Token]) -> Read<'a, Vec<Numeral>>
         ensures shorter { IfOk result (λ x. length x.1.now < length tokens.now) }
         ensures exact { Gives (λ x. (map integer_of x.0.items, seen self.now x.1.now)) result (reading.first_values_at (seen self.now tokens.now)) }
-        ensures ahead { (more : List grammar.Word) → Ahead (λ x. (map integer_of x.0.items, seen self.now x.1.now ++ more)) (λ x. length x.1.now) result (reading.first_values_at (seen self.now tokens.now ++ more)) }
-        ensures within { IfErr result (λ e. IsSettled e → 0 < length tokens.now) }
     {
         match self.behind(tokens, Mark::Equal) {
             Some(rest) => self.integers(alloc, rest),
@@ -136,8 +123,6 @@ impl Source {
     fn integers<'a>(&self, alloc: Global, tokens: &'a [Token]) -> Read<'a, Vec<Numeral>>
         ensures shorter { IfOk result (λ x. length x.1.now < length tokens.now) }
         ensures exact { Gives (λ x. (map integer_of x.0.items, seen self.now x.1.now)) result (integers_read (seen self.now tokens.now)) }
-        ensures ahead { (more : List grammar.Word) → Ahead (λ x. (map integer_of x.0.items, seen self.now x.1.now ++ more)) (λ x. length x.1.now) result (integers_read (seen self.now tokens.now ++ more)) }
-        ensures within { IfErr result (λ e. IsSettled e → 0 < length tokens.now) }
     {
         let (first, rest) = self.integer(tokens)?;
         let (values, rest) = self.more_integers(alloc, first, rest)?;
@@ -154,8 +139,6 @@ impl Source {
     ) -> Read<'a, Vec<Numeral>>
         ensures shorter { IfOk result (λ x. length x.1.now ≤ length tokens.now) }
         ensures exact { Gives (λ x. (map integer_of x.0.items, seen self.now x.1.now)) result (and_more (integer_of first) (up_to (codes ";") reading.integer_at (seen self.now tokens.now))) }
-        ensures ahead { (more : List grammar.Word) → Ahead (λ x. (map integer_of x.0.items, seen self.now x.1.now ++ more)) (λ x. length x.1.now) result (and_more (integer_of first) (up_to (codes ";") reading.integer_at (seen self.now tokens.now ++ more))) }
-        ensures within { IfErr result (λ e. IsSettled e → 0 < length tokens.now) }
     {
         let mut values = Vec::new(alloc);
         values.push(first)?;
@@ -173,8 +156,6 @@ impl Source {
     fn semaphore<'a>(&self, line: u32, tokens: &'a [Token]) -> Read<'a, Declaration>
         ensures shorter { IfOk result (λ x. length x.1.now < length tokens.now) }
         ensures exact { Gives (λ x. (declaration_of (names_of self.now) x.0, seen self.now x.1.now)) result (reading.semaphore_at (seen self.now tokens.now)) }
-        ensures ahead { (more : List grammar.Word) → Ahead (λ x. (declaration_of (names_of self.now) x.0, seen self.now x.1.now ++ more)) (λ x. length x.1.now) result (reading.semaphore_at (seen self.now tokens.now ++ more)) }
-        ensures within { IfErr result (λ e. IsSettled e → 0 < length tokens.now) }
     {
         let (name, rest) = self.name(tokens)?;
         let (first, rest) = self.number(rest)?;
@@ -194,8 +175,6 @@ impl Source {
     fn event<'a>(&self, line: u32, tokens: &'a [Token]) -> Read<'a, Declaration>
         ensures shorter { IfOk result (λ x. length x.1.now < length tokens.now) }
         ensures exact { Gives (λ x. (declaration_of (names_of self.now) x.0, seen self.now x.1.now)) result (reading.event_at (seen self.now tokens.now)) }
-        ensures ahead { (more : List grammar.Word) → Ahead (λ x. (declaration_of (names_of self.now) x.0, seen self.now x.1.now ++ more)) (λ x. length x.1.now) result (reading.event_at (seen self.now tokens.now ++ more)) }
-        ensures within { IfErr result (λ e. IsSettled e → 0 < length tokens.now) }
     {
         let (name, rest) = self.name(tokens)?;
         let rest = self.expect(rest, Mark::Semicolon)?;
@@ -208,8 +187,6 @@ impl Source {
     fn buffer<'a>(&self, line: u32, tokens: &'a [Token]) -> Read<'a, Declaration>
         ensures shorter { IfOk result (λ x. length x.1.now < length tokens.now) }
         ensures exact { Gives (λ x. (declaration_of (names_of self.now) x.0, seen self.now x.1.now)) result (reading.buffer_at (seen self.now tokens.now)) }
-        ensures ahead { (more : List grammar.Word) → Ahead (λ x. (declaration_of (names_of self.now) x.0, seen self.now x.1.now ++ more)) (λ x. length x.1.now) result (reading.buffer_at (seen self.now tokens.now ++ more)) }
-        ensures within { IfErr result (λ e. IsSettled e → 0 < length tokens.now) }
     {
         let (name, rest) = self.name(tokens)?;
         let (words, rest) = self.number(rest)?;
@@ -229,8 +206,6 @@ impl Source {
     fn blackboard<'a>(&self, line: u32, tokens: &'a [Token]) -> Read<'a, Declaration>
         ensures shorter { IfOk result (λ x. length x.1.now < length tokens.now) }
         ensures exact { Gives (λ x. (declaration_of (names_of self.now) x.0, seen self.now x.1.now)) result (reading.blackboard_at (seen self.now tokens.now)) }
-        ensures ahead { (more : List grammar.Word) → Ahead (λ x. (declaration_of (names_of self.now) x.0, seen self.now x.1.now ++ more)) (λ x. length x.1.now) result (reading.blackboard_at (seen self.now tokens.now ++ more)) }
-        ensures within { IfErr result (λ e. IsSettled e → 0 < length tokens.now) }
     {
         let (name, rest) = self.name(tokens)?;
         let (words, rest) = self.number(rest)?;
@@ -244,8 +219,6 @@ impl Source {
     fn port<'a>(&self, line: u32, tokens: &'a [Token]) -> Read<'a, Declaration>
         ensures shorter { IfOk result (λ x. length x.1.now < length tokens.now) }
         ensures exact { Gives (λ x. (declaration_of (names_of self.now) x.0, seen self.now x.1.now)) result (reading.port_at (seen self.now tokens.now)) }
-        ensures ahead { (more : List grammar.Word) → Ahead (λ x. (declaration_of (names_of self.now) x.0, seen self.now x.1.now ++ more)) (λ x. length x.1.now) result (reading.port_at (seen self.now tokens.now ++ more)) }
-        ensures within { IfErr result (λ e. IsSettled e → 0 < length tokens.now) }
     {
         let (name, rest) = self.name(tokens)?;
         let rest = self.expect(rest, Mark::Semicolon)?;
@@ -258,8 +231,6 @@ impl Source {
     fn procedure<'a>(&self, alloc: Global, line: u32, tokens: &'a [Token]) -> Read<'a, Declaration>
         ensures shorter { IfOk result (λ x. length x.1.now < length tokens.now) }
         ensures exact { Gives (λ x. (declaration_of (names_of self.now) x.0, seen self.now x.1.now)) result (reading.procedure_at (seen self.now tokens.now)) }
-        ensures ahead { (more : List grammar.Word) → Ahead (λ x. (declaration_of (names_of self.now) x.0, seen self.now x.1.now ++ more)) (λ x. length x.1.now) result (reading.procedure_at (seen self.now tokens.now ++ more)) }
-        ensures within { IfErr result (λ e. IsSettled e → 0 < length tokens.now) }
     {
         let (name, rest) = self.name(tokens)?;
         let rest = self.expect(rest, Mark::ParenthesisOpens)?;
@@ -274,8 +245,6 @@ impl Source {
     fn parameters<'a>(&self, alloc: Global, tokens: &'a [Token]) -> Read<'a, Vec<Identifier>>
         ensures shorter { IfOk result (λ x. length x.1.now < length tokens.now) }
         ensures exact { Gives (λ x. (map (name_of (names_of self.now)) x.0.items, seen self.now x.1.now)) result (reading.parameters_at (seen self.now tokens.now)) }
-        ensures ahead { (more : List grammar.Word) → Ahead (λ x. (map (name_of (names_of self.now)) x.0.items, seen self.now x.1.now ++ more)) (λ x. length x.1.now) result (reading.parameters_at (seen self.now tokens.now ++ more)) }
-        ensures within { IfErr result (λ e. IsSettled e → 0 < length tokens.now) }
     {
         if let Some(rest) = self.behind(tokens, Mark::ParenthesisCloses) {
             return Ok((Vec::new(alloc), rest));

@@ -1,11 +1,10 @@
 //! Reading of expressions. `levels` is how many levels may still be opened.
 
-ghost use Rattle.std.specs.Prelude.{◌<◌, ◌+◌, ◌≤◌, List, ◌++◌, length, map, codes, IfOk, IfErr};
-ghost use Rattle.pal_meaning.specs.Grammar as grammar;
+ghost use Rattle.std.specs.Prelude.{◌<◌, ◌≤◌, length, map, codes, IfOk};
 ghost use Rattle.pal_laws.specs.GrammarReading as reading;
 ghost use Rattle.pal_base.specs.Reads.{and_more, listed, arguments_read};
 ghost use Rattle.pal_base.specs.Rows.{pair_of};
-ghost use Rattle.pal_base.specs.Seen.{seen, names_of, rank_of, Gives, Ahead, IsSettled};
+ghost use Rattle.pal_base.specs.Seen.{seen, names_of, rank_of, Gives};
 ghost use Rattle.pal_base.specs.View.{name_of, expr_of, exprs_of, links_of};
 
 use crate::mark::Mark;
@@ -21,8 +20,6 @@ impl Source {
     pub fn expression<'a>(&self, alloc: Global, levels: u32, tokens: &'a [Token]) -> Read<'a, Expr>
         ensures shorter { IfOk result (λ x. length x.1.now < length tokens.now) }
         ensures exact { Gives (λ x. (expr_of (names_of self.now) x.0, seen self.now x.1.now)) result (reading.expr_at levels (seen self.now tokens.now)) }
-        ensures ahead { (more : List grammar.Word) → Ahead (λ x. (expr_of (names_of self.now) x.0, seen self.now x.1.now ++ more)) (λ x. length x.1.now) result (reading.expr_at levels (seen self.now tokens.now ++ more)) }
-        ensures within { IfErr result (λ e. IsSettled e → 0 < length tokens.now) }
     {
         self.chain(alloc, Rank::Disjunction, levels, tokens)
     }
@@ -39,8 +36,6 @@ impl Source {
     ) -> Read<'a, Expr>
         ensures shorter { IfOk result (λ x. length x.1.now < length tokens.now) }
         ensures exact { Gives (λ x. (expr_of (names_of self.now) x.0, seen self.now x.1.now)) result (reading.ranked (reading.unary_at levels) (rank_of rank) (seen self.now tokens.now)) }
-        ensures ahead { (more : List grammar.Word) → Ahead (λ x. (expr_of (names_of self.now) x.0, seen self.now x.1.now ++ more)) (λ x. length x.1.now) result (reading.ranked (reading.unary_at levels) (rank_of rank) (seen self.now tokens.now ++ more)) }
-        ensures within { IfErr result (λ e. IsSettled e → 0 < length tokens.now) }
     {
         let (first, rest) = self.operand(alloc, rank, levels, tokens)?;
         let (links, rest) = self.links(alloc, rank, levels, rest)?;
@@ -62,8 +57,6 @@ impl Source {
     ) -> Read<'a, Expr>
         ensures shorter { IfOk result (λ x. length x.1.now < length tokens.now) }
         ensures exact { Gives (λ x. (expr_of (names_of self.now) x.0, seen self.now x.1.now)) result (reading.operand_with (reading.unary_at levels) (rank_of rank) (seen self.now tokens.now)) }
-        ensures ahead { (more : List grammar.Word) → Ahead (λ x. (expr_of (names_of self.now) x.0, seen self.now x.1.now ++ more)) (λ x. length x.1.now) result (reading.operand_with (reading.unary_at levels) (rank_of rank) (seen self.now tokens.now ++ more)) }
-        ensures within { IfErr result (λ e. IsSettled e → 0 < length tokens.now) }
     {
         match rank {
             Rank::Disjunction => self.chain(alloc, Rank::Conjunction, levels, tokens),
@@ -85,8 +78,6 @@ impl Source {
     ) -> Read<'a, Vec<Link>>
         ensures shorter { IfOk result (λ x. length x.1.now ≤ length tokens.now) }
         ensures exact { Gives (λ x. (links_of (names_of self.now) x.0.items, seen self.now x.1.now)) result (reading.links_at (reading.operand_with (reading.unary_at levels) (rank_of rank)) (rank_of rank) (seen self.now tokens.now)) }
-        ensures ahead { (more : List grammar.Word) → Ahead (λ x. (links_of (names_of self.now) x.0.items, seen self.now x.1.now ++ more)) (λ x. length x.1.now) result (reading.links_at (reading.operand_with (reading.unary_at levels) (rank_of rank)) (rank_of rank) (seen self.now tokens.now ++ more)) }
-        ensures within { IfErr result (λ e. IsSettled e → 0 < length tokens.now) }
     {
         match rank {
             Rank::Comparison => self.one_link(alloc, levels, tokens),
@@ -100,8 +91,6 @@ impl Source {
     fn one_link<'a>(&self, alloc: Global, levels: u32, tokens: &'a [Token]) -> Read<'a, Vec<Link>>
         ensures shorter { IfOk result (λ x. length x.1.now ≤ length tokens.now) }
         ensures exact { Gives (λ x. (links_of (names_of self.now) x.0.items, seen self.now x.1.now)) result (reading.links_at (reading.operand_with (reading.unary_at levels) reading.Comparison) reading.Comparison (seen self.now tokens.now)) }
-        ensures ahead { (more : List grammar.Word) → Ahead (λ x. (links_of (names_of self.now) x.0.items, seen self.now x.1.now ++ more)) (λ x. length x.1.now) result (reading.links_at (reading.operand_with (reading.unary_at levels) reading.Comparison) reading.Comparison (seen self.now tokens.now ++ more)) }
-        ensures within { IfErr result (λ e. IsSettled e → 0 < length tokens.now) }
     {
         let mut links = Vec::new(alloc);
         match self.operator_at(tokens, Rank::Comparison) {
@@ -125,8 +114,6 @@ impl Source {
     ) -> Read<'a, Vec<Link>>
         ensures shorter { IfOk result (λ x. length x.1.now ≤ length tokens.now) }
         ensures exact { Gives (λ x. (map (pair_of (names_of self.now)) x.0.items, seen self.now x.1.now)) result (reading.repeat (reading.link_at (reading.operand_with (reading.unary_at levels) (rank_of rank)) (rank_of rank)) (seen self.now tokens.now)) }
-        ensures ahead { (more : List grammar.Word) → Ahead (λ x. (map (pair_of (names_of self.now)) x.0.items, seen self.now x.1.now ++ more)) (λ x. length x.1.now) result (reading.repeat (reading.link_at (reading.operand_with (reading.unary_at levels) (rank_of rank)) (rank_of rank)) (seen self.now tokens.now ++ more)) }
-        ensures within { IfErr result (λ e. IsSettled e → 0 < length tokens.now) }
     {
         let mut links = Vec::new(alloc);
         let mut rest = tokens;
@@ -144,14 +131,12 @@ impl Source {
     fn unary<'a>(&self, alloc: Global, levels: u32, tokens: &'a [Token]) -> Read<'a, Expr>
         ensures shorter { IfOk result (λ x. length x.1.now < length tokens.now) }
         ensures exact { Gives (λ x. (expr_of (names_of self.now) x.0, seen self.now x.1.now)) result (reading.unary_read levels (seen self.now tokens.now)) }
-        ensures ahead { (more : List grammar.Word) → Ahead (λ x. (expr_of (names_of self.now) x.0, seen self.now x.1.now ++ more)) (λ x. length x.1.now) result (reading.unary_read levels (seen self.now tokens.now ++ more)) }
-        ensures within { IfErr result (λ e. IsSettled e → 0 < length tokens.now) }
     {
         if let Some(rest) = self.behind(tokens, Mark::Minus) {
-            return self.operated(alloc, UnaryOperator::Negate, levels, tokens, rest);
+            return self.operated(alloc, UnaryOperator::Negate, levels, rest);
         }
         if let Some(rest) = self.behind(tokens, Mark::Not) {
-            return self.operated(alloc, UnaryOperator::Not, levels, tokens, rest);
+            return self.operated(alloc, UnaryOperator::Not, levels, rest);
         }
         if let Some((number, rest)) = self.number_at(tokens) {
             return Ok((Expr::Number(number), rest));
@@ -160,7 +145,7 @@ impl Source {
             return self.named(alloc, name, levels, rest);
         }
         let rest = self.expect(tokens, Mark::ParenthesisOpens)?;
-        let (inside, rest) = self.nested(alloc, levels, tokens, rest)?;
+        let (inside, rest) = self.nested(alloc, levels, rest)?;
         let rest = self.expect(rest, Mark::ParenthesisCloses)?;
         Ok((Expr::Parenthesis(Box::new(alloc, inside)?), rest))
     }
@@ -173,16 +158,13 @@ impl Source {
         alloc: Global,
         operator: UnaryOperator,
         levels: u32,
-        opening: &'a [Token],
         tokens: &'a [Token],
     ) -> Read<'a, Expr>
         ensures shorter { IfOk result (λ x. length x.1.now < length tokens.now) }
         ensures exact { Gives (λ x. (expr_of (names_of self.now) x.0, seen self.now x.1.now)) result (reading.operated_at operator levels (seen self.now tokens.now)) }
-        ensures ahead { (more : List grammar.Word) → Ahead (λ x. (expr_of (names_of self.now) x.0, seen self.now x.1.now ++ more)) (λ x. length x.1.now) result (reading.operated_at operator levels (seen self.now tokens.now ++ more)) }
-        ensures within { IfErr result (λ e. IsSettled e → 0 < length opening.now + length tokens.now) }
     {
         if levels == 0 {
-            return Err(self.too_deep(opening));
+            return Err(self.too_deep(tokens));
         }
         let (operand, rest) = self.unary(alloc, levels - 1, tokens)?;
         Ok((Expr::Unary(operator, Box::new(alloc, operand)?), rest))
@@ -195,16 +177,13 @@ impl Source {
         &self,
         alloc: Global,
         levels: u32,
-        opening: &'a [Token],
         tokens: &'a [Token],
     ) -> Read<'a, Expr>
         ensures shorter { IfOk result (λ x. length x.1.now < length tokens.now) }
         ensures exact { Gives (λ x. (expr_of (names_of self.now) x.0, seen self.now x.1.now)) result (reading.nested_at levels (seen self.now tokens.now)) }
-        ensures ahead { (more : List grammar.Word) → Ahead (λ x. (expr_of (names_of self.now) x.0, seen self.now x.1.now ++ more)) (λ x. length x.1.now) result (reading.nested_at levels (seen self.now tokens.now ++ more)) }
-        ensures within { IfErr result (λ e. IsSettled e → 0 < length opening.now + length tokens.now) }
     {
         if levels == 0 {
-            return Err(self.too_deep(opening));
+            return Err(self.too_deep(tokens));
         }
         self.chain(alloc, Rank::Disjunction, levels - 1, tokens)
     }
@@ -221,16 +200,14 @@ impl Source {
     ) -> Read<'a, Expr>
         ensures shorter { IfOk result (λ x. length x.1.now ≤ length tokens.now) }
         ensures exact { Gives (λ x. (expr_of (names_of self.now) x.0, seen self.now x.1.now)) result (reading.named_with (reading.nested_at levels) (reading.arguments_at levels) (name_of (names_of self.now) name) (seen self.now tokens.now)) }
-        ensures ahead { (more : List grammar.Word) → Ahead (λ x. (expr_of (names_of self.now) x.0, seen self.now x.1.now ++ more)) (λ x. length x.1.now) result (reading.named_with (reading.nested_at levels) (reading.arguments_at levels) (name_of (names_of self.now) name) (seen self.now tokens.now ++ more)) }
-        ensures within { IfErr result (λ e. IsSettled e → 0 < length tokens.now) }
     {
         if let Some(rest) = self.behind(tokens, Mark::BracketOpens) {
-            let (index, rest) = self.nested(alloc, levels, tokens, rest)?;
+            let (index, rest) = self.nested(alloc, levels, rest)?;
             let rest = self.expect(rest, Mark::BracketCloses)?;
             return Ok((Expr::Element(name, Box::new(alloc, index)?), rest));
         }
         if let Some(rest) = self.behind(tokens, Mark::ParenthesisOpens) {
-            let (arguments, rest) = self.arguments(alloc, levels, tokens, rest)?;
+            let (arguments, rest) = self.arguments(alloc, levels, rest)?;
             return Ok((Expr::Apply(name, arguments), rest));
         }
         Ok((Expr::Name(name), tokens))
@@ -243,16 +220,13 @@ impl Source {
         &self,
         alloc: Global,
         levels: u32,
-        opening: &'a [Token],
         tokens: &'a [Token],
     ) -> Read<'a, Vec<Expr>>
         ensures shorter { IfOk result (λ x. length x.1.now < length tokens.now) }
         ensures exact { Gives (λ x. (exprs_of (names_of self.now) x.0.items, seen self.now x.1.now)) result (arguments_read levels (seen self.now tokens.now)) }
-        ensures ahead { (more : List grammar.Word) → Ahead (λ x. (exprs_of (names_of self.now) x.0.items, seen self.now x.1.now ++ more)) (λ x. length x.1.now) result (arguments_read levels (seen self.now tokens.now ++ more)) }
-        ensures within { IfErr result (λ e. IsSettled e → 0 < length opening.now + length tokens.now) }
     {
         if levels == 0 {
-            return Err(self.too_deep(opening));
+            return Err(self.too_deep(tokens));
         }
         if let Some(rest) = self.behind(tokens, Mark::ParenthesisCloses) {
             return Ok((Vec::new(alloc), rest));
@@ -275,8 +249,6 @@ impl Source {
     ) -> Read<'a, Vec<Expr>>
         ensures shorter { IfOk result (λ x. length x.1.now ≤ length tokens.now) }
         ensures exact { Gives (λ x. (map (expr_of (names_of self.now)) x.0.items, seen self.now x.1.now)) result (and_more (expr_of (names_of self.now) first) (listed (codes ",") (reading.expr_at levels) (seen self.now tokens.now))) }
-        ensures ahead { (more : List grammar.Word) → Ahead (λ x. (map (expr_of (names_of self.now)) x.0.items, seen self.now x.1.now ++ more)) (λ x. length x.1.now) result (and_more (expr_of (names_of self.now) first) (listed (codes ",") (reading.expr_at levels) (seen self.now tokens.now ++ more))) }
-        ensures within { IfErr result (λ e. IsSettled e → 0 < length tokens.now) }
     {
         let mut arguments = Vec::new(alloc);
         arguments.push(first)?;

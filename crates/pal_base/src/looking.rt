@@ -1,7 +1,7 @@
 //! What the grammar looks for where a text leaves it: each kind of word is tried there.
 
 ghost use Rattle.std.specs.Prelude.{◌≡◌, ◌++◌, ◌∷◌, [], length, IfOk, OnOk};
-ghost use Rattle.pal_base.specs.Next.{IsLookedFor, IsMisfit, IsFit, IsWordFit, IsFirstFit, IsFitAt, IsNoted, AreNext, first_name};
+ghost use Rattle.pal_base.specs.Next.{IsLookedFor, IsMisfit, IsFit, IsWordFit, IsFitAt, IsNoted, AreNext, first_name};
 ghost use Rattle.pal_base.specs.Seen.{seen, names_of};
 ghost use Rattle.pal_base.specs.WordView.{word_of};
 
@@ -83,8 +83,8 @@ pub struct LookedFor {
     pub place: usize,
     /// The line of that word, or the last line of the text.
     pub line: u32,
-    /// How that word fits there.
-    pub found: Fit,
+    /// That word opens one level too many.
+    pub is_too_deep: bool,
     /// The words that can stand there.
     pub words: Vec<WordKind>,
     /// The words that could stand there if one more level could be opened.
@@ -124,8 +124,7 @@ pub fn looked_for(alloc: Global, text: &[u8]) -> Result<Option<LookedFor>, Alloc
     };
     let count = tokens.len().saturating_sub(misfit.left);
     let (before, behind) = tokens.as_slice().split_at(count);
-    let found = source.fit_of_first(alloc, before, behind)?;
-    Ok(Some(source.looked_for(alloc, before, misfit.line, found)?))
+    Ok(Some(source.looked_for(alloc, before, behind, misfit.is_too_deep)?))
 }
 
 impl Source {
@@ -140,16 +139,15 @@ impl Source {
         }
     }
 
-    /// What can stand behind these words, where a word of that line fits so.
+    /// What can stand between these words, of which the next one does not fit.
     fn looked_for(
         &self,
         alloc: Global,
         before: &[Token],
-        line: u32,
-        found: Fit,
+        behind: &[Token],
+        is_too_deep: bool,
     ) -> Result<LookedFor, AllocError>
         ensures place { IfOk result (λ it. it.place ≡ length before.now) }
-        ensures found { IfOk result (λ it. it.found ≡ found) }
         ensures next { IfOk result (λ it. AreNext (first_name (names_of self.now)) (seen self.now before.now) it.words.items) }
     {
         let mut words = Vec::new(alloc);
@@ -162,8 +160,8 @@ impl Source {
         }
         Ok(LookedFor {
             place: before.len(),
-            line,
-            found,
+            line: self.line_of(behind),
+            is_too_deep,
             words,
             deeper,
         })
@@ -186,21 +184,6 @@ impl Source {
                 Some(_) => Ok(Fit::Misfit),
                 None => Ok(Fit::Fits),
             },
-        }
-    }
-
-    /// How the first of some words fits behind others; their end does not.
-    fn fit_of_first(
-        &self,
-        alloc: Global,
-        before: &[Token],
-        behind: &[Token],
-    ) -> Result<Fit, AllocError>
-        ensures { IfOk result (λ fit. IsFirstFit (seen self.now before.now) (seen self.now behind.now) fit) }
-    {
-        match behind.split_first() {
-            Some((token, _)) => self.fit_of_word(alloc, before, token.word),
-            None => Ok(Fit::Misfit),
         }
     }
 

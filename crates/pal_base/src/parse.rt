@@ -1,14 +1,13 @@
 //! The tree of a source text.
 
-ghost use Rattle.std.specs.Prelude.{◌≡◌, ◌<◌, ◌≤◌, List, ◌++◌, length, map, option_map, Some, None, IfOk, IfErr, MatchOption, OnOk};
+ghost use Rattle.std.specs.Prelude.{◌<◌, ◌≤◌, length, map, option_map, IfOk, IfErr, MatchOption, OnOk};
 ghost use Rattle.std.specs.Str.{IsAscii};
 ghost use Rattle.pal_laws.specs.GrammarReading as reading;
-ghost use Rattle.pal_meaning.specs.Grammar as grammar;
 ghost use Rattle.pal_meaning.specs.Grammar.{IsText, IsProgramOf};
 ghost use Rattle.pal_base.specs.Answers.{IsRefused};
 ghost use Rattle.pal_base.specs.Marks.{mark_text};
 ghost use Rattle.pal_base.specs.Parts.{parts_of};
-ghost use Rattle.pal_base.specs.Seen.{seen, names_of, Gives, Ahead, IsSettled};
+ghost use Rattle.pal_base.specs.Seen.{seen, names_of, Gives};
 ghost use Rattle.pal_base.specs.View.{stack_body_of, process_of};
 ghost use Rattle.pal_base.specs.WrittenView.{program_of};
 
@@ -39,7 +38,10 @@ pub fn parse(alloc: Global, text: &[u8]) -> Result<Program, PalFault>
         last_line,
     } = words_of(alloc, text)?;
     let source = Source { names, last_line };
-    let parts = source.program(alloc, tokens.as_slice())?;
+    let parts = match source.program(alloc, tokens.as_slice()) {
+        Ok(parts) => parts,
+        Err(error) => return Err(source.fault(tokens.as_slice(), error)),
+    };
     let Source { names, .. } = source;
     Ok(Program {
         names,
@@ -109,7 +111,6 @@ impl Source {
     /// The program that these words spell, all of them.
     pub fn program(&self, alloc: Global, tokens: &[Token]) -> Result<Parts, ReadError>
         ensures exact { Gives (parts_of (names_of self.now)) result (reading.program_at (seen self.now tokens.now)) }
-        ensures ahead { (more : List grammar.Word) → IfErr result (λ e. IsSettled e → reading.program_at (seen self.now tokens.now ++ more) ≡ None) }
     {
         let (declarations, rest) = self.declarations(alloc, tokens)?;
         let (init, rest) = self.stack_body(alloc, Mark::Init, rest)?;
@@ -131,8 +132,6 @@ impl Source {
     fn stack_body<'a>(&self, alloc: Global, mark: Mark, tokens: &'a [Token]) -> Read<'a, StackBody>
         ensures shorter { IfOk result (λ x. length x.1.now < length tokens.now) }
         ensures exact { Gives (λ x. (stack_body_of (names_of self.now) x.0, seen self.now x.1.now)) result (reading.stack_body_at (mark_text mark) (seen self.now tokens.now)) }
-        ensures ahead { (more : List grammar.Word) → Ahead (λ x. (stack_body_of (names_of self.now) x.0, seen self.now x.1.now ++ more)) (λ x. length x.1.now) result (reading.stack_body_at (mark_text mark) (seen self.now tokens.now ++ more)) }
-        ensures within { IfErr result (λ e. IsSettled e → 0 < length tokens.now) }
     {
         let line = self.line_of(tokens);
         let rest = self.expect(tokens, mark)?;
@@ -147,8 +146,6 @@ impl Source {
     fn handler<'a>(&self, alloc: Global, tokens: &'a [Token]) -> Read<'a, Option<StackBody>>
         ensures shorter { IfOk result (λ x. length x.1.now ≤ length tokens.now) }
         ensures exact { Gives (λ x. (option_map (stack_body_of (names_of self.now)) x.0, seen self.now x.1.now)) result (reading.handler_at (seen self.now tokens.now)) }
-        ensures ahead { (more : List grammar.Word) → Ahead (λ x. (option_map (stack_body_of (names_of self.now)) x.0, seen self.now x.1.now ++ more)) (λ x. length x.1.now) result (reading.handler_at (seen self.now tokens.now ++ more)) }
-        ensures within { IfErr result (λ e. IsSettled e → 0 < length tokens.now) }
     {
         if self.behind(tokens, Mark::Handler).is_none() {
             return Ok((None, tokens));
@@ -161,8 +158,6 @@ impl Source {
     fn processes<'a>(&self, alloc: Global, tokens: &'a [Token]) -> Read<'a, Vec<Process>>
         ensures shorter { IfOk result (λ x. length x.1.now ≤ length tokens.now) }
         ensures exact { Gives (λ x. (map (process_of (names_of self.now)) x.0.items, seen self.now x.1.now)) result (reading.processes_at (seen self.now tokens.now)) }
-        ensures ahead { (more : List grammar.Word) → Ahead (λ x. (map (process_of (names_of self.now)) x.0.items, seen self.now x.1.now ++ more)) (λ x. length x.1.now) result (reading.processes_at (seen self.now tokens.now ++ more)) }
-        ensures within { IfErr result (λ e. IsSettled e → 0 < length tokens.now) }
     {
         let mut processes = Vec::new(alloc);
         let mut rest = tokens;
@@ -179,8 +174,6 @@ impl Source {
     fn process<'a>(&self, alloc: Global, line: u32, tokens: &'a [Token]) -> Read<'a, Process>
         ensures shorter { IfOk result (λ x. length x.1.now < length tokens.now) }
         ensures exact { Gives (λ x. (process_of (names_of self.now) x.0, seen self.now x.1.now)) result (reading.process_at (seen self.now tokens.now)) }
-        ensures ahead { (more : List grammar.Word) → Ahead (λ x. (process_of (names_of self.now) x.0, seen self.now x.1.now ++ more)) (λ x. length x.1.now) result (reading.process_at (seen self.now tokens.now ++ more)) }
-        ensures within { IfErr result (λ e. IsSettled e → 0 < length tokens.now) }
     {
         let (name, rest) = self.name(tokens)?;
         let rest = self.expect(rest, Mark::Priority)?;

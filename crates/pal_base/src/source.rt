@@ -1,10 +1,10 @@
 //! Reading of single words.
 
-ghost use Rattle.std.specs.Prelude.{◌≡◌, ◌<◌, List, ◌++◌, length, IfOk, IfErr, IfSome, false, is_some};
+ghost use Rattle.std.specs.Prelude.{◌≡◌, ◌<◌, ◌+◌, length, IfOk, IfSome, false, is_ok};
 ghost use Rattle.pal_meaning.specs.Grammar as grammar;
 ghost use Rattle.pal_laws.specs.GrammarReading as reading;
 ghost use Rattle.pal_base.specs.Marks.{mark_text};
-ghost use Rattle.pal_base.specs.Seen.{seen, names_of, rank_of, Gives, Finds, Ahead, FindsAhead, IsSettled};
+ghost use Rattle.pal_base.specs.Seen.{seen, names_of, rank_of, Gives, Finds, IsLeft, refusal_of};
 ghost use Rattle.pal_base.specs.View.{name_of, number_of, integer_of};
 
 use crate::fault::{PalFault, Refusal};
@@ -18,8 +18,6 @@ use std::alloc::{AllocError, AllocFailed};
 /// Where the words of a text leave the grammar.
 #[derive(Clone, Copy, Debug, PartialEq, Eq)]
 pub struct Misfit {
-    /// The line of the word there, or the last line of the text.
-    pub line: u32,
     /// How many words stand there and behind.
     pub left: usize,
     /// The word there would open one level too many.
@@ -52,23 +50,6 @@ impl<T: Drop> From<AllocFailed<T>> for ReadError {
 
     fn from(_: AllocFailed<T>) -> Self {
         ReadError::Memory
-    }
-}
-
-impl From<ReadError> for PalFault {
-    ghost use Rattle.std.specs.Prelude.{◌≡◌};
-    ghost use Rattle.pal_base.specs.Seen.{refusal_of};
-
-    ghost from_gives = { λ error fault. fault.refusal ≡ refusal_of error };
-
-    fn from(error: ReadError) -> Self {
-        match error {
-            ReadError::Memory => PalFault::MEMORY,
-            ReadError::Refused(misfit) => PalFault {
-                refusal: Refusal::Grammar,
-                line: misfit.line,
-            },
-        }
     }
 }
 
@@ -156,24 +137,40 @@ impl Source {
         }
     }
 
+    /// The refusal of a text with these words, in the line of the first word that is refused.
+    pub fn fault(&self, tokens: &[Token], error: ReadError) -> PalFault
+        ensures { result.refusal ≡ refusal_of error }
+    {
+        match error {
+            ReadError::Memory => PalFault::MEMORY,
+            ReadError::Refused(misfit) => {
+                let (_, behind) = tokens.split_at(tokens.len().saturating_sub(misfit.left));
+                PalFault {
+                    refusal: Refusal::Grammar,
+                    line: self.line_of(behind),
+                }
+            }
+        }
+    }
+
+    #[tactic(auto, using(crate::proofs::Turns::as_many))]
     /// The error that the grammar does not allow the word at the front.
     pub fn refused(&self, tokens: &[Token]) -> ReadError
-        ensures within { IsSettled result → 0 < length tokens.now }
+        ensures { IsLeft result (length (seen self.now tokens.now)) }
     {
         ReadError::Refused(Misfit {
-            line: self.line_of(tokens),
             left: tokens.len(),
             is_too_deep: false,
         })
     }
 
-    /// The error that the word at the front opens one level too many.
+    #[tactic(auto, using(crate::proofs::Turns::as_many))]
+    /// The error that the word before these opens one level too many.
     pub fn too_deep(&self, tokens: &[Token]) -> ReadError
-        ensures within { IsSettled result → 0 < length tokens.now }
+        ensures { IsLeft result (length (seen self.now tokens.now) + 1) }
     {
         ReadError::Refused(Misfit {
-            line: self.line_of(tokens),
-            left: tokens.len(),
+            left: tokens.len() + 1,
             is_too_deep: true,
         })
     }
@@ -182,8 +179,7 @@ impl Source {
     /// The words behind this mark, if it stands at the front.
     pub fn behind<'a>(&self, tokens: &'a [Token], mark: Mark) -> Option<&'a [Token]>
         ensures shorter { IfSome result (λ r. length r.now < length tokens.now) }
-        ensures exact { Finds (λ r. seen self.now r.now) result (reading.expect (mark_text mark) (seen self.now tokens.now)) }
-        ensures ahead { (more : List grammar.Word) → FindsAhead (λ r. seen self.now r.now ++ more) (length tokens.now) result (reading.expect (mark_text mark) (seen self.now tokens.now ++ more)) }
+        ensures exact { Finds (λ r. seen self.now r.now) (seen self.now tokens.now) result (reading.expect (mark_text mark) (seen self.now tokens.now)) }
     {
         let (token, rest) = tokens.split_first()?;
         match token.word {
@@ -200,8 +196,7 @@ impl Source {
 
     /// Whether this mark stands at the front.
     pub fn stands(&self, tokens: &[Token], mark: Mark) -> bool
-        ensures exact { result ≡ is_some (reading.expect (mark_text mark) (seen self.now tokens.now)) }
-        ensures ahead { (more : List grammar.Word) → 0 < length tokens.now → result ≡ is_some (reading.expect (mark_text mark) (seen self.now tokens.now ++ more)) }
+        ensures { result ≡ is_ok (reading.expect (mark_text mark) (seen self.now tokens.now)) }
     {
         match self.behind(tokens, mark) {
             Some(_) => true,
@@ -213,8 +208,6 @@ impl Source {
     pub fn expect<'a>(&self, tokens: &'a [Token], mark: Mark) -> Result<&'a [Token], ReadError>
         ensures shorter { IfOk result (λ r. length r.now < length tokens.now) }
         ensures exact { Gives (λ r. seen self.now r.now) result (reading.expect (mark_text mark) (seen self.now tokens.now)) }
-        ensures ahead { (more : List grammar.Word) → Ahead (λ r. seen self.now r.now ++ more) (λ _. 1) result (reading.expect (mark_text mark) (seen self.now tokens.now ++ more)) }
-        ensures within { IfErr result (λ e. IsSettled e → 0 < length tokens.now) }
     {
         match self.behind(tokens, mark) {
             Some(rest) => Ok(rest),
@@ -226,8 +219,7 @@ impl Source {
     /// The name at the front, if one is there.
     pub fn name_at<'a>(&self, tokens: &'a [Token]) -> Option<(Identifier, &'a [Token])>
         ensures shorter { IfSome result (λ x. length x.1.now < length tokens.now) }
-        ensures exact { Finds (λ x. (name_of (names_of self.now) x.0, seen self.now x.1.now)) result (reading.name_at (seen self.now tokens.now)) }
-        ensures ahead { (more : List grammar.Word) → FindsAhead (λ x. (name_of (names_of self.now) x.0, seen self.now x.1.now ++ more)) (length tokens.now) result (reading.name_at (seen self.now tokens.now ++ more)) }
+        ensures exact { Finds (λ x. (name_of (names_of self.now) x.0, seen self.now x.1.now)) (seen self.now tokens.now) result (reading.name_at (seen self.now tokens.now)) }
     {
         let (token, rest) = tokens.split_first()?;
         match token.word {
@@ -246,8 +238,6 @@ impl Source {
     pub fn name<'a>(&self, tokens: &'a [Token]) -> Read<'a, Identifier>
         ensures shorter { IfOk result (λ x. length x.1.now < length tokens.now) }
         ensures exact { Gives (λ x. (name_of (names_of self.now) x.0, seen self.now x.1.now)) result (reading.name_at (seen self.now tokens.now)) }
-        ensures ahead { (more : List grammar.Word) → Ahead (λ x. (name_of (names_of self.now) x.0, seen self.now x.1.now ++ more)) (λ _. 1) result (reading.name_at (seen self.now tokens.now ++ more)) }
-        ensures within { IfErr result (λ e. IsSettled e → 0 < length tokens.now) }
     {
         match self.name_at(tokens) {
             Some(found) => Ok(found),
@@ -260,8 +250,7 @@ impl Source {
     pub fn number_at<'a>(&self, tokens: &'a [Token]) -> Option<(Numeral, &'a [Token])>
         ensures shorter { IfSome result (λ x. length x.1.now < length tokens.now) }
         ensures plain { IfSome result (λ x. x.0.negative ≡ false) }
-        ensures exact { Finds (λ x. (number_of x.0, seen self.now x.1.now)) result (reading.number_at (seen self.now tokens.now)) }
-        ensures ahead { (more : List grammar.Word) → FindsAhead (λ x. (number_of x.0, seen self.now x.1.now ++ more)) (length tokens.now) result (reading.number_at (seen self.now tokens.now ++ more)) }
+        ensures exact { Finds (λ x. (number_of x.0, seen self.now x.1.now)) (seen self.now tokens.now) result (reading.number_at (seen self.now tokens.now)) }
     {
         let (token, rest) = tokens.split_first()?;
         match token.word {
@@ -282,8 +271,6 @@ impl Source {
         ensures shorter { IfOk result (λ x. length x.1.now < length tokens.now) }
         ensures plain { IfOk result (λ x. x.0.negative ≡ false) }
         ensures exact { Gives (λ x. (number_of x.0, seen self.now x.1.now)) result (reading.number_at (seen self.now tokens.now)) }
-        ensures ahead { (more : List grammar.Word) → Ahead (λ x. (number_of x.0, seen self.now x.1.now ++ more)) (λ _. 1) result (reading.number_at (seen self.now tokens.now ++ more)) }
-        ensures within { IfErr result (λ e. IsSettled e → 0 < length tokens.now) }
     {
         match self.number_at(tokens) {
             Some(found) => Ok(found),
@@ -296,8 +283,6 @@ impl Source {
     pub fn integer<'a>(&self, tokens: &'a [Token]) -> Read<'a, Numeral>
         ensures shorter { IfOk result (λ x. length x.1.now < length tokens.now) }
         ensures exact { Gives (λ x. (integer_of x.0, seen self.now x.1.now)) result (reading.integer_at (seen self.now tokens.now)) }
-        ensures ahead { (more : List grammar.Word) → Ahead (λ x. (integer_of x.0, seen self.now x.1.now ++ more)) (λ x. length x.1.now) result (reading.integer_at (seen self.now tokens.now ++ more)) }
-        ensures within { IfErr result (λ e. IsSettled e → 0 < length tokens.now) }
     {
         match self.behind(tokens, Mark::Minus) {
             Some(rest) => {
@@ -320,8 +305,6 @@ impl Source {
     pub fn discipline<'a>(&self, tokens: &'a [Token]) -> Read<'a, Discipline>
         ensures shorter { IfOk result (λ x. length x.1.now < length tokens.now) }
         ensures exact { Gives (λ x. (x.0, seen self.now x.1.now)) result (reading.discipline_at (seen self.now tokens.now)) }
-        ensures ahead { (more : List grammar.Word) → Ahead (λ x. (x.0, seen self.now x.1.now ++ more)) (λ x. length x.1.now) result (reading.discipline_at (seen self.now tokens.now ++ more)) }
-        ensures within { IfErr result (λ e. IsSettled e → 0 < length tokens.now) }
     {
         if let Some(rest) = self.behind(tokens, Mark::Fifo) {
             return Ok((Discipline::Fifo, rest));
@@ -334,8 +317,7 @@ impl Source {
     /// The service at the front, if one is there.
     pub fn service_at<'a>(&self, tokens: &'a [Token]) -> Option<(Service, &'a [Token])>
         ensures shorter { IfSome result (λ x. length x.1.now < length tokens.now) }
-        ensures exact { Finds (λ x. (x.0, seen self.now x.1.now)) result (reading.service_at (seen self.now tokens.now)) }
-        ensures ahead { (more : List grammar.Word) → FindsAhead (λ x. (x.0, seen self.now x.1.now ++ more)) (length tokens.now) result (reading.service_at (seen self.now tokens.now ++ more)) }
+        ensures exact { Finds (λ x. (x.0, seen self.now x.1.now)) (seen self.now tokens.now) result (reading.service_at (seen self.now tokens.now)) }
     {
         let (token, rest) = tokens.split_first()?;
         match token.word {
@@ -352,8 +334,7 @@ impl Source {
         rank: Rank,
     ) -> Option<(BinaryOperator, &'a [Token])>
         ensures shorter { IfSome result (λ x. length x.1.now < length tokens.now) }
-        ensures exact { Finds (λ x. (x.0, seen self.now x.1.now)) result (reading.operator_at (rank_of rank) (seen self.now tokens.now)) }
-        ensures ahead { (more : List grammar.Word) → FindsAhead (λ x. (x.0, seen self.now x.1.now ++ more)) (length tokens.now) result (reading.operator_at (rank_of rank) (seen self.now tokens.now ++ more)) }
+        ensures exact { Finds (λ x. (x.0, seen self.now x.1.now)) (seen self.now tokens.now) result (reading.operator_at (rank_of rank) (seen self.now tokens.now)) }
     {
         let mut operators = operators_of(rank);
         while let Some((operator, others)) = operators.split_first() {

@@ -1,14 +1,13 @@
 //! Reading of statements and blocks. `levels` is how many levels may still be opened.
 
-ghost use Rattle.std.specs.Prelude.{◌<◌, ◌+◌, ◌≤◌, List, ◌++◌, length, map, codes, IfOk, IfErr};
-ghost use Rattle.pal_meaning.specs.Grammar as grammar;
+ghost use Rattle.std.specs.Prelude.{◌<◌, ◌≤◌, length, map, codes, IfOk};
 ghost use Rattle.pal_laws.specs.GrammarReading as reading;
 ghost use Rattle.pal_base.specs.Reads.{and_more, listed, service_call_read, stmt_read};
-ghost use Rattle.pal_base.specs.Seen.{seen, names_of, Gives, Ahead, IsSettled};
+ghost use Rattle.pal_base.specs.Seen.{seen, names_of, Gives, IsLeft};
 ghost use Rattle.pal_base.specs.View.{name_of, kind_of, stmt_of, block_of, body_of};
 
 use crate::mark::Mark;
-use crate::source::{Read, ReadError, Source};
+use crate::source::{Misfit, Read, ReadError, Source};
 use crate::syntax::{Body, Identifier, Stmt, StmtKind};
 use crate::word::Token;
 use apex_types::Service;
@@ -24,8 +23,6 @@ impl Source {
     pub fn body<'a>(&self, alloc: Global, tokens: &'a [Token]) -> Read<'a, Body>
         ensures shorter { IfOk result (λ x. length x.1.now < length tokens.now) }
         ensures exact { Gives (λ x. (body_of (names_of self.now) x.0, seen self.now x.1.now)) result (reading.body_at (seen self.now tokens.now)) }
-        ensures ahead { (more : List grammar.Word) → Ahead (λ x. (body_of (names_of self.now) x.0, seen self.now x.1.now ++ more)) (λ x. length x.1.now) result (reading.body_at (seen self.now tokens.now ++ more)) }
-        ensures within { IfErr result (λ e. IsSettled e → 0 < length tokens.now) }
     {
         let line = self.line_of(tokens);
         let rest = self.expect(tokens, Mark::BraceOpens)?;
@@ -43,8 +40,6 @@ impl Source {
     fn locals<'a>(&self, alloc: Global, tokens: &'a [Token]) -> Read<'a, Vec<Identifier>>
         ensures shorter { IfOk result (λ x. length x.1.now ≤ length tokens.now) }
         ensures exact { Gives (λ x. (map (name_of (names_of self.now)) x.0.items, seen self.now x.1.now)) result (reading.locals_at (seen self.now tokens.now)) }
-        ensures ahead { (more : List grammar.Word) → Ahead (λ x. (map (name_of (names_of self.now)) x.0.items, seen self.now x.1.now ++ more)) (λ x. length x.1.now) result (reading.locals_at (seen self.now tokens.now ++ more)) }
-        ensures within { IfErr result (λ e. IsSettled e → 0 < length tokens.now) }
     {
         let mut locals = Vec::new(alloc);
         let mut rest = tokens;
@@ -61,8 +56,6 @@ impl Source {
     fn local<'a>(&self, tokens: &'a [Token]) -> Read<'a, Identifier>
         ensures shorter { IfOk result (λ x. length x.1.now < length tokens.now) }
         ensures exact { Gives (λ x. (name_of (names_of self.now) x.0, seen self.now x.1.now)) result (reading.local_at (seen self.now tokens.now)) }
-        ensures ahead { (more : List grammar.Word) → Ahead (λ x. (name_of (names_of self.now) x.0, seen self.now x.1.now ++ more)) (λ x. length x.1.now) result (reading.local_at (seen self.now tokens.now ++ more)) }
-        ensures within { IfErr result (λ e. IsSettled e → 0 < length tokens.now) }
     {
         let (name, rest) = self.name(tokens)?;
         let rest = self.expect(rest, Mark::Semicolon)?;
@@ -75,8 +68,6 @@ impl Source {
     fn block<'a>(&self, alloc: Global, levels: u32, tokens: &'a [Token]) -> Read<'a, Vec<Stmt>>
         ensures shorter { IfOk result (λ x. length x.1.now < length tokens.now) }
         ensures exact { Gives (λ x. (block_of (names_of self.now) x.0.items, seen self.now x.1.now)) result (reading.block_read levels (seen self.now tokens.now)) }
-        ensures ahead { (more : List grammar.Word) → Ahead (λ x. (block_of (names_of self.now) x.0.items, seen self.now x.1.now ++ more)) (λ x. length x.1.now) result (reading.block_read levels (seen self.now tokens.now ++ more)) }
-        ensures within { IfErr result (λ e. IsSettled e → 0 < length tokens.now) }
     {
         if levels == 0 {
             return Err(self.refused(tokens));
@@ -90,8 +81,6 @@ impl Source {
     fn statements<'a>(&self, alloc: Global, levels: u32, tokens: &'a [Token]) -> Read<'a, Vec<Stmt>>
         ensures shorter { IfOk result (λ x. length x.1.now < length tokens.now) }
         ensures exact { Gives (λ x. (block_of (names_of self.now) x.0.items, seen self.now x.1.now)) result (reading.statements_at levels (seen self.now tokens.now)) }
-        ensures ahead { (more : List grammar.Word) → Ahead (λ x. (block_of (names_of self.now) x.0.items, seen self.now x.1.now ++ more)) (λ x. length x.1.now) result (reading.statements_at levels (seen self.now tokens.now ++ more)) }
-        ensures within { IfErr result (λ e. IsSettled e → 0 < length tokens.now) }
     {
         let mut statements = Vec::new(alloc);
         let mut rest = tokens;
@@ -109,8 +98,6 @@ impl Source {
     fn statement<'a>(&self, alloc: Global, levels: u32, tokens: &'a [Token]) -> Read<'a, Stmt>
         ensures shorter { IfOk result (λ x. length x.1.now < length tokens.now) }
         ensures exact { Gives (λ x. (stmt_of (names_of self.now) x.0, seen self.now x.1.now)) result (stmt_read levels (seen self.now tokens.now)) }
-        ensures ahead { (more : List grammar.Word) → Ahead (λ x. (stmt_of (names_of self.now) x.0, seen self.now x.1.now ++ more)) (λ x. length x.1.now) result (stmt_read levels (seen self.now tokens.now ++ more)) }
-        ensures within { IfErr result (λ e. IsSettled e → 0 < length tokens.now) }
     {
         let line = self.line_of(tokens);
         let (kind, rest) = self.statement_kind(alloc, levels, tokens)?;
@@ -127,14 +114,12 @@ impl Source {
     ) -> Read<'a, StmtKind>
         ensures shorter { IfOk result (λ x. length x.1.now < length tokens.now) }
         ensures exact { Gives (λ x. (kind_of (names_of self.now) x.0, seen self.now x.1.now)) result (stmt_read levels (seen self.now tokens.now)) }
-        ensures ahead { (more : List grammar.Word) → Ahead (λ x. (kind_of (names_of self.now) x.0, seen self.now x.1.now ++ more)) (λ x. length x.1.now) result (stmt_read levels (seen self.now tokens.now ++ more)) }
-        ensures within { IfErr result (λ e. IsSettled e → 0 < length tokens.now) }
     {
         if let Some((name, rest)) = self.name_at(tokens) {
             return self.assignment(alloc, name, levels, rest);
         }
         if let Some((service, rest)) = self.service_at(tokens) {
-            return self.service_call(alloc, service, levels, tokens, rest);
+            return self.service_call(alloc, service, levels, rest);
         }
         if let Some(rest) = self.behind(tokens, Mark::Work) {
             return self.work(rest);
@@ -152,16 +137,16 @@ impl Source {
         self.repetition(alloc, levels, rest)
     }
 
+    #[tactic(auto, using(crate::proofs::Turns::as_many))]
     /// The error that no statement of the last level begins with the word at the front: those that
     /// have a block open one level more.
     fn no_statement(&self, tokens: &[Token]) -> ReadError
-        ensures within { IsSettled result → 0 < length tokens.now }
+        ensures { IsLeft result (length (seen self.now tokens.now)) }
     {
-        if self.stands(tokens, Mark::If) || self.stands(tokens, Mark::While) {
-            self.too_deep(tokens)
-        } else {
-            self.refused(tokens)
-        }
+        ReadError::Refused(Misfit {
+            left: tokens.len(),
+            is_too_deep: self.stands(tokens, Mark::If) || self.stands(tokens, Mark::While),
+        })
     }
 
     /// What follows the word `while`.
@@ -170,8 +155,6 @@ impl Source {
     fn repetition<'a>(&self, alloc: Global, levels: u32, tokens: &'a [Token]) -> Read<'a, StmtKind>
         ensures shorter { IfOk result (λ x. length x.1.now < length tokens.now) }
         ensures exact { Gives (λ x. (kind_of (names_of self.now) x.0, seen self.now x.1.now)) result (reading.while_with (reading.block_read levels) levels (seen self.now tokens.now)) }
-        ensures ahead { (more : List grammar.Word) → Ahead (λ x. (kind_of (names_of self.now) x.0, seen self.now x.1.now ++ more)) (λ x. length x.1.now) result (reading.while_with (reading.block_read levels) levels (seen self.now tokens.now ++ more)) }
-        ensures within { IfErr result (λ e. IsSettled e → 0 < length tokens.now) }
     {
         let (test, rest) = self.expression(alloc, levels, tokens)?;
         let (block, rest) = self.block(alloc, levels, rest)?;
@@ -184,8 +167,6 @@ impl Source {
     fn branch<'a>(&self, alloc: Global, levels: u32, tokens: &'a [Token]) -> Read<'a, StmtKind>
         ensures shorter { IfOk result (λ x. length x.1.now < length tokens.now) }
         ensures exact { Gives (λ x. (kind_of (names_of self.now) x.0, seen self.now x.1.now)) result (reading.branch_with (reading.block_read levels) levels (seen self.now tokens.now)) }
-        ensures ahead { (more : List grammar.Word) → Ahead (λ x. (kind_of (names_of self.now) x.0, seen self.now x.1.now ++ more)) (λ x. length x.1.now) result (reading.branch_with (reading.block_read levels) levels (seen self.now tokens.now ++ more)) }
-        ensures within { IfErr result (λ e. IsSettled e → 0 < length tokens.now) }
     {
         let (test, rest) = self.expression(alloc, levels, tokens)?;
         let (then, rest) = self.block(alloc, levels, rest)?;
@@ -203,8 +184,6 @@ impl Source {
     fn work<'a>(&self, tokens: &'a [Token]) -> Read<'a, StmtKind>
         ensures shorter { IfOk result (λ x. length x.1.now < length tokens.now) }
         ensures exact { Gives (λ x. (kind_of (names_of self.now) x.0, seen self.now x.1.now)) result (reading.work_at (seen self.now tokens.now)) }
-        ensures ahead { (more : List grammar.Word) → Ahead (λ x. (kind_of (names_of self.now) x.0, seen self.now x.1.now ++ more)) (λ x. length x.1.now) result (reading.work_at (seen self.now tokens.now ++ more)) }
-        ensures within { IfErr result (λ e. IsSettled e → 0 < length tokens.now) }
     {
         let (ticks, rest) = self.number(tokens)?;
         let rest = self.expect(rest, Mark::Semicolon)?;
@@ -216,8 +195,6 @@ impl Source {
     fn returned<'a>(&self, alloc: Global, levels: u32, tokens: &'a [Token]) -> Read<'a, StmtKind>
         ensures shorter { IfOk result (λ x. length x.1.now < length tokens.now) }
         ensures exact { Gives (λ x. (kind_of (names_of self.now) x.0, seen self.now x.1.now)) result (reading.return_at levels (seen self.now tokens.now)) }
-        ensures ahead { (more : List grammar.Word) → Ahead (λ x. (kind_of (names_of self.now) x.0, seen self.now x.1.now ++ more)) (λ x. length x.1.now) result (reading.return_at levels (seen self.now tokens.now ++ more)) }
-        ensures within { IfErr result (λ e. IsSettled e → 0 < length tokens.now) }
     {
         let (value, rest) = self.expression(alloc, levels, tokens)?;
         let rest = self.expect(rest, Mark::Semicolon)?;
@@ -235,11 +212,9 @@ impl Source {
     ) -> Read<'a, StmtKind>
         ensures shorter { IfOk result (λ x. length x.1.now < length tokens.now) }
         ensures exact { Gives (λ x. (kind_of (names_of self.now) x.0, seen self.now x.1.now)) result (reading.assignment_at levels (name_of (names_of self.now) name) (seen self.now tokens.now)) }
-        ensures ahead { (more : List grammar.Word) → Ahead (λ x. (kind_of (names_of self.now) x.0, seen self.now x.1.now ++ more)) (λ x. length x.1.now) result (reading.assignment_at levels (name_of (names_of self.now) name) (seen self.now tokens.now ++ more)) }
-        ensures within { IfErr result (λ e. IsSettled e → 0 < length tokens.now) }
     {
         if let Some(rest) = self.behind(tokens, Mark::BracketOpens) {
-            let (index, rest) = self.nested(alloc, levels, tokens, rest)?;
+            let (index, rest) = self.nested(alloc, levels, rest)?;
             let rest = self.expect(rest, Mark::BracketCloses)?;
             let rest = self.expect(rest, Mark::Becomes)?;
             let (value, rest) = self.expression(alloc, levels, rest)?;
@@ -253,25 +228,22 @@ impl Source {
     }
 
     #[tactic(auto, unfolding(crate::specs::Reads::service_call_read))]
-    /// What follows the name of a service, `opening`.
+    /// What follows the name of a service.
     fn service_call<'a>(
         &self,
         alloc: Global,
         service: Service,
         levels: u32,
-        opening: &'a [Token],
         tokens: &'a [Token],
     ) -> Read<'a, StmtKind>
         ensures shorter { IfOk result (λ x. length x.1.now < length tokens.now) }
         ensures exact { Gives (λ x. (kind_of (names_of self.now) x.0, seen self.now x.1.now)) result (service_call_read levels service (seen self.now tokens.now)) }
-        ensures ahead { (more : List grammar.Word) → Ahead (λ x. (kind_of (names_of self.now) x.0, seen self.now x.1.now ++ more)) (λ x. length x.1.now) result (service_call_read levels service (seen self.now tokens.now ++ more)) }
-        ensures within { IfErr result (λ e. IsSettled e → 0 < length opening.now + length tokens.now) }
     {
         if levels == 0 {
-            return Err(self.too_deep(opening));
+            return Err(self.too_deep(tokens));
         }
         let rest = self.expect(tokens, Mark::ParenthesisOpens)?;
-        let (arguments, rest) = self.arguments(alloc, levels, tokens, rest)?;
+        let (arguments, rest) = self.arguments(alloc, levels, rest)?;
         let (targets, rest) = self.targets(alloc, rest)?;
         let rest = self.expect(rest, Mark::Semicolon)?;
         Ok((StmtKind::CallService(service, arguments, targets), rest))
@@ -282,8 +254,6 @@ impl Source {
     fn targets<'a>(&self, alloc: Global, tokens: &'a [Token]) -> Read<'a, Vec<Identifier>>
         ensures shorter { IfOk result (λ x. length x.1.now ≤ length tokens.now) }
         ensures exact { Gives (λ x. (map (name_of (names_of self.now)) x.0.items, seen self.now x.1.now)) result (reading.targets_at (seen self.now tokens.now)) }
-        ensures ahead { (more : List grammar.Word) → Ahead (λ x. (map (name_of (names_of self.now)) x.0.items, seen self.now x.1.now ++ more)) (λ x. length x.1.now) result (reading.targets_at (seen self.now tokens.now ++ more)) }
-        ensures within { IfErr result (λ e. IsSettled e → 0 < length tokens.now) }
     {
         match self.behind(tokens, Mark::Arrow) {
             Some(rest) => self.names(alloc, rest),
@@ -296,8 +266,6 @@ impl Source {
     pub fn names<'a>(&self, alloc: Global, tokens: &'a [Token]) -> Read<'a, Vec<Identifier>>
         ensures shorter { IfOk result (λ x. length x.1.now < length tokens.now) }
         ensures exact { Gives (λ x. (map (name_of (names_of self.now)) x.0.items, seen self.now x.1.now)) result (reading.names_at (seen self.now tokens.now)) }
-        ensures ahead { (more : List grammar.Word) → Ahead (λ x. (map (name_of (names_of self.now)) x.0.items, seen self.now x.1.now ++ more)) (λ x. length x.1.now) result (reading.names_at (seen self.now tokens.now ++ more)) }
-        ensures within { IfErr result (λ e. IsSettled e → 0 < length tokens.now) }
     {
         let (first, rest) = self.name(tokens)?;
         self.more_names(alloc, first, rest)
@@ -312,8 +280,6 @@ impl Source {
     ) -> Read<'a, Vec<Identifier>>
         ensures shorter { IfOk result (λ x. length x.1.now ≤ length tokens.now) }
         ensures exact { Gives (λ x. (map (name_of (names_of self.now)) x.0.items, seen self.now x.1.now)) result (and_more (name_of (names_of self.now) first) (listed (codes ",") reading.name_at (seen self.now tokens.now))) }
-        ensures ahead { (more : List grammar.Word) → Ahead (λ x. (map (name_of (names_of self.now)) x.0.items, seen self.now x.1.now ++ more)) (λ x. length x.1.now) result (and_more (name_of (names_of self.now) first) (listed (codes ",") reading.name_at (seen self.now tokens.now ++ more))) }
-        ensures within { IfErr result (λ e. IsSettled e → 0 < length tokens.now) }
     {
         let mut names = Vec::new(alloc);
         names.push(first)?;

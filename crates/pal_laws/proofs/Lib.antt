@@ -12,6 +12,7 @@ pub mod BegunPrograms
 pub mod Steady
 pub mod SteadyReadings
 pub mod Places
+pub mod Feeds
 pub mod Followed
 pub mod ReadSteps
 pub mod ReadExpressions

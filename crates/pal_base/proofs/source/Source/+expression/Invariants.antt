@@ -1,7 +1,6 @@
-use Rattle.std.proofs.Common.{◌≤◌, length, map, ◌≡◌, ◌+◌, ◌*◌, ◌++◌, ◌<◌, List}
+use Rattle.std.proofs.Common.{◌≤◌, length, map, ◌≡◌, ◌+◌, ◌*◌}
 use Rattle.std.specs.Prelude.{codes}
 use Rattle.pal_laws.specs.GrammarReading as reading
-use Rattle.pal_meaning.specs.Grammar.{Word}
 use Rattle.pal_laws.proofs.Repeats.{after}
 use Rattle.pal_base.specs.Reads.{and_more, listed}
 use Rattle.pal_base.specs.Rows.{pair_of}
@@ -47,8 +46,6 @@ invariant-more_arguments-loop-behind l =
     (length l.rest ≤ length l.fn.tokens)
     × (and_more (expr_of (names_of l.self) l.fn.first) (listed (codes ",") (reading.expr_at l.levels) (seen l.self l.fn.tokens))
     ≡ after (map (expr_of (names_of l.self)) l.arguments.items) (listed (codes ",") (reading.expr_at l.levels) (seen l.self l.rest)))
-    × ((more : List Word) → 0 < length l.rest → and_more (expr_of (names_of l.self) l.fn.first) (listed (codes ",") (reading.expr_at l.levels) (seen l.self l.fn.tokens ++ more))
-    ≡ after (map (expr_of (names_of l.self)) l.arguments.items) (listed (codes ",") (reading.expr_at l.levels) (seen l.self l.rest ++ more)))
 
 abbrev pub decreases-more_arguments-loop-behind : goal.decreases-more_arguments-loop-behind
 decreases-more_arguments-loop-behind l = length l.rest
@@ -58,8 +55,6 @@ invariant-all_links-loop-operator l =
     (length l.rest ≤ length l.fn.tokens)
     × (reading.repeat (reading.link_at (reading.operand_with (reading.unary_at l.levels) (rank_of l.rank)) (rank_of l.rank)) (seen l.self l.fn.tokens)
     ≡ after (map (pair_of (names_of l.self)) l.links.items) (reading.repeat (reading.link_at (reading.operand_with (reading.unary_at l.levels) (rank_of l.rank)) (rank_of l.rank)) (seen l.self l.rest)))
-    × ((more : List Word) → 0 < length l.rest → reading.repeat (reading.link_at (reading.operand_with (reading.unary_at l.levels) (rank_of l.rank)) (rank_of l.rank)) (seen l.self l.fn.tokens ++ more)
-    ≡ after (map (pair_of (names_of l.self)) l.links.items) (reading.repeat (reading.link_at (reading.operand_with (reading.unary_at l.levels) (rank_of l.rank)) (rank_of l.rank)) (seen l.self l.rest ++ more)))
 
 abbrev pub decreases-all_links-loop-operator : goal.decreases-all_links-loop-operator
 decreases-all_links-loop-operator l = length l.rest

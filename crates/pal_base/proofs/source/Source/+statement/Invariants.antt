@@ -1,7 +1,6 @@
-use Rattle.std.proofs.Common.{◌≤◌, length, map, ◌≡◌, ◌+◌, ◌*◌, ◌++◌, ◌<◌, List}
+use Rattle.std.proofs.Common.{◌≤◌, length, map, ◌≡◌, ◌+◌, ◌*◌}
 use Rattle.std.specs.Prelude.{codes}
 use Rattle.pal_laws.specs.GrammarReading as reading
-use Rattle.pal_meaning.specs.Grammar.{Word}
 use Rattle.pal_laws.proofs.Repeats.{after}
 use Rattle.pal_base.specs.Reads.{up_to}
 use Rattle.pal_base.specs.Seen.{seen, names_of}
@@ -30,7 +29,6 @@ abbrev pub invariant-statements-loop-alloc : goal.invariant-statements-loop-allo
 invariant-statements-loop-alloc l =
     (length l.rest ≤ length l.fn.tokens)
     × (up_to (codes "}") (reading.stmt_at l.levels) (seen l.self l.fn.tokens) ≡ after (map (stmt_of (names_of l.self)) l.statements.items) (up_to (codes "}") (reading.stmt_at l.levels) (seen l.self l.rest)))
-    × ((more : List Word) → 0 < length l.rest → up_to (codes "}") (reading.stmt_at l.levels) (seen l.self l.fn.tokens ++ more) ≡ after (map (stmt_of (names_of l.self)) l.statements.items) (up_to (codes "}") (reading.stmt_at l.levels) (seen l.self l.rest ++ more)))
 
 abbrev pub decreases-statements-loop-alloc : goal.decreases-statements-loop-alloc
 decreases-statements-loop-alloc l = length l.rest

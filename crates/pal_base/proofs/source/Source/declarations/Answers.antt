@@ -1,11 +1,11 @@
-use Rattle.std.proofs.Common.{◌<◌, arith, length, ◌++◌}
+use Rattle.std.proofs.Common.{◌<◌, arith, length}
 use Rattle.std.specs.Prelude.{codes}
 use Rattle.pal_laws.specs.GrammarReading as reading
 use Rattle.pal_base.specs.Reads.{up_to}
 use Rattle.pal_base.specs.Seen.{seen, names_of}
 use Rattle.pal_base.specs.View.{declaration_of}
 use Rattle.pal_base.specs.WordView.{token_of}
-use Rattle.pal_base.proofs.Turns.{passed_refusal, up_to_finds, up_to_ends, up_to_fails, up_to_none, passed_ahead, fewer, fewer_with}
+use Rattle.pal_base.proofs.Turns.{passed_refusal, up_to_finds, up_to_ends, up_to_fails, fewer}
 use Rattle.pal_base.proofs.source.Source.declarations.Goals as goal
 
 pub loop-alloc-preserved : goal.loop-alloc-preserved
@@ -15,11 +15,7 @@ loop-alloc-preserved c =
       omega arith,
       up_to_finds (declaration_of (names_of self)) (codes "init") reading.declaration_at (up_to (codes "init") reading.declaration_at (seen self c.args.tokens.now))
           c.loop-alloc.declarations.items c.push.new.self.items c.in_ok-declaration.declaration (seen self c.loop-alloc.rest.now) (seen self c.in_ok-declaration.after.now) c.stands.result
-          c.loop-alloc.invariant.1 c.stands.ensures.exact c.loop-alloc-test.true c.in_ok-declaration.ensures.exact (fewer (token_of (names_of self)) c.in_ok-declaration.after.now c.loop-alloc.rest.now shorter) c.in_ok-push.ensures.items,
-      λ more enough. let before : 0 < length c.loop-alloc.rest.now = omega (arith, shorter) in
-          up_to_finds (declaration_of (names_of self)) (codes "init") reading.declaration_at (up_to (codes "init") reading.declaration_at (seen self c.args.tokens.now ++ more))
-          c.loop-alloc.declarations.items c.push.new.self.items c.in_ok-declaration.declaration (seen self c.loop-alloc.rest.now ++ more) (seen self c.in_ok-declaration.after.now ++ more) c.stands.result
-          (c.loop-alloc.invariant.2 more before) (c.stands.ensures.ahead more before) c.loop-alloc-test.true (c.in_ok-declaration.ensures.ahead more enough) (fewer_with (token_of (names_of self)) more c.in_ok-declaration.after.now c.loop-alloc.rest.now shorter) c.in_ok-push.ensures.items,
+          c.loop-alloc.invariant.1 c.stands.ensures c.loop-alloc-test.true c.in_ok-declaration.ensures.exact (fewer (token_of (names_of self)) c.in_ok-declaration.after.now c.loop-alloc.rest.now shorter) c.in_ok-push.ensures.items,
     )
 
 pub returns-in_err-declaration-clause-exact : goal.returns-in_err-declaration-clause-exact
@@ -28,27 +24,11 @@ returns-in_err-declaration-clause-exact c =
     let self = c.args.self.now in
     passed_refusal _ c.in_err-declaration.field-0.0 c.from_residual.result _ c.from_residual.ensures (up_to_fails (declaration_of (names_of self)) (codes "init") reading.declaration_at (up_to (codes "init") reading.declaration_at (seen self c.args.tokens.now))
     c.loop-alloc.declarations.items (seen self c.loop-alloc.rest.now) c.stands.result c.in_err-declaration.field-0.0
-    c.loop-alloc.invariant.1 c.stands.ensures.exact c.loop-alloc-test.true c.in_err-declaration.ensures.exact)
+    c.loop-alloc.invariant.1 c.stands.ensures c.loop-alloc-test.true c.in_err-declaration.ensures.exact)
 
 pub returns-clause-exact : goal.returns-clause-exact
 unfolding reading.declarations_at
 returns-clause-exact c =
     let self = c.args.self.now in
     up_to_ends (declaration_of (names_of self)) (codes "init") reading.declaration_at (up_to (codes "init") reading.declaration_at (seen self c.args.tokens.now))
-    c.loop-alloc.declarations.items (seen self c.loop-alloc.rest.now) c.stands.result c.loop-alloc.invariant.1 c.stands.ensures.exact c.loop-alloc-test.false
-
-pub returns-in_err-declaration-clause-ahead : goal.returns-in_err-declaration-clause-ahead
-unfolding reading.declarations_at
-returns-in_err-declaration-clause-ahead c = λ more.
-    let self = c.args.self.now in
-    passed_ahead _ _ c.in_err-declaration.field-0.0 c.from_residual.result _ c.from_residual.ensures (λ settled.
-    let before : 0 < length c.loop-alloc.rest.now = c.in_err-declaration.ensures.within settled in
-    up_to_none (declaration_of (names_of self)) (codes "init") reading.declaration_at (up_to (codes "init") reading.declaration_at (seen self c.args.tokens.now ++ more)) c.loop-alloc.declarations.items (seen self c.loop-alloc.rest.now ++ more) c.stands.result
-    (c.loop-alloc.invariant.2 more before) (c.stands.ensures.ahead more before) c.loop-alloc-test.true (c.in_err-declaration.ensures.ahead more settled))
-
-pub returns-clause-ahead : goal.returns-clause-ahead
-unfolding reading.declarations_at
-returns-clause-ahead c = λ more enough.
-    let self = c.args.self.now in
-    up_to_ends (declaration_of (names_of self)) (codes "init") reading.declaration_at (up_to (codes "init") reading.declaration_at (seen self c.args.tokens.now ++ more))
-    c.loop-alloc.declarations.items (seen self c.loop-alloc.rest.now ++ more) c.stands.result (c.loop-alloc.invariant.2 more enough) (c.stands.ensures.ahead more enough) c.loop-alloc-test.false
+    c.loop-alloc.declarations.items (seen self c.loop-alloc.rest.now) c.stands.result c.loop-alloc.invariant.1 c.stands.ensures c.loop-alloc-test.false

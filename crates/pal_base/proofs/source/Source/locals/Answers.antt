@@ -1,4 +1,4 @@
-use Rattle.std.proofs.Common.{arith, length, ◌<◌, ◌++◌}
+use Rattle.std.proofs.Common.{arith, length, ◌<◌}
 use Rattle.std.specs.Prelude.{codes}
 use Rattle.pal_laws.specs.GrammarReading as reading
 use Rattle.pal_laws.specs.GrammarReading.{locals_at}
@@ -6,7 +6,7 @@ use Rattle.pal_base.specs.Reads.{listed}
 use Rattle.pal_base.specs.Seen.{seen, names_of}
 use Rattle.pal_base.specs.View.{name_of}
 use Rattle.pal_base.specs.WordView.{token_of}
-use Rattle.pal_base.proofs.Turns.{passed_refusal, listed_finds, listed_ends, listed_fails, listed_none, passed_ahead, fewer, fewer_with}
+use Rattle.pal_base.proofs.Turns.{passed_refusal, listed_finds, listed_ends, listed_fails, fewer}
 use Rattle.pal_base.proofs.source.Source.locals.Goals as goal
 
 pub loop-behind-preserved : goal.loop-behind-preserved
@@ -17,9 +17,6 @@ loop-behind-preserved c =
       listed_finds (name_of (names_of self)) (codes "local") reading.local_at (listed (codes "local") reading.local_at (seen self c.args.tokens.now))
           c.loop-behind.locals.items c.push.new.self.items c.in_ok-name.name (seen self c.loop-behind.rest.now) (seen self c.in-Some.behind.now) (seen self c.in_ok-name.after.now)
           c.loop-behind.invariant.1 c.in-Some.ensures.exact c.in_ok-name.ensures.exact (fewer (token_of (names_of self)) c.in_ok-name.after.now c.loop-behind.rest.now shorter) c.in_ok-push.ensures.items,
-      λ more enough. listed_finds (name_of (names_of self)) (codes "local") reading.local_at (listed (codes "local") reading.local_at (seen self c.args.tokens.now ++ more))
-          c.loop-behind.locals.items c.push.new.self.items c.in_ok-name.name (seen self c.loop-behind.rest.now ++ more) (seen self c.in-Some.behind.now ++ more) (seen self c.in_ok-name.after.now ++ more)
-          (c.loop-behind.invariant.2 more (omega (arith, shorter))) (c.in-Some.ensures.ahead more) (c.in_ok-name.ensures.ahead more enough) (fewer_with (token_of (names_of self)) more c.in_ok-name.after.now c.loop-behind.rest.now shorter) c.in_ok-push.ensures.items,
     )
 
 pub returns-in_err-name-clause-exact : goal.returns-in_err-name-clause-exact
@@ -36,19 +33,3 @@ returns-clause-exact c =
     let self = c.args.self.now in
     listed_ends (name_of (names_of self)) (codes "local") reading.local_at (listed (codes "local") reading.local_at (seen self c.args.tokens.now))
     c.loop-behind.locals.items (seen self c.loop-behind.rest.now) c.loop-behind.invariant.1 c.in_default.ensures.exact
-
-pub returns-in_err-name-clause-ahead : goal.returns-in_err-name-clause-ahead
-unfolding locals_at
-returns-in_err-name-clause-ahead c = λ more.
-    let self = c.args.self.now in
-    passed_ahead _ _ c.in_err-name.field-0.0 c.from_residual.result _ c.from_residual.ensures (λ settled.
-    let before : 0 < length c.loop-behind.rest.now = omega (arith, c.in_err-name.ensures.within settled, c.in-Some.ensures.shorter) in
-    listed_none (name_of (names_of self)) (codes "local") reading.local_at (listed (codes "local") reading.local_at (seen self c.args.tokens.now ++ more)) c.loop-behind.locals.items (seen self c.loop-behind.rest.now ++ more) (seen self c.in-Some.behind.now ++ more)
-    (c.loop-behind.invariant.2 more before) (c.in-Some.ensures.ahead more) (c.in_err-name.ensures.ahead more settled))
-
-pub returns-clause-ahead : goal.returns-clause-ahead
-unfolding locals_at
-returns-clause-ahead c = λ more enough.
-    let self = c.args.self.now in
-    listed_ends (name_of (names_of self)) (codes "local") reading.local_at (listed (codes "local") reading.local_at (seen self c.args.tokens.now ++ more))
-    c.loop-behind.locals.items (seen self c.loop-behind.rest.now ++ more) (c.loop-behind.invariant.2 more enough) (c.in_default.ensures.ahead more enough)

@@ -1,11 +1,11 @@
-use Rattle.std.proofs.Common.{◌<◌, arith, length, ◌++◌}
+use Rattle.std.proofs.Common.{◌<◌, arith, length}
 use Rattle.std.specs.Prelude.{codes}
 use Rattle.pal_laws.specs.GrammarReading as reading
 use Rattle.pal_base.specs.Reads.{and_more, up_to}
 use Rattle.pal_base.specs.Seen.{seen, names_of}
 use Rattle.pal_base.specs.View.{integer_of}
 use Rattle.pal_base.specs.WordView.{token_of}
-use Rattle.pal_base.proofs.Turns.{passed_refusal, up_to_finds, up_to_ends, up_to_fails, up_to_none, passed_ahead, fewer, fewer_with}
+use Rattle.pal_base.proofs.Turns.{passed_refusal, up_to_finds, up_to_ends, up_to_fails, fewer}
 use Rattle.pal_base.proofs.source.Source.more_integers.Goals as goal
 
 pub loop-rest-preserved : goal.loop-rest-preserved
@@ -15,11 +15,7 @@ loop-rest-preserved c =
       omega arith,
       up_to_finds integer_of (codes ";") reading.integer_at (and_more (integer_of c.args.first) (up_to (codes ";") reading.integer_at (seen self c.args.tokens.now)))
           c.loop-rest.values.items c.push-in-loop-rest.new.self.items c.in_ok-value.value (seen self c.loop-rest.rest.now) (seen self c.in_ok-value.after.now) c.stands.result
-          c.loop-rest.invariant.1 c.stands.ensures.exact c.loop-rest-test.true c.in_ok-value.ensures.exact (fewer (token_of (names_of self)) c.in_ok-value.after.now c.loop-rest.rest.now shorter) c.in_ok-push-2.ensures.items,
-      λ more enough. let before : 0 < length c.loop-rest.rest.now = omega (arith, shorter) in
-          up_to_finds integer_of (codes ";") reading.integer_at (and_more (integer_of c.args.first) (up_to (codes ";") reading.integer_at (seen self c.args.tokens.now ++ more)))
-          c.loop-rest.values.items c.push-in-loop-rest.new.self.items c.in_ok-value.value (seen self c.loop-rest.rest.now ++ more) (seen self c.in_ok-value.after.now ++ more) c.stands.result
-          (c.loop-rest.invariant.2 more before) (c.stands.ensures.ahead more before) c.loop-rest-test.true (c.in_ok-value.ensures.ahead more enough) (fewer_with (token_of (names_of self)) more c.in_ok-value.after.now c.loop-rest.rest.now shorter) c.in_ok-push-2.ensures.items,
+          c.loop-rest.invariant.1 c.stands.ensures c.loop-rest-test.true c.in_ok-value.ensures.exact (fewer (token_of (names_of self)) c.in_ok-value.after.now c.loop-rest.rest.now shorter) c.in_ok-push-2.ensures.items,
     )
 
 pub returns-in_err-value-clause-exact : goal.returns-in_err-value-clause-exact
@@ -27,24 +23,10 @@ returns-in_err-value-clause-exact c =
     let self = c.args.self.now in
     passed_refusal _ c.in_err-value.field-0.0 c.from_residual-in_err-value.result _ c.from_residual-in_err-value.ensures (up_to_fails integer_of (codes ";") reading.integer_at (and_more (integer_of c.args.first) (up_to (codes ";") reading.integer_at (seen self c.args.tokens.now)))
     c.loop-rest.values.items (seen self c.loop-rest.rest.now) c.stands.result c.in_err-value.field-0.0
-    c.loop-rest.invariant.1 c.stands.ensures.exact c.loop-rest-test.true c.in_err-value.ensures.exact)
+    c.loop-rest.invariant.1 c.stands.ensures c.loop-rest-test.true c.in_err-value.ensures.exact)
 
 pub returns-clause-exact : goal.returns-clause-exact
 returns-clause-exact c =
     let self = c.args.self.now in
     up_to_ends integer_of (codes ";") reading.integer_at (and_more (integer_of c.args.first) (up_to (codes ";") reading.integer_at (seen self c.args.tokens.now)))
-    c.loop-rest.values.items (seen self c.loop-rest.rest.now) c.stands.result c.loop-rest.invariant.1 c.stands.ensures.exact c.loop-rest-test.false
-
-pub returns-in_err-value-clause-ahead : goal.returns-in_err-value-clause-ahead
-returns-in_err-value-clause-ahead c = λ more.
-    let self = c.args.self.now in
-    passed_ahead _ _ c.in_err-value.field-0.0 c.from_residual-in_err-value.result _ c.from_residual-in_err-value.ensures (λ settled.
-    let before : 0 < length c.loop-rest.rest.now = c.in_err-value.ensures.within settled in
-    up_to_none integer_of (codes ";") reading.integer_at (and_more (integer_of c.args.first) (up_to (codes ";") reading.integer_at (seen self c.args.tokens.now ++ more))) c.loop-rest.values.items (seen self c.loop-rest.rest.now ++ more) c.stands.result
-    (c.loop-rest.invariant.2 more before) (c.stands.ensures.ahead more before) c.loop-rest-test.true (c.in_err-value.ensures.ahead more settled))
-
-pub returns-clause-ahead : goal.returns-clause-ahead
-returns-clause-ahead c = λ more enough.
-    let self = c.args.self.now in
-    up_to_ends integer_of (codes ";") reading.integer_at (and_more (integer_of c.args.first) (up_to (codes ";") reading.integer_at (seen self c.args.tokens.now ++ more)))
-    c.loop-rest.values.items (seen self c.loop-rest.rest.now ++ more) c.stands.result (c.loop-rest.invariant.2 more enough) (c.stands.ensures.ahead more enough) c.loop-rest-test.false
+    c.loop-rest.values.items (seen self c.loop-rest.rest.now) c.stands.result c.loop-rest.invariant.1 c.stands.ensures c.loop-rest-test.false

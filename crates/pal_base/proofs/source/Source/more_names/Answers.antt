@@ -1,11 +1,11 @@
-use Rattle.std.proofs.Common.{◌<◌, arith, length, ◌++◌}
+use Rattle.std.proofs.Common.{◌<◌, arith, length}
 use Rattle.std.specs.Prelude.{codes}
 use Rattle.pal_laws.specs.GrammarReading as reading
 use Rattle.pal_base.specs.Reads.{and_more, listed}
 use Rattle.pal_base.specs.Seen.{seen, names_of}
 use Rattle.pal_base.specs.View.{name_of}
 use Rattle.pal_base.specs.WordView.{token_of}
-use Rattle.pal_base.proofs.Turns.{passed_refusal, listed_finds, listed_ends, listed_fails, listed_none, passed_ahead, fewer, fewer_with}
+use Rattle.pal_base.proofs.Turns.{passed_refusal, listed_finds, listed_ends, listed_fails, fewer}
 use Rattle.pal_base.proofs.source.Source.more_names.Goals as goal
 
 pub loop-behind-preserved : goal.loop-behind-preserved
@@ -16,9 +16,6 @@ loop-behind-preserved c =
       listed_finds (name_of (names_of self)) (codes ",") reading.name_at (and_more (name_of (names_of self) c.args.first) (listed (codes ",") reading.name_at (seen self c.args.tokens.now)))
           c.loop-behind.names.items c.push-in-Some.new.self.items c.in_ok-name.name (seen self c.loop-behind.rest.now) (seen self c.in-Some.behind.now) (seen self c.in_ok-name.after.now)
           c.loop-behind.invariant.1 c.in-Some.ensures.exact c.in_ok-name.ensures.exact (fewer (token_of (names_of self)) c.in_ok-name.after.now c.loop-behind.rest.now shorter) c.in_ok-push-2.ensures.items,
-      λ more enough. listed_finds (name_of (names_of self)) (codes ",") reading.name_at (and_more (name_of (names_of self) c.args.first) (listed (codes ",") reading.name_at (seen self c.args.tokens.now ++ more)))
-          c.loop-behind.names.items c.push-in-Some.new.self.items c.in_ok-name.name (seen self c.loop-behind.rest.now ++ more) (seen self c.in-Some.behind.now ++ more) (seen self c.in_ok-name.after.now ++ more)
-          (c.loop-behind.invariant.2 more (omega (arith, shorter))) (c.in-Some.ensures.ahead more) (c.in_ok-name.ensures.ahead more (omega arith)) (fewer_with (token_of (names_of self)) more c.in_ok-name.after.now c.loop-behind.rest.now shorter) c.in_ok-push-2.ensures.items,
     )
 
 pub returns-in_err-name-clause-exact : goal.returns-in_err-name-clause-exact
@@ -33,17 +30,3 @@ returns-clause-exact c =
     let self = c.args.self.now in
     listed_ends (name_of (names_of self)) (codes ",") reading.name_at (and_more (name_of (names_of self) c.args.first) (listed (codes ",") reading.name_at (seen self c.args.tokens.now)))
     c.loop-behind.names.items (seen self c.loop-behind.rest.now) c.loop-behind.invariant.1 c.in_default.ensures.exact
-
-pub returns-in_err-name-clause-ahead : goal.returns-in_err-name-clause-ahead
-returns-in_err-name-clause-ahead c = λ more.
-    let self = c.args.self.now in
-    passed_ahead _ _ c.in_err-name.field-0.0 c.from_residual-in_err-name.result _ c.from_residual-in_err-name.ensures (λ settled.
-    let before : 0 < length c.loop-behind.rest.now = omega (arith, c.in_err-name.ensures.within settled, c.in-Some.ensures.shorter) in
-    listed_none (name_of (names_of self)) (codes ",") reading.name_at (and_more (name_of (names_of self) c.args.first) (listed (codes ",") reading.name_at (seen self c.args.tokens.now ++ more))) c.loop-behind.names.items (seen self c.loop-behind.rest.now ++ more) (seen self c.in-Some.behind.now ++ more)
-    (c.loop-behind.invariant.2 more before) (c.in-Some.ensures.ahead more) (c.in_err-name.ensures.ahead more settled))
-
-pub returns-clause-ahead : goal.returns-clause-ahead
-returns-clause-ahead c = λ more enough.
-    let self = c.args.self.now in
-    listed_ends (name_of (names_of self)) (codes ",") reading.name_at (and_more (name_of (names_of self) c.args.first) (listed (codes ",") reading.name_at (seen self c.args.tokens.now ++ more)))
-    c.loop-behind.names.items (seen self c.loop-behind.rest.now ++ more) (c.loop-behind.invariant.2 more enough) (c.in_default.ensures.ahead more enough)

@@ -1,7 +1,6 @@
-use Rattle.std.proofs.Common.{◌≡◌, ◌≤◌, length, map, List, ◌++◌, ◌<◌}
+use Rattle.std.proofs.Common.{◌≡◌, ◌≤◌, length, map}
 use Rattle.std.specs.Prelude.{codes}
 use Rattle.pal_laws.specs.GrammarReading as reading
-use Rattle.pal_meaning.specs.Grammar.{Word}
 use Rattle.pal_laws.proofs.Repeats.{after}
 use Rattle.pal_base.specs.Reads.{and_more, listed}
 use Rattle.pal_base.specs.Seen.{seen, names_of}
@@ -9,7 +8,7 @@ use Rattle.pal_base.specs.View.{name_of}
 use Rattle.pal_base.proofs.source.Source.more_names.Given as goal
 
 abbrev pub invariant-loop-behind : goal.invariant-loop-behind
-invariant-loop-behind l = (length l.rest ≤ length l.fn.tokens) × (and_more (name_of (names_of l.self) l.fn.first) (listed (codes ",") reading.name_at (seen l.self l.fn.tokens)) ≡ after (map (name_of (names_of l.self)) l.names.items) (listed (codes ",") reading.name_at (seen l.self l.rest))) × ((more : List Word) → 0 < length l.rest → and_more (name_of (names_of l.self) l.fn.first) (listed (codes ",") reading.name_at (seen l.self l.fn.tokens ++ more)) ≡ after (map (name_of (names_of l.self)) l.names.items) (listed (codes ",") reading.name_at (seen l.self l.rest ++ more)))
+invariant-loop-behind l = (length l.rest ≤ length l.fn.tokens) × (and_more (name_of (names_of l.self) l.fn.first) (listed (codes ",") reading.name_at (seen l.self l.fn.tokens)) ≡ after (map (name_of (names_of l.self)) l.names.items) (listed (codes ",") reading.name_at (seen l.self l.rest)))
 
 abbrev pub decreases-loop-behind : goal.decreases-loop-behind
 decreases-loop-behind l = length l.rest

@@ -1,9 +1,9 @@
-use Rattle.std.proofs.Common.{◌≡◌, length, map, option_map, arith, ◌∙◌, ◌++◌, ◌<◌}
+use Rattle.std.proofs.Common.{◌≡◌, length, map, option_map, arith, ◌∙◌}
 use Rattle.pal_laws.specs.GrammarReading as reading
 use Rattle.pal_base.specs.Seen.{seen, names_of}
 use Rattle.pal_base.specs.View.{declaration_of, stack_body_of, process_of}
 use Rattle.pal_base.specs.WordView.{token_of}
-use Rattle.pal_base.proofs.Cuts.{program_reads, words_left, words_left_with}
+use Rattle.pal_base.proofs.Cuts.{program_reads, words_left}
 use Rattle.pal_base.proofs.Turns.{refuses}
 use Rattle.pal_base.proofs.source.Source.program.Goals as goal
 
@@ -18,13 +18,4 @@ returns-then-not-is_empty c =
           (map (declaration_of names) c.in_ok-declarations.declarations.items) (stack_body_of names c.in_ok-init.init) (option_map (stack_body_of names) c.in_ok-handler.handler) (map (process_of names) c.in_ok-processes.processes.items)
           c.in_ok-declarations.ensures.exact c.in_ok-init.ensures.exact c.in_ok-handler.ensures.exact c.in_ok-processes.ensures.exact
           ∙ words_left _ (token_of names) c.in_ok-processes.rest.now some);
-      ahead = λ more settled.
-          let left : 0 < length c.in_ok-processes.rest.now = c.refused.ensures.within settled in
-          let behind_handler : 0 < length c.in_ok-handler.rest.now = omega (arith, c.in_ok-processes.ensures.shorter) in
-          let behind_init : 0 < length c.in_ok-init.rest.now = omega (arith, c.in_ok-handler.ensures.shorter) in
-          let behind_declarations : 0 < length c.in_ok-declarations.rest.now = omega (arith, c.in_ok-init.ensures.shorter) in
-          program_reads (seen self c.args.tokens.now ++ more) (seen self c.in_ok-declarations.rest.now ++ more) (seen self c.in_ok-init.rest.now ++ more) (seen self c.in_ok-handler.rest.now ++ more) (seen self c.in_ok-processes.rest.now ++ more)
-          (map (declaration_of names) c.in_ok-declarations.declarations.items) (stack_body_of names c.in_ok-init.init) (option_map (stack_body_of names) c.in_ok-handler.handler) (map (process_of names) c.in_ok-processes.processes.items)
-          (c.in_ok-declarations.ensures.ahead more behind_declarations) (c.in_ok-init.ensures.ahead more behind_init) (c.in_ok-handler.ensures.ahead more behind_handler) (c.in_ok-processes.ensures.ahead more left)
-          ∙ words_left_with _ (token_of names) more c.in_ok-processes.rest.now some;
     }
