@@ -1,14 +1,9 @@
 -- Many ticks of a partition alone, at once.
-use Rattle.std.proofs.Common.{◌≡◌, inl, inr, ℕ, zero, suc, ◌+◌, ◌-◌, ◌<◌, ◌≤◌, Bool, true, false, cond, List, [], ◌∷◌, ◌++◌, length, Option, Some, None, Result, Ok, Err, IfOk, refl, sym, ap, subst, ◌∙◌, arith}
+use Rattle.std.proofs.Common.{◌≡◌, inl, inr, ℕ, zero, suc, ◌+◌, ◌-◌, ◌<◌, ◌≤◌, Bool, true, false, cond, List, [], ◌∷◌, ◌++◌, length, Option, Some, None, refl, sym, ap, subst, ◌∙◌, arith}
 use Rattle.std.specs.Prelude.{option_map, is_some}
-use Rattle.std.proofs.KnownBytes.{Appends-nil}
-use Rattle.apex_types.proofs.Writing.{IsUnderWay, under_way_more, under_way_fails}
-use Rattle.apex_types.specs.Line.{text_of}
-use Rattle.apex_types.specs.Line.{TakesBeginning}
 use Rattle.apex_types.specs.declared.event.Event.{Event}
 use Rattle.apex_types.specs.declared.identity.At.{At}
 use Rattle.apex_types.specs.declared.identity.PortId.{PortId}
-use Rattle.apex_types.specs.declared.sink.SinkFault.{SinkFault}
 use Rattle.kernel_meaning.specs.Kernel.{of_ports}
 use Rattle.module_meaning.specs.Module.{next_tick, ports_of}
 use Rattle.kernel_meaning.specs.Partition.{Member, Moved, World, moved, with_world, tick}
@@ -21,9 +16,10 @@ use Rattle.bursts.specs.Quiet.{IsAtRest, IsStill}
 use Rattle.bursts.specs.Running.{is_silent, advances_by, partition_tick}
 use Rattle.bursts.proofs.Quiet.{idle_tick}
 use Rattle.lone_partition.proofs.LinesOfTicks.{inputs_are, none_before}
-use Rattle.lone_partition.proofs.Texts.{text_append}
+use Rattle.lone_partition.proofs.Outputs.{CompletesLines, lines_go_on, nothing_sent}
 use Rattle.lone_partition.specs.Lines.{AreFrom, inputs_of, tick_of_input}
-use Rattle.lone_partition.specs.Pieces.{IsWithin, LeadsTo, HasRun, HasRunSome, IsBrokenOff, HasAdvancedWritten}
+use Rattle.lone_partition.specs.Pieces.{IsWithin, LeadsTo, HasRun, HasRunSome, HasAdvancedWritten}
+use Rattle.lone_partition.specs.Sent.{Sent}
 
 -- nothing comes to the partition in a tick from one on, before another
 abbrev pub HaveNoInputs : ℕ → ℕ → List InputLine → Type 0
@@ -186,71 +182,50 @@ is_within s lines k change at owns few order over none is same (suc i) below =
 module _ {C : Type 0} (s : Surroundings) (lines : List InputLine) where
   -- ---- as the code meets them
 
-  pub run_nothing : (k : ℕ) (at : At) (x : Member C) (taken : Option (List ℕ)) (failures : ℕ) → HasRunSome s lines k at x x taken taken failures failures (Ok 0)
-  run_nothing k at x taken failures =
+  pub run_nothing : (k : ℕ) (at : At) (x : Member C) (sent : Sent) → HasRunSome s lines k at x x sent sent 0
+  run_nothing k at x sent =
       let none : 0 ≤ k = omega arith in
       let here : at.now.0 ≡ at.now.0 + 0 = omega arith in
       let leads : LeadsTo s lines 0 at x [] x = λ m.
       let same : 0 + m ≡ m = omega arith in
       ap (λ k. alone_from s lines k (Some at) x) same ∙ ap (λ t. alone_from s lines m (Some (at_tick at t)) x) here in
-      (none, record { told = []; leads = leads; written = Appends-nil taken; quiet = refl })
+      (none, record { told = []; leads = leads; sent = nothing_sent sent })
 
-  pub run_still : (k : ℕ) (at : At) (x : Member C) (taken : Option (List ℕ)) (failures : ℕ) → AreFrom tick_of_input (at.now.0 + k) lines → IsStill at.origin.0 at.now.0 (at.now.0 + k) x.world.kernel
-      → HasRunSome s lines k at x x taken taken failures failures (Ok k)
-  run_still k at x taken failures order still =
+  pub run_still : (k : ℕ) (at : At) (x : Member C) (sent : Sent) → AreFrom tick_of_input (at.now.0 + k) lines → IsStill at.origin.0 at.now.0 (at.now.0 + k) x.world.kernel
+      → HasRunSome s lines k at x x sent sent k
+  run_still k at x sent order still =
       let all : k ≤ k = omega arith in
       let none : HaveNoInputs at.now.0 (at.now.0 + k) lines = λ t from below. none_comes t (at.now.0 + k) lines below order in
-      (all, record { told = []; leads = leads_still s lines k at.origin.0 at.now.0 x none still; written = Appends-nil taken; quiet = refl })
+      (all, record { told = []; leads = leads_still s lines k at.origin.0 at.now.0 x none still; sent = nothing_sent sent })
 
-  pub run_empty : (k : ℕ) (at : At) (x : Member C) (taken : Option (List ℕ)) (failures : ℕ) → ((i : ℕ) → i < k → IsWithin s lines at.origin.0 (at.now.0 + i) None) → HasRunSome s lines k at x x taken taken failures failures (Ok k)
-  run_empty k at x taken failures h =
+  pub run_empty : (k : ℕ) (at : At) (x : Member C) (sent : Sent) → ((i : ℕ) → i < k → IsWithin s lines at.origin.0 (at.now.0 + i) None) → HasRunSome s lines k at x x sent sent k
+  run_empty k at x sent h =
       let all : k ≤ k = omega arith in
-      (all, record { told = []; leads = leads_empty s lines k at.origin.0 at.now.0 x h; written = Appends-nil taken; quiet = refl })
+      (all, record { told = []; leads = leads_empty s lines k at.origin.0 at.now.0 x h; sent = nothing_sent sent })
 
-  pub run_piece : (k number : ℕ) (at : At) (x y : Member C) (old new : Option (List ℕ)) (before after : ℕ) (r : Result ℕ SinkFault) → ((i : ℕ) → i < k → IsWithin s lines at.origin.0 (at.now.0 + i) (Some number))
-      → HasAdvancedWritten at k x y old new before after r → HasRunSome s lines k at x y old new before after r
-  run_piece k number at x y old new before after (Ok n) h (within, told, moved, written, quiet) =
-      (within, record { told = told; leads = leads_on s lines k n at.origin.0 at.now.0 number x y told h moved; written = written; quiet = quiet })
-  run_piece k number at x y old new before after (Err f) h (n, told, within, moved, beginning, failed) =
-      record { ticks = n; told = told; next = y; within = within; leads = leads_on s lines k n at.origin.0 at.now.0 number x y told h moved; beginning = beginning; failed = failed }
+  pub run_piece : (k number n : ℕ) (at : At) (x y : Member C) (old new : Sent) → ((i : ℕ) → i < k → IsWithin s lines at.origin.0 (at.now.0 + i) (Some number))
+      → HasAdvancedWritten at k x y old new n → HasRunSome s lines k at x y old new n
+  run_piece k number n at x y old new h (within, told, moved, sent) =
+      (within, record { told = told; leads = leads_on s lines k n at.origin.0 at.now.0 number x y told h moved; sent = sent })
 
   -- some of fewer ticks are some of more
-  pub run_fewer : (m k : ℕ) (at : At) (x y : Member C) (old new : Option (List ℕ)) (before after : ℕ) (r : Result ℕ SinkFault) → m ≤ k → HasRunSome s lines m at x y old new before after r → HasRunSome s lines k at x y old new before after r
-  run_fewer m k at x y old new before after (Ok n) few h = let all : n ≤ k = let within : n ≤ m = h.0 in omega (arith, within, few) in (all, h.1)
-  run_fewer m k at x y old new before after (Err f) few h = record { ticks = h.ticks; told = h.told; next = h.next; within = omega (arith, h.within, few); leads = h.leads; beginning = h.beginning; failed = h.failed }
+  pub run_fewer : (m k n : ℕ) (at : At) (x y : Member C) (old new : Sent) → m ≤ k → HasRunSome s lines m at x y old new n → HasRunSome s lines k at x y old new n
+  run_fewer m k n at x y old new few h = let all : n ≤ k = let within : n ≤ m = h.0 in omega (arith, within, few) in (all, h.1)
 
-  -- the inputs are still ahead
-  pub still_ahead : (k : ℕ) (at : At) (x y : Member C) (old new : Option (List ℕ)) (before after : ℕ) (r : Result ℕ SinkFault) → AreFrom tick_of_input (at.now.0 + k) lines → HasRunSome s lines k at x y old new before after r
-      → IfOk r (λ n. AreFrom tick_of_input (at.now.0 + n) lines)
-  still_ahead k at x y old new before after (Ok n) order h = from_lower (at.now.0 + n) (at.now.0 + k) lines (let within : n ≤ k = h.0 in omega (arith, within)) order
-  still_ahead k at x y old new before after (Err f) order h = tt
+  -- ---- the lines of a run
 
-  -- ---- the text of a run
-
-  pub runs_on : {old mid new : Option (List ℕ)} {text : List ℕ} {before between : ℕ} (left n k : ℕ) (at : At) (x y : Member C) → left ≡ n + k
-      → IsUnderWay old mid text (text_of (alone_from s lines left (Some at) x)) → HasRun s lines n at x y mid new before between
-      → IsUnderWay old new text (text_of (alone_from s lines k (Some (at_tick at (at.now.0 + n))) y))
-  runs_on {old = old} {mid = mid} {new = new} {text = text} left n k at x y count way h =
-      let rest = alone_from s lines k (Some (at_tick at (at.now.0 + n))) y in
-      let split : text_of (alone_from s lines left (Some at) x) ≡ text_of h.told ++ text_of rest =
-      ap text_of (ap (λ j. alone_from s lines j (Some at) x) count ∙ h.leads k) ∙ text_append h.told rest in
-      under_way_more old mid new text (text_of h.told) _ (subst (IsUnderWay old mid text) split way) h.written
-
-  pub breaks_off : {old mid new : Option (List ℕ)} {text : List ℕ} {before between : ℕ} (left k : ℕ) (at : At) (x : Member C) → k ≤ left
-      → IsUnderWay old mid text (text_of (alone_from s lines left (Some at) x)) → IsBrokenOff s lines k at x mid new before between
-      → TakesBeginning old new text
-  breaks_off {old = old} {mid = mid} {new = new} {text = text} left k at x few way h =
-      let count : left ≡ h.ticks + (left - h.ticks) = omega (arith, few, h.within) in
-      let rest = alone_from s lines (left - h.ticks) (Some (at_tick at (at.now.0 + h.ticks))) h.next in
-      let split : text_of (alone_from s lines left (Some at) x) ≡ text_of h.told ++ text_of rest =
-      ap text_of (ap (λ j. alone_from s lines j (Some at) x) count ∙ h.leads (left - h.ticks)) ∙ text_append h.told rest in
-      under_way_fails old mid new text (text_of h.told) _ (subst (IsUnderWay old mid text) split way) h.beginning
+  pub runs_on : (whole : List Event) (left n k : ℕ) (at : At) (x y : Member C) (old mid new : Sent) → left ≡ n + k
+      → CompletesLines whole (alone_from s lines left (Some at) x) old mid → HasRun s lines n at x y mid new
+      → CompletesLines whole (alone_from s lines k (Some (at_tick at (at.now.0 + n))) y) old new
+  runs_on whole left n k at x y old mid new count way h =
+      lines_go_on whole (alone_from s lines left (Some at) x) h.told (alone_from s lines k (Some (at_tick at (at.now.0 + n))) y) old mid new
+      (ap (λ j. alone_from s lines j (Some at) x) count ∙ h.leads k) way h.sent
 
   -- none of these ticks was made at once
-  pub none_made : {old mid new : Option (List ℕ)} {text : List ℕ} {before between : ℕ} (left n : ℕ) (at : At) (x y : Member C) → n ≡ 0
-      → IsUnderWay old mid text (text_of (alone_from s lines left (Some at) x)) → HasRun s lines n at x y mid new before between
-      → IsUnderWay old new text (text_of (alone_from s lines left (Some at) y))
-  none_made {old = old} {new = new} {text = text} left n at x y none way h =
+  pub none_made : (whole : List Event) (left n : ℕ) (at : At) (x y : Member C) (old mid new : Sent) → n ≡ 0
+      → CompletesLines whole (alone_from s lines left (Some at) x) old mid → HasRun s lines n at x y mid new
+      → CompletesLines whole (alone_from s lines left (Some at) y) old new
+  none_made whole left n at x y old mid new none way h =
       let same : left ≡ n + left = omega (arith, none) in
       let here : at.now.0 + n ≡ at.now.0 = omega (arith, none) in
-      subst (λ t. IsUnderWay old new text (text_of (alone_from s lines left (Some (at_tick at t)) y))) here (runs_on left n left at x y same way h)
+      subst (λ t. CompletesLines whole (alone_from s lines left (Some (at_tick at t)) y) old new) here (runs_on whole left n left at x y old mid new same way h)

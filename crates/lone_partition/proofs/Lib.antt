@@ -3,6 +3,7 @@ pub mod Lawful
 pub mod LinesOfTicks
 pub mod Loaded
 pub mod Only
+pub mod Outputs
 pub mod Traces
 pub mod Sent
 pub mod Taken

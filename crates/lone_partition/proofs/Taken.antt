@@ -6,22 +6,23 @@ use Rattle.apex_types.specs.declared.identity.At.{At}
 use Rattle.kernel_meaning.specs.Partition.{Member}
 use Rattle.isolation.specs.Alone.{Path, takes, takes_all}
 use Rattle.isolation.specs.declared.input.InputLine.{InputLine}
-use Rattle.lone_partition.proofs.Written.{IsPathUnderWay, path_is_over, shuts_down}
+use Rattle.lone_partition.proofs.Written.{CompletesPath, ends_all, path_is_over}
 use Rattle.lone_partition.specs.Lines.{inputs_of}
+use Rattle.lone_partition.specs.Sent.{Sent}
 use Rattle.lone_partition.specs.Written.{IsPathMade}
 
 -- after the last one nothing is left
-pub inputs_are_over : {C : Type 0} {whole : Path (Member C)} {old new : Option (List ℕ)} {before after : ℕ} (fault : ModuleAction) (at : At) (lines : List InputLine) (i : ℕ) (now : Member C)
-    → IsPathUnderWay whole (takes_all fault at (inputs_of (drop i lines)) now) old new before after → length lines ≤ i → IsPathMade whole (Some at) now old new before after
+pub inputs_are_over : {C : Type 0} {whole : Path (Member C)} {old new : Sent} (fault : ModuleAction) (at : At) (lines : List InputLine) (i : ℕ) (now : Member C)
+    → CompletesPath whole (takes_all fault at (inputs_of (drop i lines)) now) old new → length lines ≤ i → IsPathMade whole (Some at) now old new
 inputs_are_over fault at lines i now way past = path_is_over at now (ap (λ (ls : List InputLine). takes_all fault at (inputs_of ls) now) (drop_all i lines past)) way
 
 -- one ends everything
-pub inputs_end_down : {C : Type 0} {whole : Path (Member C)} {last : Member C} {old mid new : Option (List ℕ)} {before between after : ℕ} (fault : ModuleAction) (at : At) (lines : List InputLine) (i : ℕ) (l : InputLine) (now : Member C)
-    → IsPathUnderWay whole (takes_all fault at (inputs_of (drop i lines)) now) old mid before between → i < length lines → l ≡ get_or lines i l
-    → IsPathMade (takes fault at l.input now) None last mid new between after → IsPathMade whole None last old new before after
-inputs_end_down {last = last} fault at lines i l now way within is_l h =
+pub inputs_end_down : {C : Type 0} {whole : Path (Member C)} {last : Member C} {old mid new : Sent} (fault : ModuleAction) (at : At) (lines : List InputLine) (i : ℕ) (l : InputLine) (now : Member C)
+    → CompletesPath whole (takes_all fault at (inputs_of (drop i lines)) now) old mid → i < length lines → l ≡ get_or lines i l
+    → IsPathMade (takes fault at l.input now) None last mid new → IsPathMade whole None last old new
+inputs_end_down {last = last} {new = new} fault at lines i l now way within is_l h =
     let next = drop_more lines i l within ∙ ap (λ (x : InputLine). x ∷ drop (i + 1) lines) (sym is_l) in
     let split = ap (λ (ls : List InputLine). takes_all fault at (inputs_of ls) now) next in
-    shuts_down (λ a y. takes_all fault a (inputs_of (drop (i + 1) lines)) y) last split h.at way h.made
+    way None last new (ends_all (λ a y. takes_all fault a (inputs_of (drop (i + 1) lines)) y) split h)
 
 pub ruleset inputs_end = (inputs_are_over, inputs_end_down)

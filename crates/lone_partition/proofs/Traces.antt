@@ -1,17 +1,12 @@
--- A partition alone tick by tick, and the text of its trace.
-use Rattle.std.proofs.Common.{◌≡◌, ◌≢◌, ℕ, zero, suc, ◌+◌, ◌<◌, ◌≤◌, List, [], ◌∷◌, ◌++◌, Option, Some, None, Result, Ok, Err, refl, sym, ap, subst, ◌∙◌, arith, le_refl}
-use Rattle.std.proofs.KnownBytes.{Appends-nil, Appends-trans}
+-- A partition alone tick by tick, and the lines of its trace.
+use Rattle.std.proofs.Common.{◌≡◌, ◌≢◌, ℕ, zero, suc, ◌+◌, ◌<◌, ◌≤◌, List, [], ◌∷◌, ◌++◌, Option, Some, None, refl, sym, ap, subst, ◌∙◌, arith, le_refl}
 use Rattle.std.specs.Prelude.{option_map}
-use Rattle.std.specs.Io.KnownBytes.{Appends}
-use Rattle.apex_types.proofs.Writing.{IsUnderWay, under_way_more, under_way_end, under_way_fails}
 use Rattle.apex_types.specs.Line.{text_of}
-use Rattle.apex_types.specs.Line.{TakesBeginning}
 use Rattle.apex_types.specs.declared.codes.ModuleAction.{ModuleAction}
 use Rattle.apex_types.specs.declared.codes.ModuleAction.TheVariants as reaction
 use Rattle.apex_types.specs.declared.codes.StartCondition.TheVariants as condition
 use Rattle.apex_types.specs.declared.event.Event.{Event}
 use Rattle.apex_types.specs.declared.identity.At.{At}
-use Rattle.apex_types.specs.declared.sink.SinkFault.{SinkFault}
 use Rattle.module_meaning.specs.Module.{first_tick, next_tick}
 use Rattle.kernel_meaning.specs.Partition.{Member, cold_start}
 use Rattle.isolation.proofs.Isolated.{IsIn, next_in}
@@ -20,9 +15,10 @@ use Rattle.isolation.specs.declared.input.Input.{Input}
 use Rattle.isolation.specs.declared.input.Input.TheVariants.{Arrive, ModuleFault, PartitionFault}
 use Rattle.isolation.specs.declared.input.InputLine.{InputLine}
 use Rattle.lone_partition.proofs.LinesOfTicks.{inputs_are}
-use Rattle.lone_partition.proofs.Texts.{text_append, first_fails, second_fails}
+use Rattle.lone_partition.proofs.Outputs.{CompletesLines, lines_are_over, lines_go_on, lines_sent, nothing_sent}
 use Rattle.lone_partition.specs.Lines.{inputs_of, lines_in, tick_of_input}
-use Rattle.lone_partition.specs.Written.{IsMade, IsCutOff, IsPathMade, AreWritten, done_in}
+use Rattle.lone_partition.specs.Sent.{Sent, HasSent}
+use Rattle.lone_partition.specs.Written.{IsMade, IsPathMade}
 
 -- ---- a tick stays a tick
 
@@ -48,7 +44,7 @@ module _ {C : Type 0} where
       let h = subst (λ (n : ℕ). IsIn n (takes fault at i x).at) e (takes_in fault at i x) in
       runs_in t (takes fault at i x) (λ a y. takes_all fault a is y) (takes fault at i x).at h h (λ a y k. takes_all_in fault t is a y k)
 
-  tick_in : (s : Surroundings) (is : List Input) (at : At) (x : Member C) → IsIn at.now.0 (tick_alone s at is x).at
+  pub tick_in : (s : Surroundings) (is : List Input) (at : At) (x : Member C) → IsIn at.now.0 (tick_alone s at is x).at
   tick_in s is at x =
       let c = takes_all s.fault at is x in
       let h = takes_all_in s.fault at.now.0 is at x refl in
@@ -69,18 +65,17 @@ module _ {C : Type 0} where
       before : (a : At) (t : ℕ) → a.now.0 ≡ at.now.0 + 1 → a.now.0 ≤ t → at.now.0 ≤ t
       before a t e l = omega arith
 
-  -- The text of the first of several ticks, with the lines of this tick, and of the rest, with the lines
+  -- The lines of the first of several ticks, with the inputs of this tick, and of the rest, with the inputs
   -- behind them.
-  tick_text : (s : Surroundings) (lines own later : List InputLine) (n k : ℕ) (at : At) (x : Member C) → n ≡ suc k
+  tick_lines : (s : Surroundings) (lines own later : List InputLine) (n k : ℕ) (at : At) (x : Member C) → n ≡ suc k
       → own ≡ lines_in tick_of_input at.now.0 lines → ((t : ℕ) → at.now.0 < t → lines_in tick_of_input t later ≡ lines_in tick_of_input t lines)
-      → text_of (alone_from s lines n (Some at) x) ≡ text_of (tick_alone s at (inputs_of own) x).lines ++ text_of (alone_from s later k (option_map next_tick (tick_alone s at (inputs_of own) x).at) (tick_alone s at (inputs_of own) x).state)
-  tick_text s lines own later n k at x count is_own of_later =
+      → alone_from s lines n (Some at) x ≡ (tick_alone s at (inputs_of own) x).lines ++ alone_from s later k (option_map next_tick (tick_alone s at (inputs_of own) x).at) (tick_alone s at (inputs_of own) x).state
+  tick_lines s lines own later n k at x count is_own of_later =
       let r = tick_alone s at (inputs_of own) x in
       let here : inputs_in at.now.0 lines ≡ inputs_of own = inputs_are at.now.0 lines ∙ ap inputs_of (sym is_own) in
-      ap text_of (ap (λ (m : ℕ). alone_from s lines m (Some at) x) count
+      ap (λ (m : ℕ). alone_from s lines m (Some at) x) count
       ∙ ap (λ (is : List Input). (tick_alone s at is x).lines ++ alone_from s lines k (option_map next_tick (tick_alone s at is x).at) (tick_alone s at is x).state) here
-      ∙ ap (λ (es : List Event). r.lines ++ es) (same_inputs s k (option_map next_tick r.at) r.state lines later (λ a e t l. there t (after a t (next_in at.now.0 r.at a (tick_in s (inputs_of own) at x) e) l))))
-      ∙ text_append r.lines (alone_from s later k (option_map next_tick r.at) r.state)
+      ∙ ap (λ (es : List Event). r.lines ++ es) (same_inputs s k (option_map next_tick r.at) r.state lines later (λ a e t l. there t (after a t (next_in at.now.0 r.at a (tick_in s (inputs_of own) at x) e) l)))
     where
       after : (a : At) (t : ℕ) → a.now.0 ≡ at.now.0 + 1 → a.now.0 ≤ t → at.now.0 < t
       after a t e l = omega arith
@@ -94,63 +89,41 @@ module _ {C : Type 0} where
   none_left s lines zero x = refl
   none_left s lines (suc n) x = refl
 
-  -- a tick more
-  pub goes_on : {old mid new : Option (List ℕ)} {text : List ℕ} {before between : ℕ} (s : Surroundings) (lines own later : List InputLine) (n k : ℕ) (at last : At) (x y : Member C) → n ≡ suc k
+  -- a tick more, after which this comes, or nothing
+  ticks_on : (whole : List Event) (s : Surroundings) (lines own later : List InputLine) (n k : ℕ) (at : At) (answer : Option At) (x y : Member C) (old mid new : Sent) → n ≡ suc k
       → own ≡ lines_in tick_of_input at.now.0 lines → ((t : ℕ) → at.now.0 < t → lines_in tick_of_input t later ≡ lines_in tick_of_input t lines)
-      → IsUnderWay old mid text (text_of (alone_from s lines n (Some at) x)) → IsPathMade (tick_alone s at (inputs_of own) x) (Some last) y mid new before between
-      → IsUnderWay old new text (text_of (alone_from s later k (Some (next_tick last)) y))
-  goes_on {old = old} {mid = mid} {new = new} {text = text} s lines own later n k at last x y count is_own of_later way h =
+      → CompletesLines whole (alone_from s lines n (Some at) x) old mid → IsPathMade (tick_alone s at (inputs_of own) x) answer y mid new
+      → CompletesLines whole (alone_from s later k (option_map next_tick answer) y) old new
+  ticks_on whole s lines own later n k at answer x y old mid new count is_own of_later way h =
       let r = tick_alone s at (inputs_of own) x in
-      let split = tick_text s lines own later n k at x count is_own of_later in
-      let next = ap (λ (o : Option At). alone_from s later k (option_map next_tick o) r.state) (sym h.at) ∙ ap (λ (z : Member C). alone_from s later k (Some (next_tick last)) z) (sym h.made.state) in
-      subst (λ (es : List Event). IsUnderWay old new text (text_of es)) next
-      (under_way_more old mid new text (text_of r.lines) (text_of (alone_from s later k (option_map next_tick r.at) r.state)) (subst (IsUnderWay old mid text) split way) h.made.written)
+      let next = ap (λ (o : Option At). alone_from s later k (option_map next_tick o) r.state) (sym h.at) ∙ ap (λ (z : Member C). alone_from s later k (option_map next_tick answer) z) (sym h.made.state) in
+      lines_go_on whole (alone_from s lines n (Some at) x) r.lines (alone_from s later k (option_map next_tick answer) y) old mid new
+      (tick_lines s lines own later n k at x count is_own of_later ∙ ap (λ (es : List Event). r.lines ++ es) next) way h.made.sent
+
+  pub goes_on : (whole : List Event) (s : Surroundings) (lines own later : List InputLine) (n k : ℕ) (at last : At) (x y : Member C) (old mid new : Sent) → n ≡ suc k
+      → own ≡ lines_in tick_of_input at.now.0 lines → ((t : ℕ) → at.now.0 < t → lines_in tick_of_input t later ≡ lines_in tick_of_input t lines)
+      → CompletesLines whole (alone_from s lines n (Some at) x) old mid → IsPathMade (tick_alone s at (inputs_of own) x) (Some last) y mid new
+      → CompletesLines whole (alone_from s later k (Some (next_tick last)) y) old new
+  goes_on whole s lines own later n k at last x y old mid new count is_own of_later way h = ticks_on whole s lines own later n k at (Some last) x y old mid new count is_own of_later way h
 
   -- the last tick, since the module is shut down in it
-  pub ends_down : {old mid new : Option (List ℕ)} {text : List ℕ} {before between : ℕ} (s : Surroundings) (lines own later : List InputLine) (n k : ℕ) (at : At) (x y : Member C) → n ≡ suc k
+  pub ends_down : (whole : List Event) (s : Surroundings) (lines own later : List InputLine) (n k : ℕ) (at : At) (x y : Member C) (old mid new : Sent) → n ≡ suc k
       → own ≡ lines_in tick_of_input at.now.0 lines → ((t : ℕ) → at.now.0 < t → lines_in tick_of_input t later ≡ lines_in tick_of_input t lines)
-      → IsUnderWay old mid text (text_of (alone_from s lines n (Some at) x)) → IsPathMade (tick_alone s at (inputs_of own) x) None y mid new before between
-      → Appends old new text
-  ends_down {old = old} {mid = mid} {new = new} {text = text} s lines own later n k at x y count is_own of_later way h =
-      let r = tick_alone s at (inputs_of own) x in
-      let split = tick_text s lines own later n k at x count is_own of_later in
-      let none = ap (λ (o : Option At). alone_from s later k (option_map next_tick o) r.state) (sym h.at) ∙ none_left s later k r.state in
-      under_way_end old new text (subst (λ (es : List Event). IsUnderWay old new text (text_of es)) none
-      (under_way_more old mid new text (text_of r.lines) (text_of (alone_from s later k (option_map next_tick r.at) r.state)) (subst (IsUnderWay old mid text) split way) h.made.written))
-
-  -- the sink fails in this tick
-  pub ends_early : {old mid new : Option (List ℕ)} {text : List ℕ} {before between : ℕ} (s : Surroundings) (lines own later : List InputLine) (n k : ℕ) (at : At) (x : Member C) → n ≡ suc k
-      → own ≡ lines_in tick_of_input at.now.0 lines → ((t : ℕ) → at.now.0 < t → lines_in tick_of_input t later ≡ lines_in tick_of_input t lines)
-      → IsUnderWay old mid text (text_of (alone_from s lines n (Some at) x)) → IsCutOff (done_in (tick_alone s at (inputs_of own) x)) mid new before between
-      → TakesBeginning old new text
-  ends_early {old = old} {mid = mid} {new = new} {text = text} s lines own later n k at x count is_own of_later way h =
-      let r = tick_alone s at (inputs_of own) x in
-      let split = tick_text s lines own later n k at x count is_own of_later in
-      under_way_fails old mid new text (text_of r.lines) (text_of (alone_from s later k (option_map next_tick r.at) r.state)) (subst (IsUnderWay old mid text) split way) h.beginning
+      → CompletesLines whole (alone_from s lines n (Some at) x) old mid → IsPathMade (tick_alone s at (inputs_of own) x) None y mid new
+      → HasSent old new (text_of whole)
+  ends_down whole s lines own later n k at x y old mid new count is_own of_later way h =
+      lines_are_over whole (alone_from s later k None y) old new (none_left s later k y) (ticks_on whole s lines own later n k at None x y old mid new count is_own of_later way h)
 
   -- no tick is left
-  pub nothing_left : {old new : Option (List ℕ)} {text : List ℕ} (s : Surroundings) (lines : List InputLine) (n : ℕ) (o : Option At) (x : Member C) → n ≡ 0 → IsUnderWay old new text (text_of (alone_from s lines n o x)) → Appends old new text
-  nothing_left {old = old} {new = new} {text = text} s lines n o x none way =
-      under_way_end old new text (subst (λ (m : ℕ). IsUnderWay old new text (text_of (alone_from s lines m o x))) none way)
+  pub nothing_left : (whole : List Event) (s : Surroundings) (lines : List InputLine) (n : ℕ) (o : Option At) (x : Member C) (old new : Sent) → n ≡ 0 → CompletesLines whole (alone_from s lines n o x) old new → HasSent old new (text_of whole)
+  nothing_left whole s lines n o x old new none way = lines_are_over whole (alone_from s lines n o x) old new (ap (λ (m : ℕ). alone_from s lines m o x) none) way
 
 -- ---- a whole run
 
--- what is answered where the sink has failed
-pub run_fails : {X : Type 0} (lines : List Event) (old new : Option (List ℕ)) (before after : ℕ) (f : SinkFault) (r : Result X SinkFault) → r ≡ Err f → TakesBeginning old new (text_of lines) → after ≡ before + 1 → AreWritten lines old new before after r
-run_fails lines old new before after f r same h k = subst (AreWritten lines old new before after) (sym same) (h, k)
-
--- lines behind others that are written
-then_written : {X : Type 0} (one other : List Event) (old mid new : Option (List ℕ)) (before between after : ℕ) (r : Result X SinkFault)
-    → Appends old mid (text_of one) → between ≡ before → AreWritten other mid new between after r → AreWritten (one ++ other) old new before after r
-then_written one other old mid new before between after (Ok x) h quiet k =
-    (subst (Appends old new) (sym (text_append one other)) (Appends-trans old mid new (text_of one) (text_of other) h k.0), k.1 ∙ quiet)
-then_written one other old mid new before between after (Err f) h quiet k =
-    (second_fails old mid new (text_of (one ++ other)) (text_of one) (text_of other) (text_append one other) h k.0, k.1 ∙ ap (λ n. n + 1) quiet)
-
 module _ {C : Type 0} where
   -- of no tick nothing is written
-  pub no_tick : (a : Alone C) (lines : List InputLine) (n : ℕ) (taken : Option (List ℕ)) → n ≡ 0 → Appends taken taken (text_of (trace_alone a lines n))
-  no_tick a lines n taken none = subst (λ (m : ℕ). Appends taken taken (text_of (trace_alone a lines m))) (sym none) (Appends-nil taken)
+  pub no_tick : (a : Alone C) (lines : List InputLine) (n : ℕ) (sent : Sent) → n ≡ 0 → HasSent sent sent (text_of (trace_alone a lines n))
+  no_tick a lines n sent none = subst (λ (m : ℕ). HasSent sent sent (text_of (trace_alone a lines m))) (sym none) (nothing_sent sent)
 
   -- of some ticks the start comes first
   starts_first : (a : Alone C) (lines : List InputLine) (n : ℕ) → n ≢ 0
@@ -159,19 +132,11 @@ module _ {C : Type 0} where
   starts_first a lines (suc n) some = refl
 
   -- the start, and then the ticks
-  pub started : {X : Type 0} {old mid : Option (List ℕ)} {before between : ℕ} (a : Alone C) (lines : List InputLine) (n : ℕ) (y : Member C) (new : Option (List ℕ)) (after : ℕ) (r : Result X SinkFault) → n ≢ 0
-      → IsMade (goes (cold_start first_tick condition.NormalStart) a.member) y old mid before between → AreWritten (alone_from a.around lines n (Some first_tick) y) mid new between after r
-      → AreWritten (trace_alone a lines n) old new before after r
-  started {old = old} {mid = mid} {before = before} {between = between} a lines n y new after r some h k =
+  pub started : (a : Alone C) (lines : List InputLine) (n : ℕ) (at : At) (y : Member C) (old mid new : Sent) → n ≢ 0 → at ≡ first_tick
+      → IsMade (goes (cold_start at condition.NormalStart) a.member) y old mid → HasSent mid new (text_of (alone_from a.around lines n (Some first_tick) y))
+      → HasSent old new (text_of (trace_alone a lines n))
+  started a lines n at y old mid new some first h k =
       let g = goes (cold_start first_tick condition.NormalStart) a.member in
-      subst (λ (es : List Event). AreWritten es old new before after r) (sym (starts_first a lines n some))
-      (then_written g.lines (alone_from a.around lines n (Some first_tick) g.state) old mid new before between after r h.written h.quiet
-      (subst (λ (z : Member C). AreWritten (alone_from a.around lines n (Some first_tick) z) mid new between after r) h.state k))
-
-  -- the sink fails at the start
-  pub not_started : {old new : Option (List ℕ)} {before after : ℕ} (a : Alone C) (lines : List InputLine) (n : ℕ) → n ≢ 0
-      → IsCutOff (goes (cold_start first_tick condition.NormalStart) a.member) old new before after → TakesBeginning old new (text_of (trace_alone a lines n))
-  not_started {old = old} {new = new} a lines n some h =
-      let g = goes (cold_start first_tick condition.NormalStart) a.member in
-      let rest = alone_from a.around lines n (Some first_tick) g.state in
-      first_fails old new (text_of (trace_alone a lines n)) (text_of g.lines) (text_of rest) (ap text_of (starts_first a lines n some) ∙ text_append g.lines rest) h.beginning
+      let made = subst (λ (t : At). IsMade (goes (cold_start t condition.NormalStart) a.member) y old mid) first h in
+      lines_sent old mid new g.lines (alone_from a.around lines n (Some first_tick) y) (trace_alone a lines n)
+      (starts_first a lines n some ∙ ap (λ (z : Member C). g.lines ++ alone_from a.around lines n (Some first_tick) z) (sym made.state)) made.sent k

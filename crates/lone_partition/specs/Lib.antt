@@ -3,6 +3,8 @@ pub mod Lines
 pub mod Loading
 pub mod Lone
 pub mod Only
+pub mod Outputs
 pub mod Pieces
+pub mod Sent
 pub mod Steps
 pub mod Written

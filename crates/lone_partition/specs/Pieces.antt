@@ -1,16 +1,14 @@
 -- Many ticks of a partition alone, at once.
-use Rattle.std.specs.Prelude.{◌≡◌, ◌≤◌, ℕ, ◌+◌, List, [], ◌++◌, Option, Some, None, Result, Ok, Err}
-use Rattle.std.specs.Io.KnownBytes.{Appends}
+use Rattle.std.specs.Prelude.{◌≡◌, ◌≤◌, ℕ, ◌+◌, List, [], ◌++◌, Option, Some, None}
 use Rattle.apex_types.specs.Line.{text_of}
-use Rattle.apex_types.specs.Line.{TakesBeginning}
 use Rattle.apex_types.specs.declared.event.Event.{Event}
 use Rattle.apex_types.specs.declared.identity.At.{At}
-use Rattle.apex_types.specs.declared.sink.SinkFault.{SinkFault}
 use Rattle.kernel_meaning.specs.Partition.{Member}
 use Rattle.kernel_meaning.specs.Windows.{at_tick, tick_from, owner, ended}
 use Rattle.isolation.specs.Alone.{Surroundings, alone_from, inputs_in}
 use Rattle.isolation.specs.declared.input.InputLine.{InputLine}
 use Rattle.partition.specs.Members.{HasAdvanced}
+use Rattle.lone_partition.specs.Sent.{Sent, HasSent}
 
 -- Nothing comes, no window ends, and the owner is this one or none.
 pub record IsWithin (s : Surroundings) (lines : List InputLine) (origin t : ℕ) (owns : Option ℕ) : Type 0 where
@@ -22,30 +20,16 @@ pub record IsWithin (s : Surroundings) (lines : List InputLine) (origin t : ℕ)
 abbrev pub LeadsTo : {C : Type 0} → Surroundings → List InputLine → ℕ → At → Member C → List Event → Member C → Type 0
 LeadsTo s inputs n at x told next = (m : ℕ) → alone_from s inputs (n + m) (Some at) x ≡ told ++ alone_from s inputs m (Some (at_tick at (at.now.0 + n))) next
 
--- So many ticks were made and their lines were written.
-pub record HasRun {C : Type 0} (s : Surroundings) (inputs : List InputLine) (n : ℕ) (at : At) (x next : Member C) (old new : Option (List ℕ)) (before after : ℕ) : Type 0 where
+-- So many ticks were made and their lines were to be written.
+pub record HasRun {C : Type 0} (s : Surroundings) (inputs : List InputLine) (n : ℕ) (at : At) (x next : Member C) (old new : Sent) : Type 0 where
   pub told : List Event
   pub leads : LeadsTo s inputs n at x told next
-  pub written : Appends old new (text_of told)
-  pub quiet : after ≡ before
+  pub sent : HasSent old new (text_of told)
 
--- Within so many ticks the sink failed once, and took a beginning of their lines.
-pub record IsBrokenOff {C : Type 0} (s : Surroundings) (inputs : List InputLine) (k : ℕ) (at : At) (x : Member C) (old new : Option (List ℕ)) (before after : ℕ) : Type 0 where
-  pub ticks : ℕ
-  pub told : List Event
-  pub next : Member C
-  pub within : ticks ≤ k
-  pub leads : LeadsTo s inputs ticks at x told next
-  pub beginning : TakesBeginning old new (text_of told)
-  pub failed : after ≡ before + 1
+-- Some of so many ticks were made, as many as are answered.
+abbrev pub HasRunSome : {C : Type 0} → Surroundings → List InputLine → ℕ → At → Member C → Member C → Sent → Sent → ℕ → Type 0
+HasRunSome s inputs k at x next old new n = (n ≤ k) × HasRun s inputs n at x next old new
 
--- Some of so many ticks were made, as many as are answered, unless the sink failed.
-abbrev pub HasRunSome : {C : Type 0} → Surroundings → List InputLine → ℕ → At → Member C → Member C → Option (List ℕ) → Option (List ℕ) → ℕ → ℕ → Result ℕ SinkFault → Type 0
-HasRunSome s inputs k at x next old new before after (Ok n) = (n ≤ k) × HasRun s inputs n at x next old new before after
-HasRunSome s inputs k at x next old new before after (Err fault) = IsBrokenOff s inputs k at x old new before after
-
--- The partition made so many ticks, or those up to the first with a line, and their lines were written, unless the
--- sink failed.
-abbrev pub HasAdvancedWritten : {C : Type 0} → At → ℕ → Member C → Member C → Option (List ℕ) → Option (List ℕ) → ℕ → ℕ → Result ℕ SinkFault → Type 0
-HasAdvancedWritten at k x next old new before after (Ok n) = (n ≤ k) × (told : List Event) × HasAdvanced at k x next told n × Appends old new (text_of told) × (after ≡ before)
-HasAdvancedWritten at k x next old new before after (Err fault) = (n : ℕ) × (told : List Event) × (n ≤ k) × HasAdvanced at k x next told n × TakesBeginning old new (text_of told) × (after ≡ before + 1)
+-- The partition made so many ticks, or those up to the first with a line, and their lines were to be written.
+abbrev pub HasAdvancedWritten : {C : Type 0} → At → ℕ → Member C → Member C → Sent → Sent → ℕ → Type 0
+HasAdvancedWritten at k x next old new n = (n ≤ k) × (told : List Event) × HasAdvanced at k x next told n × HasSent old new (text_of told)

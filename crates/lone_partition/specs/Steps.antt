@@ -1,8 +1,6 @@
 -- The steps of one partition that the code makes.
-use Rattle.std.specs.Prelude.{ℤ, Option, None}
-use Rattle.arrayvec.specs.ArrayVec.{ArrayVec}
 use Rattle.apex_types.specs.declared.identity.At.{At}
-use Rattle.kernel_meaning.specs.Partition.{Member, Moved, cold_start, breaks_down, advances, arrives, leaves, leaving, admits, goes_out}
+use Rattle.kernel_meaning.specs.Partition.{Member, Moved, cold_start, breaks_down, advances, arrives, admits, goes_out}
 use Rattle.lone_partition.specs.declared.step.Step.{Step}
 use Rattle.lone_partition.specs.declared.step.Step.TheVariants as step
 
@@ -10,13 +8,7 @@ use Rattle.lone_partition.specs.declared.step.Step.TheVariants as step
 abbrev pub step_of : {C : Type 0} → At → Step → Member C → Moved C
 step_of at (step.Start c) x = cold_start at c x
 step_of at (step.Arrive port m) x = arrives at port m x
-step_of at (step.Leave port) x = leaves at port x
 step_of at (step.Admit port) x = admits at port x
 step_of at (step.GoOut channel m) x = goes_out at channel m x
 step_of at step.BreakDown x = breaks_down at x
 step_of at step.Tick x = advances at x
-
--- the message that leaves the partition in a step
-abbrev pub leaving_in : {C : Type 0} → Step → Member C → Option (ArrayVec ℤ)
-leaving_in (step.Leave port) x = leaving port x
-leaving_in _ x = None

@@ -1,13 +1,15 @@
 //! What comes to a partition.
 
-ghost use Rattle.std.specs.Prelude.{◌≡◌, ◌≤◌, ◌<◌, ◌-◌, ◌^◌, [], IfOk, OnOk};
+ghost use Rattle.std.specs.Prelude.{◌≡◌};
 ghost use Rattle.isolation.specs.Alone.{meets_fault, takes, takes_all};
 ghost use Rattle.partition.specs.Members.{member_of};
 ghost use Rattle.lone_partition.specs.Lines.{inputs_of};
-ghost use Rattle.lone_partition.specs.Written.{IsOfTick, IsPathWritten};
+ghost use Rattle.lone_partition.specs.Outputs.{next_at, sent_of};
+ghost use Rattle.lone_partition.specs.Written.{IsPathMade};
 
+use crate::output::Output;
 use crate::step::{Step, write_step};
-use apex_types::{At, ModuleAction, Sink, SinkFault, StartCondition, TraceBuffer, copied};
+use apex_types::{At, ModuleAction, Moment, Sink, StartCondition, copied};
 use isolation::{Input, InputLine};
 use partition::Partition;
 use partition_base::Executor;
@@ -19,31 +21,24 @@ fn meet_fault<E: Executor, S: Sink>(
     action: ModuleAction,
     partition: &mut Partition<E>,
     mem: &mut E::Mem,
-    at: At,
-    trace: &mut TraceBuffer,
-    sink: &mut S,
-) -> Result<Option<At>, SinkFault>
-    requires fits { E.laid mem.old ≡ E.layout partition.old.executor }
-    requires past { at.origin.0 ≤ at.now.0 }
-    requires now { at.now.0 ≤ 2 ^ 40 }
-    requires empty { trace.old.text.items ≡ [] }
-    requires failures { S.failures sink.old < 2 ^ 64 - 1 }
+    moment: Moment,
+    output: &mut Output<'_, S>,
+) -> Option<Moment>
+    requires { E.laid mem.old ≡ E.layout partition.old.executor }
     ensures fits { E.laid mem.new ≡ E.layout partition.new.executor }
-    ensures empty { OnOk result (trace.new.text.items ≡ []) }
-    ensures of_tick { IfOk result (IsOfTick at) }
-    ensures written { IsPathWritten (meets_fault at action (member_of E.Executor partition.old mem.old)) (member_of E.Executor partition.new mem.new) (S.taken sink.old) (S.taken sink.new) (S.failures sink.old) (S.failures sink.new) result }
+    ensures written { IsPathMade (meets_fault moment.at action (member_of E.Executor partition.old mem.old)) (next_at result) (member_of E.Executor partition.new mem.new) (sent_of S.Sink output.old) (sent_of S.Sink output.new) }
 {
     match action {
-        ModuleAction::Ignore => Ok(Some(at)),
-        ModuleAction::Shutdown => Ok(None),
+        ModuleAction::Ignore => Some(moment),
+        ModuleAction::Shutdown => None,
         ModuleAction::Reset => {
-            let origin = At {
-                now: at.now,
-                origin: at.now,
+            let now = moment.at.now;
+            let origin = Moment {
+                at: At { now, origin: now },
             };
             let step = Step::Start(StartCondition::HmModuleRestart);
-            write_step(partition, mem, origin, &step, trace, sink)?;
-            Ok(Some(origin))
+            write_step(partition, mem, origin, &step, output);
+            Some(origin)
         }
     }
 }
@@ -54,31 +49,24 @@ fn take<E: Executor, S: Sink>(
     input: &Input,
     partition: &mut Partition<E>,
     mem: &mut E::Mem,
-    at: At,
-    trace: &mut TraceBuffer,
-    sink: &mut S,
-) -> Result<Option<At>, SinkFault>
-    requires fits { E.laid mem.old ≡ E.layout partition.old.executor }
-    requires past { at.origin.0 ≤ at.now.0 }
-    requires now { at.now.0 ≤ 2 ^ 40 }
-    requires empty { trace.old.text.items ≡ [] }
-    requires failures { S.failures sink.old < 2 ^ 64 - 1 }
+    moment: Moment,
+    output: &mut Output<'_, S>,
+) -> Option<Moment>
+    requires { E.laid mem.old ≡ E.layout partition.old.executor }
     ensures fits { E.laid mem.new ≡ E.layout partition.new.executor }
-    ensures empty { OnOk result (trace.new.text.items ≡ []) }
-    ensures of_tick { IfOk result (IsOfTick at) }
-    ensures written { IsPathWritten (takes fault at input.now (member_of E.Executor partition.old mem.old)) (member_of E.Executor partition.new mem.new) (S.taken sink.old) (S.taken sink.new) (S.failures sink.old) (S.failures sink.new) result }
+    ensures written { IsPathMade (takes fault moment.at input.now (member_of E.Executor partition.old mem.old)) (next_at result) (member_of E.Executor partition.new mem.new) (sent_of S.Sink output.old) (sent_of S.Sink output.new) }
 {
     match input {
         Input::Arrive(port, message) => {
             let step = Step::Arrive(*port, copied(message));
-            write_step(partition, mem, at, &step, trace, sink)?;
-            Ok(Some(at))
+            write_step(partition, mem, moment, &step, output);
+            Some(moment)
         }
         Input::PartitionFault => {
-            write_step(partition, mem, at, &Step::BreakDown, trace, sink)?;
-            Ok(Some(at))
+            write_step(partition, mem, moment, &Step::BreakDown, output);
+            Some(moment)
         }
-        Input::ModuleFault => meet_fault(fault, partition, mem, at, trace, sink),
+        Input::ModuleFault => meet_fault(fault, partition, mem, moment, output),
     }
 }
 
@@ -89,26 +77,19 @@ pub fn take_all<E: Executor, S: Sink>(
     lines: &[InputLine],
     partition: &mut Partition<E>,
     mem: &mut E::Mem,
-    at: At,
-    trace: &mut TraceBuffer,
-    sink: &mut S,
-) -> Result<Option<At>, SinkFault>
-    requires fits { E.laid mem.old ≡ E.layout partition.old.executor }
-    requires past { at.origin.0 ≤ at.now.0 }
-    requires now { at.now.0 ≤ 2 ^ 40 }
-    requires empty { trace.old.text.items ≡ [] }
-    requires failures { S.failures sink.old < 2 ^ 64 - 1 }
+    moment: Moment,
+    output: &mut Output<'_, S>,
+) -> Option<Moment>
+    requires { E.laid mem.old ≡ E.layout partition.old.executor }
     ensures fits { E.laid mem.new ≡ E.layout partition.new.executor }
-    ensures empty { OnOk result (trace.new.text.items ≡ []) }
-    ensures of_tick { IfOk result (IsOfTick at) }
-    ensures written { IsPathWritten (takes_all fault at (inputs_of lines.now) (member_of E.Executor partition.old mem.old)) (member_of E.Executor partition.new mem.new) (S.taken sink.old) (S.taken sink.new) (S.failures sink.old) (S.failures sink.new) result }
+    ensures written { IsPathMade (takes_all fault moment.at (inputs_of lines.now) (member_of E.Executor partition.old mem.old)) (next_at result) (member_of E.Executor partition.new mem.new) (sent_of S.Sink output.old) (sent_of S.Sink output.new) }
 {
-    let mut last = at;
+    let mut last = moment;
     for line in lines {
-        match take(fault, &line.input, partition, mem, last, trace, sink)? {
+        match take(fault, &line.input, partition, mem, last, output) {
             Some(next) => last = next,
-            None => return Ok(None),
+            None => return None,
         }
     }
-    Ok(Some(last))
+    Some(last)
 }

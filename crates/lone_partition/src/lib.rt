@@ -4,7 +4,8 @@
 //! nothing of its neighbours. Its run takes what comes to it from outside, line by line in the order of
 //! the ticks, and writes what the trace of the whole module shows of it when the same comes to it there.
 //!
-//! Its parts serve a whole module too: how a partition is loaded, a step of it, and the lines of a tick.
+//! Its parts serve a whole module too: how a partition is loaded, a step of it and many ticks at once, whose
+//! lines go to a sink, and the lines of a tick.
 #![tactic(auto)]
 
 mod channels;
@@ -12,6 +13,7 @@ mod input;
 mod lines;
 mod load;
 mod lone;
+mod output;
 mod pieces;
 mod running;
 mod sending;
@@ -23,4 +25,6 @@ pub use channels::channel_from;
 pub use lines::{HasTick, split_tick};
 pub use load::{fixed, load_memory, load_partition};
 pub use lone::LonePartition;
-pub use step::{Step, step_member, write_step};
+pub use output::Output;
+pub use pieces::write_advance;
+pub use step::{Step, write_leave, write_step};

@@ -1,79 +1,72 @@
 //! Many ticks of a partition alone at once: pieces of its windows, and ticks in which nothing happens.
 
-ghost use Rattle.std.specs.Prelude.{◌≡◌, ◌≤◌, ◌<◌, ◌+◌, ◌-◌, ◌^◌, ℕ, List, [], Some, IfOk, OnOk};
+ghost use Rattle.std.specs.Prelude.{◌≡◌, ◌≤◌, ◌<◌, ◌+◌, ◌^◌, ℕ, List, Some};
 ghost use Rattle.isolation.specs.Alone.{Surroundings as Around};
 ghost use Rattle.isolation.specs.declared.input.InputLine.{InputLine};
 ghost use Rattle.partition.specs.Members.{member_of};
 ghost use Rattle.lone_partition.specs.Around.{around};
 ghost use Rattle.lone_partition.specs.Lines.{AreFrom, tick_of_input};
+ghost use Rattle.lone_partition.specs.Outputs.{sent_of};
 ghost use Rattle.lone_partition.specs.Pieces.{HasAdvancedWritten, HasRunSome, IsWithin};
 
-use crate::running::later_tick;
+use crate::output::Output;
+use crate::running::later;
 use crate::surroundings::Surroundings;
-use apex_types::{At, Sink, SinkFault, Ticks, TraceBuffer};
+use apex_types::{Moment, Sink, Ticks};
 use isolation::InputLine;
 use partition::Partition;
 use partition_base::Executor;
 
 /// So many ticks of the partition, or those up to the first with an event, whose lines are written; how
 /// many they were.
-fn write_advance<E: Executor, S: Sink>(
+pub fn write_advance<E: Executor, S: Sink>(
     partition: &mut Partition<E>,
     mem: &mut E::Mem,
-    at: At,
+    moment: Moment,
     most: u32,
-    trace: &mut TraceBuffer,
-    sink: &mut S,
-) -> Result<u32, SinkFault>
+    output: &mut Output<'_, S>,
+) -> u32
     requires fits { E.laid mem.old ≡ E.layout partition.old.executor }
-    requires past { at.origin.0 ≤ at.now.0 }
-    requires soon { at.now.0 + most ≤ 2 ^ 40 }
-    requires empty { trace.old.text.items ≡ [] }
-    requires failures { S.failures sink.old < 2 ^ 64 - 1 }
+    requires soon { moment.at.now.0 + most ≤ 2 ^ 40 }
     ensures fits { E.laid mem.new ≡ E.layout partition.new.executor }
-    ensures empty { OnOk result (trace.new.text.items ≡ []) }
-    ensures written { HasAdvancedWritten at most (member_of E.Executor partition.old mem.old) (member_of E.Executor partition.new mem.new) (S.taken sink.old) (S.taken sink.new) (S.failures sink.old) (S.failures sink.new) result }
+    ensures written { HasAdvancedWritten moment.at most (member_of E.Executor partition.old mem.old) (member_of E.Executor partition.new mem.new) (sent_of S.Sink output.old) (sent_of S.Sink output.new) result }
 {
-    let count = partition.advance(mem, at, most, trace);
-    trace.write_events(sink)?;
-    Ok(count)
+    output.trace.clear();
+    let count = partition.advance(mem, moment.at, most, output.trace);
+    output.write();
+    count
 }
 
 /// So many ticks of the partition, from one event to the next, whose lines are written; how many they
-/// were.
+/// were. There are no more of them once the sink has failed.
 fn write_piece<E: Executor, S: Sink>(
     partition: &mut Partition<E>,
     mem: &mut E::Mem,
-    at: At,
+    moment: Moment,
     most: u32,
-    trace: &mut TraceBuffer,
-    sink: &mut S,
-) -> Result<u32, SinkFault>
+    output: &mut Output<'_, S>,
+) -> u32
     requires fits { E.laid mem.old ≡ E.layout partition.old.executor }
-    requires past { at.origin.0 ≤ at.now.0 }
-    requires soon { at.now.0 + most ≤ 2 ^ 40 }
-    requires empty { trace.old.text.items ≡ [] }
-    requires failures { S.failures sink.old < 2 ^ 64 - 1 }
+    requires soon { moment.at.now.0 + most ≤ 2 ^ 40 }
     ensures fits { E.laid mem.new ≡ E.layout partition.new.executor }
-    ensures empty { OnOk result (trace.new.text.items ≡ []) }
-    ensures run { (s : Around) (lines : List InputLine) (number : ℕ) → ((i : ℕ) → i < most → IsWithin s lines at.origin.0 (at.now.0 + i) (Some number)) → HasRunSome s lines most at (member_of E.Executor partition.old mem.old) (member_of E.Executor partition.new mem.new) (S.taken sink.old) (S.taken sink.new) (S.failures sink.old) (S.failures sink.new) result }
+    ensures run { (s : Around) (lines : List InputLine) (number : ℕ) → ((i : ℕ) → i < most → IsWithin s lines moment.at.origin.0 (moment.at.now.0 + i) (Some number)) → HasRunSome s lines most moment.at (member_of E.Executor partition.old mem.old) (member_of E.Executor partition.new mem.new) (sent_of S.Sink output.old) (sent_of S.Sink output.new) result }
 {
     let mut left = most;
-    while left > 0 {
-        let now = later_tick(at, most - left);
-        let count = write_advance(partition, mem, now, left, trace, sink)?;
+    while left > 0 && !output.has_failed() {
+        let now = later(moment, most - left);
+        let count = write_advance(partition, mem, now, left, output);
         if count == 0 {
-            return Ok(most - left);
+            return most - left;
         }
         left -= count;
     }
-    Ok(most - left)
+    most - left
 }
 
 /// Of so many ticks from one on, those before the first of these inputs, which are of this tick or later
 /// ones.
 fn until_input(lines: &[InputLine], now: Ticks, most: u32) -> u32
-    requires order { AreFrom tick_of_input now.0 lines.now }
+    requires { AreFrom tick_of_input now.0 lines.now }
     ensures within { result ≤ most }
     ensures from { AreFrom tick_of_input (now.0 + result) lines.now }
 {
@@ -101,28 +94,23 @@ fn advance_window<E: Executor, S: Sink>(
     surroundings: &Surroundings,
     partition: &mut Partition<E>,
     mem: &mut E::Mem,
-    at: At,
+    moment: Moment,
     most: u32,
-    trace: &mut TraceBuffer,
-    sink: &mut S,
-) -> Result<u32, SinkFault>
+    output: &mut Output<'_, S>,
+) -> u32
     requires fits { E.laid mem.old ≡ E.layout partition.old.executor }
-    requires past { at.origin.0 ≤ at.now.0 }
-    requires soon { at.now.0 + most ≤ 2 ^ 40 }
-    requires empty { trace.old.text.items ≡ [] }
-    requires failures { S.failures sink.old < 2 ^ 64 - 1 }
+    requires soon { moment.at.now.0 + most ≤ 2 ^ 40 }
     ensures fits { E.laid mem.new ≡ E.layout partition.new.executor }
-    ensures empty { OnOk result (trace.new.text.items ≡ []) }
-    ensures run { (lines : List InputLine) → AreFrom tick_of_input (at.now.0 + most) lines → HasRunSome (around surroundings.now) lines most at (member_of E.Executor partition.old mem.old) (member_of E.Executor partition.new mem.new) (S.taken sink.old) (S.taken sink.new) (S.failures sink.old) (S.failures sink.new) result }
+    ensures run { (lines : List InputLine) → AreFrom tick_of_input (moment.at.now.0 + most) lines → HasRunSome (around surroundings.now) lines most moment.at (member_of E.Executor partition.old mem.old) (member_of E.Executor partition.new mem.new) (sent_of S.Sink output.old) (sent_of S.Sink output.new) result }
 {
     let schedule = &surroundings.schedule;
-    if schedule.ended(at).is_some() {
-        return Ok(0);
+    if schedule.ended(moment.at).is_some() {
+        return 0;
     }
-    let count = at_most(schedule.until_change(at), most);
-    match schedule.owner(at) {
-        Some(_) => write_piece(partition, mem, at, count, trace, sink),
-        None => Ok(count),
+    let count = at_most(schedule.until_change(moment.at), most);
+    match schedule.owner(moment.at) {
+        Some(_) => write_piece(partition, mem, moment, count, output),
+        None => count,
     }
 }
 
@@ -134,26 +122,21 @@ pub fn advance<E: Executor, S: Sink>(
     lines: &[InputLine],
     partition: &mut Partition<E>,
     mem: &mut E::Mem,
-    at: At,
+    moment: Moment,
     most: u32,
-    trace: &mut TraceBuffer,
-    sink: &mut S,
-) -> Result<u32, SinkFault>
+    output: &mut Output<'_, S>,
+) -> u32
     requires fits { E.laid mem.old ≡ E.layout partition.old.executor }
-    requires past { at.origin.0 ≤ at.now.0 }
-    requires soon { at.now.0 + most ≤ 2 ^ 40 }
-    requires order { AreFrom tick_of_input at.now.0 lines.now }
-    requires empty { trace.old.text.items ≡ [] }
-    requires failures { S.failures sink.old < 2 ^ 64 - 1 }
+    requires soon { moment.at.now.0 + most ≤ 2 ^ 40 }
+    requires order { AreFrom tick_of_input moment.at.now.0 lines.now }
     ensures fits { E.laid mem.new ≡ E.layout partition.new.executor }
-    ensures empty { OnOk result (trace.new.text.items ≡ []) }
-    ensures order { IfOk result (λ count. AreFrom tick_of_input (at.now.0 + count) lines.now) }
-    ensures run { HasRunSome (around surroundings.now) lines.now most at (member_of E.Executor partition.old mem.old) (member_of E.Executor partition.new mem.new) (S.taken sink.old) (S.taken sink.new) (S.failures sink.old) (S.failures sink.new) result }
+    ensures order { AreFrom tick_of_input (moment.at.now.0 + result) lines.now }
+    ensures run { HasRunSome (around surroundings.now) lines.now most moment.at (member_of E.Executor partition.old mem.old) (member_of E.Executor partition.new mem.new) (sent_of S.Sink output.old) (sent_of S.Sink output.new) result }
 {
-    let quiet = until_input(lines, at.now, most);
-    let still = partition.kernel().still_ticks(at, quiet);
+    let quiet = until_input(lines, moment.at.now, most);
+    let still = partition.kernel().still_ticks(moment.at, quiet);
     if still > 0 {
-        return Ok(still);
+        return still;
     }
-    advance_window(surroundings, partition, mem, at, quiet, trace, sink)
+    advance_window(surroundings, partition, mem, moment, quiet, output)
 }

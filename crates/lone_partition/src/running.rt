@@ -1,6 +1,7 @@
 //! A partition that runs alone, tick by tick.
 
-ghost use Rattle.std.specs.Prelude.{◌≡◌, ◌≤◌, ◌<◌, ◌+◌, ◌-◌, ◌^◌, [], Some};
+ghost use Rattle.std.specs.Prelude.{◌≡◌, ◌≤◌, ◌<◌, ◌+◌, ◌-◌, ◌^◌, Some};
+ghost use Rattle.apex_types.specs.Line.{text_of};
 ghost use Rattle.module_meaning.specs.Module.{first_tick};
 ghost use Rattle.kernel_meaning.specs.Windows.{at_tick};
 ghost use Rattle.isolation.specs.Alone.{alone_from, trace_alone};
@@ -8,24 +9,35 @@ ghost use Rattle.partition.specs.Members.{member_of};
 ghost use Rattle.lone_partition.specs.Around.{around};
 ghost use Rattle.lone_partition.specs.Lines.{AreInOrder};
 ghost use Rattle.lone_partition.specs.Lone.{alone_of};
+ghost use Rattle.lone_partition.specs.Outputs.{sent_of};
+ghost use Rattle.lone_partition.specs.Sent.{HasSent};
 ghost use Rattle.lone_partition.specs.Written.{AreWritten};
 
 use crate::lines::split_tick;
 use crate::lone::LonePartition;
+use crate::output::Output;
 use crate::pieces::advance;
 use crate::step::{Step, write_step};
 use crate::surroundings::Surroundings;
 use crate::ticking::tick;
-use apex_types::{At, PartitionId, Sink, SinkFault, StartCondition, Ticks, TraceBuffer};
+use apex_types::{
+    At, Moment, PartitionId, Sink, SinkFault, StartCondition, Ticks, TraceBuffer,
+};
 use isolation::InputLine;
 use partition::Partition;
 use partition_base::Executor;
 
 /// The first tick of a run.
-const FIRST_TICK: At = At {
-    now: Ticks(0),
-    origin: Ticks(0),
-};
+fn first() -> Moment
+    ensures { result.at ≡ first_tick }
+{
+    Moment {
+        at: At {
+            now: Ticks(0),
+            origin: Ticks(0),
+        },
+    }
+}
 
 /// The most ticks that are made at once.
 const MOST_AT_ONCE: u32 = 4_000_000_000;
@@ -62,7 +74,7 @@ impl LonePartition {
     }
 }
 
-/// The start of a partition, and so many ticks; of no tick nothing.
+/// So many ticks of a partition from its start on, whose lines go into the sink.
 fn run_alone<E: Executor, S: Sink>(
     surroundings: &Surroundings,
     partition: &mut Partition<E>,
@@ -77,60 +89,77 @@ fn run_alone<E: Executor, S: Sink>(
     requires failures { S.failures sink.old < 2 ^ 64 - 1 }
     ensures { AreWritten (trace_alone (record { around = around surroundings.now; member = member_of E.Executor partition.old mem.old }) inputs.now ticks) (S.taken sink.old) (S.taken sink.new) (S.failures sink.old) (S.failures sink.new) result }
 {
-    if ticks == 0 {
-        return Ok(());
-    }
     let mut trace = TraceBuffer::new();
-    let start = Step::Start(StartCondition::NormalStart);
-    write_step(partition, mem, FIRST_TICK, &start, &mut trace, sink)?;
-    run_ticks(
+    let mut output = Output::new(&mut trace, sink);
+    start_and_run(
         surroundings,
         partition,
         mem,
         inputs,
         ticks,
-        &mut trace,
-        sink,
-    )
+        &mut output,
+    );
+    if output.has_failed() {
+        return Err(SinkFault);
+    }
+    Ok(())
 }
 
-/// So many ticks from the first one on; after a shutdown nothing happens.
+/// The start of a partition, and so many ticks; of no tick nothing.
+fn start_and_run<E: Executor, S: Sink>(
+    surroundings: &Surroundings,
+    partition: &mut Partition<E>,
+    mem: &mut E::Mem,
+    inputs: &[InputLine],
+    ticks: u64,
+    output: &mut Output<'_, S>,
+)
+    requires fits { E.laid mem.old ≡ E.layout partition.old.executor }
+    requires ticks { ticks ≤ 2 ^ 40 }
+    requires order { AreInOrder inputs.now }
+    ensures { HasSent (sent_of S.Sink output.old) (sent_of S.Sink output.new) (text_of (trace_alone (record { around = around surroundings.now; member = member_of E.Executor partition.old mem.old }) inputs.now ticks)) }
+{
+    if ticks == 0 {
+        return;
+    }
+    let start = Step::Start(StartCondition::NormalStart);
+    write_step(partition, mem, first(), &start, output);
+    run_ticks(surroundings, partition, mem, inputs, ticks, output);
+}
+
+/// So many ticks from the first one on; after a shutdown nothing happens, nor once the sink has failed.
 fn run_ticks<E: Executor, S: Sink>(
     surroundings: &Surroundings,
     partition: &mut Partition<E>,
     mem: &mut E::Mem,
     inputs: &[InputLine],
     ticks: u64,
-    trace: &mut TraceBuffer,
-    sink: &mut S,
-) -> Result<(), SinkFault>
+    output: &mut Output<'_, S>,
+)
     requires fits { E.laid mem.old ≡ E.layout partition.old.executor }
     requires ticks { ticks ≤ 2 ^ 40 }
     requires order { AreInOrder inputs.now }
-    requires empty { trace.old.text.items ≡ [] }
-    requires failures { S.failures sink.old < 2 ^ 64 - 1 }
-    ensures { AreWritten (alone_from (around surroundings.now) inputs.now ticks (Some first_tick) (member_of E.Executor partition.old mem.old)) (S.taken sink.old) (S.taken sink.new) (S.failures sink.old) (S.failures sink.new) result }
+    ensures { HasSent (sent_of S.Sink output.old) (sent_of S.Sink output.new) (text_of (alone_from (around surroundings.now) inputs.now ticks (Some first_tick) (member_of E.Executor partition.old mem.old))) }
 {
-    let mut at = FIRST_TICK;
+    let mut moment = first();
     let mut left = ticks;
     let mut lines = inputs;
-    while left > 0 {
+    while left > 0 && !output.has_failed() {
         let most = at_once(left);
-        let count = advance(surroundings, lines, partition, mem, at, most, trace, sink)?;
+        let count = advance(surroundings, lines, partition, mem, moment, most, output);
         if count > 0 {
-            at = later_tick(at, count);
+            moment = later(moment, count);
             left -= u64::from(count);
             continue;
         }
-        let (own, later) = split_tick(lines, at.now);
-        let Some(last) = tick(surroundings, own, partition, mem, at, trace, sink)? else {
-            return Ok(());
+        let (own, rest) = split_tick(lines, moment.at.now);
+        let Some(last) = tick(surroundings, own, partition, mem, moment, output) else {
+            return;
         };
-        at = later_tick(last, 1);
-        lines = later;
+        moment = later(last, 1);
+        lines = rest;
         left -= 1;
     }
-    Ok(())
 }
 
 /// So many ticks, or the most that are made at once.
@@ -145,12 +174,14 @@ fn at_once(ticks: u64) -> u32
 }
 
 /// The tick so many ticks after a tick, with the same origin.
-pub(crate) fn later_tick(at: At, count: u32) -> At
-    requires { at.now.0 + count ≤ 2 ^ 40 }
-    ensures { result ≡ at_tick at (at.now.0 + count) }
+pub(crate) fn later(moment: Moment, count: u32) -> Moment
+    requires { moment.at.now.0 + count ≤ 2 ^ 40 }
+    ensures { result.at ≡ at_tick moment.at (moment.at.now.0 + count) }
 {
-    At {
-        now: Ticks(at.now.0 + u64::from(count)),
-        origin: at.origin,
+    Moment {
+        at: At {
+            now: Ticks(moment.at.now.0 + u64::from(count)),
+            origin: moment.at.origin,
+        },
     }
 }

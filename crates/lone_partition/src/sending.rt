@@ -1,16 +1,18 @@
 //! The messages that leave a partition, written line by line.
 
-ghost use Rattle.std.specs.Prelude.{◌≡◌, ◌≤◌, ◌<◌, ◌-◌, ◌^◌, [], OnOk};
+ghost use Rattle.std.specs.Prelude.{◌≡◌};
 ghost use Rattle.module_meaning.specs.Table.{at_number};
 ghost use Rattle.kernel_meaning.specs.Partition.{messages_to_move};
 ghost use Rattle.isolation.specs.Alone.{goes_by_way, sends_message, sends_messages, sends_port, sends_ports};
 ghost use Rattle.partition.specs.Members.{member_of};
 ghost use Rattle.lone_partition.specs.Around.{around};
-ghost use Rattle.lone_partition.specs.Written.{IsWritten};
+ghost use Rattle.lone_partition.specs.Outputs.{sent_of};
+ghost use Rattle.lone_partition.specs.Written.{IsMade};
 
-use crate::step::{Step, write_step};
+use crate::output::Output;
+use crate::step::{Step, write_leave, write_step};
 use crate::surroundings::Surroundings;
-use apex_types::{At, Name, PortId, Sink, SinkFault, TraceBuffer, Words};
+use apex_types::{Moment, Name, PortId, Sink, Words};
 use partition::{Kernel, Partition};
 use partition_base::Executor;
 
@@ -20,24 +22,17 @@ fn go_out<E: Executor, S: Sink>(
     message: Words,
     partition: &mut Partition<E>,
     mem: &mut E::Mem,
-    at: At,
-    trace: &mut TraceBuffer,
-    sink: &mut S,
-) -> Result<(), SinkFault>
-    requires fits { E.laid mem.old ≡ E.layout partition.old.executor }
-    requires past { at.origin.0 ≤ at.now.0 }
-    requires now { at.now.0 ≤ 2 ^ 40 }
-    requires empty { trace.old.text.items ≡ [] }
-    requires failures { S.failures sink.old < 2 ^ 64 - 1 }
+    moment: Moment,
+    output: &mut Output<'_, S>,
+)
+    requires { E.laid mem.old ≡ E.layout partition.old.executor }
     ensures fits { E.laid mem.new ≡ E.layout partition.new.executor }
-    ensures empty { OnOk result (trace.new.text.items ≡ []) }
-    ensures written { IsWritten (goes_by_way at message way (member_of E.Executor partition.old mem.old)) (member_of E.Executor partition.new mem.new) (S.taken sink.old) (S.taken sink.new) (S.failures sink.old) (S.failures sink.new) result }
+    ensures written { IsMade (goes_by_way moment.at message way (member_of E.Executor partition.old mem.old)) (member_of E.Executor partition.new mem.new) (sent_of S.Sink output.old) (sent_of S.Sink output.new) }
 {
     if let Some(channel) = way {
         let step = Step::GoOut(channel, message);
-        write_step(partition, mem, at, &step, trace, sink)?;
+        write_step(partition, mem, moment, &step, output);
     }
-    Ok(())
 }
 
 /// The first message of a port leaves it, and the module where the port has a way out.
@@ -45,27 +40,17 @@ fn send_message<E: Executor, S: Sink>(
     surroundings: &Surroundings,
     partition: &mut Partition<E>,
     mem: &mut E::Mem,
-    at: At,
+    moment: Moment,
     port: PortId,
-    trace: &mut TraceBuffer,
-    sink: &mut S,
-) -> Result<(), SinkFault>
-    requires fits { E.laid mem.old ≡ E.layout partition.old.executor }
-    requires past { at.origin.0 ≤ at.now.0 }
-    requires now { at.now.0 ≤ 2 ^ 40 }
-    requires empty { trace.old.text.items ≡ [] }
-    requires failures { S.failures sink.old < 2 ^ 64 - 1 }
+    output: &mut Output<'_, S>,
+)
+    requires { E.laid mem.old ≡ E.layout partition.old.executor }
     ensures fits { E.laid mem.new ≡ E.layout partition.new.executor }
-    ensures empty { OnOk result (trace.new.text.items ≡ []) }
-    ensures written { IsWritten (sends_message (around surroundings.now) at port (member_of E.Executor partition.old mem.old)) (member_of E.Executor partition.new mem.new) (S.taken sink.old) (S.taken sink.new) (S.failures sink.old) (S.failures sink.new) result }
+    ensures written { IsMade (sends_message (around surroundings.now) moment.at port (member_of E.Executor partition.old mem.old)) (member_of E.Executor partition.new mem.new) (sent_of S.Sink output.old) (sent_of S.Sink output.new) }
 {
-    let step = Step::Leave(port);
-    match write_step(partition, mem, at, &step, trace, sink)? {
-        Some(message) => {
-            let way = surroundings.way_out(port);
-            go_out(way, message, partition, mem, at, trace, sink)
-        }
-        None => Ok(()),
+    if let Some(message) = write_leave(partition, mem, moment, port, output) {
+        let way = surroundings.way_out(port);
+        go_out(way, message, partition, mem, moment, output);
     }
 }
 
@@ -75,24 +60,17 @@ fn send_messages<E: Executor, S: Sink>(
     surroundings: &Surroundings,
     partition: &mut Partition<E>,
     mem: &mut E::Mem,
-    at: At,
+    moment: Moment,
     port: PortId,
-    trace: &mut TraceBuffer,
-    sink: &mut S,
-) -> Result<(), SinkFault>
-    requires fits { E.laid mem.old ≡ E.layout partition.old.executor }
-    requires past { at.origin.0 ≤ at.now.0 }
-    requires now { at.now.0 ≤ 2 ^ 40 }
-    requires empty { trace.old.text.items ≡ [] }
-    requires failures { S.failures sink.old < 2 ^ 64 - 1 }
+    output: &mut Output<'_, S>,
+)
+    requires { E.laid mem.old ≡ E.layout partition.old.executor }
     ensures fits { E.laid mem.new ≡ E.layout partition.new.executor }
-    ensures empty { OnOk result (trace.new.text.items ≡ []) }
-    ensures written { IsWritten (sends_messages count (around surroundings.now) at port (member_of E.Executor partition.old mem.old)) (member_of E.Executor partition.new mem.new) (S.taken sink.old) (S.taken sink.new) (S.failures sink.old) (S.failures sink.new) result }
+    ensures written { IsMade (sends_messages count (around surroundings.now) moment.at port (member_of E.Executor partition.old mem.old)) (member_of E.Executor partition.new mem.new) (sent_of S.Sink output.old) (sent_of S.Sink output.new) }
 {
     for _ in 0..count {
-        send_message(surroundings, partition, mem, at, port, trace, sink)?;
+        send_message(surroundings, partition, mem, moment, port, output);
     }
-    Ok(())
 }
 
 /// How many messages a source port holds; none where there is no such source port.
@@ -111,26 +89,19 @@ fn send_port<E: Executor, S: Sink>(
     surroundings: &Surroundings,
     partition: &mut Partition<E>,
     mem: &mut E::Mem,
-    at: At,
+    moment: Moment,
     port: PortId,
-    trace: &mut TraceBuffer,
-    sink: &mut S,
-) -> Result<(), SinkFault>
-    requires fits { E.laid mem.old ≡ E.layout partition.old.executor }
-    requires past { at.origin.0 ≤ at.now.0 }
-    requires now { at.now.0 ≤ 2 ^ 40 }
-    requires empty { trace.old.text.items ≡ [] }
-    requires failures { S.failures sink.old < 2 ^ 64 - 1 }
+    output: &mut Output<'_, S>,
+)
+    requires { E.laid mem.old ≡ E.layout partition.old.executor }
     ensures fits { E.laid mem.new ≡ E.layout partition.new.executor }
-    ensures empty { OnOk result (trace.new.text.items ≡ []) }
-    ensures written { IsWritten (sends_port (around surroundings.now) at port (member_of E.Executor partition.old mem.old)) (member_of E.Executor partition.new mem.new) (S.taken sink.old) (S.taken sink.new) (S.failures sink.old) (S.failures sink.new) result }
+    ensures written { IsMade (sends_port (around surroundings.now) moment.at port (member_of E.Executor partition.old mem.old)) (member_of E.Executor partition.new mem.new) (sent_of S.Sink output.old) (sent_of S.Sink output.new) }
 {
     let Some(count) = count_to_send(partition.kernel(), port) else {
-        return Ok(());
+        return;
     };
-    send_messages(count, surroundings, partition, mem, at, port, trace, sink)?;
-    write_step(partition, mem, at, &Step::Admit(port), trace, sink)?;
-    Ok(())
+    send_messages(count, surroundings, partition, mem, moment, port, output);
+    write_step(partition, mem, moment, &Step::Admit(port), output);
 }
 
 /// So many ports of the partition, in number order.
@@ -139,22 +110,15 @@ pub fn send_ports<E: Executor, S: Sink>(
     surroundings: &Surroundings,
     partition: &mut Partition<E>,
     mem: &mut E::Mem,
-    at: At,
-    trace: &mut TraceBuffer,
-    sink: &mut S,
-) -> Result<(), SinkFault>
-    requires fits { E.laid mem.old ≡ E.layout partition.old.executor }
-    requires past { at.origin.0 ≤ at.now.0 }
-    requires now { at.now.0 ≤ 2 ^ 40 }
-    requires empty { trace.old.text.items ≡ [] }
-    requires failures { S.failures sink.old < 2 ^ 64 - 1 }
+    moment: Moment,
+    output: &mut Output<'_, S>,
+)
+    requires { E.laid mem.old ≡ E.layout partition.old.executor }
     ensures fits { E.laid mem.new ≡ E.layout partition.new.executor }
-    ensures empty { OnOk result (trace.new.text.items ≡ []) }
-    ensures written { IsWritten (sends_ports count 1 (around surroundings.now) at (member_of E.Executor partition.old mem.old)) (member_of E.Executor partition.new mem.new) (S.taken sink.old) (S.taken sink.new) (S.failures sink.old) (S.failures sink.new) result }
+    ensures written { IsMade (sends_ports count 1 (around surroundings.now) moment.at (member_of E.Executor partition.old mem.old)) (member_of E.Executor partition.new mem.new) (sent_of S.Sink output.old) (sent_of S.Sink output.new) }
 {
     for place in 0..count {
         let port = PortId(place + 1);
-        send_port(surroundings, partition, mem, at, port, trace, sink)?;
+        send_port(surroundings, partition, mem, moment, port, output);
     }
-    Ok(())
 }

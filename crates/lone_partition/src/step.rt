@@ -1,14 +1,16 @@
 //! A step of a partition.
 
-ghost use Rattle.std.specs.Prelude.{◌≡◌, ◌≤◌, ◌<◌, ◌-◌, ◌^◌, [], IfOk, OnOk};
-ghost use Rattle.kernel_meaning.specs.Partition.{with_world};
+ghost use Rattle.std.specs.Prelude.{◌≡◌};
+ghost use Rattle.kernel_meaning.specs.Partition.{leaves, leaving, with_world};
 ghost use Rattle.apex_types.specs.Line.{text_of};
 ghost use Rattle.isolation.specs.Alone.{goes};
 ghost use Rattle.partition.specs.Members.{member_of};
-ghost use Rattle.lone_partition.specs.Steps.{leaving_in, step_of};
-ghost use Rattle.lone_partition.specs.Written.{IsWritten};
+ghost use Rattle.lone_partition.specs.Outputs.{sent_of};
+ghost use Rattle.lone_partition.specs.Steps.{step_of};
+ghost use Rattle.lone_partition.specs.Written.{IsMade};
 
-use apex_types::{At, Name, PortId, Sink, SinkFault, StartCondition, TraceBuffer, Words, copied};
+use crate::output::Output;
+use apex_types::{Moment, Name, PortId, Sink, StartCondition, TraceBuffer, Words, copied};
 use partition::Partition;
 use partition_base::Executor;
 
@@ -19,8 +21,6 @@ pub enum Step {
     Start(StartCondition),
     /// A message arrives at a port.
     Arrive(PortId, Words),
-    /// The first message of a port leaves it.
-    Leave(PortId),
     /// The senders that wait at a port enter it.
     Admit(PortId),
     /// A message leaves the module by the channel of a name.
@@ -31,27 +31,24 @@ pub enum Step {
     Tick,
 }
 
-/// A step of a partition, on its part of the memory; the message that leaves it in this step.
-pub fn step_member<E: Executor>(
+/// A step of a partition, on its part of the memory. The buffer then holds its lines alone.
+fn step_member<E: Executor>(
     partition: &mut Partition<E>,
     mem: &mut E::Mem,
-    at: At,
+    moment: Moment,
     step: &Step,
     trace: &mut TraceBuffer,
-) -> Option<Words>
-    requires fits { E.laid mem.old ≡ E.layout partition.old.executor }
-    requires past { at.origin.0 ≤ at.now.0 }
-    requires now { at.now.0 ≤ 2 ^ 40 }
-    requires empty { trace.old.text.items ≡ [] }
+)
+    requires { E.laid mem.old ≡ E.layout partition.old.executor }
     ensures fits { E.laid mem.new ≡ E.layout partition.new.executor }
-    ensures member { let x = member_of E.Executor partition.old mem.old in member_of E.Executor partition.new mem.new ≡ with_world x (step_of at step.now x).world }
-    ensures lines { trace.new.text.items ≡ text_of (step_of at step.now (member_of E.Executor partition.old mem.old)).lines }
-    ensures message { result ≡ leaving_in step.now (member_of E.Executor partition.old mem.old) }
+    ensures member { let x = member_of E.Executor partition.old mem.old in member_of E.Executor partition.new mem.new ≡ with_world x (step_of moment.at step.now x).world }
+    ensures lines { trace.new.text.items ≡ text_of (step_of moment.at step.now (member_of E.Executor partition.old mem.old)).lines }
 {
+    let at = moment.at;
+    trace.clear();
     match step {
         Step::Start(condition) => partition.clear(mem, at, *condition, trace),
         Step::Arrive(port, message) => partition.arrive(mem, at, *port, copied(message), trace),
-        Step::Leave(port) => return partition.move_one(mem, at, *port, trace),
         Step::Admit(port) => partition.admit(mem, at, *port, trace),
         Step::GoOut(channel, message) => {
             partition.go_out(mem, at, *channel, copied(message), trace)
@@ -59,33 +56,40 @@ pub fn step_member<E: Executor>(
         Step::BreakDown => partition.fault(mem, at, trace),
         Step::Tick => partition.tick(mem, at, trace),
     }
-    None
 }
 
-/// A step of a partition, whose lines are written; the message that leaves the partition in it.
-///
-/// # Errors
-///
-/// The sink failed, and has taken a beginning of the lines.
+/// A step of a partition, on its part of the memory, whose lines are written.
 pub fn write_step<E: Executor, S: Sink>(
     partition: &mut Partition<E>,
     mem: &mut E::Mem,
-    at: At,
+    moment: Moment,
     step: &Step,
-    trace: &mut TraceBuffer,
-    sink: &mut S,
-) -> Result<Option<Words>, SinkFault>
-    requires fits { E.laid mem.old ≡ E.layout partition.old.executor }
-    requires past { at.origin.0 ≤ at.now.0 }
-    requires now { at.now.0 ≤ 2 ^ 40 }
-    requires empty { trace.old.text.items ≡ [] }
-    requires failures { S.failures sink.old < 2 ^ 64 - 1 }
+    output: &mut Output<'_, S>,
+)
+    requires { E.laid mem.old ≡ E.layout partition.old.executor }
     ensures fits { E.laid mem.new ≡ E.layout partition.new.executor }
-    ensures empty { OnOk result (trace.new.text.items ≡ []) }
-    ensures message { IfOk result (λ m. m ≡ leaving_in step.now (member_of E.Executor partition.old mem.old)) }
-    ensures written { IsWritten (goes (step_of at step.now) (member_of E.Executor partition.old mem.old)) (member_of E.Executor partition.new mem.new) (S.taken sink.old) (S.taken sink.new) (S.failures sink.old) (S.failures sink.new) result }
+    ensures written { IsMade (goes (step_of moment.at step.now) (member_of E.Executor partition.old mem.old)) (member_of E.Executor partition.new mem.new) (sent_of S.Sink output.old) (sent_of S.Sink output.new) }
 {
-    let message = step_member(partition, mem, at, step, trace);
-    trace.write_events(sink)?;
-    Ok(message)
+    step_member(partition, mem, moment, step, output.trace);
+    output.write();
+}
+
+/// The first message of a port leaves it, if it holds one, and the line of this is written. It answers the
+/// message.
+pub fn write_leave<E: Executor, S: Sink>(
+    partition: &mut Partition<E>,
+    mem: &mut E::Mem,
+    moment: Moment,
+    port: PortId,
+    output: &mut Output<'_, S>,
+) -> Option<Words>
+    requires { E.laid mem.old ≡ E.layout partition.old.executor }
+    ensures fits { E.laid mem.new ≡ E.layout partition.new.executor }
+    ensures message { result ≡ leaving port (member_of E.Executor partition.old mem.old) }
+    ensures written { IsMade (goes (leaves moment.at port) (member_of E.Executor partition.old mem.old)) (member_of E.Executor partition.new mem.new) (sent_of S.Sink output.old) (sent_of S.Sink output.new) }
+{
+    output.trace.clear();
+    let message = partition.move_one(mem, moment.at, port, output.trace);
+    output.write();
+    message
 }

@@ -1,9 +1,7 @@
 -- Many ticks of the module at once, between two standings.
-use Rattle.std.proofs.Common.{◌≡◌, ◌⊎◌, inl, inr, ℕ, zero, suc, ◌+◌, ◌-◌, ◌<◌, ◌≤◌, List, [], ◌∷◌, ◌++◌, length, Option, Some, None, refl, sym, ap, subst, ◌∙◌, arith, Result, Ok, Err, OnOk}
+use Rattle.std.proofs.Common.{◌≡◌, ◌⊎◌, inl, inr, ℕ, zero, suc, ◌+◌, ◌-◌, ◌<◌, ◌≤◌, List, [], ◌∷◌, ◌++◌, length, Option, Some, None, refl, sym, ap, subst, ◌∙◌, arith}
 use Rattle.std.specs.Prelude.{slice_get, slice_set, option_map}
 use Rattle.std.proofs.lemmas.Option.{none-some, same_Some}
-use Rattle.std.proofs.KnownBytes.{Appends-nil}
-use Rattle.apex_types.specs.declared.sink.SinkFault.{SinkFault}
 use Rattle.apex_types.specs.Line.{text_of}
 use Rattle.apex_types.specs.Line.{TakesBeginning}
 use Rattle.apex_types.proofs.Writing.{IsUnderWay, under_way_more, under_way_fails}
@@ -20,7 +18,9 @@ use Rattle.bursts.specs.Quiet.{IsStill, AreStill, HaveNoLines}
 use Rattle.bursts.specs.Running.{advances_by}
 use Rattle.bursts.proofs.Quiet.{jump}
 use Rattle.bursts.proofs.Pieces.{IsAlone, piece, HasNobody, empty_piece}
-use Rattle.module.specs.Pieces.{LeadsTo, HasRun, HasRunSome, IsBrokenOff, HasMoved, HasMovedWritten}
+use Rattle.lone_partition.proofs.Outputs.{nothing_sent}
+use Rattle.lone_partition.specs.Sent.{Sent}
+use Rattle.module.specs.Pieces.{LeadsTo, HasPassedSome, HasRun, IsBrokenOff, HasMoved, HasMovedWritten}
 use Rattle.module.specs.Standing.{Standing, lines_of}
 use Rattle.module.specs.Written.{AreFrom}
 use Rattle.module.proofs.DeviceLines.{none_before}
@@ -167,11 +167,11 @@ breaks_off {old = old} {mid = mid} {new = new} {text = text} plan lines s left k
 
 -- ---- as the code meets them
 
-pub run_nothing : {C : Type 0} (plan : Plan) (lines : List DeviceLine) (k : ℕ) (s : Standing C) (taken : Option (List ℕ)) (failures : ℕ) → HasRunSome plan lines k s s taken taken failures failures (Ok 0)
-run_nothing plan lines k s taken failures =
+pub run_nothing : {C : Type 0} (plan : Plan) (lines : List DeviceLine) (k : ℕ) (s : Standing C) (sent : Sent) → HasPassedSome plan lines k s s sent sent 0
+run_nothing plan lines k s sent =
     let none : 0 ≤ k = omega arith in
     let same : s.now ≡ s.now + 0 = omega arith in
-    (none, same, record { told = []; leads = leads_nowhere plan lines s; written = Appends-nil taken; quiet = refl })
+    (none, same, record { told = []; leads = leads_nowhere plan lines s; sent = nothing_sent sent })
 
 lift : {C : Type 0} (plan : Plan) (lines : List DeviceLine) (n t origin : ℕ) (s : Standing C) (told : List Event) (ms : List (Member C)) → t ≡ s.now → s.origin ≡ Some origin
     → LeadsTo plan lines n (standing_at s.members t origin) told (standing_at ms (t + n) origin) → LeadsTo plan lines n s told (record { members = ms; now = s.now + n; origin = s.origin })
@@ -179,57 +179,38 @@ lift plan lines n t origin s told ms here from h =
     subst (λ (o : Option ℕ). LeadsTo plan lines n (record { members = s.members; now = s.now; origin = o }) told (record { members = ms; now = s.now + n; origin = o })) (sym from)
     (subst (λ u. LeadsTo plan lines n (standing_at s.members u origin) told (standing_at ms (u + n) origin)) here h)
 
-pub run_still : {C : Type 0} (plan : Plan) (lines : List DeviceLine) (k t origin : ℕ) (s : Standing C) (taken : Option (List ℕ)) (failures : ℕ) → t ≡ s.now → s.origin ≡ Some origin
+pub run_still : {C : Type 0} (plan : Plan) (lines : List DeviceLine) (k t origin : ℕ) (s : Standing C) (sent : Sent) → t ≡ s.now → s.origin ≡ Some origin
     → 0 < t → AreFrom (t + k) lines → AreStill origin t (t + k) s.members
-    → HasRunSome plan lines k s (record { members = s.members; now = s.now + k; origin = s.origin }) taken taken failures failures (Ok k)
-run_still plan lines k t origin s taken failures here from begun order still =
+    → HasPassedSome plan lines k s (record { members = s.members; now = s.now + k; origin = s.origin }) sent sent k
+run_still plan lines k t origin s sent here from begun order still =
     let all : k ≤ k = omega arith in
-    (all, refl, record { told = []; leads = lift plan lines k t origin s [] s.members here from (leads_still plan lines k t origin s.members begun order still); written = Appends-nil taken; quiet = refl })
+    (all, refl, record { told = []; leads = lift plan lines k t origin s [] s.members here from (leads_still plan lines k t origin s.members begun order still); sent = nothing_sent sent })
 
-pub run_empty : {C : Type 0} (plan : Plan) (lines : List DeviceLine) (k t origin : ℕ) (s : Standing C) (taken : Option (List ℕ)) (failures : ℕ) → t ≡ s.now → s.origin ≡ Some origin
+pub run_empty : {C : Type 0} (plan : Plan) (lines : List DeviceLine) (k t origin : ℕ) (s : Standing C) (sent : Sent) → t ≡ s.now → s.origin ≡ Some origin
     → 0 < t → AreFrom (t + k) lines
     → ((i : ℕ) → i < k → owner plan.schedule (tick_from origin (t + i)) ≡ None) → ((i : ℕ) → i < k → ended plan.schedule (tick_from origin (t + i)) ≡ None)
-    → HasRunSome plan lines k s (record { members = s.members; now = s.now + k; origin = s.origin }) taken taken failures failures (Ok k)
-run_empty plan lines k t origin s taken failures here from begun order owned over =
+    → HasPassedSome plan lines k s (record { members = s.members; now = s.now + k; origin = s.origin }) sent sent k
+run_empty plan lines k t origin s sent here from begun order owned over =
     let all : k ≤ k = omega arith in
-    (all, refl, record { told = []; leads = lift plan lines k t origin s [] s.members here from (leads_empty plan lines k t origin s.members begun order owned over); written = Appends-nil taken; quiet = refl })
+    (all, refl, record { told = []; leads = lift plan lines k t origin s [] s.members here from (leads_empty plan lines k t origin s.members begun order owned over); sent = nothing_sent sent })
 
-pub run_piece : {C : Type 0} {old new : Option (List ℕ)} {before after : ℕ} (plan : Plan) (lines : List DeviceLine) (k n t origin place : ℕ) (s : Standing C) (ms : List (Member C)) → t ≡ s.now → s.origin ≡ Some origin
+pub run_piece : {C : Type 0} {old new : Sent} (plan : Plan) (lines : List DeviceLine) (k n t origin place : ℕ) (s : Standing C) (ms : List (Member C)) → t ≡ s.now → s.origin ≡ Some origin
     → 0 < t → AreFrom (t + k) lines
     → ((i : ℕ) → i < k → owner plan.schedule (tick_from origin (t + i)) ≡ Some (suc place)) → ((i : ℕ) → i < k → ended plan.schedule (tick_from origin (t + i)) ≡ None)
-    → HasMovedWritten (tick_from origin t) k place s.members (slice_get s.members place) ms old new before after (Ok n)
-    → HasRunSome plan lines k s (record { members = ms; now = s.now + n; origin = s.origin }) old new before after (Ok n)
-run_piece plan lines k n t origin place s ms here from begun order owned over (within, told, moved, written, quiet) =
-    (within, refl, record { told = told; leads = lift plan lines n t origin s told ms here from (leads_moved plan lines k n t origin place s.members ms told begun order owned over moved); written = written; quiet = quiet })
-
-pub run_broken : {C : Type 0} (old new : Option (List ℕ)) (before after : ℕ) (plan : Plan) (lines : List DeviceLine) (k t origin place : ℕ) (s next : Standing C) (ms : List (Member C)) (f : SinkFault) (r : Result ℕ SinkFault) → r ≡ Err f → t ≡ s.now → s.origin ≡ Some origin
-    → 0 < t → AreFrom (t + k) lines
-    → ((i : ℕ) → i < k → owner plan.schedule (tick_from origin (t + i)) ≡ Some (suc place)) → ((i : ℕ) → i < k → ended plan.schedule (tick_from origin (t + i)) ≡ None)
-    → HasMovedWritten (tick_from origin t) k place s.members (slice_get s.members place) ms old new before after (Err f)
-    → HasRunSome plan lines k s next old new before after r
-run_broken old new before after plan lines k t origin place s next ms f r is here from begun order owned over (n, told, within, moved, beginning, failed) =
-    subst (HasRunSome plan lines k s next old new before after) (sym is)
-    (record {
-      ticks = n;
-      told = told;
-      next = record { members = ms; now = s.now + n; origin = s.origin };
-      within = within;
-      leads = lift plan lines n t origin s told ms here from (leads_moved plan lines k n t origin place s.members ms told begun order owned over moved);
-      beginning = beginning;
-      failed = failed;
-    })
+    → HasMovedWritten (tick_from origin t) k place s.members (slice_get s.members place) ms old new n
+    → HasPassedSome plan lines k s (record { members = ms; now = s.now + n; origin = s.origin }) old new n
+run_piece plan lines k n t origin place s ms here from begun order owned over (within, told, moved, sent) =
+    (within, refl, record { told = told; leads = lift plan lines n t origin s told ms here from (leads_moved plan lines k n t origin place s.members ms told begun order owned over moved); sent = sent })
 
 -- some of fewer ticks are some of more
-pub run_fewer : {C : Type 0} (old new : Option (List ℕ)) (before after : ℕ) (plan : Plan) (lines : List DeviceLine) (m k : ℕ) (s next : Standing C) (r : Result ℕ SinkFault) → m ≤ k → HasRunSome plan lines m s next old new before after r → HasRunSome plan lines k s next old new before after r
-run_fewer old new before after plan lines m k s next (Ok n) few h = let all : n ≤ k = let within : n ≤ m = h.0 in omega (arith, within, few) in (all, h.1, h.2)
-run_fewer old new before after plan lines m k s next (Err f) few h = record { ticks = h.ticks; told = h.told; next = h.next; within = omega (arith, h.within, few); leads = h.leads; beginning = h.beginning; failed = h.failed }
+pub run_fewer : {C : Type 0} (old new : Sent) (plan : Plan) (lines : List DeviceLine) (m k n : ℕ) (s next : Standing C) → m ≤ k → HasPassedSome plan lines m s next old new n → HasPassedSome plan lines k s next old new n
+run_fewer old new plan lines m k n s next few h = let all : n ≤ k = let within : n ≤ m = h.0 in omega (arith, within, few) in (all, h.1, h.2)
 
 -- the lines of the devices are still ahead
-pub still_ahead : {C : Type 0} (old new : Option (List ℕ)) (before after : ℕ) (plan : Plan) (lines : List DeviceLine) (k t : ℕ) (s next : Standing C) (r : Result ℕ SinkFault) → t ≡ s.now → AreFrom (t + k) lines → HasRunSome plan lines k s next old new before after r → OnOk r (AreFrom next.now lines)
-still_ahead old new before after plan lines k t s next (Ok n) here order h =
+pub still_ahead : {C : Type 0} (old new : Sent) (plan : Plan) (lines : List DeviceLine) (k t n : ℕ) (s next : Standing C) → t ≡ s.now → AreFrom (t + k) lines → HasPassedSome plan lines k s next old new n → AreFrom next.now lines
+still_ahead old new plan lines k t n s next here order h =
     let lower : next.now ≤ t + k = let within : n ≤ k = h.0 in let later : next.now ≡ s.now + n = h.1 in omega (arith, within, later, here) in
     from_lower next.now (t + k) lines lower order
-still_ahead old new before after plan lines k t s next (Err f) here order h = tt
 
 -- ---- up to the next change of the owner
 

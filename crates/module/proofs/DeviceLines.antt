@@ -10,6 +10,7 @@ use Rattle.apex_types.specs.declared.device.DeviceLine.{DeviceLine}
 use Rattle.apex_types.specs.declared.identity.At.{At}
 use Rattle.module_meaning.specs.Module.{Plan, Course, unless_down, then_runs, breaks_module, of_tick, inputs, inputs_all, moves_and_ticks, module_tick, trace_from}
 use Rattle.kernel_meaning.specs.Partition.{Member}
+use Rattle.module.specs.Standing.{IsNow}
 use Rattle.module.specs.Written.{AreFrom}
 
 pub not_true : (b : Bool) → (b ≡ true → ⊥) → b ≡ false
@@ -102,11 +103,6 @@ of_tick_again t (l ∷ ls) =
     (λ h. let stays = later_stays t l ls (λ e. h (sym e)) in ap (of_tick t) stays ∙ of_tick_again t ls ∙ sym stays)
 
 -- ---- what counts as the tick after a step
-
--- the tick is this one, where the module is not shut down
-abbrev pub IsNow : ℕ → Option At → Type 0
-IsNow t None = Unit {0}
-IsNow t (Some at) = at.now.0 ≡ t
 
 stays_now : {C : Type 0} (t : ℕ) (c : Course C) (rest : At → List (Member C) → Course C) (o : Option At) → IsNow t c.at → IsNow t o → ((at : At) (ms : List (Member C)) → IsNow at.now.0 (rest at ms).at) → IsNow t (unless_down c rest o).at
 stays_now t c rest None h k more = h

@@ -24,3 +24,4 @@ pub mod Shutdown
 pub mod Standing
 pub mod Unseen
 pub mod Written
+pub mod Passed

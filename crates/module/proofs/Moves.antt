@@ -1,12 +1,11 @@
 -- A message leaves its port, and goes by its channel.
-use Rattle.std.proofs.Common.{◌≡◌, ℕ, zero, suc, ℤ, List, [], ◌∷◌, Option, Some, None, Result, refl, sym, ap, subst, ◌∙◌}
+use Rattle.std.proofs.Common.{◌≡◌, ℕ, zero, suc, ℤ, List, [], ◌∷◌, Option, Some, None, refl, sym, ap, subst, ◌∙◌}
 use Rattle.std.proofs.lemmas.Option.{none-some, same_Some}
 use Rattle.std.specs.Prelude.{slice_get, slice_set}
 use Rattle.arrayvec.specs.ArrayVec.{ArrayVec}
 use Rattle.apex_types.specs.declared.identity.At.{At}
 use Rattle.apex_types.specs.declared.identity.PartitionId.{PartitionId}
 use Rattle.apex_types.specs.declared.identity.PortId.{PortId}
-use Rattle.apex_types.specs.declared.sink.SinkFault.{SinkFault}
 use Rattle.kernel_meaning.specs.PortServices.{first_message, leaves_first, leaves_of}
 use Rattle.module_meaning.specs.Table.{Channel, at_number}
 use Rattle.kernel_meaning.specs.Kernel.{of_ports_alone}
@@ -14,8 +13,9 @@ use Rattle.module_meaning.specs.Module.{Advanced, still, steps, steps_member, of
 use Rattle.kernel_meaning.specs.Partition.{Member, Moved, with_world, leaves, leaving, moved, place_of_port}
 use Rattle.kernel_meaning.specs.Objects.{Port, Ports, port_at}
 use Rattle.kernel_meaning.specs.Step.{Step, nothing}
-use Rattle.module.proofs.Written.{then_written, first_cut_off}
-use Rattle.module.specs.Written.{IsMade, IsCutOff, IsWritten}
+use Rattle.lone_partition.specs.Sent.{Sent}
+use Rattle.module.proofs.Written.{then_made}
+use Rattle.module.specs.Written.{IsMade}
 
 -- ---- nothing leaves a port without a message
 
@@ -50,29 +50,19 @@ module _ {C : Type 0} (at : At) (port : PortId) where
 -- ---- a move
 
 module _ {C : Type 0} (channels : List Channel) (at : At) (p : PartitionId) (port : PortId) (ms : List (Member C)) where
-  split_at : (o : Option (ArrayVec ℤ)) → of_member None (leaving port) (at_number ms p.0) ≡ o → (old new : Option (List ℕ)) (before after : ℕ)
-      → IsCutOff (steps (leaves at port) ms p.0) old new before after → IsCutOff (moves_found channels at p port ms o) old new before after
-  split_at None e old new before after h = subst (λ (a : Advanced C). IsCutOff a old new before after) (all_stay at port ms p.0 e) h
-  split_at (Some m) e old new before after h = first_cut_off (goes_by at m (channel_from channels p port)) refl h
-
-  -- the sink fails where the message leaves
-  pub move_cut_off : {old new : Option (List ℕ)} {before after : ℕ} → IsCutOff (steps (leaves at port) ms p.0) old new before after
-      → IsCutOff (moves_found channels at p port ms (of_member None (leaving port) (at_number ms p.0))) old new before after
-  move_cut_off {old = old} {new = new} {before = before} {after = after} h = split_at (of_member None (leaving port) (at_number ms p.0)) refl old new before after h
-
   -- no message is there
-  pub none_moved : {now : List (Member C)} {old new : Option (List ℕ)} {before after : ℕ} → None ≡ of_member None (leaving port) (at_number ms p.0) → IsMade (steps (leaves at port) ms p.0) now old new before after
-      → IsMade (moves_found channels at p port ms (of_member None (leaving port) (at_number ms p.0))) now old new before after
-  none_moved {now = now} {old = old} {new = new} {before = before} {after = after} e h =
-      subst (λ (o : Option (ArrayVec ℤ)). IsMade (moves_found channels at p port ms o) now old new before after) e
-      (subst (λ (a : Advanced C). IsMade a now old new before after) (all_stay at port ms p.0 (sym e)) h)
+  pub none_moved : {now : List (Member C)} {old new : Sent} → None ≡ of_member None (leaving port) (at_number ms p.0) → IsMade (steps (leaves at port) ms p.0) now old new
+      → IsMade (moves_found channels at p port ms (of_member None (leaving port) (at_number ms p.0))) now old new
+  none_moved {now = now} {old = old} {new = new} e h =
+      subst (λ (o : Option (ArrayVec ℤ)). IsMade (moves_found channels at p port ms o) now old new) e
+      (subst (λ (a : Advanced C). IsMade a now old new) (all_stay at port ms p.0 (sym e)) h)
 
   -- a message is there, and goes by its channel
-  pub one_moved : {X : Type 0} {now : List (Member C)} {old mid : Option (List ℕ)} {before between : ℕ} (m : ArrayVec ℤ) (channel : Option Channel) (new : Option (List ℕ)) (after : ℕ) (members : List (Member C)) (r : Result X SinkFault)
+  pub one_moved : {now members : List (Member C)} {old mid new : Sent} (m : ArrayVec ℤ) (channel : Option Channel)
       → Some m ≡ of_member None (leaving port) (at_number ms p.0) → channel ≡ channel_from channels p port
-      → IsMade (steps (leaves at port) ms p.0) now old mid before between → IsWritten (goes_by at m channel now) members mid new between after r
-      → IsWritten (moves_found channels at p port ms (of_member None (leaving port) (at_number ms p.0))) members old new before after r
-  one_moved {now = now} {old = old} {mid = mid} {before = before} {between = between} m channel new after members r e same h k =
-      subst (λ (o : Option (ArrayVec ℤ)). IsWritten (moves_found channels at p port ms o) members old new before after r) e
-      (then_written (goes_by at m (channel_from channels p port)) now new after members r refl h
-      (subst (λ (c : Option Channel). IsWritten (goes_by at m c now) members mid new between after r) same k))
+      → IsMade (steps (leaves at port) ms p.0) now old mid → IsMade (goes_by at m channel now) members mid new
+      → IsMade (moves_found channels at p port ms (of_member None (leaving port) (at_number ms p.0))) members old new
+  one_moved {now = now} {members = members} {old = old} {mid = mid} {new = new} m channel e same h k =
+      subst (λ (o : Option (ArrayVec ℤ)). IsMade (moves_found channels at p port ms o) members old new) e
+      (then_made (goes_by at m (channel_from channels p port)) now refl h
+      (subst (λ (c : Option Channel). IsMade (goes_by at m c now) members mid new) same k))

@@ -1,16 +1,18 @@
 -- A module tick by tick, and its trace.
-use Rattle.std.proofs.Common.{◌≡◌, ℕ, zero, suc, ◌+◌, ◌<◌, ◌≤◌, ◌==◌, Bool, false, if◌then◌else◌, List, [], ◌++◌, Option, Some, None, refl, sym, ap, ◌∙◌, append_assoc, arith}
+use Rattle.std.proofs.Common.{◌≡◌, ℕ, zero, suc, ◌+◌, ◌<◌, ◌≤◌, ◌==◌, Bool, false, if◌then◌else◌, List, [], ◌++◌, Option, Some, None, refl, sym, ap, subst, ◌∙◌, append_assoc, arith}
 use Rattle.std.proofs.lemmas.Bool.Decides.{Decides-eqb}
+use Rattle.std.proofs.lemmas.Option.{none-some, same_Some}
 use Rattle.std.specs.Prelude.{option_map}
 use Rattle.apex_types.specs.Line.{text_of}
 use Rattle.apex_types.specs.declared.device.DeviceLine.{DeviceLine}
 use Rattle.apex_types.specs.declared.event.Event.{Event}
 use Rattle.apex_types.specs.declared.identity.At.{At}
+use Rattle.apex_types.specs.declared.identity.Ticks.{Ticks}
 use Rattle.module_meaning.specs.Module.{Plan, Advanced, Course, of_tick, first_tick, next_tick, still, starts, module_tick, trace_from, trace}
 use Rattle.kernel_meaning.specs.Partition.{Member}
 use Rattle.kernel_meaning.specs.Windows.{tick_from}
-use Rattle.module.specs.Standing.{Standing, at_first, begins, ticks_from, ticks, origin_of, after, lines_of}
-use Rattle.module.proofs.DeviceLines.{IsNow, not_true, of_tick_again, same_tick, tick_now}
+use Rattle.module.specs.Standing.{IsNow, Standing, at_first, begins, begins_and_ticks, moment_of, ticks_from, ticks_in, ticks, origin_of, after, lines_of}
+use Rattle.module.proofs.DeviceLines.{not_true, of_tick_again, same_tick, tick_now}
 use Rattle.module.proofs.Texts.{text_append}
 
 -- what begins, and then the tick
@@ -92,3 +94,33 @@ is_traced plan devices (suc n) ms =
     ∙ append_assoc s.lines own.lines next
     ∙ ap (λ (es : List Event). s.lines ++ (own.lines ++ es))
     (later_is plan devices n (0 + 1) own.members (option_map origin_of own.at) (omega arith) ∙ ap (λ (x : Option At). trace_from plan devices n x own.members) (same_next 0 own.at (tick_now plan first_tick devices s.members))))
+
+-- ---- the tick that comes next
+
+-- it is the one that was to come, where it does not shut the module down
+pub ticks_now : {C : Type 0} (plan : Plan) (lines : List DeviceLine) (s : Standing C) (answer : Option At) → answer ≡ (ticks plan lines s).at → IsNow s.now answer
+ticks_now plan lines s answer is = subst (IsNow s.now) (sym is) (from s.origin)
+  where
+    from : (o : Option ℕ) → IsNow s.now (ticks_from plan lines s.now s.members o).at
+    from None = tt
+    from (Some origin) = tick_now plan (tick_from origin s.now) lines (begins s.now s.members).members
+
+-- its number
+pub moment_now : (now : Ticks) (o : Option Ticks) (at : At) → Some at ≡ moment_of now o → at.now ≡ now
+moment_now now None at e = absurd (none-some at (sym e))
+moment_now now (Some origin) at e = ap (λ (a : At). a.now) (same_Some at (record { now = now; origin = origin }) e)
+
+-- its origin
+pub moment_origin : (now : Ticks) (o : Option Ticks) (at : At) → Some at ≡ moment_of now o → o ≡ Some at.origin
+moment_origin now None at e = absurd (none-some at (sym e))
+moment_origin now (Some origin) at e = ap (λ (a : At). Some a.origin) (sym (same_Some at (record { now = now; origin = origin }) e))
+
+-- what happens in it
+pub goes_from : {C : Type 0} (plan : Plan) (lines : List DeviceLine) (now : Ticks) (ms : List (Member C)) (o : Option Ticks) (at : At) → Some at ≡ moment_of now o → begins_and_ticks plan at lines ms ≡ ticks_from plan lines now.0 ms (ticks_in o)
+goes_from plan lines now ms None at e = absurd (none-some at (sym e))
+goes_from plan lines now ms (Some origin) at e = ap (λ (a : At). begins_and_ticks plan a lines ms) (same_Some at (record { now = now; origin = origin }) e)
+
+-- after a shutdown nothing does
+pub goes_nowhere : {C : Type 0} (plan : Plan) (lines : List DeviceLine) (now : Ticks) (ms : List (Member C)) (o : Option Ticks) → None ≡ moment_of now o → ticks_from plan lines now.0 ms (ticks_in o) ≡ record { at = None; members = ms; lines = [] }
+goes_nowhere plan lines now ms None e = refl
+goes_nowhere plan lines now ms (Some origin) e = let at : At = record { now = now; origin = origin } in absurd (none-some at e)

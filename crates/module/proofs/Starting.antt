@@ -3,12 +3,10 @@ use Rattle.std.proofs.Common.{◌≡◌, ℕ, zero, suc, ◌+◌, ◌<◌, ◌�
 use Rattle.std.specs.Prelude.{slice_get}
 use Rattle.std.specs.List.{flat_map}
 use Rattle.apex_types.specs.declared.event.Event.{Event}
-use Rattle.apex_types.specs.Line.{text_of}
 use Rattle.apex_types.specs.declared.codes.StartCondition.{StartCondition}
 use Rattle.apex_types.specs.declared.identity.At.{At}
 use Rattle.module_meaning.specs.Module.{Advanced, steps_member, started_member, start_lines}
 use Rattle.kernel_meaning.specs.Partition.{Member, cold_start}
-use Rattle.module.proofs.Texts.{text_append}
 use Rattle.module.specs.Members.{members_of, AreFitting}
 use Rattle.module.proofs.Members.{members_count}
 use Rattle.partition.specs.declared.partition.Partition.{Partition}
@@ -90,11 +88,9 @@ module _ (at : At) (reason : StartCondition) where
   pub step_members : {C : Type 0} (now next xs : List (Member C)) (n : ℕ) → now ≡ started_to n xs → n < length xs → next ≡ (starts_member now n (slice_get now n)).members → next ≡ started_to (n + 1) xs
   step_members now next xs n so_far h e = e ∙ ap (λ ms. (starts_member ms n (slice_get ms n)).members) so_far ∙ next_members xs n h
 
-  -- the text of its lines, and that of the rest
-  pub step_text : {C : Type 0} (now xs : List (Member C)) (n : ℕ) (text : List ℕ) → now ≡ started_to n xs → n < length xs → text ≡ text_of (starts_member now n (slice_get now n)).lines
-      → text_of (flat_map (start_lines at reason) (drop n xs)) ≡ text ++ text_of (flat_map (start_lines at reason) (drop (n + 1) xs))
-  step_text now xs n text so_far h e =
+  -- its lines, and those of the rest
+  pub step_lines : {C : Type 0} (now xs : List (Member C)) (n : ℕ) → now ≡ started_to n xs → n < length xs
+      → flat_map (start_lines at reason) (drop n xs) ≡ (starts_member now n (slice_get now n)).lines ++ flat_map (start_lines at reason) (drop (n + 1) xs)
+  step_lines now xs n so_far h =
       let rest = flat_map (start_lines at reason) (drop (n + 1) xs) in
-      let lines = (starts_member (started_to n xs) n (slice_get (started_to n xs) n)).lines in
-      let own : text_of lines ≡ text = sym (e ∙ ap (λ ms. text_of (starts_member ms n (slice_get ms n)).lines) so_far) in
-      ap text_of (next_lines xs n h) ∙ text_append lines rest ∙ ap (λ (t : List ℕ). t ++ text_of rest) own
+      next_lines xs n h ∙ ap (λ ms. (starts_member ms n (slice_get ms n)).lines ++ rest) (sym so_far)

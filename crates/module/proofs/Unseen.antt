@@ -1,12 +1,14 @@
 -- Ticks that are not shown: what was made, and what was collected.
 use Rattle.std.proofs.Common.{◌≡◌, ℕ, ◌+◌, ◌==◌, ◌&&◌, Bool, true, false, not, if◌then◌else◌, List, [], ◌++◌, length, map, option_map, Option, Some, None, Result, Ok, Err, IfOk, refl, sym, ap, subst, ◌∙◌}
 use Rattle.apex_types.specs.declared.identity.At.{At}
+use Rattle.apex_types.specs.declared.identity.Moment.{Moment}
 use Rattle.module_meaning.specs.Module as meaning
 use Rattle.module_meaning.specs.Module.{Advanced, Course, Plan, then_runs, unless_down}
 use Rattle.kernel_meaning.specs.Partition.{Member}
 use Rattle.isolation.specs.declared.input.Input.{Input}
 use Rattle.isolation.specs.declared.input.InputLine.{InputLine}
 use Rattle.isolation.specs.Brought.{brought_moved, line_in}
+use Rattle.lone_partition.specs.Outputs.{next_at}
 use Rattle.module.specs.Collecting.{AreCollected, IsMadeUnseen}
 use Rattle.module.specs.Standing.{Standing, after, origin_of}
 use Rattle.module.specs.declared.inputs_fault.InputsFault.{InputsFault}
@@ -27,8 +29,8 @@ ran_unseen c rest last mid members split on same keeps h =
     (record { at = sym keeps ∙ ap (λ ms. (rest last ms).at) same; members = h ∙ ap (λ ms. (rest last ms).members) same })
 
 -- what begins, then a step
-pub begun_unseen : {C : Type 0} (b : Advanced C) (at : At) (rest : At → List (Member C) → Course C) (mid members : List (Member C)) (r : Result (Option At) InputsFault) → mid ≡ b.members
-    → IfOk r (λ last. IsMadeUnseen (rest at mid) last members) → IfOk r (λ last. IsMadeUnseen (then_runs (meaning.goes_on at b) rest) last members)
+pub begun_unseen : {C : Type 0} (b : Advanced C) (at : At) (rest : At → List (Member C) → Course C) (mid members : List (Member C)) (r : Result (Option Moment) InputsFault) → mid ≡ b.members
+    → IfOk r (λ last. IsMadeUnseen (rest at mid) (next_at last) members) → IfOk r (λ last. IsMadeUnseen (then_runs (meaning.goes_on at b) rest) (next_at last) members)
 begun_unseen b at rest mid members (Ok last) same h = record { at = h.at ∙ ap (λ ms. (rest at ms).at) same; members = h.members ∙ ap (λ ms. (rest at ms).members) same }
 begun_unseen b at rest mid members (Err f) same h = tt
 

@@ -1,20 +1,30 @@
 -- Many ticks of the module at once.
-use Rattle.std.specs.Prelude.{◌≡◌, ◌≤◌, ℕ, ◌+◌, List, [], ◌++◌, Option, Some, None, Result, Ok, Err, slice_set}
+use Rattle.std.specs.Prelude.{◌≡◌, ◌≤◌, ℕ, ◌+◌, List, [], ◌++◌, Option, Some, None, slice_set}
 use Rattle.std.specs.Io.KnownBytes.{Appends}
 use Rattle.apex_types.specs.Line.{text_of}
 use Rattle.apex_types.specs.Line.{TakesBeginning}
 use Rattle.apex_types.specs.declared.device.DeviceLine.{DeviceLine}
 use Rattle.apex_types.specs.declared.event.Event.{Event}
 use Rattle.apex_types.specs.declared.identity.At.{At}
-use Rattle.apex_types.specs.declared.sink.SinkFault.{SinkFault}
 use Rattle.module_meaning.specs.Module.{Plan}
 use Rattle.kernel_meaning.specs.Partition.{Member, with_world}
 use Rattle.bursts.specs.Running.{advances_by}
+use Rattle.lone_partition.specs.Sent.{Sent, HasSent}
 use Rattle.module.specs.Standing.{Standing, lines_of}
 
 -- So many ticks tell these lines and lead from one standing to another, whatever ticks come behind them.
 abbrev pub LeadsTo : {C : Type 0} → Plan → List DeviceLine → ℕ → Standing C → List Event → Standing C → Type 0
 LeadsTo plan lines n s told next = (m : ℕ) → lines_of plan lines (n + m) s ≡ told ++ lines_of plan lines m next
+
+-- So many ticks were made and their lines were to be written.
+pub record HasPassed {C : Type 0} (plan : Plan) (lines : List DeviceLine) (n : ℕ) (s next : Standing C) (old new : Sent) : Type 0 where
+  pub told : List Event
+  pub leads : LeadsTo plan lines n s told next
+  pub sent : HasSent old new (text_of told)
+
+-- Some of so many ticks were made, as many as are answered.
+abbrev pub HasPassedSome : {C : Type 0} → Plan → List DeviceLine → ℕ → Standing C → Standing C → Sent → Sent → ℕ → Type 0
+HasPassedSome plan lines k s next old new n = (n ≤ k) × (next.now ≡ s.now + n) × HasPassed plan lines n s next old new
 
 -- So many ticks were made and their lines were written.
 pub record HasRun {C : Type 0} (plan : Plan) (lines : List DeviceLine) (n : ℕ) (s next : Standing C) (old new : Option (List ℕ)) (before after : ℕ) : Type 0 where
@@ -33,11 +43,6 @@ pub record IsBrokenOff {C : Type 0} (plan : Plan) (lines : List DeviceLine) (k :
   pub beginning : TakesBeginning old new (text_of told)
   pub failed : after ≡ before + 1
 
--- Some of so many ticks were made, as many as are answered, unless the sink failed.
-abbrev pub HasRunSome : {C : Type 0} → Plan → List DeviceLine → ℕ → Standing C → Standing C → Option (List ℕ) → Option (List ℕ) → ℕ → ℕ → Result ℕ SinkFault → Type 0
-HasRunSome plan lines k s next old new before after (Ok n) = (n ≤ k) × (next.now ≡ s.now + n) × HasRun plan lines n s next old new before after
-HasRunSome plan lines k s next old new before after (Err fault) = IsBrokenOff plan lines k s old new before after
-
 -- The partition at a place made so many ticks, or those up to the first with a line, and told these lines.
 abbrev pub HasMoved : {C : Type 0} → At → ℕ → ℕ → List (Member C) → Option (Member C) → List (Member C) → List Event → ℕ → Type 0
 HasMoved at k place members None now told n = (now ≡ members) × (told ≡ []) × (n ≡ 0)
@@ -45,11 +50,6 @@ HasMoved at k place members (Some x) now told n =
     let b = advances_by x.engine at.origin.0 k x.world at.now.0 in
     (now ≡ slice_set members place (with_world x b.control)) × (b ≡ record { control = b.control; words = at.now.0 + n; told = told; ticks = n })
 
--- the same, and this is the text of its lines
-abbrev pub HasMovedTelling : {C : Type 0} → At → ℕ → ℕ → List (Member C) → Option (Member C) → List (Member C) → List ℕ → ℕ → Type 0
-HasMovedTelling at k place members o now text n = (told : List Event) × HasMoved at k place members o now told n × (text ≡ text_of told)
-
--- the same, and its lines were written, unless the sink failed
-abbrev pub HasMovedWritten : {C : Type 0} → At → ℕ → ℕ → List (Member C) → Option (Member C) → List (Member C) → Option (List ℕ) → Option (List ℕ) → ℕ → ℕ → Result ℕ SinkFault → Type 0
-HasMovedWritten at k place members o now old new before after (Ok n) = (n ≤ k) × (told : List Event) × HasMoved at k place members o now told n × Appends old new (text_of told) × (after ≡ before)
-HasMovedWritten at k place members o now old new before after (Err fault) = (n : ℕ) × (told : List Event) × (n ≤ k) × HasMoved at k place members o now told n × TakesBeginning old new (text_of told) × (after ≡ before + 1)
+-- the same, and these lines were to be written
+abbrev pub HasMovedWritten : {C : Type 0} → At → ℕ → ℕ → List (Member C) → Option (Member C) → List (Member C) → Sent → Sent → ℕ → Type 0
+HasMovedWritten at k place members o now old new n = (n ≤ k) × (told : List Event) × HasMoved at k place members o now told n × HasSent old new (text_of told)

@@ -1,5 +1,5 @@
 -- A module between two ticks, and the tick that comes next.
-use Rattle.std.specs.Prelude.{ℕ, zero, suc, ◌+◌, ◌==◌, if◌then◌else◌, List, [], ◌++◌, Option, Some, None, option_map, unwrap_or}
+use Rattle.std.specs.Prelude.{◌≡◌, ℕ, zero, suc, ◌+◌, ◌==◌, if◌then◌else◌, List, [], ◌++◌, Option, Some, None, option_map, unwrap_or}
 use Rattle.apex_types.specs.declared.device.DeviceLine.{DeviceLine}
 use Rattle.apex_types.specs.declared.event.Event.{Event}
 use Rattle.apex_types.specs.declared.identity.At.{At}
@@ -38,6 +38,11 @@ ticks plan lines s = ticks_from plan lines s.now s.members s.origin
 abbrev pub origin_of : At → ℕ
 origin_of at = at.origin.0
 
+-- the tick is this one, where the module is not shut down
+abbrev pub IsNow : ℕ → Option At → Type 0
+IsNow t None = Unit {0}
+IsNow t (Some at) = at.now.0 ≡ t
+
 -- the module after its next tick
 abbrev pub after : {C : Type 0} → Standing C → Course C → Standing C
 after s c = record { members = c.members; now = s.now + 1; origin = option_map origin_of c.at }
@@ -57,3 +62,7 @@ ticks_in o = option_map ticks_of o
 
 abbrev pub origin_or_zero : Option Ticks → ℕ
 origin_or_zero o = unwrap_or (ticks_in o) 0
+
+-- the tick that comes next, with the origin that counts, if there is one
+abbrev pub moment_of : Ticks → Option Ticks → Option At
+moment_of now origin = option_map (λ o. record { now = now; origin = o }) origin

@@ -1,66 +1,56 @@
 //! A tick of the module.
 
-ghost use Rattle.std.specs.Prelude.{◌≡◌, ◌≤◌, ◌<◌, ◌-◌, ◌^◌, [], option_map, IfOk, OnOk};
+ghost use Rattle.std.specs.Prelude.{◌≡◌, option_map};
 ghost use Rattle.module_meaning.specs.Module as meaning;
+ghost use Rattle.lone_partition.specs.Outputs.{next_at, sent_of};
 ghost use Rattle.module.specs.Standing.{begins, begins_and_ticks};
 ghost use Rattle.module.specs.Views.{members_in, plan_of};
-ghost use Rattle.module.specs.Written.{done_in, IsOfTick, IsCourseWritten, IsWritten};
+ghost use Rattle.module.specs.Written.{done_in, IsCourse, IsMade};
 
 use crate::member::Members;
-use crate::step::Step;
-use apex_types::{
-    At, DeviceLine, PartitionId, Sink, SinkFault, StartCondition, Ticks, TraceBuffer,
-};
+use apex_types::{At, DeviceLine, Moment, PartitionId, Sink, StartCondition, Ticks};
 use image::Image;
+use lone_partition::{Output, Step};
 use partition_base::Executor;
 use regions::PartitionMem;
 
 /// The first tick of a run.
-pub const FIRST_TICK: At = At {
-    now: Ticks(0),
-    origin: Ticks(0),
+const FIRST: Moment = Moment {
+    at: At {
+        now: Ticks(0),
+        origin: Ticks(0),
+    },
 };
 
 impl<E: Executor<Mem = PartitionMem>> Members<E> {
     /// A tick of the partition whose window it is, if there is one.
+    #[tactic(auto, using(crate::proofs::Written::nothing))]
     fn tick_owner<S: Sink>(
         &mut self,
-        at: At,
+        moment: Moment,
         owner: Option<PartitionId>,
-        trace: &mut TraceBuffer,
-        sink: &mut S,
-    ) -> Result<(), SinkFault>
-        requires past { at.origin.0 ≤ at.now.0 }
-        requires now { at.now.0 ≤ 2 ^ 40 }
-        requires empty { trace.old.text.items ≡ [] }
-        requires failures { S.failures sink.old < 2 ^ 64 - 1 }
-        ensures empty { OnOk result (trace.new.text.items ≡ []) }
-        ensures written { IsWritten (meaning.ticks_owner at (members_in E.Executor self.old) (option_map (λ p. p.0) owner)) (members_in E.Executor self.new) (S.taken sink.old) (S.taken sink.new) (S.failures sink.old) (S.failures sink.new) result }
+        output: &mut Output<'_, S>,
+    )
+        ensures { IsMade (meaning.ticks_owner moment.at (members_in E.Executor self.old) (option_map (λ p. p.0) owner)) (members_in E.Executor self.new) (sent_of S.Sink output.old) (sent_of S.Sink output.new) }
     {
         if let Some(partition) = owner {
-            self.write_step(partition, at, &Step::Tick, trace, sink)?;
+            self.step(partition, moment, &Step::Tick, output);
         }
-        Ok(())
     }
 
     /// What moves, then the tick of the owner.
     pub fn move_and_tick<S: Sink>(
         &mut self,
         plan: &Image,
-        at: At,
-        trace: &mut TraceBuffer,
-        sink: &mut S,
-    ) -> Result<(), SinkFault>
-        requires past { at.origin.0 ≤ at.now.0 }
-        requires now { at.now.0 ≤ 2 ^ 40 }
-        requires empty { trace.old.text.items ≡ [] }
-        requires failures { S.failures sink.old < 2 ^ 64 - 1 }
-        ensures empty { OnOk result (trace.new.text.items ≡ []) }
-        ensures written { IsWritten (done_in (meaning.moves_and_ticks (plan_of plan.now) at (members_in E.Executor self.old))) (members_in E.Executor self.new) (S.taken sink.old) (S.taken sink.new) (S.failures sink.old) (S.failures sink.new) result }
+        moment: Moment,
+        output: &mut Output<'_, S>,
+    )
+        ensures { IsMade (done_in (meaning.moves_and_ticks (plan_of plan.now) moment.at (members_in E.Executor self.old))) (members_in E.Executor self.new) (sent_of S.Sink output.old) (sent_of S.Sink output.new) }
     {
         let channels = plan.channels.as_slice();
-        self.move_ended(channels, at, plan.schedule.ended(at), trace, sink)?;
-        self.tick_owner(at, plan.schedule.owner(at), trace, sink)
+        let ended = plan.schedule.ended(moment.at);
+        self.move_ended(channels, moment, ended, output);
+        self.tick_owner(moment, plan.schedule.owner(moment.at), output);
     }
 
     /// A tick of the module with the devices' lines of this tick. It answers the tick with the origin that
@@ -69,43 +59,30 @@ impl<E: Executor<Mem = PartitionMem>> Members<E> {
     fn tick<S: Sink>(
         &mut self,
         plan: &Image,
-        at: At,
+        moment: Moment,
         lines: &[DeviceLine],
-        trace: &mut TraceBuffer,
-        sink: &mut S,
-    ) -> Result<Option<At>, SinkFault>
-        requires past { at.origin.0 ≤ at.now.0 }
-        requires now { at.now.0 ≤ 2 ^ 40 }
-        requires empty { trace.old.text.items ≡ [] }
-        requires failures { S.failures sink.old < 2 ^ 64 - 1 }
-        requires lines { meaning.of_tick at.now.0 lines.now ≡ lines.now }
-        ensures empty { OnOk result (trace.new.text.items ≡ []) }
-        ensures of_tick { IfOk result (IsOfTick at) }
-        ensures written { IsCourseWritten (meaning.module_tick (plan_of plan.now) at lines.now (members_in E.Executor self.old)) (members_in E.Executor self.new) (S.taken sink.old) (S.taken sink.new) (S.failures sink.old) (S.failures sink.new) result }
+        output: &mut Output<'_, S>,
+    ) -> Option<Moment>
+        requires { meaning.of_tick moment.at.now.0 lines.now ≡ lines.now }
+        ensures { IsCourse (meaning.module_tick (plan_of plan.now) moment.at lines.now (members_in E.Executor self.old)) (next_at result) (members_in E.Executor self.new) (sent_of S.Sink output.old) (sent_of S.Sink output.new) }
     {
-        let Some(last) = self.input_all(plan, at, lines, trace, sink)? else {
-            return Ok(None);
-        };
-        self.move_and_tick(plan, last, trace, sink)?;
-        Ok(Some(last))
+        let last = self.input_all(plan, moment, lines, output)?;
+        self.move_and_tick(plan, last, output);
+        Some(last)
     }
 
     /// Before the first tick each partition starts.
+    #[tactic(auto, using(crate::proofs::Written::nothing))]
     pub fn begin<S: Sink>(
         &mut self,
-        at: At,
-        trace: &mut TraceBuffer,
-        sink: &mut S,
-    ) -> Result<(), SinkFault>
-        requires empty { trace.old.text.items ≡ [] }
-        requires failures { S.failures sink.old < 2 ^ 64 - 1 }
-        ensures empty { OnOk result (trace.new.text.items ≡ []) }
-        ensures written { IsWritten (begins at.now.0 (members_in E.Executor self.old)) (members_in E.Executor self.new) (S.taken sink.old) (S.taken sink.new) (S.failures sink.old) (S.failures sink.new) result }
+        moment: Moment,
+        output: &mut Output<'_, S>,
+    )
+        ensures { IsMade (begins moment.at.now.0 (members_in E.Executor self.old)) (members_in E.Executor self.new) (sent_of S.Sink output.old) (sent_of S.Sink output.new) }
     {
-        if at.now.0 == 0 {
-            self.start_all(FIRST_TICK, StartCondition::NormalStart, trace, sink)?;
+        if moment.at.now.0 == 0 {
+            self.start_all(FIRST, StartCondition::NormalStart, output);
         }
-        Ok(())
     }
 
     /// What begins, then a tick of the module with the devices' lines of this tick. It answers as
@@ -113,20 +90,14 @@ impl<E: Executor<Mem = PartitionMem>> Members<E> {
     pub fn begin_and_tick<S: Sink>(
         &mut self,
         plan: &Image,
-        at: At,
+        moment: Moment,
         lines: &[DeviceLine],
-        trace: &mut TraceBuffer,
-        sink: &mut S,
-    ) -> Result<Option<At>, SinkFault>
-        requires past { at.origin.0 ≤ at.now.0 }
-        requires now { at.now.0 ≤ 2 ^ 40 }
-        requires empty { trace.old.text.items ≡ [] }
-        requires failures { S.failures sink.old < 2 ^ 64 - 1 }
-        requires lines { meaning.of_tick at.now.0 lines.now ≡ lines.now }
-        ensures of_tick { IfOk result (IsOfTick at) }
-        ensures written { IsCourseWritten (begins_and_ticks (plan_of plan.now) at lines.now (members_in E.Executor self.old)) (members_in E.Executor self.new) (S.taken sink.old) (S.taken sink.new) (S.failures sink.old) (S.failures sink.new) result }
+        output: &mut Output<'_, S>,
+    ) -> Option<Moment>
+        requires { meaning.of_tick moment.at.now.0 lines.now ≡ lines.now }
+        ensures { IsCourse (begins_and_ticks (plan_of plan.now) moment.at lines.now (members_in E.Executor self.old)) (next_at result) (members_in E.Executor self.new) (sent_of S.Sink output.old) (sent_of S.Sink output.new) }
     {
-        self.begin(at, trace, sink)?;
-        self.tick(plan, at, lines, trace, sink)
+        self.begin(moment, output);
+        self.tick(plan, moment, lines, output)
     }
 }

@@ -1,14 +1,15 @@
 //! What the devices do to the module.
 
-ghost use Rattle.std.specs.Prelude.{◌≡◌, ◌≤◌, ◌<◌, ◌-◌, ◌^◌, [], IfOk, OnOk};
+ghost use Rattle.std.specs.Prelude.{◌≡◌};
 ghost use Rattle.module_meaning.specs.Module as meaning;
+ghost use Rattle.lone_partition.specs.Outputs.{next_at, sent_of};
 ghost use Rattle.module.specs.Views.{members_in, plan_of};
-ghost use Rattle.module.specs.Written.{IsOfTick, IsCourseWritten};
+ghost use Rattle.module.specs.Written.{IsCourse};
 
 use crate::member::Members;
-use crate::step::Step;
-use apex_types::{At, DeviceInput, DeviceLine, Sink, SinkFault, TraceBuffer};
+use apex_types::{DeviceInput, DeviceLine, Moment, Sink};
 use image::Image;
+use lone_partition::{Output, Step};
 use partition_base::Executor;
 use regions::PartitionMem;
 
@@ -18,30 +19,23 @@ impl<E: Executor<Mem = PartitionMem>> Members<E> {
     fn input<S: Sink>(
         &mut self,
         plan: &Image,
-        at: At,
+        moment: Moment,
         input: &DeviceInput,
-        trace: &mut TraceBuffer,
-        sink: &mut S,
-    ) -> Result<Option<At>, SinkFault>
-        requires past { at.origin.0 ≤ at.now.0 }
-        requires now { at.now.0 ≤ 2 ^ 40 }
-        requires empty { trace.old.text.items ≡ [] }
-        requires failures { S.failures sink.old < 2 ^ 64 - 1 }
-        ensures empty { OnOk result (trace.new.text.items ≡ []) }
-        ensures of_tick { IfOk result (IsOfTick at) }
-        ensures written { IsCourseWritten (meaning.inputs (plan_of plan.now) at input.now (members_in E.Executor self.old)) (members_in E.Executor self.new) (S.taken sink.old) (S.taken sink.new) (S.failures sink.old) (S.failures sink.new) result }
+        output: &mut Output<'_, S>,
+    ) -> Option<Moment>
+        ensures { IsCourse (meaning.inputs (plan_of plan.now) moment.at input.now (members_in E.Executor self.old)) (next_at result) (members_in E.Executor self.new) (sent_of S.Sink output.old) (sent_of S.Sink output.new) }
     {
         match input {
             DeviceInput::Message(channel, message) => {
                 let channel = plan.channels.get(usize::from(channel.0));
-                self.go_by(at, message, channel, trace, sink)?;
-                Ok(Some(at))
+                self.go_by(moment, message, channel, output);
+                Some(moment)
             }
             DeviceInput::PartitionFault(partition) => {
-                self.write_step(*partition, at, &Step::BreakDown, trace, sink)?;
-                Ok(Some(at))
+                self.step(*partition, moment, &Step::BreakDown, output);
+                Some(moment)
             }
-            DeviceInput::ModuleFault => self.break_module(at, plan.fault, trace, sink),
+            DeviceInput::ModuleFault => self.break_module(moment, plan.fault, output),
         }
     }
 
@@ -50,26 +44,19 @@ impl<E: Executor<Mem = PartitionMem>> Members<E> {
     pub fn input_all<S: Sink>(
         &mut self,
         plan: &Image,
-        at: At,
+        moment: Moment,
         lines: &[DeviceLine],
-        trace: &mut TraceBuffer,
-        sink: &mut S,
-    ) -> Result<Option<At>, SinkFault>
-        requires past { at.origin.0 ≤ at.now.0 }
-        requires now { at.now.0 ≤ 2 ^ 40 }
-        requires empty { trace.old.text.items ≡ [] }
-        requires failures { S.failures sink.old < 2 ^ 64 - 1 }
-        ensures empty { OnOk result (trace.new.text.items ≡ []) }
-        ensures of_tick { IfOk result (IsOfTick at) }
-        ensures written { IsCourseWritten (meaning.inputs_all (plan_of plan.now) at lines.now (members_in E.Executor self.old)) (members_in E.Executor self.new) (S.taken sink.old) (S.taken sink.new) (S.failures sink.old) (S.failures sink.new) result }
+        output: &mut Output<'_, S>,
+    ) -> Option<Moment>
+        ensures { IsCourse (meaning.inputs_all (plan_of plan.now) moment.at lines.now (members_in E.Executor self.old)) (next_at result) (members_in E.Executor self.new) (sent_of S.Sink output.old) (sent_of S.Sink output.new) }
     {
-        let mut last = at;
+        let mut last = moment;
         for line in lines {
-            match self.input(plan, last, &line.input, trace, sink)? {
+            match self.input(plan, last, &line.input, output) {
                 Some(next) => last = next,
-                None => return Ok(None),
+                None => return None,
             }
         }
-        Ok(Some(last))
+        Some(last)
     }
 }

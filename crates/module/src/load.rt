@@ -16,7 +16,7 @@ ghost use Rattle.module.specs.Views.{standing_of};
 ghost use Rattle.window_table.specs.Schedules.{schedule_of};
 
 use crate::member::{Members, Module};
-use apex_types::{PartitionId, Ticks, TraceBuffer};
+use apex_types::{PartitionId, Ticks};
 use image::{Image, PartitionItem};
 use partition::{Fixed, Partition};
 use partition_base::{Machine, memory_plan};
@@ -39,7 +39,6 @@ impl Module<Machine> {
             members: Members { partitions, memory },
             now: Ticks(0),
             origin: Some(Ticks(0)),
-            trace: TraceBuffer::new(),
         })
     }
 }

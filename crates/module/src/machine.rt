@@ -17,8 +17,9 @@ ghost use Rattle.module.specs.Written.{AreFrom};
 use crate::fault::RunFault;
 use crate::load_fault::LoadFault;
 use crate::member::Module;
-use apex_types::{DeviceLine, Sink, SinkFault};
+use apex_types::{DeviceLine, Sink, TraceBuffer};
 use image::Image;
+use lone_partition::Output;
 use module_base::{DeviceTextFault, read_devices};
 use std::alloc::Global;
 
@@ -32,6 +33,8 @@ pub const MOST_TICKS: u64 = 1_099_511_627_776;
 #[derive(Drop)]
 pub struct Machine {
     module: Module<partition_base::Machine>,
+    /// The lines of a step on their way to the sink.
+    trace: TraceBuffer,
     /// The sink failed.
     has_failed: bool,
 }
@@ -48,6 +51,7 @@ impl Machine {
         let module = Module::load(alloc, image)?;
         Ok(Machine {
             module,
+            trace: TraceBuffer::new(),
             has_failed: false,
         })
     }
@@ -91,6 +95,7 @@ impl Machine {
     /// # Errors
     ///
     /// [`RunFault::Write`] where the sink fails: it has taken a beginning of the lines of these ticks.
+    #[tactic(auto, using(crate::proofs::Passed::passed))]
     pub(crate) fn advance<S: Sink>(
         &mut self,
         lines: &[DeviceLine],
@@ -104,10 +109,12 @@ impl Machine {
         ensures order { OnOk result (AreFrom (machine_of self.new).standing.now lines.now) }
         ensures run { HasRunOn lines.now most (machine_of self.old) (machine_of self.new) (S.taken sink.old) (S.taken sink.new) (S.failures sink.old) (S.failures sink.new) result }
     {
-        let Ok(count) = self.module.advance(lines, most, sink) else {
+        let mut output = Output::new(&mut self.trace, sink);
+        let count = self.module.advance(lines, most, &mut output);
+        if output.has_failed() {
             self.has_failed = true;
             return Err(RunFault::Write);
-        };
+        }
         Ok(count)
     }
 
@@ -119,6 +126,7 @@ impl Machine {
     /// [`RunFault::Failed`] where the sink failed in an earlier tick, and else [`RunFault::Ticks`] after
     /// 2^40 ticks: nothing is changed, and nothing is written. [`RunFault::Write`] where the sink fails in
     /// this tick: it has taken a beginning of the tick's lines.
+    #[tactic(auto, using(crate::proofs::Passed::passed))]
     pub fn tick<S: Sink>(&mut self, lines: &[DeviceLine], sink: &mut S) -> Result<(), RunFault>
         requires lines { of_tick (machine_of self.old).standing.now lines.now ≡ lines.now }
         requires failures { S.failures sink.old < 2 ^ 64 - 1 }
@@ -130,13 +138,14 @@ impl Machine {
         if self.now() == MOST_TICKS {
             return Err(RunFault::Ticks);
         }
-        match self.module.tick(lines, sink) {
-            Ok(()) => Ok(()),
-            Err(SinkFault) => {
-                self.has_failed = true;
-                Err(RunFault::Write)
-            }
+        let mut output = Output::new(&mut self.trace, sink);
+        self.module.tick(lines, &mut output);
+        let failed = output.has_failed();
+        self.has_failed = failed;
+        if failed {
+            return Err(RunFault::Write);
         }
+        Ok(())
     }
 }
 

@@ -4,7 +4,7 @@ ghost use Rattle.std.specs.Prelude.{◌≤◌, ◌^◌, length};
 ghost use Rattle.module.specs.Members.{AreFitting};
 ghost use Rattle.module.specs.Standing.{origin_or_zero};
 
-use apex_types::{Ticks, TraceBuffer};
+use apex_types::Ticks;
 use image::Image;
 use partition::Partition;
 use partition_base::Executor;
@@ -31,8 +31,6 @@ pub struct Module<E: Executor<Mem = PartitionMem>> {
     pub now: Ticks,
     /// The tick from which the major frames count. There is none after a shutdown.
     pub origin: Option<Ticks>,
-    /// The lines of a tick on their way to the sink.
-    pub trace: TraceBuffer,
     ghost limit: { now.0 ≤ 2 ^ 40 },
     ghost past: { origin_or_zero origin ≤ now.0 },
 }

@@ -1,31 +1,33 @@
 //! Many ticks of a module at once: pieces of windows, and ticks in which nothing happens.
 
-ghost use Rattle.std.specs.Prelude.{◌≡◌, ◌≢◌, ◌≤◌, ◌<◌, ◌+◌, ◌-◌, ◌^◌, ℕ, suc, List, [], Some, None, slice_get, OnOk};
+ghost use Rattle.std.specs.Prelude.{◌≡◌, ◌≢◌, ◌≤◌, ◌<◌, ◌+◌, ◌^◌, ℕ, suc, List, Some, None, slice_get};
 ghost use Rattle.apex_types.specs.declared.device.DeviceLine.{DeviceLine};
 ghost use Rattle.kernel_meaning.specs.Windows.{tick_from, owner, ended};
 ghost use Rattle.bursts.specs.Quiet.{AreStill};
-ghost use Rattle.module.specs.Pieces.{HasMovedTelling, HasMovedWritten, HasRunSome};
+ghost use Rattle.lone_partition.specs.Outputs.{sent_of};
+ghost use Rattle.module.specs.Pieces.{HasMovedWritten, HasPassedSome};
 ghost use Rattle.module.specs.Standing.{ticks_in};
 ghost use Rattle.module.specs.Views.{members_in, plan_of, standing_of};
 ghost use Rattle.module.specs.Written.{AreFrom};
 
 use crate::member::{Members, Module};
 use crate::step::number_at;
-use apex_types::{At, DeviceLine, Sink, SinkFault, Ticks, TraceBuffer};
+use apex_types::{At, DeviceLine, Moment, Sink, Ticks};
+use lone_partition::{Output, write_advance};
 use partition_base::Executor;
 use regions::PartitionMem;
 
 impl<E: Executor<Mem = PartitionMem>> Members<E> {
     /// Of so many ticks from one on, those in which nothing happens in any partition; none where
     /// something may.
-    fn still_ticks(&self, at: At, most: u32) -> u32
+    fn still_ticks(&self, moment: Moment, most: u32) -> u32
         ensures within { result ≤ most }
-        ensures still { 0 < result → AreStill at.origin.0 at.now.0 (at.now.0 + result) (members_in E.Executor self.now) }
+        ensures still { 0 < result → AreStill moment.at.origin.0 moment.at.now.0 (moment.at.now.0 + result) (members_in E.Executor self.now) }
     {
         let mut least = most;
         let mut place = 0;
         while place < self.partitions.len() {
-            least = self.partitions[place].kernel().still_ticks(at, least);
+            least = self.partitions[place].kernel().still_ticks(moment.at, least);
             if least == 0 {
                 return 0;
             }
@@ -35,49 +37,32 @@ impl<E: Executor<Mem = PartitionMem>> Members<E> {
     }
 
     /// So many ticks of the partition at a place among them, if there is one, or those up to the first
-    /// with an event; how many they were. It is lent its own part of the memory, and no other partition's
-    /// memory changes.
+    /// with an event, whose lines are written; how many they were. It is lent its own part of the memory,
+    /// and no other partition's memory changes.
     #[tactic(auto, using(crate::proofs::Members::others))]
-    fn advance_at(&mut self, place: usize, at: At, most: u32, trace: &mut TraceBuffer) -> u32
-        requires past { at.origin.0 ≤ at.now.0 }
-        requires soon { at.now.0 + most ≤ 2 ^ 40 }
-        requires empty { trace.old.text.items ≡ [] }
-        ensures within { result ≤ most }
-        ensures moved { HasMovedTelling at most place (members_in E.Executor self.old) (slice_get (members_in E.Executor self.old) place) (members_in E.Executor self.new) trace.new.text.items result }
+    fn advance_at<S: Sink>(
+        &mut self,
+        place: usize,
+        moment: Moment,
+        most: u32,
+        output: &mut Output<'_, S>,
+    ) -> u32
+        requires { moment.at.now.0 + most ≤ 2 ^ 40 }
+        ensures written { HasMovedWritten moment.at most place (members_in E.Executor self.old) (slice_get (members_in E.Executor self.old) place) (members_in E.Executor self.new) (sent_of S.Sink output.old) (sent_of S.Sink output.new) result }
         ensures others { (q : ℕ) → q ≢ place → slice_get self.new.memory q ≡ slice_get self.old.memory q }
     {
         if place >= self.partitions.len() {
             return 0;
         }
         let mem = self.memory.lend(number_at(place));
-        self.partitions[place].advance(mem, at, most, trace)
-    }
-
-    /// The same, and the lines are written.
-    fn write_advance<S: Sink>(
-        &mut self,
-        place: usize,
-        at: At,
-        most: u32,
-        trace: &mut TraceBuffer,
-        sink: &mut S,
-    ) -> Result<u32, SinkFault>
-        requires past { at.origin.0 ≤ at.now.0 }
-        requires soon { at.now.0 + most ≤ 2 ^ 40 }
-        requires empty { trace.old.text.items ≡ [] }
-        requires failures { S.failures sink.old < 2 ^ 64 - 1 }
-        ensures written { HasMovedWritten at most place (members_in E.Executor self.old) (slice_get (members_in E.Executor self.old) place) (members_in E.Executor self.new) (S.taken sink.old) (S.taken sink.new) (S.failures sink.old) (S.failures sink.new) result }
-    {
-        let count = self.advance_at(place, at, most, trace);
-        trace.write_events(sink)?;
-        Ok(count)
+        write_advance(&mut self.partitions[place], mem, moment, most, output)
     }
 }
 
 /// Of so many ticks from one on, those before the first of these lines, which are of this tick or later
 /// ones.
 fn until_line(lines: &[DeviceLine], now: Ticks, most: u32) -> u32
-    requires order { AreFrom now.0 lines.now }
+    requires { AreFrom now.0 lines.now }
     ensures within { result ≤ most }
     ensures from { AreFrom (now.0 + result) lines.now }
 {
@@ -102,7 +87,7 @@ fn at_most(ticks: u64, most: u32) -> u32
 impl<E: Executor<Mem = PartitionMem>> Module<E> {
     /// So many ticks are over, and the next one comes, with the same origin.
     fn skip(&mut self, ticks: u32)
-        requires soon { self.old.now.0 + ticks ≤ 2 ^ 40 }
+        requires { self.old.now.0 + ticks ≤ 2 ^ 40 }
         ensures image { self.new.image ≡ self.old.image }
         ensures standing { standing_of E.Executor self.new ≡ record { members = members_in E.Executor self.old.members; now = self.old.now.0 + ticks; origin = ticks_in self.old.origin } }
         ensures origin { self.new.origin ≡ self.old.origin }
@@ -114,86 +99,88 @@ impl<E: Executor<Mem = PartitionMem>> Module<E> {
     /// were.
     fn stretch<S: Sink>(
         &mut self,
-        at: At,
+        moment: Moment,
         place: usize,
         most: u32,
-        sink: &mut S,
-    ) -> Result<u32, SinkFault>
-        requires now { at.now ≡ self.old.now }
-        requires origin { self.old.origin ≡ Some at.origin }
-        requires begun { 0 < at.now.0 }
-        requires soon { at.now.0 + most ≤ 2 ^ 40 }
-        requires owner { (i : ℕ) → i < most → owner (plan_of self.old.image).schedule (tick_from at.origin.0 (at.now.0 + i)) ≡ Some (suc place) }
-        requires ended { (i : ℕ) → i < most → ended (plan_of self.old.image).schedule (tick_from at.origin.0 (at.now.0 + i)) ≡ None }
-        requires failures { S.failures sink.old < 2 ^ 64 - 1 }
+        output: &mut Output<'_, S>,
+    ) -> u32
+        requires now { moment.at.now ≡ self.old.now }
+        requires origin { self.old.origin ≡ Some moment.at.origin }
+        requires begun { 0 < moment.at.now.0 }
+        requires soon { moment.at.now.0 + most ≤ 2 ^ 40 }
+        requires owner { (i : ℕ) → i < most → owner (plan_of self.old.image).schedule (tick_from moment.at.origin.0 (moment.at.now.0 + i)) ≡ Some (suc place) }
+        requires ended { (i : ℕ) → i < most → ended (plan_of self.old.image).schedule (tick_from moment.at.origin.0 (moment.at.now.0 + i)) ≡ None }
         ensures image { self.new.image ≡ self.old.image }
-        ensures origin { OnOk result (self.new.origin ≡ self.old.origin) }
-        ensures run { (lines : List DeviceLine) → AreFrom (at.now.0 + most) lines → HasRunSome (plan_of self.old.image) lines most (standing_of E.Executor self.old) (standing_of E.Executor self.new) (S.taken sink.old) (S.taken sink.new) (S.failures sink.old) (S.failures sink.new) result }
+        ensures origin { self.new.origin ≡ self.old.origin }
+        ensures run { (lines : List DeviceLine) → AreFrom (moment.at.now.0 + most) lines → HasPassedSome (plan_of self.old.image) lines most (standing_of E.Executor self.old) (standing_of E.Executor self.new) (sent_of S.Sink output.old) (sent_of S.Sink output.new) result }
     {
-        self.trace.clear();
-        let count = self
-            .members
-            .write_advance(place, at, most, &mut self.trace, sink)?;
+        let count = self.members.advance_at(place, moment, most, output);
         self.skip(count);
-        Ok(count)
+        count
     }
 
-    /// So many ticks of the owner of a window, from one event to the next.
+    /// So many ticks of the owner of a window, from one event to the next. There are no more of them once
+    /// the sink has failed.
     fn piece<S: Sink>(
         &mut self,
-        at: At,
+        moment: Moment,
         place: usize,
         most: u32,
-        sink: &mut S,
-    ) -> Result<u32, SinkFault>
-        requires now { at.now ≡ self.old.now }
-        requires origin { self.old.origin ≡ Some at.origin }
-        requires begun { 0 < at.now.0 }
-        requires soon { at.now.0 + most ≤ 2 ^ 40 }
-        requires owner { (i : ℕ) → i < most → owner (plan_of self.old.image).schedule (tick_from at.origin.0 (at.now.0 + i)) ≡ Some (suc place) }
-        requires ended { (i : ℕ) → i < most → ended (plan_of self.old.image).schedule (tick_from at.origin.0 (at.now.0 + i)) ≡ None }
-        requires failures { S.failures sink.old < 2 ^ 64 - 1 }
+        output: &mut Output<'_, S>,
+    ) -> u32
+        requires now { moment.at.now ≡ self.old.now }
+        requires origin { self.old.origin ≡ Some moment.at.origin }
+        requires begun { 0 < moment.at.now.0 }
+        requires soon { moment.at.now.0 + most ≤ 2 ^ 40 }
+        requires owner { (i : ℕ) → i < most → owner (plan_of self.old.image).schedule (tick_from moment.at.origin.0 (moment.at.now.0 + i)) ≡ Some (suc place) }
+        requires ended { (i : ℕ) → i < most → ended (plan_of self.old.image).schedule (tick_from moment.at.origin.0 (moment.at.now.0 + i)) ≡ None }
         ensures image { self.new.image ≡ self.old.image }
-        ensures run { (lines : List DeviceLine) → AreFrom (at.now.0 + most) lines → HasRunSome (plan_of self.old.image) lines most (standing_of E.Executor self.old) (standing_of E.Executor self.new) (S.taken sink.old) (S.taken sink.new) (S.failures sink.old) (S.failures sink.new) result }
+        ensures run { (lines : List DeviceLine) → AreFrom (moment.at.now.0 + most) lines → HasPassedSome (plan_of self.old.image) lines most (standing_of E.Executor self.old) (standing_of E.Executor self.new) (sent_of S.Sink output.old) (sent_of S.Sink output.new) result }
     {
         let mut left = most;
-        while left > 0 {
-            let now = At {
-                now: self.now,
-                origin: at.origin,
+        while left > 0 && !output.has_failed() {
+            let now = Moment {
+                at: At {
+                    now: self.now,
+                    origin: moment.at.origin,
+                },
             };
-            let count = self.stretch(now, place, left, sink)?;
+            let count = self.stretch(now, place, left, output);
             if count == 0 {
-                return Ok(most - left);
+                return most - left;
             }
             left -= count;
         }
-        Ok(most - left)
+        most - left
     }
 
     /// Some of so many ticks, all of them of one owner or of none; none where a window ends at the first
     /// of them, since its messages move then.
-    fn advance_window<S: Sink>(&mut self, at: At, most: u32, sink: &mut S) -> Result<u32, SinkFault>
-        requires now { at.now ≡ self.old.now }
-        requires origin { self.old.origin ≡ Some at.origin }
-        requires begun { 0 < at.now.0 }
-        requires soon { at.now.0 + most ≤ 2 ^ 40 }
-        requires failures { S.failures sink.old < 2 ^ 64 - 1 }
+    fn advance_window<S: Sink>(
+        &mut self,
+        moment: Moment,
+        most: u32,
+        output: &mut Output<'_, S>,
+    ) -> u32
+        requires now { moment.at.now ≡ self.old.now }
+        requires origin { self.old.origin ≡ Some moment.at.origin }
+        requires begun { 0 < moment.at.now.0 }
+        requires soon { moment.at.now.0 + most ≤ 2 ^ 40 }
         ensures image { self.new.image ≡ self.old.image }
-        ensures run { (lines : List DeviceLine) → AreFrom (at.now.0 + most) lines → HasRunSome (plan_of self.old.image) lines most (standing_of E.Executor self.old) (standing_of E.Executor self.new) (S.taken sink.old) (S.taken sink.new) (S.failures sink.old) (S.failures sink.new) result }
+        ensures run { (lines : List DeviceLine) → AreFrom (moment.at.now.0 + most) lines → HasPassedSome (plan_of self.old.image) lines most (standing_of E.Executor self.old) (standing_of E.Executor self.new) (sent_of S.Sink output.old) (sent_of S.Sink output.new) result }
     {
-        if self.image.schedule.ended(at).is_some() {
-            return Ok(0);
+        if self.image.schedule.ended(moment.at).is_some() {
+            return 0;
         }
-        let count = at_most(self.image.schedule.until_change(at), most);
-        match self.image.schedule.owner(at) {
+        let count = at_most(self.image.schedule.until_change(moment.at), most);
+        match self.image.schedule.owner(moment.at) {
             None => {
                 self.skip(count);
-                Ok(count)
+                count
             }
             Some(owner) => match owner.0.checked_sub(1) {
-                Some(place) => self.piece(at, usize::from(place), count, sink),
-                None => Ok(0),
+                Some(place) => self.piece(moment, usize::from(place), count, output),
+                None => 0,
             },
         }
     }
@@ -206,31 +193,26 @@ impl<E: Executor<Mem = PartitionMem>> Module<E> {
         &mut self,
         lines: &[DeviceLine],
         most: u32,
-        sink: &mut S,
-    ) -> Result<u32, SinkFault>
+        output: &mut Output<'_, S>,
+    ) -> u32
         requires soon { self.old.now.0 + most ≤ 2 ^ 40 }
         requires order { AreFrom self.old.now.0 lines.now }
-        requires failures { S.failures sink.old < 2 ^ 64 - 1 }
         ensures image { self.new.image ≡ self.old.image }
-        ensures order { OnOk result (AreFrom self.new.now.0 lines.now) }
-        ensures run { HasRunSome (plan_of self.old.image) lines.now most (standing_of E.Executor self.old) (standing_of E.Executor self.new) (S.taken sink.old) (S.taken sink.new) (S.failures sink.old) (S.failures sink.new) result }
+        ensures order { AreFrom self.new.now.0 lines.now }
+        ensures run { HasPassedSome (plan_of self.old.image) lines.now most (standing_of E.Executor self.old) (standing_of E.Executor self.new) (sent_of S.Sink output.old) (sent_of S.Sink output.new) result }
     {
-        let Some(origin) = self.origin else {
-            return Ok(0);
+        let Some(moment) = self.moment() else {
+            return 0;
         };
         if self.now.0 == 0 {
-            return Ok(0);
+            return 0;
         }
-        let at = At {
-            now: self.now,
-            origin,
-        };
         let quiet = until_line(lines, self.now, most);
-        let still = self.members.still_ticks(at, quiet);
+        let still = self.members.still_ticks(moment, quiet);
         if still > 0 {
             self.skip(still);
-            return Ok(still);
+            return still;
         }
-        self.advance_window(at, quiet, sink)
+        self.advance_window(moment, quiet, output)
     }
 }

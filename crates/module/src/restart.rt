@@ -1,16 +1,16 @@
 //! The start of all partitions, and faults of the module.
 
-ghost use Rattle.std.specs.Prelude.{◌≡◌, ◌≤◌, ◌<◌, ◌-◌, ◌^◌, [], IfOk, OnOk};
+ghost use Rattle.std.specs.Prelude.{◌≡◌};
 ghost use Rattle.module_meaning.specs.Module as meaning;
+ghost use Rattle.lone_partition.specs.Outputs.{next_at, sent_of};
 ghost use Rattle.module.specs.Views.{members_in};
-ghost use Rattle.module.specs.Written.{IsOfTick, IsCourseWritten, IsWritten};
+ghost use Rattle.module.specs.Written.{IsCourse, IsMade};
 
 use crate::member::Members;
-use crate::step::Step;
 use apex_types::{
-    At, ErrorKind, EventKind, EventLog, ModuleAction, Response, Sink, SinkFault, StartCondition,
-    TraceBuffer,
+    At, ErrorKind, EventKind, EventLog, ModuleAction, Moment, Response, Sink, StartCondition,
 };
+use lone_partition::{Output, Step};
 use partition_base::Executor;
 use regions::PartitionMem;
 
@@ -18,101 +18,70 @@ impl<E: Executor<Mem = PartitionMem>> Members<E> {
     /// Each partition in order clears to a cold start, for a reason.
     pub fn start_all<S: Sink>(
         &mut self,
-        at: At,
+        moment: Moment,
         condition: StartCondition,
-        trace: &mut TraceBuffer,
-        sink: &mut S,
-    ) -> Result<(), SinkFault>
-        requires past { at.origin.0 ≤ at.now.0 }
-        requires now { at.now.0 ≤ 2 ^ 40 }
-        requires empty { trace.old.text.items ≡ [] }
-        requires failures { S.failures sink.old < 2 ^ 64 - 1 }
-        ensures empty { OnOk result (trace.new.text.items ≡ []) }
-        ensures written { IsWritten (meaning.starts_all at condition (members_in E.Executor self.old)) (members_in E.Executor self.new) (S.taken sink.old) (S.taken sink.new) (S.failures sink.old) (S.failures sink.new) result }
+        output: &mut Output<'_, S>,
+    )
+        ensures { IsMade (meaning.starts_all moment.at condition (members_in E.Executor self.old)) (members_in E.Executor self.new) (sent_of S.Sink output.old) (sent_of S.Sink output.new) }
     {
         let step = Step::Start(condition);
         let mut place = 0;
         while place < self.partitions.len() {
-            self.step_at(place, at, &step, trace);
-            trace.write_events(sink)?;
+            self.step_at(place, moment, &step, output);
             place += 1;
         }
-        Ok(())
     }
 
     /// A fault of the module is told. It is no partition's.
     fn tell_fault<S: Sink>(
         &self,
-        at: At,
+        moment: Moment,
         action: ModuleAction,
-        trace: &mut TraceBuffer,
-        sink: &mut S,
-    ) -> Result<(), SinkFault>
-        requires empty { trace.old.text.items ≡ [] }
-        requires failures { S.failures sink.old < 2 ^ 64 - 1 }
-        ensures empty { OnOk result (trace.new.text.items ≡ []) }
-        ensures written { IsWritten (meaning.tells_fault at action (members_in E.Executor self.now)) (members_in E.Executor self.now) (S.taken sink.old) (S.taken sink.new) (S.failures sink.old) (S.failures sink.new) result }
+        output: &mut Output<'_, S>,
+    )
+        ensures { IsMade (meaning.tells_fault moment.at action (members_in E.Executor self.now)) (members_in E.Executor self.now) (sent_of S.Sink output.old) (sent_of S.Sink output.new) }
     {
         let error = EventKind::Error(ErrorKind::HardwareFault, None, Response::Module(action));
-        trace.tell(at.now, &None, &error);
-        trace.write_events(sink)?;
-        Ok(())
+        output.trace.clear();
+        output.trace.tell(moment.at.now, &None, &error);
+        output.write();
     }
 
     /// A fault of the module resets it: this tick becomes the origin, and each partition in order clears
-    /// to a cold start.
-    fn reset<S: Sink>(
-        &mut self,
-        at: At,
-        trace: &mut TraceBuffer,
-        sink: &mut S,
-    ) -> Result<At, SinkFault>
-        requires now { at.now.0 ≤ 2 ^ 40 }
-        requires empty { trace.old.text.items ≡ [] }
-        requires failures { S.failures sink.old < 2 ^ 64 - 1 }
-        ensures empty { OnOk result (trace.new.text.items ≡ []) }
-        ensures origin { IfOk result (λ a. a ≡ meaning.as_origin at) }
-        ensures written { IsWritten (meaning.then_goes (meaning.tells_fault at ModuleAction.Reset (members_in E.Executor self.old)) (meaning.starts_all (meaning.as_origin at) StartCondition.HmModuleRestart)) (members_in E.Executor self.new) (S.taken sink.old) (S.taken sink.new) (S.failures sink.old) (S.failures sink.new) result }
+    /// to a cold start. It answers the tick with this origin.
+    fn reset<S: Sink>(&mut self, moment: Moment, output: &mut Output<'_, S>) -> Moment
+        ensures origin { result.at ≡ meaning.as_origin moment.at }
+        ensures written { IsMade (meaning.then_goes (meaning.tells_fault moment.at ModuleAction.Reset (members_in E.Executor self.old)) (meaning.starts_all (meaning.as_origin moment.at) StartCondition.HmModuleRestart)) (members_in E.Executor self.new) (sent_of S.Sink output.old) (sent_of S.Sink output.new) }
     {
-        self.tell_fault(at, ModuleAction::Reset, trace, sink)?;
-        let origin = At {
-            now: at.now,
-            origin: at.now,
+        self.tell_fault(moment, ModuleAction::Reset, output);
+        let now = moment.at.now;
+        let origin = Moment {
+            at: At { now, origin: now },
         };
-        self.start_all(origin, StartCondition::HmModuleRestart, trace, sink)?;
-        Ok(origin)
+        self.start_all(origin, StartCondition::HmModuleRestart, output);
+        origin
     }
 
     /// A fault of the module's hardware (ARINC 653 Part 1, health monitoring): it is ignored, shuts the
     /// module down, or resets it. Of a module that is shut down there is no tick more.
     pub fn break_module<S: Sink>(
         &mut self,
-        at: At,
+        moment: Moment,
         action: ModuleAction,
-        trace: &mut TraceBuffer,
-        sink: &mut S,
-    ) -> Result<Option<At>, SinkFault>
-        requires past { at.origin.0 ≤ at.now.0 }
-        requires now { at.now.0 ≤ 2 ^ 40 }
-        requires empty { trace.old.text.items ≡ [] }
-        requires failures { S.failures sink.old < 2 ^ 64 - 1 }
-        ensures empty { OnOk result (trace.new.text.items ≡ []) }
-        ensures of_tick { IfOk result (IsOfTick at) }
-        ensures written { IsCourseWritten (meaning.breaks_module at action (members_in E.Executor self.old)) (members_in E.Executor self.new) (S.taken sink.old) (S.taken sink.new) (S.failures sink.old) (S.failures sink.new) result }
+        output: &mut Output<'_, S>,
+    ) -> Option<Moment>
+        ensures { IsCourse (meaning.breaks_module moment.at action (members_in E.Executor self.old)) (next_at result) (members_in E.Executor self.new) (sent_of S.Sink output.old) (sent_of S.Sink output.new) }
     {
         match action {
             ModuleAction::Ignore => {
-                self.tell_fault(at, action, trace, sink)?;
-                Ok(Some(at))
+                self.tell_fault(moment, action, output);
+                Some(moment)
             }
             ModuleAction::Shutdown => {
-                self.tell_fault(at, action, trace, sink)?;
-                Ok(None)
+                self.tell_fault(moment, action, output);
+                None
             }
-            ModuleAction::Reset => {
-                let origin = self.reset(at, trace, sink)?;
-                Ok(Some(origin))
-            }
+            ModuleAction::Reset => Some(self.reset(moment, output)),
         }
     }
 }

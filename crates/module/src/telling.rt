@@ -18,8 +18,10 @@ use crate::machine::MOST_TICKS;
 use crate::member::Module;
 use crate::naming::numbered;
 use crate::ticks::split_tick;
-use apex_types::{DeviceLine, PartitionId, Sink};
+use crate::watching::Forgetful;
+use apex_types::{DeviceLine, PartitionId, Sink, TraceBuffer};
 use image::{Image, load_image};
+use lone_partition::Output;
 use module_base::{read_devices, write_inputs};
 use partition_base::Machine;
 use std::alloc::Global;
@@ -101,12 +103,15 @@ pub fn collect(
     ensures inputs { IfOk result (λ inputs. inputs.lines.items ≡ machine_inputs (image_of module.old.image) watched.0 devices.now ticks) }
     ensures refused { IfErr result (HasNoRoom (length (machine_inputs (image_of module.old.image) watched.0 devices.now ticks))) }
 {
+    let mut trace = TraceBuffer::new();
+    let mut nowhere = Forgetful;
+    let mut output = Output::new(&mut trace, &mut nowhere);
     let mut inputs = Collected::new(alloc);
     let mut left = ticks;
     let mut lines = devices;
     while left > 0 && module.origin.is_some() {
         let (now, later) = split_tick(lines, module.now.0);
-        module.tick_watched(now, watched, &mut inputs)?;
+        module.tick_watched(now, watched, &mut inputs, &mut output)?;
         lines = later;
         left -= 1;
     }

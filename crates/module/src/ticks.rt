@@ -1,70 +1,78 @@
 //! The ticks of a module, one after another.
 
-ghost use Rattle.std.specs.Prelude.{◌≡◌, ◌≤◌, ◌<◌, ◌+◌, ◌-◌, ◌^◌, ℕ, length, drop, take, IfOk, option_map};
+ghost use Rattle.std.specs.Prelude.{◌≡◌, ◌≤◌, ◌<◌, ◌+◌, ◌^◌, ℕ, length, drop, take, option_map};
 ghost use Rattle.module_meaning.specs.Module as meaning;
-ghost use Rattle.kernel_meaning.specs.Windows.{tick_from};
-ghost use Rattle.module.specs.Standing.{origin_of, ticks};
+ghost use Rattle.lone_partition.specs.Outputs.{next_at, sent_of};
+ghost use Rattle.module.specs.Standing.{IsNow, moment_of, origin_of, ticks};
 ghost use Rattle.module.specs.Views.{members_in, plan_of, standing_of};
-ghost use Rattle.module.specs.Written.{AreFrom, HasGone, IsCourseWritten, IsOfTick};
+ghost use Rattle.module.specs.Written.{AreFrom, HasGoneOn, IsCourse};
 
 use crate::member::Module;
-use apex_types::{At, DeviceLine, Sink, SinkFault, Ticks};
+use apex_types::{At, DeviceLine, Moment, Sink, Ticks};
+use lone_partition::Output;
 use partition_base::Executor;
 use regions::PartitionMem;
 
 impl<E: Executor<Mem = PartitionMem>> Module<E> {
+    /// The tick that comes next, with the origin that counts. There is none after a shutdown.
+    pub fn moment(&self) -> Option<Moment>
+        ensures { next_at result ≡ moment_of self.now.now self.now.origin }
+    {
+        let origin = self.origin?;
+        Some(Moment {
+            at: At {
+                now: self.now,
+                origin,
+            },
+        })
+    }
+
     /// The next tick, with the devices' lines of it.
-    pub fn tick<S: Sink>(&mut self, lines: &[DeviceLine], sink: &mut S) -> Result<(), SinkFault>
+    #[tactic(auto, using(crate::proofs::Standing::ticks_now))]
+    pub fn tick<S: Sink>(&mut self, lines: &[DeviceLine], output: &mut Output<'_, S>)
         requires now { self.old.now.0 < 2 ^ 40 }
         requires lines { meaning.of_tick self.old.now.0 lines.now ≡ lines.now }
-        requires failures { S.failures sink.old < 2 ^ 64 - 1 }
         ensures image { self.new.image ≡ self.old.image }
-        ensures written { HasGone (ticks (plan_of self.old.image) lines.now (standing_of E.Executor self.old)) (standing_of E.Executor self.old) (standing_of E.Executor self.new) (S.taken sink.old) (S.taken sink.new) (S.failures sink.old) (S.failures sink.new) result }
+        ensures written { HasGoneOn (ticks (plan_of self.old.image) lines.now (standing_of E.Executor self.old)) (standing_of E.Executor self.old) (standing_of E.Executor self.new) (sent_of S.Sink output.old) (sent_of S.Sink output.new) }
     {
-        let last = self.go(lines, sink)?;
+        let last = self.go(lines, output);
         self.pass(last);
-        Ok(())
     }
 
     /// The tick is over, and the next one comes, with the origin that counts from here on.
-    pub fn pass(&mut self, last: Option<At>)
+    pub fn pass(&mut self, last: Option<Moment>)
         requires now { self.old.now.0 < 2 ^ 40 }
-        requires of_tick { IsOfTick (tick_from 0 self.old.now.0) last }
+        requires of_now { IsNow self.old.now.0 (next_at last) }
         ensures image { self.new.image ≡ self.old.image }
-        ensures standing { standing_of E.Executor self.new ≡ record { members = members_in E.Executor self.old.members; now = self.old.now.0 + 1; origin = option_map origin_of last } }
+        ensures standing { standing_of E.Executor self.new ≡ record { members = members_in E.Executor self.old.members; now = self.old.now.0 + 1; origin = option_map origin_of (next_at last) } }
     {
         self.now = Ticks(self.now.0 + 1);
         self.origin = match last {
-            Some(at) => Some(at.origin),
+            Some(moment) => Some(moment.at.origin),
             None => None,
         };
     }
 
     /// What happens in the next tick. After a shutdown nothing does.
-    fn go<S: Sink>(&mut self, lines: &[DeviceLine], sink: &mut S) -> Result<Option<At>, SinkFault>
-        requires lines { meaning.of_tick self.old.now.0 lines.now ≡ lines.now }
-        requires failures { S.failures sink.old < 2 ^ 64 - 1 }
+    fn go<S: Sink>(
+        &mut self,
+        lines: &[DeviceLine],
+        output: &mut Output<'_, S>,
+    ) -> Option<Moment>
+        requires { meaning.of_tick self.old.now.0 lines.now ≡ lines.now }
         ensures image { self.new.image ≡ self.old.image }
         ensures now { self.new.now ≡ self.old.now }
-        ensures of_tick { IfOk result (IsOfTick (tick_from 0 self.old.now.0)) }
-        ensures written { IsCourseWritten (ticks (plan_of self.old.image) lines.now (standing_of E.Executor self.old)) (members_in E.Executor self.new.members) (S.taken sink.old) (S.taken sink.new) (S.failures sink.old) (S.failures sink.new) result }
+        ensures written { IsCourse (ticks (plan_of self.old.image) lines.now (standing_of E.Executor self.old)) (next_at result) (members_in E.Executor self.new.members) (sent_of S.Sink output.old) (sent_of S.Sink output.new) }
     {
-        let Some(origin) = self.origin else {
-            return Ok(None);
-        };
-        let at = At {
-            now: self.now,
-            origin,
-        };
-        self.trace.clear();
+        let moment = self.moment()?;
         self.members
-            .begin_and_tick(&self.image, at, lines, &mut self.trace, sink)
+            .begin_and_tick(&self.image, moment, lines, output)
     }
 }
 
 /// Of these lines, which are of this tick or later ones, those of this tick, and those of later ticks.
 pub fn split_tick(lines: &[DeviceLine], tick: u64) -> (&[DeviceLine], &[DeviceLine])
-    requires order { AreFrom tick lines.now }
+    requires { AreFrom tick lines.now }
     ensures own { result.0.now ≡ meaning.of_tick tick lines.now }
     ensures of_tick { meaning.of_tick tick result.0.now ≡ result.0.now }
     ensures later { AreFrom (tick + 1) result.1.now }
@@ -75,7 +83,7 @@ pub fn split_tick(lines: &[DeviceLine], tick: u64) -> (&[DeviceLine], &[DeviceLi
 
 /// How many of these lines, which are of this tick or later ones, are of this tick.
 fn count_of_tick(lines: &[DeviceLine], now: Ticks) -> usize
-    requires order { AreFrom now.0 lines.now }
+    requires { AreFrom now.0 lines.now }
     ensures within { result ≤ length lines.now }
     ensures now { take result lines.now ≡ meaning.of_tick now.0 lines.now }
     ensures later { AreFrom (now.0 + 1) (drop result lines.now) }

@@ -1,26 +1,26 @@
 //! Ticks of a module that are not shown, and what they bring one partition.
 
-ghost use Rattle.std.specs.Prelude.{◌≡◌, ◌≤◌, ◌<◌, ◌+◌, ◌-◌, ◌^◌, ℕ, None, [], IfOk, OnOk};
+ghost use Rattle.std.specs.Prelude.{◌≡◌, ◌<◌, ◌+◌, ◌^◌, ℕ, None, Some, IfOk, OnOk};
 ghost use Rattle.module_meaning.specs.Module as meaning;
-ghost use Rattle.kernel_meaning.specs.Windows.{tick_from};
 ghost use Rattle.isolation.specs.Brought.{brought_moved, brought_tick};
+ghost use Rattle.lone_partition.specs.Outputs.{next_at};
 ghost use Rattle.module.specs.Collecting.{AreCollected, IsMadeUnseen, brought_next};
 ghost use Rattle.module.specs.Standing.{after, begins, begins_and_ticks, ticks};
 ghost use Rattle.module.specs.Views.{members_in, plan_of, standing_of};
-ghost use Rattle.module.specs.Written.{IsOfTick, done_in};
 
 use crate::bringing::bring_in_all;
 use crate::collected::Collected;
 use crate::inputs_fault::InputsFault;
 use crate::member::{Members, Module};
-use apex_types::{At, DeviceLine, PartitionId, Sink, SinkFault, TraceBuffer};
+use apex_types::{DeviceLine, Moment, PartitionId, Sink, SinkFault};
 use image::Image;
+use lone_partition::Output;
 use partition_base::Executor;
 use regions::PartitionMem;
 
 /// A sink that takes all bytes and keeps none of them.
 #[derive(Drop)]
-struct Forgetful;
+pub struct Forgetful;
 
 impl Sink for Forgetful {
     ghost taken = { λ _. None };
@@ -38,21 +38,18 @@ impl<E: Executor<Mem = PartitionMem>> Members<E> {
     fn move_and_tick_watched(
         &mut self,
         plan: &Image,
-        at: At,
+        moment: Moment,
         watched: PartitionId,
         inputs: &mut Collected,
-        trace: &mut TraceBuffer,
+        output: &mut Output<'_, Forgetful>,
     ) -> Result<(), InputsFault>
-        requires past { at.origin.0 ≤ at.now.0 }
-        requires now { at.now.0 ≤ 2 ^ 40 }
-        requires empty { trace.old.text.items ≡ [] }
-        ensures empty { OnOk result (trace.new.text.items ≡ []) }
-        ensures members { OnOk result (members_in E.Executor self.new ≡ (meaning.moves_and_ticks (plan_of plan.now) at (members_in E.Executor self.old)).members) }
-        ensures inputs { AreCollected at.now.0 (brought_moved (plan_of plan.now) watched.0 (members_in E.Executor self.old) (Some at)) inputs.old.lines.items inputs.new.lines.items result }
+        ensures members { OnOk result (members_in E.Executor self.new ≡ (meaning.moves_and_ticks (plan_of plan.now) moment.at (members_in E.Executor self.old)).members) }
+        ensures inputs { AreCollected moment.at.now.0 (brought_moved (plan_of plan.now) watched.0 (members_in E.Executor self.old) (Some moment.at)) inputs.old.lines.items inputs.new.lines.items result }
     {
-        let ended = plan.schedule.ended(at);
-        self.bring_ended(plan.channels.as_slice(), ended, at.now, watched, inputs)?;
-        self.move_and_tick(plan, at, trace, &mut Forgetful)?;
+        let ended = plan.schedule.ended(moment.at);
+        let now = moment.at.now;
+        self.bring_ended(plan.channels.as_slice(), ended, now, watched, inputs)?;
+        self.move_and_tick(plan, moment, output);
         Ok(())
     }
 
@@ -61,25 +58,21 @@ impl<E: Executor<Mem = PartitionMem>> Members<E> {
     fn tick_watched(
         &mut self,
         plan: &Image,
-        at: At,
+        moment: Moment,
         lines: &[DeviceLine],
         watched: PartitionId,
         inputs: &mut Collected,
-        trace: &mut TraceBuffer,
-    ) -> Result<Option<At>, InputsFault>
-        requires past { at.origin.0 ≤ at.now.0 }
-        requires now { at.now.0 ≤ 2 ^ 40 }
-        requires empty { trace.old.text.items ≡ [] }
-        requires lines { meaning.of_tick at.now.0 lines.now ≡ lines.now }
-        ensures of_tick { IfOk result (IsOfTick at) }
-        ensures made { IfOk result (λ last. IsMadeUnseen (meaning.module_tick (plan_of plan.now) at lines.now (members_in E.Executor self.old)) last (members_in E.Executor self.new)) }
-        ensures inputs { AreCollected at.now.0 (brought_tick (plan_of plan.now) watched.0 at lines.now (members_in E.Executor self.old)) inputs.old.lines.items inputs.new.lines.items result }
+        output: &mut Output<'_, Forgetful>,
+    ) -> Result<Option<Moment>, InputsFault>
+        requires { meaning.of_tick moment.at.now.0 lines.now ≡ lines.now }
+        ensures made { IfOk result (λ last. IsMadeUnseen (meaning.module_tick (plan_of plan.now) moment.at lines.now (members_in E.Executor self.old)) (next_at last) (members_in E.Executor self.new)) }
+        ensures inputs { AreCollected moment.at.now.0 (brought_tick (plan_of plan.now) watched.0 moment.at lines.now (members_in E.Executor self.old)) inputs.old.lines.items inputs.new.lines.items result }
     {
-        bring_in_all(plan, lines, at.now, watched, inputs)?;
-        let Some(last) = self.input_all(plan, at, lines, trace, &mut Forgetful)? else {
+        bring_in_all(plan, lines, moment.at.now, watched, inputs)?;
+        let Some(last) = self.input_all(plan, moment, lines, output) else {
             return Ok(None);
         };
-        self.move_and_tick_watched(plan, last, watched, inputs, trace)?;
+        self.move_and_tick_watched(plan, last, watched, inputs, output)?;
         Ok(Some(last))
     }
 
@@ -88,32 +81,30 @@ impl<E: Executor<Mem = PartitionMem>> Members<E> {
     fn begin_and_tick_watched(
         &mut self,
         plan: &Image,
-        at: At,
+        moment: Moment,
         lines: &[DeviceLine],
         watched: PartitionId,
         inputs: &mut Collected,
-        trace: &mut TraceBuffer,
-    ) -> Result<Option<At>, InputsFault>
-        requires past { at.origin.0 ≤ at.now.0 }
-        requires now { at.now.0 ≤ 2 ^ 40 }
-        requires empty { trace.old.text.items ≡ [] }
-        requires lines { meaning.of_tick at.now.0 lines.now ≡ lines.now }
-        ensures of_tick { IfOk result (IsOfTick at) }
-        ensures made { IfOk result (λ last. IsMadeUnseen (begins_and_ticks (plan_of plan.now) at lines.now (members_in E.Executor self.old)) last (members_in E.Executor self.new)) }
-        ensures inputs { AreCollected at.now.0 (brought_tick (plan_of plan.now) watched.0 at lines.now (begins at.now.0 (members_in E.Executor self.old)).members) inputs.old.lines.items inputs.new.lines.items result }
+        output: &mut Output<'_, Forgetful>,
+    ) -> Result<Option<Moment>, InputsFault>
+        requires { meaning.of_tick moment.at.now.0 lines.now ≡ lines.now }
+        ensures made { IfOk result (λ last. IsMadeUnseen (begins_and_ticks (plan_of plan.now) moment.at lines.now (members_in E.Executor self.old)) (next_at last) (members_in E.Executor self.new)) }
+        ensures inputs { AreCollected moment.at.now.0 (brought_tick (plan_of plan.now) watched.0 moment.at lines.now (begins moment.at.now.0 (members_in E.Executor self.old)).members) inputs.old.lines.items inputs.new.lines.items result }
     {
-        self.begin(at, trace, &mut Forgetful)?;
-        self.tick_watched(plan, at, lines, watched, inputs, trace)
+        self.begin(moment, output);
+        self.tick_watched(plan, moment, lines, watched, inputs, output)
     }
 }
 
 impl<E: Executor<Mem = PartitionMem>> Module<E> {
     /// The next tick, with the devices' lines of it, and what it brings the watched partition.
+    #[tactic(auto, using(crate::proofs::Standing::ticks_now))]
     pub fn tick_watched(
         &mut self,
         lines: &[DeviceLine],
         watched: PartitionId,
         inputs: &mut Collected,
+        output: &mut Output<'_, Forgetful>,
     ) -> Result<(), InputsFault>
         requires now { self.old.now.0 < 2 ^ 40 }
         requires lines { meaning.of_tick self.old.now.0 lines.now ≡ lines.now }
@@ -121,7 +112,7 @@ impl<E: Executor<Mem = PartitionMem>> Module<E> {
         ensures standing { OnOk result (standing_of E.Executor self.new ≡ after (standing_of E.Executor self.old) (ticks (plan_of self.old.image) lines.now (standing_of E.Executor self.old))) }
         ensures inputs { AreCollected self.old.now.0 (brought_next (plan_of self.old.image) watched.0 lines.now (standing_of E.Executor self.old)) inputs.old.lines.items inputs.new.lines.items result }
     {
-        let last = self.go_watched(lines, watched, inputs)?;
+        let last = self.go_watched(lines, watched, inputs, output)?;
         self.pass(last);
         Ok(())
     }
@@ -133,23 +124,18 @@ impl<E: Executor<Mem = PartitionMem>> Module<E> {
         lines: &[DeviceLine],
         watched: PartitionId,
         inputs: &mut Collected,
-    ) -> Result<Option<At>, InputsFault>
-        requires lines { meaning.of_tick self.old.now.0 lines.now ≡ lines.now }
+        output: &mut Output<'_, Forgetful>,
+    ) -> Result<Option<Moment>, InputsFault>
+        requires { meaning.of_tick self.old.now.0 lines.now ≡ lines.now }
         ensures image { self.new.image ≡ self.old.image }
         ensures now { self.new.now ≡ self.old.now }
-        ensures of_tick { IfOk result (IsOfTick (tick_from 0 self.old.now.0)) }
-        ensures made { IfOk result (λ last. IsMadeUnseen (ticks (plan_of self.old.image) lines.now (standing_of E.Executor self.old)) last (members_in E.Executor self.new.members)) }
+        ensures made { IfOk result (λ last. IsMadeUnseen (ticks (plan_of self.old.image) lines.now (standing_of E.Executor self.old)) (next_at last) (members_in E.Executor self.new.members)) }
         ensures inputs { AreCollected self.old.now.0 (brought_next (plan_of self.old.image) watched.0 lines.now (standing_of E.Executor self.old)) inputs.old.lines.items inputs.new.lines.items result }
     {
-        let Some(origin) = self.origin else {
+        let Some(moment) = self.moment() else {
             return Ok(None);
         };
-        let at = At {
-            now: self.now,
-            origin,
-        };
-        self.trace.clear();
         self.members
-            .begin_and_tick_watched(&self.image, at, lines, watched, inputs, &mut self.trace)
+            .begin_and_tick_watched(&self.image, moment, lines, watched, inputs, output)
     }
 }

@@ -1,30 +1,30 @@
-use Rattle.std.proofs.Common.{◌≡◌, ◌≤◌, ◌+◌, Some, None, Ok, arith, rules}
+use Rattle.std.proofs.Common.{◌≡◌, ◌≤◌, ◌+◌, Some, None, arith, rules}
 use Rattle.kernel_meaning.specs.Windows.{ended, owner}
 use Rattle.partition.specs.Members.{member_of}
 use Rattle.lone_partition.specs.Around.{around}
+use Rattle.lone_partition.specs.Outputs.{sent_of}
 use Rattle.lone_partition.proofs.Bursts.{from_lower, is_within, run_empty, run_fewer}
 use Rattle.lone_partition.proofs.pieces.advance_window.Goals as goal
 
 pub returns-in-None-clause-run : goal.returns-in-None-clause-run
 returns-in-None-clause-run g c = λ lines order.
     let s = around c.args.surroundings.now in
-    let at = c.args.at in
+    let at = c.args.moment.at in
     let t = at.now.0 in
     let x = member_of g.E.Executor c.args.partition.now c.args.mem.now in
     let n = c.at_most-count.result in
     let few : n ≤ c.args.most = c.at_most-count.ensures.within in
     let over : ended s.schedule at ≡ None = search rules in
     let owns : owner s.schedule at ≡ None = search rules in
-    let taken = g.S.Sink.taken c.args.sink.now in
-    let failures = g.S.Sink.failures c.args.sink.now in
-    run_fewer s lines n c.args.most at x x taken taken failures failures (Ok n) few
-    (run_empty s lines n at x taken failures
+    let sent = sent_of g.S.Sink c.args.output.now in
+    run_fewer s lines n c.args.most n at x x sent sent few
+    (run_empty s lines n at x sent
     (is_within s lines n c.until_change.result at None c.at_most-count.ensures.ticks (from_lower (t + n) (t + c.args.most) lines (omega (arith, few)) order) over c.until_change.ensures.ended owns c.until_change.ensures.owner))
 
 pub returns-in-Some-clause-run : goal.returns-in-Some-clause-run
 returns-in-Some-clause-run g c = λ lines order.
     let s = around c.args.surroundings.now in
-    let at = c.args.at in
+    let at = c.args.moment.at in
     let t = at.now.0 in
     let x = member_of g.E.Executor c.args.partition.now c.args.mem.now in
     let y = member_of g.E.Executor c.write_piece.new.partition c.write_piece.new.mem in
@@ -32,6 +32,6 @@ returns-in-Some-clause-run g c = λ lines order.
     let few : n ≤ c.args.most = c.at_most-count.ensures.within in
     let over : ended s.schedule at ≡ None = search rules in
     let owns : owner s.schedule at ≡ Some c.in-Some.field-0.0 = search rules in
-    run_fewer s lines n c.args.most at x y _ _ _ _ c.write_piece.result few
+    run_fewer s lines n c.args.most c.write_piece.result at x y _ _ few
     (c.write_piece.ensures.run s lines c.in-Some.field-0.0
     (is_within s lines n c.until_change.result at (Some c.in-Some.field-0.0) c.at_most-count.ensures.ticks (from_lower (t + n) (t + c.args.most) lines (omega (arith, few)) order) over c.until_change.ensures.ended owns c.until_change.ensures.owner))

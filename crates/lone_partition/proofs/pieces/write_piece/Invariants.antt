@@ -1,7 +1,8 @@
-use Rattle.std.proofs.Common.{◌≡◌, ◌≤◌, ◌<◌, ◌+◌, ◌-◌, ℕ, List, [], Some}
+use Rattle.std.proofs.Common.{◌≡◌, ◌≤◌, ◌<◌, ◌+◌, ◌-◌, ℕ, List, Some}
 use Rattle.isolation.specs.Alone.{Surroundings}
 use Rattle.isolation.specs.declared.input.InputLine.{InputLine}
 use Rattle.partition.specs.Members.{member_of}
+use Rattle.lone_partition.specs.Outputs.{sent_of}
 use Rattle.lone_partition.specs.Pieces.{HasRun, IsWithin}
 use Rattle.lone_partition.proofs.pieces.write_piece.Given as goal
 
@@ -9,9 +10,7 @@ abbrev pub invariant-loop-left : goal.invariant-loop-left
 invariant-loop-left g l = record {
   few : l.left ≤ l.fn.most;
   fits : g.E.Executor.laid l.mem ≡ g.E.Executor.layout l.partition.executor;
-  empty : l.trace.text.items ≡ [];
-  quiet : g.S.Sink.failures l.sink ≡ g.S.Sink.failures l.fn.sink;
-  run : (s : Surroundings) (lines : List InputLine) (number : ℕ) → ((i : ℕ) → i < l.fn.most → IsWithin s lines l.fn.at.origin.0 (l.fn.at.now.0 + i) (Some number)) → HasRun s lines (l.fn.most - l.left) l.fn.at (member_of g.E.Executor l.fn.partition l.fn.mem) (member_of g.E.Executor l.partition l.mem) (g.S.Sink.taken l.fn.sink) (g.S.Sink.taken l.sink) (g.S.Sink.failures l.fn.sink) (g.S.Sink.failures l.sink);
+  run : (s : Surroundings) (lines : List InputLine) (number : ℕ) → ((i : ℕ) → i < l.fn.most → IsWithin s lines l.fn.moment.at.origin.0 (l.fn.moment.at.now.0 + i) (Some number)) → HasRun s lines (l.fn.most - l.left) l.fn.moment.at (member_of g.E.Executor l.fn.partition l.fn.mem) (member_of g.E.Executor l.partition l.mem) (sent_of g.S.Sink l.fn.output) (sent_of g.S.Sink l.output);
 }
 
 abbrev pub decreases-loop-left : goal.decreases-loop-left

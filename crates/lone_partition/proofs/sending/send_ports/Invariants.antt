@@ -1,13 +1,13 @@
-use Rattle.std.proofs.Common.{◌≡◌, ◌+◌, ◌-◌, []}
+use Rattle.std.proofs.Common.{◌≡◌, ◌+◌, ◌-◌}
 use Rattle.isolation.specs.Alone.{sends_ports}
 use Rattle.partition.specs.Members.{member_of}
 use Rattle.lone_partition.specs.Around.{around}
-use Rattle.lone_partition.proofs.Written.{IsUnderWay}
+use Rattle.lone_partition.specs.Outputs.{sent_of}
+use Rattle.lone_partition.proofs.Written.{Completes}
 use Rattle.lone_partition.proofs.sending.send_ports.Given as goal
 
 abbrev pub invariant-loop-place : goal.invariant-loop-place
 invariant-loop-place g l = record {
   fits : g.E.Executor.laid l.mem ≡ g.E.Executor.layout l.partition.executor;
-  empty : l.trace.text.items ≡ [];
-  under_way : IsUnderWay (sends_ports l.count 1 (around l.surroundings) l.at (member_of g.E.Executor l.fn.partition l.fn.mem)) (sends_ports (l.count - l.place) (l.place + 1) (around l.surroundings) l.at (member_of g.E.Executor l.partition l.mem)) (g.S.Sink.taken l.fn.sink) (g.S.Sink.taken l.sink) (g.S.Sink.failures l.fn.sink) (g.S.Sink.failures l.sink);
+  rest : Completes (sends_ports l.count 1 (around l.surroundings) l.moment.at (member_of g.E.Executor l.fn.partition l.fn.mem)) (sends_ports (l.count - l.place) (l.place + 1) (around l.surroundings) l.moment.at (member_of g.E.Executor l.partition l.mem)) (sent_of g.S.Sink l.fn.output) (sent_of g.S.Sink l.output);
 }

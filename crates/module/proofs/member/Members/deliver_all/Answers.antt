@@ -1,11 +1,11 @@
-use Rattle.std.proofs.Common.{◌+◌, List, drop, ap, rules}
+use Rattle.std.proofs.Common.{◌+◌, List, drop, ap}
 use Rattle.std.proofs.lemmas.List.{drop_more}
 use Rattle.apex_types.specs.declared.row.ChannelEnd.{ChannelEnd}
 use Rattle.apex_types.specs.declared.row.ChannelEnd.TheVariants.{Device}
 use Rattle.module_meaning.specs.Module.{delivers_all}
 use Rattle.image.specs.Items.{channel_of}
 use Rattle.module.specs.Views.{members_in}
-use Rattle.module.proofs.Written.{goes_on, cut_off, written_err}
+use Rattle.module.proofs.Written.{goes_on}
 use Rattle.module.proofs.member.Members.deliver_all.Goals as goal
 
 pub loop-end-preserved : goal.loop-end-preserved
@@ -13,17 +13,5 @@ loop-end-preserved g c =
     let ends = c.args.ends.now in
     let row = channel_of c.args.channel.now in
     let now = members_in g.E.Executor c.loop-end.self in
-    let split = ap (λ (es : List ChannelEnd). delivers_all c.args.at row c.args.message.now es now) (drop_more ends c.loop-end.end-index Device c.loop-end-test.true) in
-    record {
-      empty = search rules;
-      under_way = goes_on (delivers_all c.args.at row c.args.message.now (drop (c.loop-end.end-index + 1) ends)) (members_in g.E.Executor c.deliver.new.self) split c.loop-end.invariant.under_way c.in_ok-deliver.ensures.written;
-    }
-
-pub returns-in_err-deliver-clause-written : goal.returns-in_err-deliver-clause-written
-returns-in_err-deliver-clause-written g c =
-    let ends = c.args.ends.now in
-    let row = channel_of c.args.channel.now in
-    let now = members_in g.E.Executor c.loop-end.self in
-    let split = ap (λ (es : List ChannelEnd). delivers_all c.args.at row c.args.message.now es now) (drop_more ends c.loop-end.end-index Device c.loop-end-test.true) in
-    let cut = cut_off (delivers_all c.args.at row c.args.message.now (drop (c.loop-end.end-index + 1) ends)) split c.loop-end.invariant.under_way c.in_err-deliver.ensures.written in
-    written_err _ c.in_err-deliver.field-0.0 _ (search rules) cut
+    let split = ap (λ (es : List ChannelEnd). delivers_all c.args.moment.at row c.args.message.now es now) (drop_more ends c.loop-end.end-index Device c.loop-end-test.true) in
+    goes_on (delivers_all c.args.moment.at row c.args.message.now (drop (c.loop-end.end-index + 1) ends)) (members_in g.E.Executor c.deliver.new.self) split c.loop-end.invariant c.deliver.ensures

@@ -4,20 +4,12 @@ use Rattle.module_meaning.specs.Module.{steps, moves_so_many, ports_from}
 use Rattle.kernel_meaning.specs.Partition.{admits, messages_to_move}
 use Rattle.image.specs.Items.{channels_of}
 use Rattle.module.specs.Views.{members_in}
-use Rattle.module.proofs.Written.{then_cut_off, then_made, written_err}
+use Rattle.module.proofs.Written.{then_made}
 use Rattle.module.proofs.member.Members.move_port.Goals as goal
 
-pub returns-in_err-write_step-clause-written : goal.returns-in_err-write_step-clause-written
-returns-in_err-write_step-clause-written g c =
+pub returns : goal.returns
+returns g c =
     let ms = members_in g.E.Executor c.args.self.now in
     let so_many : messages_to_move (at_number (ports_from ms c.args.partition.0) c.args.port.0) ≡ Some c.in-Some.count = search rules in
-    let split = ap (λ (o : Option ℕ). moves_so_many (channels_of c.args.channels.now) c.args.at c.args.partition c.args.port ms o) so_many in
-    written_err _ c.in_err-write_step.field-0.0 _ (search rules)
-    (then_cut_off (λ ms. steps (admits c.args.at c.args.port) ms c.args.partition.0) (members_in g.E.Executor c.move_messages.new.self) split c.in_ok-move_messages.ensures.written c.in_err-write_step.ensures.written)
-
-pub returns-clause-written : goal.returns-clause-written
-returns-clause-written g c =
-    let ms = members_in g.E.Executor c.args.self.now in
-    let so_many : messages_to_move (at_number (ports_from ms c.args.partition.0) c.args.port.0) ≡ Some c.in-Some.count = search rules in
-    let split = ap (λ (o : Option ℕ). moves_so_many (channels_of c.args.channels.now) c.args.at c.args.partition c.args.port ms o) so_many in
-    then_made (λ ms. steps (admits c.args.at c.args.port) ms c.args.partition.0) (members_in g.E.Executor c.move_messages.new.self) split c.in_ok-move_messages.ensures.written c.in_ok-write_step.ensures.written
+    let split = ap (λ (o : Option ℕ). moves_so_many (channels_of c.args.channels.now) c.args.moment.at c.args.partition c.args.port ms o) so_many in
+    then_made (λ ms. steps (admits c.args.moment.at c.args.port) ms c.args.partition.0) (members_in g.E.Executor c.move_messages.new.self) split c.move_messages.ensures c.step.ensures.written

@@ -15,14 +15,14 @@ loop-place-preserved g c =
     let place = c.loop-place.place in
     let p = c.index.result.now in
     let here : slice_get ps place ≡ Some p = search (rules, slice_get-get_or) in
-    let t = c.args.at.now.0 in
+    let t = c.args.moment.at.now.0 in
     record {
       inside = search rules;
       within = omega (arith, c.loop-place.invariant.within, c.still_ticks-least.ensures.within);
-      still = λ some. one_more_still c.args.at.origin.0 t c.loop-place.least c.still_ticks-least.result place (members_in e c.args.self.now) p.kernel c.still_ticks-least.ensures.within
+      still = λ some. one_more_still c.args.moment.at.origin.0 t c.loop-place.least c.still_ticks-least.result place (members_in e c.args.self.now) p.kernel c.still_ticks-least.ensures.within
           (kernel_there e ps memory place p c.args.self.now.fit here)
           (c.loop-place.invariant.still (omega (arith, some, c.still_ticks-least.ensures.within)))
-          (subst (λ (k : Kernel). IsStill c.args.at.origin.0 t (t + c.still_ticks-least.result) k) c.kernel.ensures (c.still_ticks-least.ensures.still some));
+          (subst (λ (k : Kernel). IsStill c.args.moment.at.origin.0 t (t + c.still_ticks-least.result) k) c.kernel.ensures (c.still_ticks-least.ensures.still some));
     }
 
 pub returns-clause-still : goal.returns-clause-still
@@ -33,4 +33,4 @@ returns-clause-still g c = λ some.
     let place = c.loop-place.place in
     let count : length (members_in e c.args.self.now) ≡ length ps = members_count e ps memory c.args.self.now.fit in
     let behind : length ps ≤ place = search rules in
-    all_still c.args.at.origin.0 c.args.at.now.0 c.loop-place.least place (members_in e c.args.self.now) (omega (arith, count, behind)) (c.loop-place.invariant.still some)
+    all_still c.args.moment.at.origin.0 c.args.moment.at.now.0 c.loop-place.least place (members_in e c.args.self.now) (omega (arith, count, behind)) (c.loop-place.invariant.still some)

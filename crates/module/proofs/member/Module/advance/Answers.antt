@@ -1,9 +1,12 @@
-use Rattle.std.proofs.Common.{◌≡◌, ◌≤◌, ◌<◌, ◌+◌, Some, Ok, refl, ap, sym, subst, arith, rules}
-use Rattle.module.specs.Pieces.{HasRunSome}
-use Rattle.module.specs.Standing.{Standing, ticks_in}
+use Rattle.std.proofs.Common.{◌≡◌, ◌≤◌, ◌<◌, ◌+◌, Some, ap, sym, subst, ◌∙◌, arith, rules}
+use Rattle.apex_types.specs.declared.identity.Ticks.{Ticks}
+use Rattle.lone_partition.specs.Outputs.{next_at, sent_of}
+use Rattle.module.specs.Pieces.{HasPassedSome}
+use Rattle.module.specs.Standing.{Standing, moment_of, ticks_in}
 use Rattle.module.specs.Views.{plan_of, standing_of}
 use Rattle.module.specs.Written.{AreFrom}
 use Rattle.module.proofs.Bursts.{from_lower, run_fewer, run_still, still_ahead}
+use Rattle.module.proofs.Standing.{moment_now, moment_origin}
 use Rattle.module.proofs.member.Module.advance.Goals as goal
 
 pub returns-then-still-gt0-clause-order : goal.returns-then-still-gt0-clause-order
@@ -20,24 +23,34 @@ returns-then-still-gt0-clause-run g c =
     let s = standing_of e c.args.self.now in
     let plan = plan_of c.args.self.now.image in
     let lines = c.args.lines.now in
-    let t = c.args.self.now.now.0 in
+    let at = c.in-Some.moment.at in
     let n = c.still_ticks-still.result in
     let some : 0 < n = omega (arith, c.if-still-gt0.true) in
-    let is : c.args.self.now.origin ≡ Some c.in-Some.origin = search rules in
-    let from : s.origin ≡ Some c.in-Some.origin.0 = ap ticks_in is in
-    let taken = g.S.Sink.taken c.args.sink.now in
-    let failures = g.S.Sink.failures c.args.sink.now in
+    let is : Some at ≡ moment_of c.args.self.now.now c.args.self.now.origin = ap next_at (sym c.in-Some.is) ∙ c.moment-moment.ensures in
+    let here : at.now.0 ≡ s.now = ap (λ (t : Ticks). t.0) (moment_now c.args.self.now.now c.args.self.now.origin at is) in
+    let from : s.origin ≡ Some at.origin.0 = ap ticks_in (moment_origin c.args.self.now.now c.args.self.now.origin at is) in
+    let sent = sent_of g.S.Sink c.args.output.now in
     let few : n ≤ c.args.most = omega (arith, c.still_ticks-still.ensures.within, c.until_line-quiet.ensures.within) in
-    run_fewer _ _ _ _ plan lines n c.args.most s (standing_of e c.skip.new.self) (Ok n) few
-    (subst (λ (next : Standing e.Control). HasRunSome plan lines n s next taken taken failures failures (Ok n)) (sym c.skip.ensures.standing)
-    (run_still plan lines n t _ s taken failures refl from (omega arith)
-    (from_lower (t + n) (t + c.until_line-quiet.result) lines (omega (arith, c.still_ticks-still.ensures.within)) c.until_line-quiet.ensures.from)
+    run_fewer sent sent plan lines n c.args.most n s (standing_of e c.skip.new.self) few
+    (subst (λ (next : Standing e.Control). HasPassedSome plan lines n s next sent sent n) (sym c.skip.ensures.standing)
+    (run_still plan lines n at.now.0 at.origin.0 s sent here from (omega (arith, here))
+    (subst (λ u. AreFrom (u + n) lines) (sym here) (from_lower (s.now + n) (s.now + c.until_line-quiet.result) lines (omega (arith, c.still_ticks-still.ensures.within)) c.until_line-quiet.ensures.from))
     (c.still_ticks-still.ensures.still some)))
 
 pub returns-clause-order : goal.returns-clause-order
 returns-clause-order g c =
-    still_ahead _ _ _ _ (plan_of c.args.self.now.image) c.args.lines.now c.until_line-quiet.result c.args.self.now.now.0 (standing_of g.E.Executor c.args.self.now) (standing_of g.E.Executor c.advance_window.new.self) c.advance_window.result refl c.until_line-quiet.ensures.from (c.advance_window.ensures.run c.args.lines.now c.until_line-quiet.ensures.from)
+    let at = c.in-Some.moment.at in
+    let s = standing_of g.E.Executor c.args.self.now in
+    let is : Some at ≡ moment_of c.args.self.now.now c.args.self.now.origin = ap next_at (sym c.in-Some.is) ∙ c.moment-moment.ensures in
+    let here : at.now.0 ≡ s.now = ap (λ (t : Ticks). t.0) (moment_now c.args.self.now.now c.args.self.now.origin at is) in
+    let order = subst (λ u. AreFrom (u + c.until_line-quiet.result) c.args.lines.now) (sym here) c.until_line-quiet.ensures.from in
+    still_ahead _ _ (plan_of c.args.self.now.image) c.args.lines.now c.until_line-quiet.result at.now.0 c.advance_window.result s (standing_of g.E.Executor c.advance_window.new.self) here order (c.advance_window.ensures.run c.args.lines.now order)
 
 pub returns-clause-run : goal.returns-clause-run
 returns-clause-run g c =
-    run_fewer _ _ _ _ (plan_of c.args.self.now.image) c.args.lines.now c.until_line-quiet.result c.args.most (standing_of g.E.Executor c.args.self.now) (standing_of g.E.Executor c.advance_window.new.self) c.advance_window.result c.until_line-quiet.ensures.within (c.advance_window.ensures.run c.args.lines.now c.until_line-quiet.ensures.from)
+    let at = c.in-Some.moment.at in
+    let s = standing_of g.E.Executor c.args.self.now in
+    let is : Some at ≡ moment_of c.args.self.now.now c.args.self.now.origin = ap next_at (sym c.in-Some.is) ∙ c.moment-moment.ensures in
+    let here : at.now.0 ≡ s.now = ap (λ (t : Ticks). t.0) (moment_now c.args.self.now.now c.args.self.now.origin at is) in
+    let order = subst (λ u. AreFrom (u + c.until_line-quiet.result) c.args.lines.now) (sym here) c.until_line-quiet.ensures.from in
+    run_fewer _ _ (plan_of c.args.self.now.image) c.args.lines.now c.until_line-quiet.result c.args.most c.advance_window.result s (standing_of g.E.Executor c.advance_window.new.self) c.until_line-quiet.ensures.within (c.advance_window.ensures.run c.args.lines.now order)

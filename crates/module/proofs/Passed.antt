@@ -1,0 +1,25 @@
+-- What ticks come to where the sink has taken all of their lines, and where it has failed.
+use Rattle.std.proofs.Common.{◌≡◌, ℕ, true, false, List, ◌≤◌}
+use Rattle.apex_types.specs.Line.{text_of}
+use Rattle.apex_types.specs.declared.device.DeviceLine.{DeviceLine}
+use Rattle.module_meaning.specs.Module.{Plan}
+use Rattle.lone_partition.proofs.Outputs.{all_sent, some_sent}
+use Rattle.lone_partition.specs.Sent.{Sent}
+use Rattle.module.specs.Pieces.{HasPassed, HasPassedSome, HasRun, IsBrokenOff}
+use Rattle.module.specs.Standing.{Standing}
+
+-- all lines are taken
+pub passed_all : {C : Type 0} (plan : Plan) (lines : List DeviceLine) (n : ℕ) (s next : Standing C) (old new : Sent) → old.failed ≡ false → new.failed ≡ false
+    → HasPassed plan lines n s next old new → HasRun plan lines n s next old.taken new.taken old.failures new.failures
+passed_all plan lines n s next old new sound all h =
+    let sent = all_sent old new (text_of h.told) sound all h.sent in
+    record { told = h.told; leads = h.leads; written = sent.0; quiet = sent.1 }
+
+-- the sink has failed
+pub passed_some : {C : Type 0} (plan : Plan) (lines : List DeviceLine) (k n : ℕ) (s next : Standing C) (old new : Sent) → old.failed ≡ false → new.failed ≡ true
+    → HasPassedSome plan lines k s next old new n → IsBrokenOff plan lines k s old.taken new.taken old.failures new.failures
+passed_some plan lines k n s next old new sound failed h =
+    let sent = some_sent old new (text_of h.2.told) sound failed h.2.sent in
+    record { ticks = n; told = h.2.told; next = next; within = h.0; leads = h.2.leads; beginning = sent.0; failed = sent.1 }
+
+pub ruleset passed = (all_sent, some_sent)

@@ -1,0 +1,84 @@
+use Rattle.std.proofs.Common.{◌≡◌, ◌≤◌, ◌<◌, length, Option, Some, None, slice_get, slice_set, ap, sym, subst, ◌∙◌, arith, rules}
+use Rattle.std.proofs.lemmas.Option.{slice_get-get_or}
+use Rattle.kernel_meaning.specs.Partition.{Member, leaves, leaving}
+use Rattle.lone_partition.specs.Outputs.{sent_of}
+use Rattle.module_meaning.specs.Module.{of_member, steps_member}
+use Rattle.partition.specs.Members.{member_of}
+use Rattle.module.specs.Members.{members_of}
+use Rattle.module.specs.Written.{IsMade}
+use Rattle.module.proofs.Members.{few_set, fit_at, fit_set, get_member, set_member, no_member, same_length}
+use Rattle.module.proofs.Written.{still_made}
+use Rattle.module.proofs.member.Members.leave_at.Goals as goal
+
+pub lend-mem-requires : goal.lend-mem-requires
+lend-mem-requires g c =
+    let ps = c.args.self.now.partitions.items in
+    let memory = c.args.self.now.memory in
+    let same : length ps ≡ length memory = same_length g.E.Executor ps memory c.args.self.now.fit in
+    let within : c.args.place < length ps = search rules in
+    rw c.number_at.ensures.number (omega arith, omega arith)
+
+pub write_leave-requires : goal.write_leave-requires
+write_leave-requires g c =
+    let e = g.E.Executor in
+    let ps = c.args.self.now.partitions.items in
+    let memory = c.args.self.now.memory in
+    let place = c.args.place in
+    let p = c.index_mut.result.now in
+    let s = c.lend-mem.result.now in
+    let here : slice_get ps place ≡ Some p = search (rules, slice_get-get_or) in
+    fit_at e ps memory place p s c.args.self.now.fit here (rw c.number_at.ensures.place at c.lend-mem.ensures.lent)
+
+pub invariant_of-self-2 : goal.invariant_of-self-2
+invariant_of-self-2 g c = rw c.number_at.ensures.place (record { few = few_set c.args.self.now.partitions.items c.args.place c.write_leave.new.partition c.args.self.now.few; fit = fit_set g.E.Executor c.args.self.now.partitions.items c.args.self.now.memory c.args.place c.write_leave.new.partition c.write_leave.new.mem c.args.self.now.fit c.write_leave.ensures.fits })
+
+pub returns-clause-written : goal.returns-clause-written
+returns-clause-written g c =
+    let e = g.E.Executor in
+    let ps = c.args.self.now.partitions.items in
+    let memory = c.args.self.now.memory in
+    let place = c.args.place in
+    let p = c.index_mut.result.now in
+    let s = c.lend-mem.result.now in
+    let here : slice_get ps place ≡ Some p = search (rules, slice_get-get_or) in
+    let members = members_of e ps memory in
+    let got : slice_get members place ≡ Some (member_of e p s) = get_member e ps memory place p s here (rw c.number_at.ensures.place at c.lend-mem.ensures.lent) in
+    let made = c.write_leave.ensures.written in
+    rw c.number_at.ensures.place (subst (λ (o : Option (Member e.Control)). IsMade (steps_member (leaves c.args.moment.at c.args.port) members place o) (members_of e (slice_set ps place c.write_leave.new.partition) (slice_set memory place c.write_leave.new.mem)) (sent_of g.S.Sink c.args.output.now) (sent_of g.S.Sink c.write_leave.new.output)) (sym got)
+    (record { members = set_member e ps memory place c.write_leave.new.partition c.write_leave.new.mem ∙ ap (λ m. slice_set members place m) made.state; sent = made.sent }))
+
+pub returns-then-place-len-clause-written : goal.returns-then-place-len-clause-written
+returns-then-place-len-clause-written g c =
+    let e = g.E.Executor in
+    let ps = c.args.self.now.partitions.items in
+    let memory = c.args.self.now.memory in
+    let place = c.args.place in
+    let members = members_of e ps memory in
+    let behind : length ps ≤ place = search rules in
+    let none : slice_get members place ≡ None = no_member e ps memory place behind in
+    let sent = sent_of g.S.Sink c.args.output.now in
+    subst (λ (o : Option (Member e.Control)). IsMade (steps_member (leaves c.args.moment.at c.args.port) members place o) members sent sent) (sym none) (still_made members sent)
+
+pub returns-clause-message : goal.returns-clause-message
+returns-clause-message g c =
+    let e = g.E.Executor in
+    let ps = c.args.self.now.partitions.items in
+    let memory = c.args.self.now.memory in
+    let place = c.args.place in
+    let p = c.index_mut.result.now in
+    let s = c.lend-mem.result.now in
+    let here : slice_get ps place ≡ Some p = search (rules, slice_get-get_or) in
+    let members = members_of e ps memory in
+    let got : slice_get members place ≡ Some (member_of e p s) = get_member e ps memory place p s here (rw c.number_at.ensures.place at c.lend-mem.ensures.lent) in
+    c.write_leave.ensures.message ∙ ap (λ (o : Option (Member e.Control)). of_member None (leaving c.args.port) o) (sym got)
+
+pub returns-then-place-len-clause-message : goal.returns-then-place-len-clause-message
+returns-then-place-len-clause-message g c =
+    let e = g.E.Executor in
+    let ps = c.args.self.now.partitions.items in
+    let memory = c.args.self.now.memory in
+    let place = c.args.place in
+    let members = members_of e ps memory in
+    let behind : length ps ≤ place = search rules in
+    let none : slice_get members place ≡ None = no_member e ps memory place behind in
+    ap (λ (o : Option (Member e.Control)). of_member None (leaving c.args.port) o) (sym none)
