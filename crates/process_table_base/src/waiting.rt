@@ -1,6 +1,6 @@
 //! Those that wait for an object or a port, and how they are released.
 
-ghost use Rattle.std.specs.Prelude.{◌≡◌, ◌<◌, ◌≤◌, ◌+◌, ◌*◌, ◌^◌, ◌++◌, ℕ, length, true, IfSome, Some, slice_set};
+ghost use Rattle.std.specs.Prelude.{◌≡◌, ◌<◌, ◌+◌, ◌*◌, ◌++◌, ℕ, length, true, IfSome, Some, slice_set};
 ghost use Rattle.apex_types.specs.Room.{HasRoom, Grows};
 ghost use Rattle.apex_types.specs.Runners.{place_of};
 ghost use Rattle.apex_types.specs.declared.codes.Discipline.{Discipline};
@@ -19,8 +19,8 @@ use crate::change::zeros;
 use crate::duration::time_out;
 use crate::table::ProcessTable;
 use apex_types::{
-    Action, ArrayPlace, Entry, ListKey, MOST_RUNNERS, Moment, Out, ProcessIndex,
-    ProcessStatus, ReturnCode, Runner, Wait, Waiting, Words, copied,
+    Action, ArrayPlace, Entry, ListKey, MOST_RUNNERS, Moment, Out, ProcessIndex, ProcessStatus,
+    ReturnCode, Runner, Wait, Waiting, Words, copied,
 };
 use links::Entries;
 
