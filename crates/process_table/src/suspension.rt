@@ -1,6 +1,6 @@
 //! The services that suspend processes and resume them.
 
-ghost use Rattle.std.specs.Prelude.{◌≡◌, ◌<◌, ◌≤◌, ◌+◌, ◌^◌, length, true};
+ghost use Rattle.std.specs.Prelude.{◌≡◌, ◌<◌, ◌+◌, length, true};
 ghost use Rattle.apex_types.specs.Room.{HasRoom, Grows};
 ghost use Rattle.kernel_meaning.specs.Times.{is_duration};
 ghost use Rattle.kernel_meaning.specs.Processes.{is_periodic};

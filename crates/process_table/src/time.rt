@@ -1,6 +1,6 @@
 //! The services on time.
 
-ghost use Rattle.std.specs.Prelude.{◌≡◌, ◌<◌, ◌≤◌, ◌≤ℤ◌, ◌+◌, ◌^◌, pos, length, true, Some};
+ghost use Rattle.std.specs.Prelude.{◌≡◌, ◌<◌, ◌≤ℤ◌, ◌+◌, ◌^◌, pos, length, true, Some};
 ghost use Rattle.apex_types.specs.declared.limits.TheConstants.{LATEST_RELEASE_POINT};
 ghost use Rattle.apex_types.specs.Room.{HasRoom, Grows};
 ghost use Rattle.kernel_meaning.specs.Made.{IsMade, IsTold};

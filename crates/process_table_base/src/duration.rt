@@ -1,6 +1,6 @@
 //! The times that programs give.
 
-ghost use Rattle.std.specs.Prelude.{◌≡◌, ◌≤◌, ◌^◌, true};
+ghost use Rattle.std.specs.Prelude.{◌≡◌, true};
 ghost use Rattle.kernel_meaning.specs.Times as meaning;
 ghost use Rattle.kernel_meaning.specs.ProcessServices as services;
 

@@ -1,6 +1,6 @@
 //! The services on blackboards.
 
-ghost use Rattle.std.specs.Prelude.{◌≡◌, ◌<◌, ◌≤◌, ◌+◌, ◌^◌, [], length, pos, true};
+ghost use Rattle.std.specs.Prelude.{◌≡◌, ◌<◌, ◌+◌, [], length, pos, true};
 ghost use Rattle.apex_types.specs.Room.{HasRoom, Grows};
 ghost use Rattle.apex_types.specs.declared.limits.TheConstants.{MOST_OBJECTS};
 ghost use Rattle.kernel_meaning.specs.BlackboardServices as meaning;

@@ -1,6 +1,6 @@
 //! The services on events.
 
-ghost use Rattle.std.specs.Prelude.{◌≡◌, ◌<◌, ◌≤◌, ◌+◌, ◌^◌, length, pos};
+ghost use Rattle.std.specs.Prelude.{◌≡◌, ◌<◌, ◌+◌, length, pos};
 ghost use Rattle.apex_types.specs.Room.{HasRoom, Grows};
 ghost use Rattle.kernel_meaning.specs.EventServices as meaning;
 ghost use Rattle.kernel_meaning.specs.Made.{IsMade};

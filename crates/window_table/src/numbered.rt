@@ -1,6 +1,6 @@
 //! The rows of windows and channels, with numbers for names.
 
-ghost use Rattle.std.specs.Prelude.{◌≡◌, ◌≤◌, ◌||◌, ◌+ℤ◌, map, length, pos, nat_abs, option_map, int_lt, false, None, Some, IfOk, IfErr, if◌then◌else◌};
+ghost use Rattle.std.specs.Prelude.{◌≡◌, ◌||◌, ◌+ℤ◌, map, length, pos, nat_abs, option_map, int_lt, false, None, Some, IfOk, IfErr, if◌then◌else◌};
 ghost use Rattle.std.specs.List.{list_any};
 ghost use Rattle.module_meaning.specs.TableRules.{exceeds_window, exceeds_channel, overlaps_after, window_row, channel_row, is_unknown_window, has_unknown_end};
 ghost use Rattle.window_table.specs.Answers.{RefusesOverlap};

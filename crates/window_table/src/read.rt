@@ -1,6 +1,6 @@
 //! From the text of a module table to the table.
 
-ghost use Rattle.std.specs.Prelude.{◌<◌, ◌≡◌, ◌≤◌, ◌||◌, ◌==◌, length, false, IfOk, map, is_none, pos, nat_abs};
+ghost use Rattle.std.specs.Prelude.{◌<◌, ◌≡◌, ◌||◌, ◌==◌, false, IfOk, map, is_none, pos, nat_abs};
 ghost use Rattle.std.specs.List.{list_any};
 ghost use Rattle.module_meaning.specs.TableRules.{is_outside, exceeds_counts, exceeds_rows, exceeds_limits, exceeds_partition, has_same_names, has_unknown_name, overlaps, numbered, partition_row, has_unknown_action, judge_table, judge_text};
 ghost use Rattle.window_table.specs.Answers.{Judges, AnswersText, RefusesLimit, RefusesOverlap};
