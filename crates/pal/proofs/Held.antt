@@ -1,5 +1,5 @@
 -- What an accepted program costs has 64 bits, so that what is counted is the sum.
-use Rattle.std.proofs.Common.{◌≡◌, ℕ, zero, suc, ◌+◌, ◌<◌, ◌≤◌, List, [], ◌∷◌, length, map, drop, get_or, Option, Some, None, refl, sym, ap, ◌∙◌, subst, arith}
+use Rattle.std.proofs.Common.{◌≡◌, ℕ, ◌+◌, ◌<◌, List, [], ◌∷◌, length, map, drop, get_or, Option, Some, None, sym, ap, ◌∙◌, subst, arith}
 use Rattle.std.specs.Prelude.{min}
 use Rattle.std.specs.List.{sum}
 use Rattle.std.proofs.Math.Logic.{∥∥₁_elim}
@@ -47,13 +47,15 @@ held_is : (n : ℕ) → IsHeld n → held n ≡ n
 held_is n h = omega arith
 
 -- a row of the report, from what was counted
+abbrev row : BodyName → ℕ → ℕ → ℕ → BodyCost
+row name n f k = record { name = name; instructions = n; frame = f; cost = k }
+
 same_row : (name : BodyName) (ticks : List ℕ) (c : Cost) (size n f frame : ℕ) → n ≡ min size 18446744073709551615 → f ≡ min frame 18446744073709551615 → c ≡ comes_to ticks → IsHeld size → IsHeld (sum ticks) → IsHeld frame
-    → record { name = name; instructions = n; frame = f; cost = c.ticks } ≡ record { name = name; instructions = size; frame = frame; cost = sum ticks }
+    → row name n f c.ticks ≡ row name size frame (sum ticks)
 same_row name ticks c size n f frame n_is f_is c_is size_fits ticks_fit frame_fits =
-    let row : ℕ → ℕ → ℕ → BodyCost = λ i j k. record { name = name; instructions = i; frame = j; cost = k } in
-    ap (λ i. row i f c.ticks) (n_is ∙ held_is size size_fits)
-    ∙ ap (λ j. row size j c.ticks) (f_is ∙ held_is frame frame_fits)
-    ∙ ap (row size frame) (ap (λ (d : Cost). d.ticks) c_is ∙ held_is (sum ticks) ticks_fit)
+    ap (λ i. row name i f c.ticks) (n_is ∙ held_is size size_fits)
+    ∙ ap (λ j. row name size j c.ticks) (f_is ∙ held_is frame frame_fits)
+    ∙ ap (row name size frame) (ap (λ (d : Cost). d.ticks) c_is ∙ held_is (sum ticks) ticks_fit)
 
 pub body_is : (costs : Costs) (name : BodyName) (b : Body) (c : Cost) (n f : ℕ) → n ≡ min (program.size_of_body (body_of b)) 18446744073709551615 → f ≡ min (program.frame_of_body (body_of b)) 18446744073709551615 → c ≡ comes_to (program.costs_of_body costs (body_of b)) → IsBodyHeld costs (body_of b)
     → record { name = name; instructions = n; frame = f; cost = c.ticks } ≡ cost_of_body costs name b

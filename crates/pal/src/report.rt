@@ -39,7 +39,6 @@ pub struct BodyCost {
 /// # Errors
 ///
 /// 7 if memory ran out.
-#[tactic(auto, using(crate::proofs::Held::checked_costs))]
 pub fn cost_report(
     alloc: Global,
     costs: &Costs,
