@@ -1,10 +1,10 @@
 -- Line feeds stand between words, and not within them.
-use Rattle.std.proofs.Common.{◌≡◌, ℕ, zero, suc, ◌+◌, ◌-◌, ◌<◌, ◌≤◌, Bool, true, false, ◌&&◌, ◌||◌, List, [], ◌∷◌, length, drop, Option, Some, None, refl, sym, ap, ◌∙◌, arith, cond, nat_eq}
+use Rattle.std.proofs.Common.{◌≡◌, ℕ, zero, suc, ◌+◌, ◌<◌, ◌≤◌, Bool, true, false, ◌&&◌, ◌||◌, List, [], ◌∷◌, length, drop, Option, Some, refl, sym, ap, ◌∙◌, arith, cond, nat_eq}
 use Rattle.std.specs.Prelude.{find}
 use Rattle.std.specs.List.{prefix_len, starts_with}
 use Rattle.std.proofs.lemmas.Bool.{eqb-true}
 use Rattle.pal_meaning.specs.Grammar.{Word, behind_blanks, behind, word_at, sign_word, sign_or_stray, signs, is_lower, is_upper, in_name, in_service, is_blank}
-use Rattle.pal_meaning.specs.Lines.{feeds, from_word, word_line}
+use Rattle.pal_meaning.specs.Lines.{feeds, from_word}
 use Rattle.pal_laws.proofs.WordsOf.{word_shorter}
 use Rattle.engine_meaning.specs.Digits.{is_digit}
 
