@@ -1,5 +1,5 @@
 -- Each word of a text has its line.
-use Rattle.std.proofs.Common.{◌≡◌, ℕ, zero, suc, ◌+◌, ◌-◌, ◌<◌, ◌≤◌, false, List, [], ◌∷◌, ◌++◌, length, drop, length-append, refl, sym, ap, ◌∙◌, subst, arith}
+use Rattle.std.proofs.Common.{◌≡◌, ℕ, zero, suc, ◌+◌, ◌-◌, ◌<◌, ◌≤◌, false, List, [], ◌∷◌, ◌++◌, length, drop, length-append, sym, ap, ◌∙◌, subst, arith}
 use Rattle.pal_meaning.specs.Beginning.{LeavesAt}
 use Rattle.pal_meaning.specs.Grammar.{Word, behind_blanks, word_at, words_of}
 use Rattle.pal_meaning.specs.Lines.{feeds, from_word, word_line}

@@ -1,10 +1,10 @@
 -- Which kinds of words are listed while one after another is tried.
-use Rattle.std.proofs.Common.{◌≡◌, ℕ, List, [], ◌∷◌, ◌++◌, length, refl, sym, ap, subst, arith, append_assoc, append-nil, take-append-drop, length-append, ◌≤◌, map, take, drop, Option, ◌-◌, Some, ◌∙◌, ◌⊎◌, inl, inr}
+use Rattle.std.proofs.Common.{◌≡◌, ℕ, List, [], ◌∷◌, ◌++◌, length, refl, sym, ap, subst, arith, append_assoc, append-nil, map, take, drop, Option, ◌-◌, Some, ◌∙◌, ◌⊎◌, inl, inr}
 use Rattle.std.proofs.lemmas.List.{length-map, length-take-le, take-map}
 use Rattle.std.specs.List.{Contains}
 use Rattle.std.proofs.lemmas.List.Elements.{Contains-append_cases, Contains-append_left, Contains-append_right, Contains-push_cases}
 use Rattle.pal_meaning.specs.Grammar.{Word, words_of}
-use Rattle.pal_meaning.specs.Beginning.{IsWhole, LeavesAt}
+use Rattle.pal_meaning.specs.Beginning.{LeavesAt}
 use Rattle.pal_meaning.specs.Lines.{word_line}
 use Rattle.pal_base.proofs.Lined.{lined_at}
 use Rattle.pal_base.specs.Lined.{HasFewLines, AreLined, first_line}
@@ -146,7 +146,7 @@ looked_so text view all ts whole front back count last found misfit name looked_
     let leaves : LeavesAt (map view ts) (length (map view ts) - misfit.left) = (subst (λ o. IsMisfit (map view ts) o) is given).1 in
     let here : length (map view ts) - misfit.left ≡ looked_for.place = omega (arith, so_many, at, place) in
     let front_words : map view front ≡ take looked_for.place (words_of text) =
-        ap (map view) (cut ∙ ap (take count) again) ∙ sym (take-map view count all) ∙ ap (take count) words ∙ ap (λ n. take n (words_of text)) (sym place) in (
+    ap (map view) (cut ∙ ap (take count) again) ∙ sym (take-map view count all) ∙ ap (take count) words ∙ ap (λ n. take n (words_of text)) (sym place) in (
       subst (λ (ws : List Word). LeavesAt ws looked_for.place) (ap (map view) same ∙ words) (subst (λ n. LeavesAt (map view ts) n) here leaves),
       λ few. line ∙ ap (first_line last) (left ∙ ap (drop count) again) ∙ lined_at text 0 count all last (lined few).0 ((lined few).1 ∙ ap (word_line text) (omega arith)) (omega (arith, at)) ∙ ap (word_line text) (omega (arith, place)),
       (name, subst (λ (ws : List Word). AreNext name ws looked_for.words.items) front_words next),

@@ -1,7 +1,7 @@
 -- What a refusal of the words says of the text.
-use Rattle.std.proofs.Common.{Option, Some, None, Result, Ok, Err, map, ◌≡◌, ◌++◌, ◌-◌, ◌<◌, ◌≤◌, ℕ, suc, List, [], ◌∷◌, length, length-append, take, take-append-drop, drop, append_assoc, append-nil, refl, sym, ap, ◌∙◌, subst, arith}
+use Rattle.std.proofs.Common.{Option, Some, None, Result, Ok, Err, map, ◌≡◌, ◌++◌, ◌-◌, ◌<◌, ℕ, suc, List, [], ◌∷◌, length, take, take-append-drop, drop, append_assoc, append-nil, sym, ap, ◌∙◌, subst, arith}
 use Rattle.std.proofs.lemmas.List.{take_all, map-append}
-use Rattle.pal_meaning.specs.Beginning.{IsWhole, IsBeginning, LeavesAt}
+use Rattle.pal_meaning.specs.Beginning.{IsWhole, IsBeginning}
 use Rattle.pal_meaning.specs.Grammar.{IsWritten}
 use Rattle.pal_meaning.specs.Syntax as tree
 use Rattle.pal_laws.proofs.Places.{refused_words_leave}

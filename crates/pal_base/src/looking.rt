@@ -140,7 +140,7 @@ impl Source {
         }
     }
 
-    /// What can stand between these words, of which the next one does not fit.
+    /// What can stand between these words.
     fn looked_for(
         &self,
         alloc: Global,

@@ -1,4 +1,3 @@
-use Rattle.std.proofs.Common.{rules}
 use Rattle.pal_base.specs.Seen.{names_of}
 use Rattle.pal_base.specs.WordView.{token_of}
 use Rattle.pal_base.specs.declared.word.Token.{Token}
