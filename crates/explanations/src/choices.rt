@@ -1,7 +1,7 @@
 //! The phrase for the words that the grammar looks for.
 
 use crate::sought::{Choice, Sought};
-use pal_base::looking::{Fit, LookedFor, WordKind};
+use pal_base::looking::{LookedFor, WordKind};
 use pal_base::mark::Mark;
 
 /// A choice, and words by which it is known: where all of them could stand it is told.
@@ -121,7 +121,7 @@ static ROWS: [Row; 21] = [
 
 /// What is told where the grammar looks for these words.
 pub fn sought_of(looked_for: &LookedFor) -> Sought {
-    if let Fit::TooDeep = looked_for.found {
+    if looked_for.is_too_deep {
         return Sought::Choice(Choice::NoFurtherLevel);
     }
     for row in ROWS.iter() {

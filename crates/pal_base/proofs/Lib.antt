@@ -7,3 +7,4 @@ pub mod Refusals
 pub mod ProgramRows
 pub mod Costs
 pub mod Nexts
+pub mod Lined

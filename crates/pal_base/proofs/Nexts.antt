@@ -1,10 +1,13 @@
 -- Which kinds of words are listed while one after another is tried.
-use Rattle.std.proofs.Common.{◌≡◌, ℕ, List, [], ◌∷◌, ◌++◌, length, refl, sym, ap, subst, arith, append_assoc, append-nil, take-append-drop, length-append, ◌≤◌, map, take, Option, ◌-◌, Some, ◌∙◌, ◌⊎◌, inl, inr}
+use Rattle.std.proofs.Common.{◌≡◌, ℕ, List, [], ◌∷◌, ◌++◌, length, refl, sym, ap, subst, arith, append_assoc, append-nil, map, take, drop, Option, ◌-◌, Some, ◌∙◌, ◌⊎◌, inl, inr}
 use Rattle.std.proofs.lemmas.List.{length-map, length-take-le, take-map}
 use Rattle.std.specs.List.{Contains}
 use Rattle.std.proofs.lemmas.List.Elements.{Contains-append_cases, Contains-append_left, Contains-append_right, Contains-push_cases}
 use Rattle.pal_meaning.specs.Grammar.{Word, words_of}
-use Rattle.pal_meaning.specs.Beginning.{IsWhole, LeavesAt}
+use Rattle.pal_meaning.specs.Beginning.{LeavesAt}
+use Rattle.pal_meaning.specs.Lines.{word_line}
+use Rattle.pal_base.proofs.Lined.{lined_at}
+use Rattle.pal_base.specs.Lined.{HasFewLines, AreLined, first_line}
 use Rattle.pal_base.specs.Next.{IsMisfit, MayFollow, AreNext, IsLookedFor, IsFit, IsNoted}
 use Rattle.pal_base.specs.declared.looking.Fit.{Fit}
 use Rattle.pal_base.specs.declared.looking.Fit.TheVariants as fit
@@ -134,16 +137,17 @@ listing_goes_on name before old new others k fit.TooDeep so_far fits noted = sub
 listing_goes_on name before old new others k fit.Misfit so_far fits noted = subst (λ xs. Listing name before xs others) (sym noted) (listing_skips name before old others k so_far fits)
 
 -- what is looked for where a text leaves the grammar
-pub looked_so : (text : List ℕ) (view : Token → Word) (all ts whole front : List Token) (count : ℕ) (found : Option Misfit) (misfit : Misfit) (name : List ℕ) (looked_for : LookedFor) →
-    map view all ≡ words_of text → ts ≡ all → found ≡ Some misfit → IsMisfit (map view ts) found → whole ≡ all → count ≡ length all - misfit.left → front ≡ take count whole →
-    looked_for.place ≡ length front → AreNext name (map view front) looked_for.words.items → IsLookedFor text (Some looked_for)
-looked_so text view all ts whole front count found misfit name looked_for words same is given again at cut so next =
+pub looked_so : (text : List ℕ) (view : Token → Word) (all ts whole front back : List Token) (count last : ℕ) (found : Option Misfit) (misfit : Misfit) (name : List ℕ) (looked_for : LookedFor) →
+    map view all ≡ words_of text → ts ≡ all → found ≡ Some misfit → IsMisfit (map view ts) found → whole ≡ all → count ≡ length all - misfit.left → front ≡ take count whole → back ≡ drop count whole →
+    looked_for.place ≡ length front → looked_for.line ≡ first_line last back → (HasFewLines text → AreLined text 0 all × (last ≡ word_line text (length all))) → AreNext name (map view front) looked_for.words.items → IsLookedFor text (Some looked_for)
+looked_so text view all ts whole front back count last found misfit name looked_for words same is given again at cut left so line lined next =
     let so_many : length (map view ts) ≡ length all = length-map ts view ∙ ap length same in
     let place : looked_for.place ≡ count = so ∙ ap length (cut ∙ ap (take count) again) ∙ length-take-le count all (omega (arith, at)) in
     let leaves : LeavesAt (map view ts) (length (map view ts) - misfit.left) = (subst (λ o. IsMisfit (map view ts) o) is given).1 in
     let here : length (map view ts) - misfit.left ≡ looked_for.place = omega (arith, so_many, at, place) in
     let front_words : map view front ≡ take looked_for.place (words_of text) =
-        ap (map view) (cut ∙ ap (take count) again) ∙ sym (take-map view count all) ∙ ap (take count) words ∙ ap (λ n. take n (words_of text)) (sym place) in (
+    ap (map view) (cut ∙ ap (take count) again) ∙ sym (take-map view count all) ∙ ap (take count) words ∙ ap (λ n. take n (words_of text)) (sym place) in (
       subst (λ (ws : List Word). LeavesAt ws looked_for.place) (ap (map view) same ∙ words) (subst (λ n. LeavesAt (map view ts) n) here leaves),
+      λ few. line ∙ ap (first_line last) (left ∙ ap (drop count) again) ∙ lined_at text 0 count all last (lined few).0 ((lined few).1 ∙ ap (word_line text) (omega arith)) (omega (arith, at)) ∙ ap (word_line text) (omega (arith, place)),
       (name, subst (λ (ws : List Word). AreNext name ws looked_for.words.items) front_words next),
     )

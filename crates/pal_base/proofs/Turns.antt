@@ -1,5 +1,5 @@
 -- What a loop has found, followed by what the rest of the repetition finds, is the whole.
-use Rattle.std.proofs.Common.{◌≡◌, ℕ, ◌<◌, Bool, true, false, List, [], ◌∷◌, ◌++◌, length, map, Option, Some, None, Result, Ok, Err, is_ok, refl, sym, ◌∙◌, ap, append_assoc, append-nil, arith, subst}
+use Rattle.std.proofs.Common.{◌≡◌, ℕ, ◌<◌, Bool, true, false, List, [], ◌∷◌, ◌++◌, length, map, Some, None, Result, Ok, Err, is_ok, refl, sym, ◌∙◌, ap, append_assoc, append-nil, arith, subst}
 use Rattle.std.proofs.lemmas.List.{length-map, map-append}
 use Rattle.pal_meaning.specs.Grammar.{Word}
 use Rattle.pal_laws.specs.GrammarReading.{Answer, Reading, Turn, repeat, each, until, expect, ◌>>=◌}

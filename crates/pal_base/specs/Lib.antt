@@ -13,3 +13,4 @@ pub mod Numbers
 pub mod Parts
 pub mod Costs
 pub mod Next
+pub mod Lined

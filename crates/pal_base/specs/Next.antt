@@ -4,6 +4,8 @@ use Rattle.std.specs.List.{Contains}
 use Rattle.apex_types.specs.declared.service.Service.TheVariants.{GetTime}
 use Rattle.pal_meaning.specs.Beginning.{IsWhole, IsBeginning, LeavesAt}
 use Rattle.pal_meaning.specs.Grammar.{Word, Name, Number, ServiceWord, Mark, words_of}
+use Rattle.pal_meaning.specs.Lines.{word_line}
+use Rattle.pal_base.specs.Lined.{HasFewLines}
 use Rattle.pal_base.specs.Marks.{mark_text}
 use Rattle.pal_base.specs.View.{text_or_none}
 use Rattle.pal_base.specs.declared.looking.Fit.{Fit}
@@ -26,12 +28,12 @@ MayFollow name before kind.End = IsWhole before
 abbrev pub AreNext : List ℕ → List Word → List WordKind → Type 0
 AreNext name before kinds = ((k : WordKind) → MayFollow name before k → Contains kinds k) × ((k : WordKind) → Contains kinds k → MayFollow name before k)
 
--- What is looked for in a text that is not in the grammar: the place where its words leave the grammar, and what may
--- stand there.
+-- What is looked for in a text that is not in the grammar: the place where its words leave the grammar, the line of that
+-- place, and what may stand there.
 abbrev pub IsLookedFor : List ℕ → Option LookedFor → Type 0
 IsLookedFor text None = IsWhole (words_of text)
 IsLookedFor text (Some looked_for) =
-    LeavesAt (words_of text) looked_for.place × ((name : List ℕ) × AreNext name (take looked_for.place (words_of text)) looked_for.words.items)
+    LeavesAt (words_of text) looked_for.place × (HasFewLines text → looked_for.line ≡ word_line text looked_for.place) × ((name : List ℕ) × AreNext name (take looked_for.place (words_of text)) looked_for.words.items)
 
 -- where these words leave the grammar, if they do
 abbrev pub IsMisfit : List Word → Option Misfit → Type 0

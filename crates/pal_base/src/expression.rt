@@ -173,12 +173,7 @@ impl Source {
     /// An expression one level further in, behind the word that opens the level.
     #[tactic(auto, unfolding(pal_laws::specs::GrammarReading::nested_at, pal_laws::specs::GrammarReading::expr_at))]
     #[cycle(expression)]
-    pub fn nested<'a>(
-        &self,
-        alloc: Global,
-        levels: u32,
-        tokens: &'a [Token],
-    ) -> Read<'a, Expr>
+    pub fn nested<'a>(&self, alloc: Global, levels: u32, tokens: &'a [Token]) -> Read<'a, Expr>
         ensures shorter { IfOk result (λ x. length x.1.now < length tokens.now) }
         ensures exact { Gives (λ x. (expr_of (names_of self.now) x.0, seen self.now x.1.now)) result (reading.nested_at levels (seen self.now tokens.now)) }
     {

@@ -1,6 +1,7 @@
 //! What the grammar looks for where a text leaves it: each kind of word is tried there.
 
 ghost use Rattle.std.specs.Prelude.{◌≡◌, ◌++◌, ◌∷◌, [], length, IfOk, OnOk};
+ghost use Rattle.pal_base.specs.Lined.{first_line};
 ghost use Rattle.pal_base.specs.Next.{IsLookedFor, IsMisfit, IsFit, IsWordFit, IsFitAt, IsNoted, AreNext, first_name};
 ghost use Rattle.pal_base.specs.Seen.{seen, names_of};
 ghost use Rattle.pal_base.specs.WordView.{word_of};
@@ -92,8 +93,8 @@ pub struct LookedFor {
 }
 
 /// How a word fits behind others.
-#[derive(Clone, Copy, Debug, PartialEq, Eq)]
-pub enum Fit {
+#[derive(Clone, Copy)]
+enum Fit {
     /// Some program goes on with it.
     Fits,
     /// It opens one level too many.
@@ -139,7 +140,7 @@ impl Source {
         }
     }
 
-    /// What can stand between these words, of which the next one does not fit.
+    /// What can stand between these words.
     fn looked_for(
         &self,
         alloc: Global,
@@ -148,6 +149,7 @@ impl Source {
         is_too_deep: bool,
     ) -> Result<LookedFor, AllocError>
         ensures place { IfOk result (λ it. it.place ≡ length before.now) }
+        ensures line { IfOk result (λ it. it.line ≡ first_line self.now.last_line behind.now) }
         ensures next { IfOk result (λ it. AreNext (first_name (names_of self.now)) (seen self.now before.now) it.words.items) }
     {
         let mut words = Vec::new(alloc);

@@ -5,6 +5,7 @@ ghost use Rattle.std.specs.Str.{IsAscii};
 ghost use Rattle.pal_laws.specs.GrammarReading as reading;
 ghost use Rattle.pal_meaning.specs.Grammar.{IsText, IsProgramOf};
 ghost use Rattle.pal_base.specs.Answers.{IsRefused};
+ghost use Rattle.pal_base.specs.Lined.{IsLineOf};
 ghost use Rattle.pal_base.specs.Marks.{mark_text};
 ghost use Rattle.pal_base.specs.Parts.{parts_of};
 ghost use Rattle.pal_base.specs.Seen.{seen, names_of, Gives};
@@ -30,6 +31,7 @@ const GREATEST_LENGTH: usize = MOST_SOURCE_BYTES as usize;
 pub fn parse(alloc: Global, text: &[u8]) -> Result<Program, PalFault>
     ensures tree { IfOk result (λ program. IsProgramOf text.now (program_of program)) }
     ensures refusal { IfErr result (λ fault. IsRefused fault.refusal text.now) }
+    ensures line { IfErr result (λ fault. IsLineOf fault.refusal fault.line text.now) }
 {
     judge_text(text)?;
     let Words {
@@ -57,6 +59,7 @@ pub fn parse(alloc: Global, text: &[u8]) -> Result<Program, PalFault>
 fn judge_text(text: &[u8]) -> Result<(), PalFault>
     ensures text { OnOk result (IsText text.now) }
     ensures refusal { IfErr result (λ fault. IsRefused fault.refusal text.now) }
+    ensures line { IfErr result (λ fault. IsLineOf fault.refusal fault.line text.now) }
 {
     let refusal = Refusal::Text;
     if let Some(line) = line_beyond_ascii(text) {

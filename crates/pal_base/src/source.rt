@@ -3,6 +3,7 @@
 ghost use Rattle.std.specs.Prelude.{◌≡◌, ◌<◌, ◌+◌, length, IfOk, IfSome, false, is_ok};
 ghost use Rattle.pal_meaning.specs.Grammar as grammar;
 ghost use Rattle.pal_laws.specs.GrammarReading as reading;
+ghost use Rattle.pal_base.specs.Lined.{first_line, refused_line};
 ghost use Rattle.pal_base.specs.Marks.{mark_text};
 ghost use Rattle.pal_base.specs.Seen.{seen, names_of, rank_of, Gives, Finds, IsLeft, refusal_of};
 ghost use Rattle.pal_base.specs.View.{name_of, number_of, integer_of};
@@ -130,7 +131,9 @@ fn mark_of(operator: BinaryOperator) -> Mark
 
 impl Source {
     /// The line of the word at the front, or the last line of the text.
-    pub fn line_of(&self, tokens: &[Token]) -> u32 {
+    pub fn line_of(&self, tokens: &[Token]) -> u32
+        ensures { result ≡ first_line self.now.last_line tokens.now }
+    {
         match tokens.first() {
             Some(token) => token.line,
             None => self.last_line,
@@ -139,7 +142,8 @@ impl Source {
 
     /// The refusal of a text with these words, in the line of the first word that is refused.
     pub fn fault(&self, tokens: &[Token], error: ReadError) -> PalFault
-        ensures { result.refusal ≡ refusal_of error }
+        ensures refusal { result.refusal ≡ refusal_of error }
+        ensures line { result.line ≡ refused_line self.now.last_line tokens.now error }
     {
         match error {
             ReadError::Memory => PalFault::MEMORY,

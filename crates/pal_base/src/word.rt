@@ -1,15 +1,17 @@
 //! The words of a source text.
 
-ghost use Rattle.std.specs.Prelude.{◌≡◌, ◌+◌, ◌-◌, ◌*◌, ◌<◌, length, map, drop, option_map, find, nat_eq, IfOk, IfErr, IfSome, OnOk, false};
+ghost use Rattle.std.specs.Prelude.{◌≡◌, ◌+◌, ◌-◌, ◌*◌, ◌<◌, ◌≤◌, length, map, drop, option_map, find, nat_eq, IfOk, IfErr, IfSome, OnOk, false};
 ghost use Rattle.std.specs.List.{starts_with};
 ghost use Rattle.std.specs.Str.{IsAscii};
 ghost use Rattle.apex_types.specs.ServiceShape.{service_word};
 ghost use Rattle.apex_types.specs.ServiceShape.{services};
 ghost use Rattle.pal_meaning.specs.Grammar as grammar;
 ghost use Rattle.engine_meaning.specs.Digits as numerals;
+ghost use Rattle.pal_meaning.specs.Lines.{feeds, word_line};
 ghost use Rattle.pal_meaning.specs.Grammar.{is_blank, is_lower, is_upper, behind_blanks, behind};
 ghost use Rattle.engine_meaning.specs.Digits.{is_digit, front, same};
 ghost use Rattle.pal_base.specs.declared.fault.Refusal.TheVariants.{Memory};
+ghost use Rattle.pal_base.specs.Lined.{HasFewLines, AreLined};
 ghost use Rattle.pal_base.specs.Marks.{mark_text};
 ghost use Rattle.pal_base.specs.Runs.{member};
 ghost use Rattle.pal_base.specs.View.{texts, natural_of};
@@ -52,6 +54,7 @@ pub struct Words {
 /// The words of a source text, in their order: each is the longest that begins where it stands.
 pub fn words_of(alloc: Global, text: &[u8]) -> Result<Words, PalFault>
     ensures words { IfOk result (λ w. map (token_of (texts w.names.keys)) w.tokens.items ≡ grammar.words_of text.now) }
+    ensures lines { IfOk result (λ w. HasFewLines text.now → AreLined text.now 0 w.tokens.items × (w.last_line ≡ word_line text.now (length w.tokens.items))) }
     ensures memory { IfErr result (λ e. e.refusal ≡ Memory) }
 {
     let mut names = IndexSet::new(alloc);
@@ -72,7 +75,9 @@ pub fn words_of(alloc: Global, text: &[u8]) -> Result<Words, PalFault>
 #[tactic(auto, unfolding(pal_meaning::specs::Grammar::behind_blanks))]
 /// What follows the blanks and the comments at the front, and the line in which it stands.
 fn behind_blanks(text: &[u8], line: u32) -> (&[u8], u32)
-    ensures { result.0.now ≡ behind_blanks false text.now }
+    ensures text { result.0.now ≡ behind_blanks false text.now }
+    ensures few { result.1 + length result.0.now ≤ line + length text.now }
+    ensures line { line + length text.now < 4294967296 → result.1 + feeds result.0.now ≡ line + feeds text.now }
 {
     let mut rest = text;
     let mut line = line;

@@ -1,10 +1,10 @@
 -- Line feeds stand between words, and not within them.
-use Rattle.std.proofs.Common.{◌≡◌, ℕ, zero, suc, ◌+◌, ◌-◌, ◌<◌, ◌≤◌, Bool, true, false, ◌&&◌, ◌||◌, List, [], ◌∷◌, length, drop, Option, Some, None, refl, sym, ap, ◌∙◌, arith, cond, nat_eq}
+use Rattle.std.proofs.Common.{◌≡◌, ℕ, zero, suc, ◌+◌, ◌<◌, ◌≤◌, Bool, true, false, ◌&&◌, ◌||◌, List, [], ◌∷◌, length, drop, Option, Some, refl, sym, ap, ◌∙◌, arith, cond, nat_eq}
 use Rattle.std.specs.Prelude.{find}
 use Rattle.std.specs.List.{prefix_len, starts_with}
 use Rattle.std.proofs.lemmas.Bool.{eqb-true}
 use Rattle.pal_meaning.specs.Grammar.{Word, behind_blanks, behind, word_at, sign_word, sign_or_stray, signs, is_lower, is_upper, in_name, in_service, is_blank}
-use Rattle.pal_meaning.specs.Lines.{feeds, from_word, word_line}
+use Rattle.pal_meaning.specs.Lines.{feeds, from_word}
 use Rattle.pal_laws.proofs.WordsOf.{word_shorter}
 use Rattle.engine_meaning.specs.Digits.{is_digit}
 
@@ -68,8 +68,46 @@ two : (a b : ℕ) → nat_eq a 10 ≡ false → nat_eq b 10 ≡ false → HasNoF
 two a b h k = (h, (k, tt))
 
 signs_have_none : HaveNoFeed signs
-signs_have_none = (two 58 61 refl refl, (two 45 62 refl refl, (two 60 62 refl refl, (two 60 61 refl refl, (two 62 61 refl refl, (one 43 refl, (one 45 refl, (one 42 refl, (one 47 refl, (one 37 refl, (one 61 refl, (one 60 refl, (one 62 refl,
-    (one 59 refl, (one 44 refl, (one 40 refl, (one 41 refl, (one 123 refl, (one 125 refl, (one 91 refl, (one 93 refl, tt)))))))))))))))))))))
+signs_have_none = (
+  two 58 61 refl refl,
+  (
+    two 45 62 refl refl,
+    (
+      two 60 62 refl refl,
+      (
+        two 60 61 refl refl,
+        (
+          two 62 61 refl refl,
+          (
+            one 43 refl,
+            (
+              one 45 refl,
+              (
+                one 42 refl,
+                (
+                  one 47 refl,
+                  (
+                    one 37 refl,
+                    (
+                      one 61 refl,
+                      (
+                        one 60 refl,
+                        (
+                          one 62 refl,
+                          (one 59 refl, (one 44 refl, (one 40 refl, (one 41 refl, (one 123 refl, (one 125 refl, (one 91 refl, (one 93 refl, tt)))))))),
+                        ),
+                      ),
+                    ),
+                  ),
+                ),
+              ),
+            ),
+          ),
+        ),
+      ),
+    ),
+  ),
+)
 
 chosen_feeds : (t : Bool) (x y : Word × List ℕ) (n : ℕ) → feeds x.1 ≡ n → feeds y.1 ≡ n → feeds (cond t x y).1 ≡ n
 chosen_feeds true x y n h k = h
