@@ -1,6 +1,7 @@
 //! Routines and services: CALL, RET and SVC.
 
 ghost use Rattle.std.specs.Prelude.{◌≡◌, ◌-◌, ◌+◌, ◌≤◌, ◌++◌, ◌∷◌, [], option_map, pos, replicate, slice_get, slice_set};
+ghost use Rattle.apex_types.specs.declared.limits.TheConstants.{MOST_WORDS};
 ghost use Rattle.machine_meaning.specs.MachineControl.{popped, saved_within};
 ghost use Rattle.engine_meaning.specs.Operators.{put_words};
 ghost use Rattle.processor.specs.Fitting.{IsFittingRoutine};
@@ -11,6 +12,7 @@ use crate::context::{Context, stack_word};
 use crate::outcome::Outcome;
 use crate::registers::Registers;
 use crate::turn::Turn;
+use apex_types::limits::MOST_INSTRUCTIONS;
 use apex_types::{Call, ErrorKind, RoutineRow, Service, Words, array_of, call_of};
 use regions::{PartitionMem, Reach};
 
@@ -49,7 +51,7 @@ fn save(stack: &mut [i64], frame: u32, routine: &RoutineRow, next: u32, caller: 
 /// The words of the own stack from one place up to another, at most 16.
 fn popped(memory: &PartitionMem, from: u32, to: u32) -> Words
     requires order { from ≤ to }
-    requires few { to ≤ from + 16 }
+    requires few { to ≤ from + MOST_WORDS }
     ensures { result.items ≡ popped (to - from) memory.now.stack to [] }
 {
     let mut words = Words::new();
@@ -129,7 +131,7 @@ impl Registers {
         }
         let place = self.fp as usize + x as usize;
         match (
-            saved(&reach.stack, place, 65_536),
+            saved(&reach.stack, place, MOST_INSTRUCTIONS),
             saved(&reach.stack, place + 1, self.fp),
         ) {
             (Some(pc), Some(fp)) => {

@@ -1,6 +1,7 @@
 //! The last tick of an instruction: operators, jumps, and the instruction table.
 
 ghost use Rattle.std.specs.Prelude.{◌≡◌, ◌≤◌, pos};
+ghost use Rattle.apex_types.specs.declared.limits.TheConstants.{MOST_WORK_TICKS};
 ghost use Rattle.machine_meaning.specs.Instructions.{cost_of, cost_of_work, cost_of_service_call, is_work};
 ghost use Rattle.apex_types.specs.ServiceShape.{service_of};
 
@@ -8,6 +9,7 @@ use crate::arithmetic::{apply_binary, apply_unary};
 use crate::code::Code;
 use crate::registers::Registers;
 use crate::turn::Turn;
+use apex_types::limits::MOST_WORK_TICKS;
 use apex_types::{BinaryOperator, Costs, ErrorKind, Instr, Service, UNKNOWN_COST, UnaryOperator};
 use regions::Reach;
 
@@ -15,13 +17,13 @@ use regions::Reach;
 fn is_work(v: i64) -> bool
     ensures { result ≡ is_work v }
 {
-    0 < v && v <= 1_000_000
+    0 < v && v <= MOST_WORK_TICKS as i64
 }
 
 /// Ticks of WORK: the number that it names, or 1 if this number is not allowed.
 fn cost_of_work(v: i64) -> u32
     ensures cost { result ≡ cost_of_work v }
-    ensures limit { result ≤ 1_000_000 }
+    ensures limit { result ≤ MOST_WORK_TICKS }
 {
     if is_work(v) { v as u32 } else { UNKNOWN_COST }
 }
@@ -40,7 +42,7 @@ fn cost_of_service_call(costs: &Costs, x: u32) -> u32
 #[tactic(auto, using(crate::proofs::Low::binary_low))]
 pub(crate) fn cost_of(costs: &Costs, instruction: Instr) -> u32
     ensures cost { result ≡ cost_of costs.now instruction }
-    ensures most { result ≤ 1_000_000 }
+    ensures most { result ≤ MOST_WORK_TICKS }
 {
     match instruction {
         Instr::Push(_) => costs.literal,
