@@ -30,8 +30,7 @@ use Rattle.image.specs.Items.{item_of, items_of, partition_of, section_of}
 use Rattle.ports.specs.Bounds as ports
 use Rattle.partition.specs.Fresh.{AreWithinLimits, idle_kernel}
 use Rattle.partition_base.specs.Sections.{IsFittingSection, engine_of_section}
-use Rattle.partition_base.specs.Slots.{AreFittingBodies}
-use Rattle.processor.specs.Fitting.{IsFittingRoutine, AreFitting, IsFittingBody}
+use Rattle.processor.specs.Fitting.{IsFittingRoutine, AreFitting}
 use Rattle.process_table_base.specs.Bounds.{IsAtMost, IsShort, AreShort}
 use Rattle.module.specs.Loading.{IsFittingItem, AreFittingItems}
 
@@ -40,27 +39,8 @@ routines_fit before [] h place row e = absurd (none-some row e)
 routines_fit before (r ∷ rows) h zero row e = subst IsFittingRoutine (same_Some r row e) (record { parameters = h.0.slots.least; frame = h.0.frame.least; limit = h.0.frame.most })
 routines_fit before (r ∷ rows) h (suc place) row e = routines_fit (before ++ r ∷ []) rows h.1 place row e
 
-body_fits : (row : BodyRow) → IsBody row → IsFittingBody row
-body_fits row h = let least = h.frame.least in let most = h.frame.most in omega arith
-
-bodies_fit : (unit : ℕ) (before rows : List ProcessRow) → EachBeside (IsProcess unit) before rows → AreFittingBodies (map body_of_row rows)
-bodies_fit unit before [] h place body e = absurd (none-some body e)
-bodies_fit unit before (r ∷ rows) h zero body e = subst IsFittingBody (same_Some r.body body e) (body_fits r.body h.0.body)
-bodies_fit unit before (r ∷ rows) h (suc place) body e = bodies_fit unit (before ++ r ∷ []) rows h.1 place body e
-
-handler_fits : (init : BodyRow) (handler : Option BodyRow) → IsBody init → IsHandler handler → IsFittingBody (or_init init handler)
-handler_fits init None h k = body_fits init h
-handler_fits init (Some row) h k = body_fits row k
-
 section_fits : (unit : ℕ) (s : Section) → IsSection unit (section_of s) → IsFittingSection s
-section_fits unit s h = record {
-  code = h.code.count.most;
-  processes = h.bodies.process_count.most;
-  routines = routines_fit [] s.routines.items h.bodies.routines;
-  init = body_fits s.init h.bodies.init;
-  handler = handler_fits s.init s.handler h.bodies.init h.bodies.handler;
-  bodies = bodies_fit unit [] s.processes.items h.bodies.processes;
-}
+section_fits unit s h = record { code = h.code.count.most; routines = routines_fit [] s.routines.items h.bodies.routines }
 
 at_most : (d : Option ℕ) → IsDuration d → IsAtMost (2 ^ 40) (option_map ticks d)
 at_most None h = tt

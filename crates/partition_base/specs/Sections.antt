@@ -1,7 +1,6 @@
 -- What the processor of a partition counts on in a loaded section, and how it is seen.
 use Rattle.std.specs.Prelude.{◌≤◌, List, ◌∷◌, map, length}
 use Rattle.apex_types.specs.WrittenCosts.{written_costs}
-use Rattle.apex_types.specs.declared.limits.TheConstants.{MOST_PROCESSES}
 use Rattle.apex_types.specs.declared.row.BodyRow.{BodyRow}
 use Rattle.apex_types.specs.declared.row.Section.{Section}
 use Rattle.engine_meaning.specs.Engine.{Engine}
@@ -9,9 +8,9 @@ use Rattle.machine_meaning.specs.Instructions.{reading}
 use Rattle.machine_meaning.specs.MachineControl.{MachineControl, machine_engine}
 use Rattle.engine_meaning.specs.Engine.{body_at, or_init}
 use Rattle.machine_meaning.specs.MachineMeaning.{body_of_row}
-use Rattle.processor.specs.Fitting.{IsFittingBody, AreFitting}
+use Rattle.processor.specs.Fitting.{AreFitting}
 use Rattle.regions.specs.Space.{Space, seen, zeros}
-use Rattle.partition_base.specs.Slots.{AreFittingBodies, stack_of_body}
+use Rattle.partition_base.specs.Slots.{stack_of_body}
 
 -- the bodies of a section's processes, in order
 abbrev pub bodies_of : Section → List BodyRow
@@ -21,15 +20,10 @@ bodies_of s = map body_of_row s.processes.items
 abbrev pub engine_of_section : Section → Engine MachineControl
 engine_of_section s = machine_engine written_costs (map reading s.code.items) s.routines.items (body_at s.init s.handler (bodies_of s))
 
--- At most 65,536 instructions, and no more processes than a partition may have; each routine and each
--- body has room for its slots and two saved words.
+-- At most 65,536 instructions, and each routine has room for its slots and two saved words.
 pub record IsFittingSection (s : Section) : Type 0 where
   pub code : length s.code.items ≤ 65_536
-  pub processes : length s.processes.items ≤ MOST_PROCESSES
   pub routines : AreFitting s.routines.items
-  pub init : IsFittingBody s.init
-  pub handler : IsFittingBody (or_init s.init s.handler)
-  pub bodies : AreFittingBodies (bodies_of s)
 
 -- the bodies of INIT, of the handler and of the processes, in order
 abbrev pub runners_of : Section → List BodyRow

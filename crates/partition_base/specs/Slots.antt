@@ -2,7 +2,6 @@
 use Rattle.std.specs.Prelude.{◌≡◌, ℕ, ℤ, Bool, true, false, List, [], ◌∷◌, Option, Some, None, length, map, slice_get}
 use Rattle.apex_types.specs.declared.row.BodyRow.{BodyRow}
 use Rattle.machine_meaning.specs.MachineControl.{MachineControl}
-use Rattle.processor.specs.Fitting.{IsFittingBody}
 use Rattle.processor.specs.declared.context.Context.{Context}
 use Rattle.regions.specs.Space.{Space, stacks_of}
 use Rattle.partition_base.specs.declared.slot.Slot.{Slot}
@@ -35,9 +34,6 @@ stack_lengths s = map length (stacks_of s)
 
 abbrev pub stack_of_body : BodyRow → ℕ
 stack_of_body body = body.stack
-
-abbrev pub AreFittingBodies : List BodyRow → Type 0
-AreFittingBodies bodies = (place : ℕ) (body : BodyRow) → slice_get bodies place ≡ Some body → IsFittingBody body
 
 -- whether a slot has something left to do
 abbrev pub is_begun : Slot → Bool
