@@ -44,19 +44,19 @@ lines_sent a b c one two whole split x y =
 -- ---- lines that are left
 
 -- Once these lines are sent, all are.
-abbrev pub CompletesLines : List Event → List Event → Sent → Sent → Type 0
-CompletesLines whole rest old now = (new : Sent) → HasSent now new (text_of rest) → HasSent old new (text_of whole)
+pub record CompletesLines (whole rest : List Event) (old now : Sent) : Type 0 where
+  pub ends : (new : Sent) → HasSent now new (text_of rest) → HasSent old new (text_of whole)
 
 pub all_lines_left : (whole : List Event) (s : Sent) → CompletesLines whole whole s s
-all_lines_left whole s = λ new h. h
+all_lines_left whole s = record { ends = λ new h. h }
 
 -- some more are sent
 pub lines_go_on : (whole now one rest : List Event) (old mid new : Sent) → now ≡ one ++ rest → CompletesLines whole now old mid → HasSent mid new (text_of one) → CompletesLines whole rest old new
-lines_go_on whole now one rest old mid new split way h = λ end k. way end (lines_sent mid new end one rest now split h k)
+lines_go_on whole now one rest old mid new split way h = record { ends = λ end k. way.ends end (lines_sent mid new end one rest now split h k) }
 
 -- none is left
 pub lines_are_over : (whole rest : List Event) (old now : Sent) → rest ≡ [] → CompletesLines whole rest old now → HasSent old now (text_of whole)
-lines_are_over whole rest old now none way = way now (subst (λ (es : List Event). HasSent now now (text_of es)) (sym none) (nothing_sent now))
+lines_are_over whole rest old now none way = way.ends now (subst (λ (es : List Event). HasSent now now (text_of es)) (sym none) (nothing_sent now))
 
 -- ---- at last
 

@@ -23,6 +23,6 @@ pub inputs_end_down : {C : Type 0} {whole : Path (Member C)} {last : Member C} {
 inputs_end_down {last = last} {new = new} fault at lines i l now way within is_l h =
     let next = drop_more lines i l within ∙ ap (λ (x : InputLine). x ∷ drop (i + 1) lines) (sym is_l) in
     let split = ap (λ (ls : List InputLine). takes_all fault at (inputs_of ls) now) next in
-    way None last new (ends_all (λ a y. takes_all fault a (inputs_of (drop (i + 1) lines)) y) split h)
+    way.ends None last new (ends_all (λ a y. takes_all fault a (inputs_of (drop (i + 1) lines)) y) split h)
 
 pub ruleset inputs_end = (inputs_are_over, inputs_end_down)

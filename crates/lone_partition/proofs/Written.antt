@@ -19,20 +19,20 @@ then_made {whole = whole} {a = a} {old = old} {mid = mid} {new = new} rest betwe
 }
 
 -- Once the rest is made, the whole is.
-abbrev pub Completes : {S : Type 0} → Gone S → Gone S → Sent → Sent → Type 0
-Completes {S = S} whole rest old now = (next : S) (new : Sent) → IsMade rest next now new → IsMade whole next old new
+pub record Completes {S : Type 0} (whole rest : Gone S) (old now : Sent) : Type 0 where
+  pub ends : (next : S) (new : Sent) → IsMade rest next now new → IsMade whole next old new
 
 pub starts_out : {S : Type 0} (whole : Gone S) (s : Sent) → Completes whole whole s s
-starts_out whole s = λ next new h. h
+starts_out whole s = record { ends = λ next new h. h }
 
 -- one part more
 pub goes_on : {S : Type 0} {whole now a : Gone S} {old mid new : Sent} (rest : S → Gone S) (next : S)
     → now ≡ and_then a rest → Completes whole now old mid → IsMade a next mid new → Completes whole (rest next) old new
-goes_on rest next split way h = λ last end k. way last end (then_made rest next split h k)
+goes_on rest next split way h = record { ends = λ last end k. way.ends last end (then_made rest next split h k) }
 
 -- nothing is left
 pub is_over : {S : Type 0} {whole now : Gone S} {old new : Sent} (next : S) → now ≡ stays next → Completes whole now old new → IsMade whole next old new
-is_over {new = new} next end way = way next new (subst (λ (g : Gone _). IsMade g next new new) (sym end) (still_made next new))
+is_over {new = new} next end way = way.ends next new (subst (λ (g : Gone _). IsMade g next new new) (sym end) (still_made next new))
 
 -- ---- steps that may start the module again, or shut it down
 
@@ -52,18 +52,18 @@ ends_all {c = c} {old = old} {new = new} rest {next = next} split h =
     subst (λ (d : Path _). IsPathMade d None next old new) (sym (split ∙ ap (λ (o : Option At). unless_over c rest o) (sym h.at))) h
 
 -- Once the rest is made, the whole is.
-abbrev pub CompletesPath : {S : Type 0} → Path S → Path S → Sent → Sent → Type 0
-CompletesPath {S = S} whole rest old now = (answer : Option At) (next : S) (new : Sent) → IsPathMade rest answer next now new → IsPathMade whole answer next old new
+pub record CompletesPath {S : Type 0} (whole rest : Path S) (old now : Sent) : Type 0 where
+  pub ends : (answer : Option At) (next : S) (new : Sent) → IsPathMade rest answer next now new → IsPathMade whole answer next old new
 
 pub path_starts_out : {S : Type 0} (whole : Path S) (s : Sent) → CompletesPath whole whole s s
-path_starts_out whole s = λ answer next new h. h
+path_starts_out whole s = record { ends = λ answer next new h. h }
 
 -- one part more
 pub runs_on : {S : Type 0} {whole now c : Path S} {old mid new : Sent} (rest : At → S → Path S) (at : At) (next : S)
     → now ≡ and_runs c rest → Some at ≡ c.at → CompletesPath whole now old mid → IsMade (done_in c) next mid new → CompletesPath whole (rest at next) old new
-runs_on rest at next split same way h = λ answer last end k. way answer last end (then_runs_made rest at next split same h k)
+runs_on rest at next split same way h = record { ends = λ answer last end k. way.ends answer last end (then_runs_made rest at next split same h k) }
 
 -- nothing is left
 pub path_is_over : {S : Type 0} {whole now : Path S} {old new : Sent} (at : At) (next : S) → now ≡ keeps_on at (stays next) → CompletesPath whole now old new → IsPathMade whole (Some at) next old new
 path_is_over {new = new} at next end way =
-    way (Some at) next new (subst (λ (d : Path _). IsPathMade d (Some at) next new new) (sym end) (record { at = refl; made = still_made next new }))
+    way.ends (Some at) next new (subst (λ (d : Path _). IsPathMade d (Some at) next new new) (sym end) (record { at = refl; made = still_made next new }))

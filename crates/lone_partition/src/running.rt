@@ -20,9 +20,7 @@ use crate::pieces::advance;
 use crate::step::{Step, write_step};
 use crate::surroundings::Surroundings;
 use crate::ticking::tick;
-use apex_types::{
-    At, Moment, PartitionId, Sink, SinkFault, StartCondition, Ticks, TraceBuffer,
-};
+use apex_types::{At, Moment, PartitionId, Sink, SinkFault, StartCondition, Ticks, TraceBuffer};
 use isolation::InputLine;
 use partition::Partition;
 use partition_base::Executor;
@@ -91,14 +89,7 @@ fn run_alone<E: Executor, S: Sink>(
 {
     let mut trace = TraceBuffer::new();
     let mut output = Output::new(&mut trace, sink);
-    start_and_run(
-        surroundings,
-        partition,
-        mem,
-        inputs,
-        ticks,
-        &mut output,
-    );
+    start_and_run(surroundings, partition, mem, inputs, ticks, &mut output);
     if output.has_failed() {
         return Err(SinkFault);
     }

@@ -24,7 +24,7 @@ pub lines_end_down : {C : Type 0} {whole : Course C} {members : List (Member C)}
 lines_end_down {members = members} {new = new} plan at lines i l now way within is h =
     let next = drop_more lines i l within ∙ ap (λ (x : DeviceLine). x ∷ drop (i + 1) lines) (sym is) in
     let split = ap (λ (ls : List DeviceLine). inputs_all plan at ls now) next in
-    way None members new (ends_down (λ a ms. inputs_all plan a (drop (i + 1) lines) ms) split h)
+    way.ends None members new (ends_down (λ a ms. inputs_all plan a (drop (i + 1) lines) ms) split h)
 
 pub ruleset lines_end = (lines_are_over, lines_end_down)
 

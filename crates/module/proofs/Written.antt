@@ -24,20 +24,20 @@ then_made {whole = whole} {a = a} {old = old} {mid = mid} {new = new} rest betwe
 }
 
 -- Once the rest is made, the whole is.
-abbrev pub Completes : {C : Type 0} → Advanced C → Advanced C → Sent → Sent → Type 0
-Completes {C = C} whole rest old now = (members : List (Member C)) (new : Sent) → IsMade rest members now new → IsMade whole members old new
+pub record Completes {C : Type 0} (whole rest : Advanced C) (old now : Sent) : Type 0 where
+  pub ends : (members : List (Member C)) (new : Sent) → IsMade rest members now new → IsMade whole members old new
 
 pub starts_out : {C : Type 0} (whole : Advanced C) (s : Sent) → Completes whole whole s s
-starts_out whole s = λ members new h. h
+starts_out whole s = record { ends = λ members new h. h }
 
 -- one part more
 pub goes_on : {C : Type 0} {whole now a : Advanced C} {old mid new : Sent} (rest : List (Member C) → Advanced C) (members : List (Member C))
     → now ≡ then_goes a rest → Completes whole now old mid → IsMade a members mid new → Completes whole (rest members) old new
-goes_on rest members split way h = λ last end k. way last end (then_made rest members split h k)
+goes_on rest members split way h = record { ends = λ last end k. way.ends last end (then_made rest members split h k) }
 
 -- nothing is left
 pub is_over : {C : Type 0} {whole now : Advanced C} {old new : Sent} (members : List (Member C)) → now ≡ still members → Completes whole now old new → IsMade whole members old new
-is_over {new = new} members end way = way members new (subst (λ (a : Advanced _). IsMade a members new new) (sym end) (still_made members new))
+is_over {new = new} members end way = way.ends members new (subst (λ (a : Advanced _). IsMade a members new new) (sym end) (still_made members new))
 
 -- ---- steps that may start the module again, or shut it down
 
@@ -57,21 +57,21 @@ ends_down {c = c} {old = old} {new = new} rest {members = members} split h =
     subst (λ (d : Course _). IsCourse d None members old new) (sym (split ∙ ap (λ (o : Option At). unless_down c rest o) (sym h.at))) h
 
 -- Once the rest is made, the whole is.
-abbrev pub CompletesCourse : {C : Type 0} → Course C → Course C → Sent → Sent → Type 0
-CompletesCourse {C = C} whole rest old now = (answer : Option At) (members : List (Member C)) (new : Sent) → IsCourse rest answer members now new → IsCourse whole answer members old new
+pub record CompletesCourse {C : Type 0} (whole rest : Course C) (old now : Sent) : Type 0 where
+  pub ends : (answer : Option At) (members : List (Member C)) (new : Sent) → IsCourse rest answer members now new → IsCourse whole answer members old new
 
 pub course_starts_out : {C : Type 0} (whole : Course C) (s : Sent) → CompletesCourse whole whole s s
-course_starts_out whole s = λ answer members new h. h
+course_starts_out whole s = record { ends = λ answer members new h. h }
 
 -- one part more
 pub runs_on : {C : Type 0} {whole now c : Course C} {old mid new : Sent} (rest : At → List (Member C) → Course C) (at : At) (members : List (Member C))
     → now ≡ then_runs c rest → Some at ≡ c.at → CompletesCourse whole now old mid → IsMade (done_in c) members mid new → CompletesCourse whole (rest at members) old new
-runs_on rest at members split same way h = λ answer last end k. way answer last end (then_runs_made rest at members split same h k)
+runs_on rest at members split same way h = record { ends = λ answer last end k. way.ends answer last end (then_runs_made rest at members split same h k) }
 
 -- nothing is left
 pub course_is_over : {C : Type 0} {whole now : Course C} {old new : Sent} (at : At) (members : List (Member C)) → now ≡ meaning.goes_on at (still members) → CompletesCourse whole now old new → IsCourse whole (Some at) members old new
 course_is_over {new = new} at members end way =
-    way (Some at) members new (subst (λ (d : Course _). IsCourse d (Some at) members new new) (sym end) (record { at = refl; made = still_made members new }))
+    way.ends (Some at) members new (subst (λ (d : Course _). IsCourse d (Some at) members new new) (sym end) (record { at = refl; made = still_made members new }))
 
 -- what begins, then a step that may start the module again, or shut it down
 pub begun_made : {C : Type 0} {a : Advanced C} {old mid new : Sent} (at : At) (rest : At → List (Member C) → Course C) (between : List (Member C)) {answer : Option At} {members : List (Member C)}

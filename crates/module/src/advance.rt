@@ -73,11 +73,7 @@ impl<E: Executor<Mem = PartitionMem>> Members<E> {
 
     /// Before the first tick each partition starts.
     #[tactic(auto, using(crate::proofs::Written::nothing))]
-    pub fn begin<S: Sink>(
-        &mut self,
-        moment: Moment,
-        output: &mut Output<'_, S>,
-    )
+    pub fn begin<S: Sink>(&mut self, moment: Moment, output: &mut Output<'_, S>)
         ensures { IsMade (begins moment.at.now.0 (members_in E.Executor self.old)) (members_in E.Executor self.new) (sent_of S.Sink output.old) (sent_of S.Sink output.new) }
     {
         if moment.at.now.0 == 0 {

@@ -27,7 +27,9 @@ impl<E: Executor<Mem = PartitionMem>> Members<E> {
         let mut least = most;
         let mut place = 0;
         while place < self.partitions.len() {
-            least = self.partitions[place].kernel().still_ticks(moment.at, least);
+            least = self.partitions[place]
+                .kernel()
+                .still_ticks(moment.at, least);
             if least == 0 {
                 return 0;
             }

@@ -33,12 +33,7 @@ impl<E: Executor<Mem = PartitionMem>> Members<E> {
     }
 
     /// A fault of the module is told. It is no partition's.
-    fn tell_fault<S: Sink>(
-        &self,
-        moment: Moment,
-        action: ModuleAction,
-        output: &mut Output<'_, S>,
-    )
+    fn tell_fault<S: Sink>(&self, moment: Moment, action: ModuleAction, output: &mut Output<'_, S>)
         ensures { IsMade (meaning.tells_fault moment.at action (members_in E.Executor self.now)) (members_in E.Executor self.now) (sent_of S.Sink output.old) (sent_of S.Sink output.new) }
     {
         let error = EventKind::Error(ErrorKind::HardwareFault, None, Response::Module(action));

@@ -54,11 +54,7 @@ impl<E: Executor<Mem = PartitionMem>> Module<E> {
     }
 
     /// What happens in the next tick. After a shutdown nothing does.
-    fn go<S: Sink>(
-        &mut self,
-        lines: &[DeviceLine],
-        output: &mut Output<'_, S>,
-    ) -> Option<Moment>
+    fn go<S: Sink>(&mut self, lines: &[DeviceLine], output: &mut Output<'_, S>) -> Option<Moment>
         requires { meaning.of_tick self.old.now.0 lines.now ≡ lines.now }
         ensures image { self.new.image ≡ self.old.image }
         ensures now { self.new.now ≡ self.old.now }

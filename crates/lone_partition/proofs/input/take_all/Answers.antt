@@ -6,6 +6,7 @@ use Rattle.isolation.specs.declared.input.InputLine.{InputLine}
 use Rattle.partition.specs.Members.{member_of}
 use Rattle.lone_partition.specs.Lines.{inputs_of}
 use Rattle.lone_partition.specs.Outputs.{next_at, sent_of}
+use Rattle.lone_partition.proofs.Taken.{inputs_end_down}
 use Rattle.lone_partition.proofs.Written.{path_starts_out, runs_on}
 use Rattle.lone_partition.proofs.input.take_all.Goals as goal
 
@@ -29,3 +30,7 @@ loop-line-preserved g c =
       fits = search rules;
       rest = runs_on (λ a y. takes_all c.args.fault a (inputs_of (drop (i + 1) lines)) y) c.in-Some.next.at (member_of g.E.Executor c.take.new.partition c.take.new.mem) split (ap next_at (sym some) ∙ ran.at) c.loop-line.invariant.rest ran.made;
     }
+
+pub returns-in-None-clause-written : goal.returns-in-None-clause-written
+returns-in-None-clause-written g c =
+    inputs_end_down c.args.fault c.loop-line.last.at c.args.lines.now c.loop-line.line-index c.line-item.result (member_of g.E.Executor c.loop-line.partition c.loop-line.mem) c.loop-line.invariant.rest c.loop-line-test.true c.line-item.is c.in-None.ensures.written

@@ -1,4 +1,4 @@
-use Rattle.std.proofs.Common.{rules, ◌≡◌, ℕ, suc, ◌+◌, ◌-◌, Some, None, sym, ap, subst, ◌∙◌, arith}
+use Rattle.std.proofs.Common.{rules, ◌≡◌, ℕ, suc, ◌+◌, ◌-◌, true, Some, None, sym, ap, subst, ◌∙◌, arith}
 use Rattle.apex_types.specs.Line.{text_of}
 use Rattle.apex_types.specs.declared.identity.At.{At}
 use Rattle.module_meaning.specs.Module.{first_tick, next_tick}
@@ -110,15 +110,28 @@ returns-in_default g c =
     let down : c.tick.result ≡ None = search rules in
     ends_down whole s lines c.split_tick.result.0.now c.split_tick.result.1.now left (left - 1) at x (member_of g.E.Executor c.tick.new.partition c.tick.new.mem) old mid (sent_of g.S.Sink c.tick.new.output) one split.own split.rest way (record { at = ap next_at (sym down) ∙ ran.at; made = ran.made })
 
-pub returns : goal.returns
-returns g c =
+pub later-moment-requires-in-loop-left : goal.later-moment-requires-in-loop-left
+later-moment-requires-in-loop-left g c =
+    let i = c.loop-left.invariant in
+    let s = around c.args.surroundings.now in
+    let at = c.loop-left.moment.at in
+    let last = c.in-Some.last.at in
+    let x = member_of g.E.Executor c.advance-count.new.partition c.advance-count.new.mem in
+    let some : c.tick.result ≡ Some c.in-Some.last = search rules in
+    let its = ap next_at (sym some) ∙ c.tick.ensures.written.at in
+    let now : last.now.0 ≡ at.now.0 = subst (IsIn at.now.0) (sym its) (tick_in s (inputs_of c.split_tick.result.0.now) at x) in
+    omega (arith, now, i.limit, c.requires.ticks, c.loop-left-test.true)
+
+pub returns-else-not-has_failed : goal.returns-else-not-has_failed
+returns-else-not-has_failed g c =
+    let rest = alone_from (around c.args.surroundings.now) c.loop-left.lines.now c.loop-left.left (Some c.loop-left.moment.at) (member_of g.E.Executor c.loop-left.partition c.loop-left.mem) in
+    let now = sent_of g.S.Sink c.loop-left.output in
+    let failed : now.failed ≡ true = search rules in
+    c.loop-left.invariant.rest.ends now (failed_sent now (text_of rest) failed)
+
+pub returns-after-loop-left : goal.returns-after-loop-left
+returns-after-loop-left g c =
     let s = around c.args.surroundings.now in
     let x = member_of g.E.Executor c.loop-left.partition c.loop-left.mem in
-    let old = sent_of g.S.Sink c.args.output.now in
-    let now = sent_of g.S.Sink c.loop-left.output in
-    let rest = alone_from s c.loop-left.lines.now c.loop-left.left (Some c.loop-left.moment.at) x in
     let whole = alone_from s c.args.inputs.now c.args.ticks (Some first_tick) (member_of g.E.Executor c.args.partition.now c.args.mem.now) in
-    elim c.loop-left-test.branch [
-      | then-loop-left-test+else-has_failed w ↦ c.loop-left.invariant.rest now (failed_sent now (text_of rest) (search rules))
-      | else-loop-left-test w ↦ nothing_left whole s c.loop-left.lines.now c.loop-left.left (Some c.loop-left.moment.at) x old now (omega (arith, w.loop-left-test.false)) c.loop-left.invariant.rest
-    ]
+    nothing_left whole s c.loop-left.lines.now c.loop-left.left (Some c.loop-left.moment.at) x (sent_of g.S.Sink c.args.output.now) (sent_of g.S.Sink c.loop-left.output) (omega (arith, c.loop-left-test.false)) c.loop-left.invariant.rest

@@ -3,7 +3,7 @@ use Rattle.isolation.specs.Alone.{sends_messages}
 use Rattle.partition.specs.Members.{member_of}
 use Rattle.lone_partition.specs.Around.{around}
 use Rattle.lone_partition.specs.Outputs.{sent_of}
-use Rattle.lone_partition.proofs.Written.{Completes, goes_on, starts_out}
+use Rattle.lone_partition.proofs.Written.{Completes, goes_on, is_over, starts_out}
 use Rattle.lone_partition.proofs.sending.send_messages.Goals as goal
 
 pub loop-init : goal.loop-init
@@ -25,3 +25,9 @@ loop-preserved g c =
       fits = search rules;
       rest = goes_on more (member_of g.E.Executor c.send_message.new.partition c.send_message.new.mem) split c.loop.invariant.rest c.send_message.ensures.written;
     }
+
+pub returns-clause-written : goal.returns-clause-written
+returns-clause-written g c =
+    let now = member_of g.E.Executor c.loop.partition c.loop.mem in
+    let none : c.args.count - c.loop.counter ≡ 0 = omega (arith, c.loop-test.false) in
+    is_over now (ap (λ (n : ℕ). sends_messages n (around c.args.surroundings.now) c.args.moment.at c.args.port now) none) c.loop.invariant.rest

@@ -3,7 +3,7 @@ use Rattle.isolation.specs.Alone.{sends_ports}
 use Rattle.partition.specs.Members.{member_of}
 use Rattle.lone_partition.specs.Around.{around}
 use Rattle.lone_partition.specs.Outputs.{sent_of}
-use Rattle.lone_partition.proofs.Written.{Completes, goes_on, starts_out}
+use Rattle.lone_partition.proofs.Written.{Completes, goes_on, is_over, starts_out}
 use Rattle.lone_partition.proofs.sending.send_ports.Goals as goal
 
 pub loop-place-init : goal.loop-place-init
@@ -26,3 +26,10 @@ loop-place-preserved g c =
       fits = search rules;
       rest = goes_on more (member_of g.E.Executor c.send_port.new.partition c.send_port.new.mem) split c.loop-place.invariant.rest c.send_port.ensures.written;
     }
+
+pub returns-clause-written : goal.returns-clause-written
+returns-clause-written g c =
+    let place = c.loop-place.place in
+    let now = member_of g.E.Executor c.loop-place.partition c.loop-place.mem in
+    let none : c.args.count - place ≡ 0 = omega (arith, c.loop-place-test.false) in
+    is_over now (ap (λ (n : ℕ). sends_ports n (place + 1) (around c.args.surroundings.now) c.args.moment.at now) none) c.loop-place.invariant.rest

@@ -7,7 +7,7 @@ use Rattle.module.proofs.member.Members.break_module.Goals as goal
 pub returns-in-Ignore : goal.returns-in-Ignore
 returns-in-Ignore g c =
     let is : c.args.action ≡ Ignore = search rules in
-    fault_ignored (members_in g.E.Executor c.args.self.now) c.args.moment.at c.args.action is c.tell_fault-in-Ignore.ensures
+    fault_ignored (members_in g.E.Executor c.args.self.now) c.args.moment.at c.args.action is c.tell_fault.ensures
 
 pub returns-in-Shutdown : goal.returns-in-Shutdown
 returns-in-Shutdown g c =

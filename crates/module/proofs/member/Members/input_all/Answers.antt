@@ -4,6 +4,7 @@ use Rattle.apex_types.specs.declared.device.DeviceLine.{DeviceLine}
 use Rattle.module_meaning.specs.Module.{inputs_all}
 use Rattle.lone_partition.specs.Outputs.{next_at}
 use Rattle.module.specs.Views.{members_in, plan_of}
+use Rattle.module.proofs.Shutdown.{lines_end_down}
 use Rattle.module.proofs.Written.{runs_on}
 use Rattle.module.proofs.member.Members.input_all.Goals as goal
 
@@ -19,3 +20,7 @@ loop-line-preserved g c =
     let ran = c.input.ensures in
     let some : c.input.result ≡ Some c.in-Some.next = search rules in
     runs_on (λ a ms. inputs_all plan a (drop (i + 1) lines) ms) c.in-Some.next.at (members_in g.E.Executor c.input.new.self) split (ap next_at (sym some) ∙ ran.at) c.loop-line.invariant ran.made
+
+pub returns-in-None : goal.returns-in-None
+returns-in-None g c =
+    lines_end_down (plan_of c.args.plan.now) c.loop-line.last.at c.args.lines.now c.loop-line.line-index c.line-item.result (members_in g.E.Executor c.loop-line.self) c.loop-line.invariant c.loop-line-test.true c.line-item.is c.in-None.ensures

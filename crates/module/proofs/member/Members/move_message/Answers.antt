@@ -13,8 +13,8 @@ returns-in-Some g c =
     let there : Some c.in-Some.message ≡ of_member None (leaving c.args.port) (at_number ms c.args.partition.0) = search rules in
     one_moved (channels_of c.args.channels.now) c.args.moment.at c.args.partition c.args.port ms c.in-Some.message _ there c.channel_from-channel.ensures c.leave.ensures.written c.go_by.ensures
 
-pub returns-default : goal.returns-default
-returns-default g c =
+pub returns-in_default : goal.returns-in_default
+returns-in_default g c =
     let ms = members_in g.E.Executor c.args.self.now in
     let none : None ≡ of_member None (leaving c.args.port) (at_number ms c.args.partition.0) = search rules in
     none_moved (channels_of c.args.channels.now) c.args.moment.at c.args.partition c.args.port ms none c.leave.ensures.written

@@ -3,7 +3,7 @@ use Rattle.module_meaning.specs.Module.{moves_messages}
 use Rattle.image.specs.Items.{channels_of}
 use Rattle.lone_partition.specs.Outputs.{sent_of}
 use Rattle.module.specs.Views.{members_in}
-use Rattle.module.proofs.Written.{Completes, starts_out, goes_on}
+use Rattle.module.proofs.Written.{Completes, goes_on, is_over, starts_out}
 use Rattle.module.proofs.member.Members.move_messages.Goals as goal
 
 pub loop-init : goal.loop-init
@@ -19,3 +19,9 @@ loop-preserved g c =
     let split = ap (λ (n : ℕ). moves_messages n (channels_of c.args.channels.now) c.args.moment.at c.args.partition c.args.port (members_in g.E.Executor c.loop.self)) left in
     let more = moves_messages (c.args.count - (c.loop.counter + 1)) (channels_of c.args.channels.now) c.args.moment.at c.args.partition c.args.port in
     goes_on more (members_in g.E.Executor c.move_message.new.self) split c.loop.invariant c.move_message.ensures
+
+pub returns : goal.returns
+returns g c =
+    let now = members_in g.E.Executor c.loop.self in
+    let none : c.args.count - c.loop.counter ≡ 0 = omega (arith, c.loop-test.false) in
+    is_over now (ap (λ (n : ℕ). moves_messages n (channels_of c.args.channels.now) c.args.moment.at c.args.partition c.args.port now) none) c.loop.invariant

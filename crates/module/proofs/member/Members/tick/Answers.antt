@@ -1,7 +1,6 @@
-use Rattle.std.proofs.Common.{◌≡◌, List, Some, refl, sym, ap, ◌∙◌, rules}
+use Rattle.std.proofs.Common.{List, refl, ap}
 use Rattle.apex_types.specs.declared.device.DeviceLine.{DeviceLine}
 use Rattle.module_meaning.specs.Module.{then_runs, inputs_all, moves_and_ticks}
-use Rattle.lone_partition.specs.Outputs.{next_at}
 use Rattle.module.specs.Views.{members_in, plan_of}
 use Rattle.module.proofs.Written.{then_runs_made}
 use Rattle.module.proofs.member.Members.tick.Goals as goal
@@ -10,7 +9,6 @@ pub returns : goal.returns
 returns g c =
     let plan = plan_of c.args.plan.now in
     let ms = members_in g.E.Executor c.args.self.now in
-    let ran = c.input_all.ensures in
-    let some : c.input_all.result ≡ Some c.in-Some.last = search rules in
+    let ran = c.in_ok-last.ensures in
     let split = ap (λ (ls : List DeviceLine). then_runs (inputs_all plan c.args.moment.at ls ms) (moves_and_ticks plan)) c.requires in
-    then_runs_made (moves_and_ticks plan) c.in-Some.last.at (members_in g.E.Executor c.input_all.new.self) split (ap next_at (sym some) ∙ ran.at) ran.made (record { at = refl; made = c.move_and_tick.ensures })
+    then_runs_made (moves_and_ticks plan) c.in_ok-last.last.at (members_in g.E.Executor c.input_all.new.self) split ran.at ran.made (record { at = refl; made = c.move_and_tick.ensures })

@@ -1,0 +1,10 @@
+use Rattle.std.proofs.Common.{refl}
+use Rattle.apex_types.specs.declared.codes.StartCondition.TheVariants.{HmModuleRestart}
+use Rattle.module_meaning.specs.Module.{as_origin, starts_all}
+use Rattle.module.specs.Views.{members_in}
+use Rattle.module.proofs.Written.{then_made}
+use Rattle.module.proofs.member.Members.reset.Goals as goal
+
+pub returns-clause-written : goal.returns-clause-written
+returns-clause-written g c =
+    then_made (starts_all (as_origin c.args.moment.at) HmModuleRestart) (members_in g.E.Executor c.args.self.now) refl c.tell_fault.ensures c.start_all.ensures

@@ -1,0 +1,23 @@
+use Rattle.std.proofs.Common.{None, refl, sym, subst}
+use Rattle.module_meaning.specs.Module.{Course}
+use Rattle.lone_partition.proofs.Outputs.{nothing_sent}
+use Rattle.lone_partition.specs.Outputs.{next_at, sent_of}
+use Rattle.module.specs.Views.{members_in, plan_of}
+use Rattle.module.specs.Written.{IsCourse}
+use Rattle.module.proofs.Standing.{goes_from, goes_nowhere}
+use Rattle.module.proofs.member.Module.go.Goals as goal
+
+pub returns-clause-written : goal.returns-clause-written
+returns-clause-written g c =
+    let m = c.args.self.now in
+    let ms = members_in g.E.Executor m.members in
+    subst (λ (d : Course g.E.Executor.Control). IsCourse d (next_at c.begin_and_tick.result) (members_in g.E.Executor c.begin_and_tick.new.self) (sent_of g.S.Sink c.args.output.now) (sent_of g.S.Sink c.begin_and_tick.new.output))
+    (goes_from (plan_of m.image) c.args.lines.now m.now ms m.origin c.in_ok-moment.moment.at c.in_ok-moment.ensures) c.begin_and_tick.ensures
+
+pub returns-in_err-moment-clause-written : goal.returns-in_err-moment-clause-written
+returns-in_err-moment-clause-written g c =
+    let m = c.args.self.now in
+    let ms = members_in g.E.Executor m.members in
+    let sent = sent_of g.S.Sink c.args.output.now in
+    subst (λ (d : Course g.E.Executor.Control). IsCourse d None ms sent sent) (sym (goes_nowhere (plan_of m.image) c.args.lines.now m.now ms m.origin c.in_err-moment.ensures))
+    (record { at = refl; made = record { members = refl; sent = nothing_sent sent } })
