@@ -290,7 +290,7 @@ processes_steady : Steady processes_at
 unfolding processes_at
 processes_steady ws more = repeat_steady _ (each_steady (codes "process") process_at (steady_more process_at process_steady)) ws more
 
-stack_behind : Reading tree.StackBody
+unfoldable pub stack_behind : Reading tree.StackBody
 stack_behind ws = expect (codes "stack") ws >>= λ rest. number_at rest >>= λ n. body_at n.1 >>= λ b. Ok (record { stack = n.0; body = b.0 }, b.1)
 
 stack_behind_steady : Steady stack_behind
@@ -301,7 +301,7 @@ twice : {A B D : Type 0} (o : Answer A) (f : A → Answer B) (g : B → Answer D
 twice (Ok a) f g none = refl
 twice (Err n) f g none = refl
 
-handler_is : (ws : List Word) → either (expect (codes "handler") ws) (λ rest. stack_behind rest >>= λ b. Ok (Some b.0, b.1)) (Ok (None, ws)) ≡ handler_at ws
+pub handler_is : (ws : List Word) → either (expect (codes "handler") ws) (λ rest. stack_behind rest >>= λ b. Ok (Some b.0, b.1)) (Ok (None, ws)) ≡ handler_at ws
 unfolding handler_at stack_body_at stack_behind
 handler_is ws = twice (expect (codes "handler") ws) stack_behind (λ b. Ok (Some b.0, b.1)) (Ok (None, ws))
 
@@ -310,7 +310,7 @@ handler_steady ws more = steady_same same (λ vs. either (expect (codes "handler
     (mark_either (codes "handler") (λ rest. stack_behind rest >>= λ b. Ok (Some b.0, b.1)) (λ vs. Ok (None, vs)) (then_steady same stack_behind _ stack_behind_steady (λ b. ok_steady _)) (ok_steady None)) ws more
 
 -- programs, and the words behind them
-abbrev parts_at : Reading tree.Program
+abbrev pub parts_at : Reading tree.Program
 parts_at ws = declarations_at ws >>= λ ds. stack_body_at (codes "init") ds.1 >>= λ i. handler_at i.1 >>= λ h. processes_at h.1 >>= λ ps.
     Ok (record { declarations = ds.0; init = i.0; handler = h.0; processes = ps.0 }, ps.1)
 
@@ -318,7 +318,7 @@ parts_steady : Steady parts_at
 parts_steady = then_steady same declarations_at _ declarations_steady (λ ds. then_steady same (stack_body_at (codes "init")) _ (stack_body_steady (codes "init")) (λ i.
     then_steady same handler_at _ handler_steady (λ h. then_steady same processes_at _ processes_steady (λ ps. ok_steady _))))
 
-abbrev all_of : tree.Program × List Word → Answer tree.Program
+abbrev pub all_of : tree.Program × List Word → Answer tree.Program
 all_of x = all_read x.0 x.1
 
 regroup : {A B D : Type 0} (o : Answer A) (f : A → Answer B) (g : B → Answer D) → ((o >>= f) >>= g) ≡ (o >>= λ a. f a >>= g)
@@ -329,7 +329,7 @@ deeper : {A B : Type 0} (o : Answer A) (f g : A → Answer B) → ((a : A) → f
 deeper (Ok a) f g h = h a
 deeper (Err n) f g h = refl
 
-program_is : (ws : List Word) → (parts_at ws >>= all_of) ≡ program_at ws
+pub program_is : (ws : List Word) → (parts_at ws >>= all_of) ≡ program_at ws
 unfolding program_at
 program_is ws =
     regroup (declarations_at ws) _ all_of ∙ deeper (declarations_at ws) _ _ (λ ds. regroup (stack_body_at (codes "init") ds.1) _ all_of ∙ deeper (stack_body_at (codes "init") ds.1) _ _ (λ i.
