@@ -2,6 +2,7 @@
 
 ghost use Rattle.std.specs.Prelude.{◌≡◌, ◌≤◌, length, option_map, IfOk};
 ghost use Rattle.std.specs.List.{list_any};
+ghost use Rattle.apex_types.specs.declared.limits.TheConstants.{MOST_PORTS};
 ghost use Rattle.module_meaning.specs.Module as meaning;
 ghost use Rattle.module_meaning.specs.Table as rules_of_tables;
 ghost use Rattle.image.specs.Items.{channel_of, channels_of};
@@ -73,7 +74,7 @@ pub fn ways_out(
     partition: PartitionId,
     ports: &[PortRow],
 ) -> Result<Vec<Option<Name>>, AllocError>
-    requires few { length ports.now ≤ 16 }
+    requires few { length ports.now ≤ MOST_PORTS }
     ensures { IfOk result (λ ways. ways.items ≡ slices.ways_from (channels_of channels.now) partition 1 ports.now) }
 {
     let mut ways = Vec::with_capacity(alloc, ports.len())?;

@@ -1,6 +1,7 @@
 //! Many ticks of a partition alone at once: pieces of its windows, and ticks in which nothing happens.
 
 ghost use Rattle.std.specs.Prelude.{◌≡◌, ◌≤◌, ◌<◌, ◌+◌, ◌^◌, ℕ, List, Some};
+ghost use Rattle.apex_types.specs.declared.limits.TheConstants.{MOST_TICKS};
 ghost use Rattle.isolation.specs.Alone.{Surroundings as Around};
 ghost use Rattle.isolation.specs.declared.input.InputLine.{InputLine};
 ghost use Rattle.partition.specs.Members.{member_of};
@@ -27,7 +28,7 @@ pub fn write_advance<E: Executor, S: Sink>(
     output: &mut Output<'_, S>,
 ) -> u32
     requires fits { E.laid mem.old ≡ E.layout partition.old.executor }
-    requires soon { moment.at.now.0 + most ≤ 2 ^ 40 }
+    requires soon { moment.at.now.0 + most ≤ MOST_TICKS }
     ensures fits { E.laid mem.new ≡ E.layout partition.new.executor }
     ensures written { HasAdvancedWritten moment.at most (member_of E.Executor partition.old mem.old) (member_of E.Executor partition.new mem.new) (sent_of S.Sink output.old) (sent_of S.Sink output.new) result }
 {
@@ -47,7 +48,7 @@ fn write_piece<E: Executor, S: Sink>(
     output: &mut Output<'_, S>,
 ) -> u32
     requires fits { E.laid mem.old ≡ E.layout partition.old.executor }
-    requires soon { moment.at.now.0 + most ≤ 2 ^ 40 }
+    requires soon { moment.at.now.0 + most ≤ MOST_TICKS }
     ensures fits { E.laid mem.new ≡ E.layout partition.new.executor }
     ensures run { (s : Around) (lines : List InputLine) (number : ℕ) → ((i : ℕ) → i < most → IsWithin s lines moment.at.origin.0 (moment.at.now.0 + i) (Some number)) → HasRunSome s lines most moment.at (member_of E.Executor partition.old mem.old) (member_of E.Executor partition.new mem.new) (sent_of S.Sink output.old) (sent_of S.Sink output.new) result }
 {
@@ -99,7 +100,7 @@ fn advance_window<E: Executor, S: Sink>(
     output: &mut Output<'_, S>,
 ) -> u32
     requires fits { E.laid mem.old ≡ E.layout partition.old.executor }
-    requires soon { moment.at.now.0 + most ≤ 2 ^ 40 }
+    requires soon { moment.at.now.0 + most ≤ MOST_TICKS }
     ensures fits { E.laid mem.new ≡ E.layout partition.new.executor }
     ensures run { (lines : List InputLine) → AreFrom tick_of_input (moment.at.now.0 + most) lines → HasRunSome (around surroundings.now) lines most moment.at (member_of E.Executor partition.old mem.old) (member_of E.Executor partition.new mem.new) (sent_of S.Sink output.old) (sent_of S.Sink output.new) result }
 {
@@ -127,7 +128,7 @@ pub fn advance<E: Executor, S: Sink>(
     output: &mut Output<'_, S>,
 ) -> u32
     requires fits { E.laid mem.old ≡ E.layout partition.old.executor }
-    requires soon { moment.at.now.0 + most ≤ 2 ^ 40 }
+    requires soon { moment.at.now.0 + most ≤ MOST_TICKS }
     requires order { AreFrom tick_of_input moment.at.now.0 lines.now }
     ensures fits { E.laid mem.new ≡ E.layout partition.new.executor }
     ensures order { AreFrom tick_of_input (moment.at.now.0 + result) lines.now }

@@ -1,6 +1,7 @@
 //! A partition that runs alone, tick by tick.
 
 ghost use Rattle.std.specs.Prelude.{◌≡◌, ◌≤◌, ◌<◌, ◌+◌, ◌-◌, ◌^◌, Some};
+ghost use Rattle.apex_types.specs.declared.limits.TheConstants.{MOST_TICKS};
 ghost use Rattle.apex_types.specs.Line.{text_of};
 ghost use Rattle.module_meaning.specs.Module.{first_tick};
 ghost use Rattle.kernel_meaning.specs.Windows.{at_tick};
@@ -57,7 +58,7 @@ impl LonePartition {
         ticks: u64,
         sink: &mut S,
     ) -> Result<(), SinkFault>
-        requires ticks { ticks ≤ 2 ^ 40 }
+        requires ticks { ticks ≤ MOST_TICKS }
         requires order { AreInOrder inputs.now }
         requires failures { S.failures sink.old < 2 ^ 64 - 1 }
         ensures { AreWritten (trace_alone (alone_of self) inputs.now ticks) (S.taken sink.old) (S.taken sink.new) (S.failures sink.old) (S.failures sink.new) result }
@@ -82,7 +83,7 @@ fn run_alone<E: Executor, S: Sink>(
     sink: &mut S,
 ) -> Result<(), SinkFault>
     requires fits { E.laid mem.old ≡ E.layout partition.old.executor }
-    requires ticks { ticks ≤ 2 ^ 40 }
+    requires ticks { ticks ≤ MOST_TICKS }
     requires order { AreInOrder inputs.now }
     requires failures { S.failures sink.old < 2 ^ 64 - 1 }
     ensures { AreWritten (trace_alone (record { around = around surroundings.now; member = member_of E.Executor partition.old mem.old }) inputs.now ticks) (S.taken sink.old) (S.taken sink.new) (S.failures sink.old) (S.failures sink.new) result }
@@ -106,7 +107,7 @@ fn start_and_run<E: Executor, S: Sink>(
     output: &mut Output<'_, S>,
 )
     requires fits { E.laid mem.old ≡ E.layout partition.old.executor }
-    requires ticks { ticks ≤ 2 ^ 40 }
+    requires ticks { ticks ≤ MOST_TICKS }
     requires order { AreInOrder inputs.now }
     ensures { HasSent (sent_of S.Sink output.old) (sent_of S.Sink output.new) (text_of (trace_alone (record { around = around surroundings.now; member = member_of E.Executor partition.old mem.old }) inputs.now ticks)) }
 {
@@ -128,7 +129,7 @@ fn run_ticks<E: Executor, S: Sink>(
     output: &mut Output<'_, S>,
 )
     requires fits { E.laid mem.old ≡ E.layout partition.old.executor }
-    requires ticks { ticks ≤ 2 ^ 40 }
+    requires ticks { ticks ≤ MOST_TICKS }
     requires order { AreInOrder inputs.now }
     ensures { HasSent (sent_of S.Sink output.old) (sent_of S.Sink output.new) (text_of (alone_from (around surroundings.now) inputs.now ticks (Some first_tick) (member_of E.Executor partition.old mem.old))) }
 {
@@ -166,7 +167,7 @@ fn at_once(ticks: u64) -> u32
 
 /// The tick so many ticks after a tick, with the same origin.
 pub(crate) fn later(moment: Moment, count: u32) -> Moment
-    requires { moment.at.now.0 + count ≤ 2 ^ 40 }
+    requires { moment.at.now.0 + count ≤ MOST_TICKS }
     ensures { result.at ≡ at_tick moment.at (moment.at.now.0 + count) }
 {
     Moment {

@@ -1,6 +1,7 @@
 //! What surrounds a partition.
 
 ghost use Rattle.std.specs.Prelude.{◌≡◌, ◌≤◌, length, IfOk};
+ghost use Rattle.apex_types.specs.declared.limits.TheConstants.{MOST_PORTS};
 ghost use Rattle.machine_meaning.specs.MachineMeaning.{machine_module};
 ghost use Rattle.image.specs.Views.{image_of};
 ghost use Rattle.isolation.specs.Alone.{way_out};
@@ -34,7 +35,7 @@ impl Surroundings {
         number: PartitionId,
         ports: &[PortRow],
     ) -> Result<Surroundings, AllocError>
-        requires few { length ports.now ≤ 16 }
+        requires few { length ports.now ≤ MOST_PORTS }
         ensures { IfOk result (λ s. around s ≡ surroundings_of (machine_module (image_of image.now)).plan number.0 ports.now) }
     {
         Ok(Surroundings {

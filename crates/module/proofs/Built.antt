@@ -5,6 +5,7 @@ use Rattle.std.specs.List.{list_any}
 use Rattle.std.proofs.lemmas.Bool.{ltb-true, ltb-false, lt-ltb, le-ltb}
 use Rattle.std.proofs.lemmas.List.{map-append}
 use Rattle.std.proofs.lemmas.Option.{none-some, same_Some}
+use Rattle.apex_types.specs.declared.limits.TheConstants.{MOST_INSTRUCTIONS}
 use Rattle.apex_types.specs.declared.row.Section as code
 use Rattle.pal_meaning.specs.Program.{size_of}
 use Rattle.machine_meaning.specs.Instructions.{reading}
@@ -23,10 +24,10 @@ use Rattle.module.specs.Built.{built_item, built_items, IsCoded, AreCoded, AreCo
 
 -- ---- lengths
 
-pub short_enough : (p : Program) → is_too_long p ≡ false → size_of p ≤ 65_536
-short_enough p h = ltb-false 65_536 (size_of p) h
+pub short_enough : (p : Program) → is_too_long p ≡ false → size_of p ≤ MOST_INSTRUCTIONS
+short_enough p h = ltb-false MOST_INSTRUCTIONS (size_of p) h
 
-pub not_too_long : (p : Program) → is_too_long p ≡ false → 65_536 < size_of p → ⊥
+pub not_too_long : (p : Program) → is_too_long p ≡ false → MOST_INSTRUCTIONS < size_of p → ⊥
 not_too_long p h long = let short = short_enough p h in omega (arith, long, short)
 
 pub none_too_long : (rows : List Partition) (ps : List Program) → length ps ≡ length rows → first_too_long rows ps ≡ None → list_any is_too_long ps ≡ false
@@ -53,7 +54,7 @@ one_is_short (q ∷ ps) (suc n) p h got = one_is_short ps n p (rest (is_too_long
 
 -- ---- what is compiled
 
-pub coded_section : (p : Program) (s : code.Section) → view s ≡ section_of p → map reading s.code.items ≡ map Some (code_of p) → All (FitsSigned w64) s.initial.items → size_of p ≤ 65_536 → IsCoded p
+pub coded_section : (p : Program) (s : code.Section) → view s ≡ section_of p → map reading s.code.items ≡ map Some (code_of p) → All (FitsSigned w64) s.initial.items → size_of p ≤ MOST_INSTRUCTIONS → IsCoded p
 coded_section p s is reads words size = record {
   size = size;
   code = ap (λ (x : Section). map reading x.code) (sym is) ∙ reads;

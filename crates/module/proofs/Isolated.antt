@@ -1,5 +1,6 @@
 -- What a run writes shows of each partition what the partition shows alone.
 use Rattle.std.proofs.Common.{◌≡◌, ◌≤◌, ◌^◌, ℕ, List, Option, Result, Ok, Err, OnOk, sym, subst, ◌∙◌}
+use Rattle.apex_types.specs.declared.limits.TheConstants.{MOST_TICKS}
 use Rattle.apex_types.specs.declared.device.DeviceLine.{DeviceLine}
 use Rattle.machine_meaning.specs.MachineMeaning.{verdict_for}
 use Rattle.machine_meaning.specs.Image.{Image}
@@ -38,6 +39,6 @@ sources_isolated table sources devices n old new (Err f) h = tt
 
 -- calls of a machine's tick
 pub calls_isolated : (image : Image) (devices : List ℕ) (lines : List DeviceLine) (n : ℕ) (last : Machine) (old new : Option (List ℕ)) (before now : ℕ)
-    → IsLawful image → verdict_for image devices ≡ Ok lines → n ≤ 2 ^ 40 → HaveTicked lines n (fresh_machine image) last old new before now (Ok tt) → WritesAlone image lines n old new
+    → IsLawful image → verdict_for image devices ≡ Ok lines → n ≤ MOST_TICKS → HaveTicked lines n (fresh_machine image) last old new before now (Ok tt) → WritesAlone image lines n old new
 calls_isolated image devices lines n last old new before now lawful taken few h =
     record { written = calls_write_the_trace image lines n last old new before now (Ok tt) few h; alone = parts_alone image devices lines n lawful taken }

@@ -4,6 +4,7 @@ use Rattle.std.specs.Prelude.{ℤ, ◌^◌}
 use Rattle.std.specs.Option.{option_map}
 use Rattle.std.proofs.lemmas.List.{length-map}
 use Rattle.std.proofs.lemmas.Option.{none-some, same_Some}
+use Rattle.apex_types.specs.declared.limits.TheConstants.{MOST_TICKS}
 use Rattle.apex_types.specs.declared.row.BodyRow.{BodyRow}
 use Rattle.apex_types.specs.declared.row.PortKind.{PortKind}
 use Rattle.apex_types.specs.declared.row.PortKind.TheVariants as kinds
@@ -42,7 +43,7 @@ routines_fit before (r ∷ rows) h (suc place) row e = routines_fit (before ++ r
 section_fits : (unit : ℕ) (s : Section) → IsSection unit (section_of s) → IsFittingSection s
 section_fits unit s h = record { code = h.code.count.most; routines = routines_fit [] s.routines.items h.bodies.routines }
 
-at_most : (d : Option ℕ) → IsDuration d → IsAtMost (2 ^ 40) (option_map ticks d)
+at_most : (d : Option ℕ) → IsDuration d → IsAtMost MOST_TICKS (option_map ticks d)
 at_most None h = tt
 at_most (Some n) h = h.most
 
@@ -53,13 +54,13 @@ all_short : (unit : ℕ) (before rows : List ProcessRow) → EachBeside (IsProce
 all_short unit before [] h = tt
 all_short unit before (r ∷ rows) h = (short r h.0.period h.0.capacity, all_short unit (before ++ r ∷ []) rows h.1)
 
-short_port : (row : PortRow) (kind : PortKind) → IsPortKind kind → refresh_of kind ≤ 2 ^ 40
+short_port : (row : PortRow) (kind : PortKind) → IsPortKind kind → refresh_of kind ≤ MOST_TICKS
 short_port row (kinds.Sampling refresh) h = h.most
 short_port row (kinds.Queuing depth discipline) h = omega arith
 
 short_ports : (before rows : List PortRow) → EachBeside IsPort before rows → ports.AreShort rows
 short_ports before [] h place row e = absurd (none-some row e)
-short_ports before (r ∷ rows) h zero row e = subst (λ (p : PortRow). refresh_of p.kind ≤ 2 ^ 40) (same_Some r row e) (short_port r r.kind h.0.kind)
+short_ports before (r ∷ rows) h zero row e = subst (λ (p : PortRow). refresh_of p.kind ≤ MOST_TICKS) (same_Some r row e) (short_port r r.kind h.0.kind)
 short_ports before (r ∷ rows) h (suc place) row e = short_ports (before ++ r ∷ []) rows h.1 place row e
 
 rows_fit : (frame : ℕ) (before : List Item) (i : PartitionItem) → IsPartition frame before (partition_of i.row) → IsSection i.row.period (section_of i.section) → AreWithinLimits i.row.ports.items i.section

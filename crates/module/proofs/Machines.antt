@@ -3,6 +3,7 @@ use Rattle.std.proofs.Common.{◌≡◌, ◌<◌, ◌≤◌, ◌+◌, ◌^◌, �
 use Rattle.std.proofs.KnownBytes.{Appends-nil}
 use Rattle.std.specs.Io.KnownBytes.{Appends}
 use Rattle.std.specs.Prelude.{is_none}
+use Rattle.apex_types.specs.declared.limits.TheConstants.{MOST_TICKS}
 use Rattle.apex_types.specs.Line.{text_of}
 use Rattle.apex_types.specs.Line.{TakesBeginning}
 use Rattle.apex_types.specs.declared.device.DeviceLine.{DeviceLine}
@@ -24,7 +25,7 @@ use Rattle.module.proofs.Standing.{tick_text, none_down, is_traced}
 -- ---- what a tick that may be made comes to
 
 -- it is made, or the sink fails
-pub only_write : {lines : List DeviceLine} {m next : Machine} {old new : Option (List ℕ)} {before now : ℕ} (f : RunFault) → m.failed ≡ false → m.standing.now < 2 ^ 40 → HasTicked lines m next old new before now (Err f) → (f ≡ fault.Write) × HasFailed lines m next old new before now
+pub only_write : {lines : List DeviceLine} {m next : Machine} {old new : Option (List ℕ)} {before now : ℕ} (f : RunFault) → m.failed ≡ false → m.standing.now < MOST_TICKS → HasTicked lines m next old new before now (Err f) → (f ≡ fault.Write) × HasFailed lines m next old new before now
 only_write fault.Write sound within h = (refl, h.2)
 only_write fault.Failed sound within h = let both : false ≡ true = sym sound ∙ h.0 in absurd cc
 only_write fault.Ticks sound within h = absurd (omega (arith, within, h.1))
@@ -100,7 +101,7 @@ run_on old mid new text events whole (Err fault.Memory) is way h = h
 
 -- so many calls write the lines of so many ticks
 calls_run : (image : Image) (lines : List DeviceLine) (n : ℕ) (m last : Machine) (old new : Option (List ℕ)) (before now : ℕ) (answer : Result (Unit {0}) RunFault)
-    → m.image ≡ image → m.failed ≡ false → m.standing.now + n ≤ 2 ^ 40 → HaveTicked lines n m last old new before now answer → RunsImage (lines_of (machine_module image).plan lines n m.standing) old new answer
+    → m.image ≡ image → m.failed ≡ false → m.standing.now + n ≤ MOST_TICKS → HaveTicked lines n m last old new before now answer → RunsImage (lines_of (machine_module image).plan lines n m.standing) old new answer
 calls_run image lines zero m last old new before now answer same sound few h =
     subst (RunsImage [] old new) (sym h.0) (subst (λ (o : Option (List ℕ)). Appends old o []) (sym h.1.taken) (Appends-nil old))
 calls_run image lines (suc n) m last old new before now answer same sound few (inl (f, is, h)) =
@@ -119,7 +120,7 @@ calls_run image lines (suc n) m last old new before now answer same sound few (i
     (calls_run image lines n next last mid new between now answer (gone.image ∙ same) gone.failed (omega (arith, later, few)) rest)
 
 pub calls_write_the_trace : (image : Image) (lines : List DeviceLine) (n : ℕ) (last : Machine) (old new : Option (List ℕ)) (before now : ℕ) (answer : Result (Unit {0}) RunFault)
-    → n ≤ 2 ^ 40 → HaveTicked lines n (fresh_machine image) last old new before now answer → RunsImage (machine_trace image lines n) old new answer
+    → n ≤ MOST_TICKS → HaveTicked lines n (fresh_machine image) last old new before now answer → RunsImage (machine_trace image lines n) old new answer
 calls_write_the_trace image lines n last old new before now answer few h =
     subst (λ (es : List Event). RunsImage es old new answer) (ticks_are_the_trace image lines n)
     (calls_run image lines n (fresh_machine image) last old new before now answer refl refl (omega (arith, few)) h)

@@ -2,6 +2,7 @@
 use Rattle.std.proofs.Common.{◌≡◌, ◌≤◌, ◌^◌, ℕ, List, [], ◌∷◌, Option, Some, None, Result, Ok, Err, OnOk, option_map, refl, sym, ap, subst, ◌∙◌}
 use Rattle.std.proofs.lemmas.Option.{same_Some}
 use Rattle.std.specs.Io.KnownBytes.{Appends}
+use Rattle.apex_types.specs.declared.limits.TheConstants.{MOST_TICKS}
 use Rattle.apex_types.specs.Line.{text_of}
 use Rattle.apex_types.specs.Line.{TakesBeginning}
 use Rattle.apex_types.specs.declared.device.DeviceFault.{DeviceFault}
@@ -69,7 +70,7 @@ refused_for (Ok image) loaded name inputs found f is named refused = (found, ap 
 refused_for (Err g) loaded name inputs found f is named refused = absurd cc
 
 slice_replayed : (read : Result Image Fault) (loaded : Image) (name inputs : List ℕ) (n : ℕ) (found : ℕ × Item) (old new : Option (List ℕ)) (answer : Result (Unit {0}) RunFault)
-    → read ≡ ok_image loaded → n ≤ 2 ^ 40 → numbered loaded name ≡ Some found → ReplaysSlice (slice_of loaded found.0 found.1) inputs n old new answer → Replays read name inputs n old new answer
+    → read ≡ ok_image loaded → n ≤ MOST_TICKS → numbered loaded name ≡ Some found → ReplaysSlice (slice_of loaded found.0 found.1) inputs n old new answer → Replays read name inputs n old new answer
 slice_replayed read loaded name inputs n found old new (Ok x) is few named (lines, taken, out) =
     (slice_of loaded found.0 found.1, lines, record { image = loaded; loaded = is; found = (found, named, refl); taken = taken; few = few }, out)
 slice_replayed read loaded name inputs n found old new (Err Write) is few named (lines, taken, out) =
@@ -82,7 +83,7 @@ slice_replayed read loaded name inputs n found old new (Err NoPartition) is few 
 slice_replayed read loaded name inputs n found old new (Err Failed) is few named h = absurd h
 
 pub replayed : (read : Result Image Fault) (loaded : Image) (name inputs : List ℕ) (n p : ℕ) (old new : Option (List ℕ)) (answer : Result (Unit {0}) RunFault)
-    → read ≡ ok_image loaded → n ≤ 2 ^ 40 → Some p ≡ option_map (λ (f : ℕ × Item). f.0) (numbered loaded name)
+    → read ≡ ok_image loaded → n ≤ MOST_TICKS → Some p ≡ option_map (λ (f : ℕ × Item). f.0) (numbered loaded name)
     → ((s : Slice) → slice loaded p ≡ Some s → ReplaysSlice s inputs n old new answer) → Replays read name inputs n old new answer
 replayed read loaded name inputs n p old new answer is few number each =
     let r = by_number loaded name p number in

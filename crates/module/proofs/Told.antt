@@ -1,6 +1,7 @@
 -- From the parts of telling a partition's inputs to what it promises.
 use Rattle.std.proofs.Common.{◌≡◌, ◌<◌, ◌≤◌, ◌^◌, ℕ, List, length, Option, Some, None, Result, Ok, Err, option_map, refl, sym, ap, subst, ◌∙◌}
 use Rattle.std.specs.Io.KnownBytes.{Appends}
+use Rattle.apex_types.specs.declared.limits.TheConstants.{MOST_DEVICE_LINES, MOST_TICKS}
 use Rattle.apex_types.specs.Line.{TakesBeginning}
 use Rattle.apex_types.specs.declared.device.DeviceFault.{DeviceFault}
 use Rattle.apex_types.specs.declared.device.DeviceLine.{DeviceLine}
@@ -52,19 +53,19 @@ no_room_told image s devices lines n old Write taken h = absurd h
 
 -- the text is written
 pub text_told : (image : Image) (s : Slice) (devices : List ℕ) (lines : List DeviceLine) (n : ℕ) (inputs : List InputLine) (old new : Option (List ℕ)) → IsLawful image → slice image s.number ≡ Some s
-    → verdict_for image devices ≡ Ok lines → n ≤ 2 ^ 40 → inputs ≡ machine_inputs image s.number lines n → length inputs ≤ 65_536 → AreWritable inputs
+    → verdict_for image devices ≡ Ok lines → n ≤ MOST_TICKS → inputs ≡ machine_inputs image s.number lines n → length inputs ≤ MOST_DEVICE_LINES → AreWritable inputs
     → Appends old new (replay_text s.item.partition inputs) → TellsSlice image s devices n old new (Ok tt)
 text_told image s devices lines n inputs old new lawful there taken few is room words out =
     let its = machine_inputs image s.number lines n in
-    let few_inputs : length its ≤ 65_536 = subst (λ (ls : List InputLine). length ls ≤ 65_536) is room in
+    let few_inputs : length its ≤ MOST_DEVICE_LINES = subst (λ (ls : List InputLine). length ls ≤ MOST_DEVICE_LINES) is room in
     let again = inputs_read_again image devices lines s.number s n lawful taken there few (subst AreWritable is words) few_inputs in
     (lines, taken, (few_inputs, again, subst (λ (ls : List InputLine). Appends old new (replay_text s.item.partition ls)) is out))
 
 -- the sink fails
 pub text_cut_off : (image : Image) (s : Slice) (devices : List ℕ) (lines : List DeviceLine) (n : ℕ) (inputs : List InputLine) (old new : Option (List ℕ)) → verdict_for image devices ≡ Ok lines
-    → inputs ≡ machine_inputs image s.number lines n → length inputs ≤ 65_536 → TakesBeginning old new (replay_text s.item.partition inputs) → TellsSlice image s devices n old new (Err Write)
+    → inputs ≡ machine_inputs image s.number lines n → length inputs ≤ MOST_DEVICE_LINES → TakesBeginning old new (replay_text s.item.partition inputs) → TellsSlice image s devices n old new (Err Write)
 text_cut_off image s devices lines n inputs old new taken is room out =
-    (lines, taken, (subst (λ (ls : List InputLine). length ls ≤ 65_536) is room, subst (λ (ls : List InputLine). TakesBeginning old new (replay_text s.item.partition ls)) is out))
+    (lines, taken, (subst (λ (ls : List InputLine). length ls ≤ MOST_DEVICE_LINES) is room, subst (λ (ls : List InputLine). TakesBeginning old new (replay_text s.item.partition ls)) is out))
 
 -- ---- by its name
 
@@ -74,7 +75,7 @@ refused_beside (Ok image) loaded name devices found f is named refused =
     (found, ap (λ (i : Image). numbered i name) same ∙ named, ap (λ (i : Image). verdict_for i devices) same ∙ refused)
 refused_beside (Err g) loaded name devices found f is named refused = absurd cc
 
-run_inputs : (read : Result Image Fault) (loaded : Image) (name devices : List ℕ) (n : ℕ) (found : ℕ × Item) (lines : List DeviceLine) → read ≡ ok_image loaded → n ≤ 2 ^ 40 → numbered loaded name ≡ Some found → verdict_for loaded devices ≡ Ok lines
+run_inputs : (read : Result Image Fault) (loaded : Image) (name devices : List ℕ) (n : ℕ) (found : ℕ × Item) (lines : List DeviceLine) → read ≡ ok_image loaded → n ≤ MOST_TICKS → numbered loaded name ≡ Some found → verdict_for loaded devices ≡ Ok lines
     → AreRunInputs read name devices n found.1.partition (machine_inputs loaded found.0 lines n)
 run_inputs read loaded name devices n found lines is few named taken = record {
   image = loaded;
@@ -87,7 +88,7 @@ run_inputs read loaded name devices n found lines is few named taken = record {
 }
 
 slice_told : (read : Result Image Fault) (loaded : Image) (name devices : List ℕ) (n : ℕ) (found : ℕ × Item) (old new : Option (List ℕ)) (answer : Result (Unit {0}) InputsFault)
-    → read ≡ ok_image loaded → n ≤ 2 ^ 40 → numbered loaded name ≡ Some found → TellsSlice loaded (slice_of loaded found.0 found.1) devices n old new answer → Tells read name devices n old new answer
+    → read ≡ ok_image loaded → n ≤ MOST_TICKS → numbered loaded name ≡ Some found → TellsSlice loaded (slice_of loaded found.0 found.1) devices n old new answer → Tells read name devices n old new answer
 slice_told read loaded name devices n found old new (Ok x) is few named (lines, taken, told) =
     (found.1.partition, machine_inputs loaded found.0 lines n, run_inputs read loaded name devices n found lines is few named taken, told)
 slice_told read loaded name devices n found old new (Err Write) is few named (lines, taken, told) =
@@ -101,7 +102,7 @@ slice_told read loaded name devices n found old new (Err (NoImage f)) is few nam
 slice_told read loaded name devices n found old new (Err NoPartition) is few named h = absurd h.2
 
 pub told : (read : Result Image Fault) (loaded : Image) (name devices : List ℕ) (n p : ℕ) (old new : Option (List ℕ)) (answer : Result (Unit {0}) InputsFault)
-    → read ≡ ok_image loaded → n ≤ 2 ^ 40 → Some p ≡ option_map (λ (f : ℕ × Item). f.0) (numbered loaded name)
+    → read ≡ ok_image loaded → n ≤ MOST_TICKS → Some p ≡ option_map (λ (f : ℕ × Item). f.0) (numbered loaded name)
     → ((s : Slice) → slice loaded p ≡ Some s → TellsSlice loaded s devices n old new answer) → Tells read name devices n old new answer
 told read loaded name devices n p old new answer is few number each =
     let r = by_number loaded name p number in

@@ -2,6 +2,7 @@
 use Rattle.std.specs.Prelude.{◌≡◌, ◌≤◌, ℕ, false, List, [], ◌∷◌, map, Some, All, FitsSigned}
 use Rattle.std.specs.Int.{w64}
 use Rattle.std.specs.List.{list_any}
+use Rattle.apex_types.specs.declared.limits.TheConstants.{MOST_INSTRUCTIONS}
 use Rattle.pal_meaning.specs.Program.{size_of}
 use Rattle.pal_meaning.specs.Program.{Program}
 use Rattle.compiling_laws.specs.CompiledCode.{code_of, section_of}
@@ -30,7 +31,7 @@ built_image t programs = record { schedule = t.schedule; fault = t.fault; items 
 -- A program of at most 65,536 instructions, which are read again from their bytes, and of words of 64
 -- bits.
 pub record IsCoded (p : Program) : Type 0 where
-  pub size : size_of p ≤ 65_536
+  pub size : size_of p ≤ MOST_INSTRUCTIONS
   pub code : map reading (section_of p).code ≡ map Some (code_of p)
   pub words : All (FitsSigned w64) p.initial
 

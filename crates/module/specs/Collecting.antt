@@ -1,6 +1,7 @@
 -- What is collected of the inputs of one partition, tick by tick.
 use Rattle.std.specs.Prelude.{◌≡◌, ◌<◌, ◌≤◌, ℕ, zero, suc, ◌+◌, ℤ, List, [], ◌∷◌, ◌++◌, length, map, Option, Some, None, Result, Ok, Err}
 use Rattle.arrayvec.specs.ArrayVec.{ArrayVec}
+use Rattle.apex_types.specs.declared.limits.TheConstants.{MOST_DEVICE_LINES}
 use Rattle.apex_types.specs.declared.device.DeviceLine.{DeviceLine}
 use Rattle.apex_types.specs.declared.identity.At.{At}
 use Rattle.apex_types.specs.declared.identity.PartitionId.{PartitionId}
@@ -20,7 +21,7 @@ use Rattle.module.specs.declared.inputs_fault.InputsFault.TheVariants as fault
 
 -- So many inputs are more than there is room for. Want of memory says nothing.
 abbrev pub HasNoRoom : ℕ → InputsFault → Type 0
-HasNoRoom count fault.TooMany = 65_536 < count
+HasNoRoom count fault.TooMany = MOST_DEVICE_LINES < count
 HasNoRoom count fault.Memory = Unit {0}
 HasNoRoom count _ = ⊥
 

@@ -1,6 +1,7 @@
 -- A machine that runs an image tick by tick, and what a tick of it promises.
 use Rattle.std.specs.Prelude.{◌≡◌, ◌≤◌, ◌<◌, ◌^◌, ℕ, zero, suc, ◌+◌, Bool, true, false, List, Option, Result, Ok, Err, ◌⊎◌}
 use Rattle.std.specs.Io.KnownBytes.{Appends}
+use Rattle.apex_types.specs.declared.limits.TheConstants.{MOST_TICKS}
 use Rattle.apex_types.specs.Line.{text_of}
 use Rattle.apex_types.specs.Line.{TakesBeginning}
 use Rattle.apex_types.specs.declared.device.DeviceLine.{DeviceLine}
@@ -57,10 +58,10 @@ pub record HasFailed (lines : List DeviceLine) (m next : Machine) (old new : Opt
 -- What a tick has made of a machine and of a sink. A machine whose sink failed, and one that has gone 2^40
 -- ticks, is refused.
 abbrev pub HasTicked : List DeviceLine → Machine → Machine → Option (List ℕ) → Option (List ℕ) → ℕ → ℕ → Result (Unit {0}) RunFault → Type 0
-HasTicked lines m next old new before now (Ok done) = (m.failed ≡ false) × (m.standing.now < 2 ^ 40) × HasGoneOn lines m next old new before now
-HasTicked lines m next old new before now (Err fault.Write) = (m.failed ≡ false) × (m.standing.now < 2 ^ 40) × HasFailed lines m next old new before now
+HasTicked lines m next old new before now (Ok done) = (m.failed ≡ false) × (m.standing.now < MOST_TICKS) × HasGoneOn lines m next old new before now
+HasTicked lines m next old new before now (Err fault.Write) = (m.failed ≡ false) × (m.standing.now < MOST_TICKS) × HasFailed lines m next old new before now
 HasTicked lines m next old new before now (Err fault.Failed) = (m.failed ≡ true) × IsUntouched m next old new before now
-HasTicked lines m next old new before now (Err fault.Ticks) = (m.failed ≡ false) × (m.standing.now ≡ 2 ^ 40) × IsUntouched m next old new before now
+HasTicked lines m next old new before now (Err fault.Ticks) = (m.failed ≡ false) × (m.standing.now ≡ MOST_TICKS) × IsUntouched m next old new before now
 HasTicked lines m next old new before now (Err _) = ⊥
 
 -- What so many calls of `Machine::tick`, one after another, have made of a machine and of a sink, where each is

@@ -1,6 +1,7 @@
 -- What building and running a module promises: the trace that the table and the sources mean.
 use Rattle.std.specs.Prelude.{◌≡◌, ℕ, ◌^◌, ◌<◌, ◌≤◌, List, Option, Result, Ok, Err}
 use Rattle.std.specs.Io.KnownBytes.{Appends}
+use Rattle.apex_types.specs.declared.limits.TheConstants.{MOST_TICKS}
 use Rattle.apex_types.specs.Line.{text_of, TakesBeginning}
 use Rattle.apex_types.specs.declared.device.DeviceFault.{DeviceFault}
 use Rattle.apex_types.specs.declared.device.DeviceLine.{DeviceLine}
@@ -29,8 +30,8 @@ abbrev pub Means : List ℕ → List (List ℕ) → List ℕ → ℕ → Option 
 Means table sources devices n old new (Ok _) = (t : Table) × (programs : List Program) × (lines : List DeviceLine) × IsAcceptedRun table sources devices n t programs lines × Appends old new (text_of (source_trace t programs lines n))
 Means table sources devices n old new (Err (Run Write)) = (t : Table) × (programs : List Program) × (lines : List DeviceLine) × IsAcceptedRun table sources devices n t programs lines × TakesBeginning old new (text_of (source_trace t programs lines n))
 Means table sources devices n old new (Err (Build fault)) = IsRefusal table sources fault × (new ≡ old)
-Means table sources devices n old new (Err (Run Ticks)) = (2 ^ 40 < n) × (new ≡ old)
-Means table sources devices n old new (Err (Run (Device f))) = (n ≤ 2 ^ 40) × IsDeviceRefused table sources devices f × (new ≡ old)
+Means table sources devices n old new (Err (Run Ticks)) = (MOST_TICKS < n) × (new ≡ old)
+Means table sources devices n old new (Err (Run (Device f))) = (n ≤ MOST_TICKS) × IsDeviceRefused table sources devices f × (new ≡ old)
 Means table sources devices n old new (Err (Run (NoImage f))) = ⊥
 Means table sources devices n old new (Err (Run NoPartition)) = ⊥
 Means table sources devices n old new (Err (Run Memory)) = new ≡ old

@@ -1,5 +1,6 @@
 -- Why a module is refused, and where each refusal is right.
 use Rattle.std.specs.Prelude.{◌≡◌, ◌≢◌, ◌⊎◌, ℕ, Bool, nat_lt, List, ◌∷◌, length, if◌then◌else◌, Option, Some, None, Err}
+use Rattle.apex_types.specs.declared.limits.TheConstants.{MOST_INSTRUCTIONS}
 use Rattle.pal_meaning.specs.Program.{size_of, Program}
 use Rattle.compiler.specs.declared.fault.CompileFault.TheVariants as compile
 use Rattle.module_meaning.specs.Table.{Partition, Table}
@@ -34,7 +35,7 @@ IsFirstRefused _ _ name r = ⊥
 -- ---- what is built
 
 abbrev pub is_too_long : Program → Bool
-is_too_long p = nat_lt 65_536 (size_of p)
+is_too_long p = nat_lt MOST_INSTRUCTIONS (size_of p)
 
 -- the name of the first partition whose program is too long
 abbrev pub first_too_long : List Partition → List Program → Option (List ℕ)

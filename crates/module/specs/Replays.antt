@@ -1,6 +1,7 @@
 -- What replaying one partition of an image promises.
 use Rattle.std.specs.Prelude.{◌≡◌, ℕ, ◌^◌, ◌<◌, ◌≤◌, List, Option, Some, None, Result, Ok, Err}
 use Rattle.std.specs.Io.KnownBytes.{Appends}
+use Rattle.apex_types.specs.declared.limits.TheConstants.{MOST_TICKS}
 use Rattle.apex_types.specs.Line.{text_of, TakesBeginning}
 use Rattle.apex_types.specs.declared.device.DeviceFault.{DeviceFault}
 use Rattle.machine_meaning.specs.ImageReading.{Fault}
@@ -29,9 +30,9 @@ IsInputRefusal (Ok image) name inputs f = (found : ℕ × Item) × (numbered ima
 abbrev pub Replays : Result Image Fault → List ℕ → List ℕ → ℕ → Option (List ℕ) → Option (List ℕ) → Result (Unit {0}) RunFault → Type 0
 Replays read name inputs n old new (Ok _) = (s : Slice) × (lines : List InputLine) × IsReplay read name inputs n s lines × Appends old new (text_of (slice_trace s lines n))
 Replays read name inputs n old new (Err Write) = (s : Slice) × (lines : List InputLine) × IsReplay read name inputs n s lines × TakesBeginning old new (text_of (slice_trace s lines n))
-Replays read name inputs n old new (Err Ticks) = (2 ^ 40 < n) × (new ≡ old)
-Replays read name inputs n old new (Err (NoImage f)) = (n ≤ 2 ^ 40) × IsImageRefusal read f × (new ≡ old)
-Replays read name inputs n old new (Err NoPartition) = (n ≤ 2 ^ 40) × LacksPartition read name × (new ≡ old)
-Replays read name inputs n old new (Err (Device f)) = (n ≤ 2 ^ 40) × IsInputRefusal read name inputs f × (new ≡ old)
+Replays read name inputs n old new (Err Ticks) = (MOST_TICKS < n) × (new ≡ old)
+Replays read name inputs n old new (Err (NoImage f)) = (n ≤ MOST_TICKS) × IsImageRefusal read f × (new ≡ old)
+Replays read name inputs n old new (Err NoPartition) = (n ≤ MOST_TICKS) × LacksPartition read name × (new ≡ old)
+Replays read name inputs n old new (Err (Device f)) = (n ≤ MOST_TICKS) × IsInputRefusal read name inputs f × (new ≡ old)
 Replays read name inputs n old new (Err Memory) = new ≡ old
 Replays read name inputs n old new (Err Failed) = ⊥

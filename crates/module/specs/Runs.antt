@@ -1,6 +1,7 @@
 -- What running an image promises: the trace that the image means.
 use Rattle.std.specs.Prelude.{◌≡◌, ℕ, ◌^◌, ◌<◌, ◌≤◌, List, Option, Some, None, Result, Ok, Err}
 use Rattle.std.specs.Io.KnownBytes.{Appends}
+use Rattle.apex_types.specs.declared.limits.TheConstants.{MOST_TICKS}
 use Rattle.apex_types.specs.Line.{text_of, TakesBeginning}
 use Rattle.apex_types.specs.declared.device.DeviceFault.{DeviceFault}
 use Rattle.apex_types.specs.declared.device.DeviceLine.{DeviceLine}
@@ -16,7 +17,7 @@ use Rattle.module.specs.declared.fault.RunFault.TheVariants.{Ticks, Image as NoI
 pub record IsRun (read : Result Image Fault) (devices : List ℕ) (n : ℕ) (image : Image) (lines : List DeviceLine) : Type 0 where
   pub loaded : read ≡ Ok image
   pub taken : verdict_for image devices ≡ Ok lines
-  pub few : n ≤ 2 ^ 40
+  pub few : n ≤ MOST_TICKS
 
 -- the bytes are refused with this fault, and not for want of memory
 abbrev pub IsNamed : Result Image Fault → Option Fault → Type 0
@@ -38,9 +39,9 @@ IsImageRefusal read f = IsNamed read (named f)
 abbrev pub Runs : Result Image Fault → List ℕ → ℕ → Option (List ℕ) → Option (List ℕ) → Result (Unit {0}) RunFault → Type 0
 Runs read devices n old new (Ok _) = (image : Image) × (lines : List DeviceLine) × IsRun read devices n image lines × Appends old new (text_of (machine_trace image lines n))
 Runs read devices n old new (Err Write) = (image : Image) × (lines : List DeviceLine) × IsRun read devices n image lines × TakesBeginning old new (text_of (machine_trace image lines n))
-Runs read devices n old new (Err Ticks) = (2 ^ 40 < n) × (new ≡ old)
-Runs read devices n old new (Err (Device f)) = (n ≤ 2 ^ 40) × IsDeviceRefusal read devices f × (new ≡ old)
-Runs read devices n old new (Err (NoImage f)) = (n ≤ 2 ^ 40) × IsImageRefusal read f × (new ≡ old)
+Runs read devices n old new (Err Ticks) = (MOST_TICKS < n) × (new ≡ old)
+Runs read devices n old new (Err (Device f)) = (n ≤ MOST_TICKS) × IsDeviceRefusal read devices f × (new ≡ old)
+Runs read devices n old new (Err (NoImage f)) = (n ≤ MOST_TICKS) × IsImageRefusal read f × (new ≡ old)
 Runs read devices n old new (Err Memory) = new ≡ old
 Runs read devices n old new (Err NoPartition) = ⊥
 Runs read devices n old new (Err Failed) = ⊥

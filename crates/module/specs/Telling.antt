@@ -1,6 +1,7 @@
 -- What telling the inputs of a partition promises.
 use Rattle.std.specs.Prelude.{◌≡◌, ◌<◌, ◌≤◌, ◌^◌, ℕ, List, length, Option, Some, Result, Ok, Err}
 use Rattle.std.specs.Io.KnownBytes.{Appends}
+use Rattle.apex_types.specs.declared.limits.TheConstants.{MOST_DEVICE_LINES, MOST_TICKS}
 use Rattle.apex_types.specs.Line.{TakesBeginning}
 use Rattle.apex_types.specs.declared.device.DeviceFault.{DeviceFault}
 use Rattle.apex_types.specs.declared.device.DeviceLine.{DeviceLine}
@@ -36,9 +37,9 @@ pub record AreRunInputs (read : Result Image Fault) (name devices : List ℕ) (n
 -- The text of the inputs was written, which is accepted as a replay text of the partition with this row, and read as
 -- these inputs; a beginning of it where the sink failed; nothing where there are more than 65,536.
 abbrev pub AreTold : Partition → List InputLine → Option (List ℕ) → Option (List ℕ) → Result (Unit {0}) InputsFault → Type 0
-AreTold row inputs old new (Ok _) = (length inputs ≤ 65_536) × (replay_verdict row (replay_text row inputs) ≡ Ok inputs) × Appends old new (replay_text row inputs)
-AreTold row inputs old new (Err Write) = (length inputs ≤ 65_536) × TakesBeginning old new (replay_text row inputs)
-AreTold row inputs old new (Err TooMany) = (65_536 < length inputs) × (new ≡ old)
+AreTold row inputs old new (Ok _) = (length inputs ≤ MOST_DEVICE_LINES) × (replay_verdict row (replay_text row inputs) ≡ Ok inputs) × Appends old new (replay_text row inputs)
+AreTold row inputs old new (Err Write) = (length inputs ≤ MOST_DEVICE_LINES) × TakesBeginning old new (replay_text row inputs)
+AreTold row inputs old new (Err TooMany) = (MOST_DEVICE_LINES < length inputs) × (new ≡ old)
 AreTold row inputs old new (Err Memory) = new ≡ old
 AreTold row inputs old new (Err _) = ⊥
 
@@ -53,10 +54,10 @@ abbrev pub Tells : Result Image Fault → List ℕ → List ℕ → ℕ → Opti
 Tells read name devices n old new (Ok x) = (row : Partition) × (inputs : List InputLine) × AreRunInputs read name devices n row inputs × AreTold row inputs old new (Ok x)
 Tells read name devices n old new (Err Write) = (row : Partition) × (inputs : List InputLine) × AreRunInputs read name devices n row inputs × AreTold row inputs old new (Err Write)
 Tells read name devices n old new (Err TooMany) = (row : Partition) × (inputs : List InputLine) × AreRunInputs read name devices n row inputs × AreTold row inputs old new (Err TooMany)
-Tells read name devices n old new (Err Ticks) = (2 ^ 40 < n) × (new ≡ old)
-Tells read name devices n old new (Err (NoImage f)) = (n ≤ 2 ^ 40) × IsImageRefusal read f × (new ≡ old)
-Tells read name devices n old new (Err NoPartition) = (n ≤ 2 ^ 40) × LacksPartition read name × (new ≡ old)
-Tells read name devices n old new (Err (Device f)) = (n ≤ 2 ^ 40) × IsDeviceRefusalBeside read name devices f × (new ≡ old)
+Tells read name devices n old new (Err Ticks) = (MOST_TICKS < n) × (new ≡ old)
+Tells read name devices n old new (Err (NoImage f)) = (n ≤ MOST_TICKS) × IsImageRefusal read f × (new ≡ old)
+Tells read name devices n old new (Err NoPartition) = (n ≤ MOST_TICKS) × LacksPartition read name × (new ≡ old)
+Tells read name devices n old new (Err (Device f)) = (n ≤ MOST_TICKS) × IsDeviceRefusalBeside read name devices f × (new ≡ old)
 Tells read name devices n old new (Err Memory) = new ≡ old
 
 -- the same of the partition of a slice, once it is found

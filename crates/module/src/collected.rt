@@ -1,21 +1,23 @@
 //! The inputs of one partition, as they are collected in a run.
 
 ghost use Rattle.std.specs.Prelude.{◌≡◌, ◌≤◌, ◌∷◌, [], length};
+ghost use Rattle.apex_types.specs.declared.limits.TheConstants.{MOST_DEVICE_LINES};
 ghost use Rattle.module.specs.Collecting.{AreCollected};
 
 use crate::inputs_fault::InputsFault;
 use apex_types::Ticks;
+use apex_types::limits::MOST_DEVICE_LINES;
 use isolation::{Input, InputLine};
 use std::alloc::Global;
 
 /// The most lines of a replay text.
-const MOST_INPUTS: usize = 65_536;
+const MOST_INPUTS: usize = MOST_DEVICE_LINES as usize;
 
 /// What has come to one partition so far, in its order.
 #[derive(Drop)]
 pub struct Collected {
     pub lines: Vec<InputLine>,
-    ghost few: { length lines.items ≤ 65_536 },
+    ghost few: { length lines.items ≤ MOST_DEVICE_LINES },
 }
 
 impl Collected {

@@ -1,6 +1,7 @@
 //! From an image to its partitions, ready to start.
 
 ghost use Rattle.std.specs.Prelude.{◌≡◌, ◌≤◌, length, map, IfOk};
+ghost use Rattle.apex_types.specs.declared.limits.TheConstants.{MOST_PARTITIONS};
 ghost use Rattle.module_meaning.specs.Table.{fixed_of};
 ghost use Rattle.machine_meaning.specs.MachineMeaning.{machine_member, machine_members, machine_module};
 ghost use Rattle.image.specs.Items.{items_of, partition_of, section_of};
@@ -61,10 +62,10 @@ fn load_partitions(
     items: &[PartitionItem],
 ) -> Result<Vec<Partition<Machine>>, AllocError>
     requires fit { AreFittingItems items.now }
-    requires few { length items.now ≤ 16 }
+    requires few { length items.now ≤ MOST_PARTITIONS }
     ensures members { IfOk result (λ partitions. members_of machine partitions.items (map fresh_item items.now) ≡ machine_members (schedule_of schedule.now) 1 (items_of items.now)) }
     ensures fit { IfOk result (λ partitions. AreFitting machine partitions.items (map fresh_item items.now)) }
-    ensures few { IfOk result (λ partitions. length partitions.items ≤ 16) }
+    ensures few { IfOk result (λ partitions. length partitions.items ≤ MOST_PARTITIONS) }
 {
     let mut partitions = Vec::with_capacity(alloc, items.len())?;
     let mut number = 1u8;

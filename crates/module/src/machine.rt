@@ -1,6 +1,7 @@
 //! An image that runs tick by tick.
 
 ghost use Rattle.std.specs.Prelude.{◌≡◌, ◌<◌, ◌≤◌, ◌+◌, ◌-◌, ◌^◌, ℕ, List, Option, Result, Ok, false, is_none, IfOk, IfErr, OnOk};
+ghost use Rattle.apex_types.specs.declared.limits.TheConstants.{MOST_TICKS};
 ghost use Rattle.machine_meaning.specs.MachineMeaning.{verdict_for};
 ghost use Rattle.module_meaning.specs.Module.{of_tick};
 ghost use Rattle.image.specs.Views.{image_of};
@@ -17,14 +18,12 @@ ghost use Rattle.module.specs.Written.{AreFrom};
 use crate::fault::RunFault;
 use crate::load_fault::LoadFault;
 use crate::member::Module;
+use apex_types::limits::MOST_TICKS;
 use apex_types::{DeviceLine, Sink, TraceBuffer};
 use image::Image;
 use lone_partition::Output;
 use module_base::{DeviceTextFault, read_devices};
 use std::alloc::Global;
-
-/// The most ticks of a run, 2^40.
-pub const MOST_TICKS: u64 = 1_099_511_627_776;
 
 /// An image that runs tick by tick.
 ///
@@ -103,7 +102,7 @@ impl Machine {
         sink: &mut S,
     ) -> Result<u32, RunFault>
         requires sound { (machine_of self.old).failed ≡ false }
-        requires soon { (machine_of self.old).standing.now + most ≤ 2 ^ 40 }
+        requires soon { (machine_of self.old).standing.now + most ≤ MOST_TICKS }
         requires order { AreFrom (machine_of self.old).standing.now lines.now }
         requires failures { S.failures sink.old < 2 ^ 64 - 1 }
         ensures order { OnOk result (AreFrom (machine_of self.new).standing.now lines.now) }
@@ -154,7 +153,7 @@ impl Machine {
 /// beginning of it where the sink fails. No call is refused but for that.
 #[tactic(auto, using(crate::proofs::Machines::calls_write_the_trace, crate::proofs::Machines::ticks_are_the_trace))]
 pub fn ticks_make_the_trace()
-    ensures written { (image : meant.Image) (lines : List DeviceLine) (n : ℕ) (last : machines.Machine) (old new : Option (List ℕ)) (before now : ℕ) (answer : Result (Unit {0}) RunFault) → n ≤ 2 ^ 40
+    ensures written { (image : meant.Image) (lines : List DeviceLine) (n : ℕ) (last : machines.Machine) (old new : Option (List ℕ)) (before now : ℕ) (answer : Result (Unit {0}) RunFault) → n ≤ MOST_TICKS
         → HaveTicked lines n (fresh_machine image) last old new before now answer → RunsImage (machine_trace image lines n) old new answer }
     ensures lines { (image : meant.Image) (lines : List DeviceLine) (n : ℕ) → lines_of (machine_module image).plan lines n (fresh_machine image).standing ≡ machine_trace image lines n }
 {}
@@ -162,6 +161,6 @@ pub fn ticks_make_the_trace()
 /// What such calls write shows of each partition of the image what the partition shows alone, from its
 /// slice of the image and from what these lines of the devices bring it: whatever code the others run.
 pub fn ticks_isolate_the_partitions()
-    ensures { (image : meant.Image) (text : List ℕ) (lines : List DeviceLine) (n : ℕ) (last : machines.Machine) (old new : Option (List ℕ)) (before now : ℕ) → IsLawful image → verdict_for image text ≡ Ok lines → n ≤ 2 ^ 40
+    ensures { (image : meant.Image) (text : List ℕ) (lines : List DeviceLine) (n : ℕ) (last : machines.Machine) (old new : Option (List ℕ)) (before now : ℕ) → IsLawful image → verdict_for image text ≡ Ok lines → n ≤ MOST_TICKS
         → HaveTicked lines n (fresh_machine image) last old new before now (Ok tt) → WritesAlone image lines n old new }
 {}

@@ -1,6 +1,7 @@
 //! The partitions of a module and the memory of all of them, over any executor.
 
 ghost use Rattle.std.specs.Prelude.{◌≤◌, ◌^◌, length};
+ghost use Rattle.apex_types.specs.declared.limits.TheConstants.{MOST_PARTITIONS, MOST_TICKS};
 ghost use Rattle.module.specs.Members.{AreFitting};
 ghost use Rattle.module.specs.Standing.{origin_or_zero};
 
@@ -16,7 +17,7 @@ use regions::{Memory, PartitionMem};
 pub struct Members<E: Executor<Mem = PartitionMem>> {
     pub partitions: Vec<Partition<E>>,
     pub memory: Memory,
-    ghost few: { length partitions.items ≤ 16 },
+    ghost few: { length partitions.items ≤ MOST_PARTITIONS },
     ghost fit: { AreFitting E.Executor partitions.items memory },
 }
 
@@ -31,6 +32,6 @@ pub struct Module<E: Executor<Mem = PartitionMem>> {
     pub now: Ticks,
     /// The tick from which the major frames count. There is none after a shutdown.
     pub origin: Option<Ticks>,
-    ghost limit: { now.0 ≤ 2 ^ 40 },
+    ghost limit: { now.0 ≤ MOST_TICKS },
     ghost past: { origin_or_zero origin ≤ now.0 },
 }

@@ -1,6 +1,7 @@
 //! Many ticks of a module at once: pieces of windows, and ticks in which nothing happens.
 
 ghost use Rattle.std.specs.Prelude.{◌≡◌, ◌≢◌, ◌≤◌, ◌<◌, ◌+◌, ◌^◌, ℕ, suc, List, Some, None, slice_get};
+ghost use Rattle.apex_types.specs.declared.limits.TheConstants.{MOST_TICKS};
 ghost use Rattle.apex_types.specs.declared.device.DeviceLine.{DeviceLine};
 ghost use Rattle.kernel_meaning.specs.Windows.{tick_from, owner, ended};
 ghost use Rattle.bursts.specs.Quiet.{AreStill};
@@ -49,7 +50,7 @@ impl<E: Executor<Mem = PartitionMem>> Members<E> {
         most: u32,
         output: &mut Output<'_, S>,
     ) -> u32
-        requires { moment.at.now.0 + most ≤ 2 ^ 40 }
+        requires { moment.at.now.0 + most ≤ MOST_TICKS }
         ensures written { HasMovedWritten moment.at most place (members_in E.Executor self.old) (slice_get (members_in E.Executor self.old) place) (members_in E.Executor self.new) (sent_of S.Sink output.old) (sent_of S.Sink output.new) result }
         ensures others { (q : ℕ) → q ≢ place → slice_get self.new.memory q ≡ slice_get self.old.memory q }
     {
@@ -89,7 +90,7 @@ fn at_most(ticks: u64, most: u32) -> u32
 impl<E: Executor<Mem = PartitionMem>> Module<E> {
     /// So many ticks are over, and the next one comes, with the same origin.
     fn skip(&mut self, ticks: u32)
-        requires { self.old.now.0 + ticks ≤ 2 ^ 40 }
+        requires { self.old.now.0 + ticks ≤ MOST_TICKS }
         ensures image { self.new.image ≡ self.old.image }
         ensures standing { standing_of E.Executor self.new ≡ record { members = members_in E.Executor self.old.members; now = self.old.now.0 + ticks; origin = ticks_in self.old.origin } }
         ensures origin { self.new.origin ≡ self.old.origin }
@@ -109,7 +110,7 @@ impl<E: Executor<Mem = PartitionMem>> Module<E> {
         requires now { moment.at.now ≡ self.old.now }
         requires origin { self.old.origin ≡ Some moment.at.origin }
         requires begun { 0 < moment.at.now.0 }
-        requires soon { moment.at.now.0 + most ≤ 2 ^ 40 }
+        requires soon { moment.at.now.0 + most ≤ MOST_TICKS }
         requires owner { (i : ℕ) → i < most → owner (plan_of self.old.image).schedule (tick_from moment.at.origin.0 (moment.at.now.0 + i)) ≡ Some (suc place) }
         requires ended { (i : ℕ) → i < most → ended (plan_of self.old.image).schedule (tick_from moment.at.origin.0 (moment.at.now.0 + i)) ≡ None }
         ensures image { self.new.image ≡ self.old.image }
@@ -133,7 +134,7 @@ impl<E: Executor<Mem = PartitionMem>> Module<E> {
         requires now { moment.at.now ≡ self.old.now }
         requires origin { self.old.origin ≡ Some moment.at.origin }
         requires begun { 0 < moment.at.now.0 }
-        requires soon { moment.at.now.0 + most ≤ 2 ^ 40 }
+        requires soon { moment.at.now.0 + most ≤ MOST_TICKS }
         requires owner { (i : ℕ) → i < most → owner (plan_of self.old.image).schedule (tick_from moment.at.origin.0 (moment.at.now.0 + i)) ≡ Some (suc place) }
         requires ended { (i : ℕ) → i < most → ended (plan_of self.old.image).schedule (tick_from moment.at.origin.0 (moment.at.now.0 + i)) ≡ None }
         ensures image { self.new.image ≡ self.old.image }
@@ -167,7 +168,7 @@ impl<E: Executor<Mem = PartitionMem>> Module<E> {
         requires now { moment.at.now ≡ self.old.now }
         requires origin { self.old.origin ≡ Some moment.at.origin }
         requires begun { 0 < moment.at.now.0 }
-        requires soon { moment.at.now.0 + most ≤ 2 ^ 40 }
+        requires soon { moment.at.now.0 + most ≤ MOST_TICKS }
         ensures image { self.new.image ≡ self.old.image }
         ensures run { (lines : List DeviceLine) → AreFrom (moment.at.now.0 + most) lines → HasPassedSome (plan_of self.old.image) lines most (standing_of E.Executor self.old) (standing_of E.Executor self.new) (sent_of S.Sink output.old) (sent_of S.Sink output.new) result }
     {
@@ -197,7 +198,7 @@ impl<E: Executor<Mem = PartitionMem>> Module<E> {
         most: u32,
         output: &mut Output<'_, S>,
     ) -> u32
-        requires soon { self.old.now.0 + most ≤ 2 ^ 40 }
+        requires soon { self.old.now.0 + most ≤ MOST_TICKS }
         requires order { AreFrom self.old.now.0 lines.now }
         ensures image { self.new.image ≡ self.old.image }
         ensures order { AreFrom self.new.now.0 lines.now }

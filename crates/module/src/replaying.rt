@@ -1,6 +1,7 @@
 //! Replaying one partition of an image from what comes to it.
 
 ghost use Rattle.std.specs.Prelude.{◌≡◌, ◌≢◌, ◌≤◌, ◌<◌, ◌+◌, ◌-◌, ◌^◌, Some, length, IfErr, OnOk, IsErrOf};
+ghost use Rattle.apex_types.specs.declared.limits.TheConstants.{MOST_TICKS};
 ghost use Rattle.machine_meaning.specs.ImageReading.{image_at};
 ghost use Rattle.image.specs.Views.{image_of};
 ghost use Rattle.isolation.specs.Slices.{Slice, slice};
@@ -9,8 +10,8 @@ ghost use Rattle.module.specs.Replays.{Replays};
 ghost use Rattle.module.specs.Running.{ReplaysSlice};
 
 use crate::fault::RunFault;
-use crate::machine::MOST_TICKS;
 use crate::naming::numbered;
+use apex_types::limits::MOST_TICKS;
 use apex_types::{PartitionId, Sink};
 use image::{Image, load_image};
 use lone_partition::LonePartition;
@@ -64,7 +65,7 @@ fn replay_numbered<S: Sink>(
     ticks: u64,
     sink: &mut S,
 ) -> Result<(), RunFault>
-    requires ticks { ticks ≤ 2 ^ 40 }
+    requires ticks { ticks ≤ MOST_TICKS }
     requires there { 0 < number.0 }
     requires within { number.0 ≤ length image.now.partitions.items }
     requires failures { S.failures sink.old < 2 ^ 64 - 1 }

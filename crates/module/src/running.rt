@@ -1,6 +1,7 @@
 //! Running an image: its partitions in their windows, tick by tick, and the text of their trace.
 
 ghost use Rattle.std.specs.Prelude.{◌≡◌, ◌≢◌, ◌≤◌, ◌<◌, ◌+◌, ◌-◌, ◌^◌, Ok, map, IfOk, IfErr, OnOk, IsErrOf};
+ghost use Rattle.apex_types.specs.declared.limits.TheConstants.{MOST_TICKS};
 ghost use Rattle.machine_meaning.specs.MachineMeaning.{verdict_for};
 ghost use Rattle.machine_meaning.specs.ImageReading.{image_at};
 ghost use Rattle.machine_meaning.specs.MachineMeaning.{machine_trace};
@@ -15,8 +16,9 @@ ghost use Rattle.module.specs.Written.{AreFrom};
 
 use crate::building::build;
 use crate::fault::{BuildAndRunFault, RunFault};
-use crate::machine::{MOST_TICKS, Machine};
+use crate::machine::Machine;
 use crate::ticks::split_tick;
+use apex_types::limits::MOST_TICKS;
 use apex_types::{DeviceLine, Sink};
 use image::load_image;
 use std::alloc::Global;
@@ -75,7 +77,7 @@ fn run_ticks<S: Sink>(
     ticks: u64,
     sink: &mut S,
 ) -> Result<(), RunFault>
-    requires ticks { ticks ≤ 2 ^ 40 }
+    requires ticks { ticks ≤ MOST_TICKS }
     requires fresh { machine_of machine.old ≡ fresh_machine (machine_of machine.old).image }
     requires order { AreFrom 0 devices.now }
     requires failures { S.failures sink.old < 2 ^ 64 - 1 }

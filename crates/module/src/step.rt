@@ -1,6 +1,7 @@
 //! A step of one partition, the others stay as they are.
 
 ghost use Rattle.std.specs.Prelude.{◌≡◌, ◌≢◌, ◌<◌, ◌+◌, ℕ, None, length, slice_get};
+ghost use Rattle.apex_types.specs.declared.limits.TheConstants.{MOST_PARTITIONS};
 ghost use Rattle.module_meaning.specs.Table.{at_number};
 ghost use Rattle.module_meaning.specs.Module as meaning;
 ghost use Rattle.kernel_meaning.specs.Partition.{leaves, leaving};
@@ -18,7 +19,7 @@ use regions::PartitionMem;
 
 /// The number of the partition at a place.
 pub fn number_at(place: usize) -> PartitionId
-    requires { place < 16 }
+    requires { place < MOST_PARTITIONS }
     ensures number { result.0 ≡ place + 1 }
     ensures place { place_of result ≡ place }
 {

@@ -1,6 +1,7 @@
 //! What a run of an image brings one of its partitions.
 
 ghost use Rattle.std.specs.Prelude.{◌≡◌, ◌≢◌, ◌≤◌, ◌<◌, ◌+◌, ◌-◌, ◌^◌, Some, length, IfErr, IfOk, OnOk, IsErrOf};
+ghost use Rattle.apex_types.specs.declared.limits.TheConstants.{MOST_TICKS};
 ghost use Rattle.machine_meaning.specs.ImageReading.{image_at};
 ghost use Rattle.machine_meaning.specs.MachineMeaning.{machine_module};
 ghost use Rattle.image.specs.Views.{image_of};
@@ -14,11 +15,11 @@ ghost use Rattle.module.specs.Written.{AreFrom};
 
 use crate::collected::Collected;
 use crate::inputs_fault::InputsFault;
-use crate::machine::MOST_TICKS;
 use crate::member::Module;
 use crate::naming::numbered;
 use crate::ticks::split_tick;
 use crate::watching::Forgetful;
+use apex_types::limits::MOST_TICKS;
 use apex_types::{DeviceLine, PartitionId, Sink, TraceBuffer};
 use image::{Image, load_image};
 use lone_partition::Output;
@@ -71,7 +72,7 @@ fn tell_numbered<S: Sink>(
     ticks: u64,
     sink: &mut S,
 ) -> Result<(), InputsFault>
-    requires ticks { ticks ≤ 2 ^ 40 }
+    requires ticks { ticks ≤ MOST_TICKS }
     requires there { 0 < number.0 }
     requires within { number.0 ≤ length image.partitions.items }
     requires failures { S.failures sink.old < 2 ^ 64 - 1 }
@@ -96,7 +97,7 @@ pub fn collect(
     ticks: u64,
     watched: PartitionId,
 ) -> Result<Collected, InputsFault>
-    requires ticks { ticks ≤ 2 ^ 40 }
+    requires ticks { ticks ≤ MOST_TICKS }
     requires fresh { standing_of machine module.old ≡ at_first (machine_module (image_of module.old.image)).members }
     requires order { AreFrom 0 devices.now }
     ensures image { module.new.image ≡ module.old.image }

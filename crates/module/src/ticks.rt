@@ -1,6 +1,7 @@
 //! The ticks of a module, one after another.
 
 ghost use Rattle.std.specs.Prelude.{◌≡◌, ◌≤◌, ◌<◌, ◌+◌, ◌^◌, ℕ, length, drop, take, option_map};
+ghost use Rattle.apex_types.specs.declared.limits.TheConstants.{MOST_TICKS};
 ghost use Rattle.module_meaning.specs.Module as meaning;
 ghost use Rattle.lone_partition.specs.Outputs.{next_at, sent_of};
 ghost use Rattle.module.specs.Standing.{IsNow, moment_of, origin_of, ticks};
@@ -30,7 +31,7 @@ impl<E: Executor<Mem = PartitionMem>> Module<E> {
     /// The next tick, with the devices' lines of it.
     #[tactic(auto, using(crate::proofs::Standing::ticks_now))]
     pub fn tick<S: Sink>(&mut self, lines: &[DeviceLine], output: &mut Output<'_, S>)
-        requires now { self.old.now.0 < 2 ^ 40 }
+        requires now { self.old.now.0 < MOST_TICKS }
         requires lines { meaning.of_tick self.old.now.0 lines.now ≡ lines.now }
         ensures image { self.new.image ≡ self.old.image }
         ensures written { HasGoneOn (ticks (plan_of self.old.image) lines.now (standing_of E.Executor self.old)) (standing_of E.Executor self.old) (standing_of E.Executor self.new) (sent_of S.Sink output.old) (sent_of S.Sink output.new) }
@@ -41,7 +42,7 @@ impl<E: Executor<Mem = PartitionMem>> Module<E> {
 
     /// The tick is over, and the next one comes, with the origin that counts from here on.
     pub fn pass(&mut self, last: Option<Moment>)
-        requires now { self.old.now.0 < 2 ^ 40 }
+        requires now { self.old.now.0 < MOST_TICKS }
         requires of_now { IsNow self.old.now.0 (next_at last) }
         ensures image { self.new.image ≡ self.old.image }
         ensures standing { standing_of E.Executor self.new ≡ record { members = members_in E.Executor self.old.members; now = self.old.now.0 + 1; origin = option_map origin_of (next_at last) } }

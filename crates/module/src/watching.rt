@@ -1,6 +1,7 @@
 //! Ticks of a module that are not shown, and what they bring one partition.
 
 ghost use Rattle.std.specs.Prelude.{◌≡◌, ◌<◌, ◌+◌, ◌^◌, ℕ, None, Some, IfOk, OnOk};
+ghost use Rattle.apex_types.specs.declared.limits.TheConstants.{MOST_TICKS};
 ghost use Rattle.module_meaning.specs.Module as meaning;
 ghost use Rattle.isolation.specs.Brought.{brought_moved, brought_tick};
 ghost use Rattle.lone_partition.specs.Outputs.{next_at};
@@ -106,7 +107,7 @@ impl<E: Executor<Mem = PartitionMem>> Module<E> {
         inputs: &mut Collected,
         output: &mut Output<'_, Forgetful>,
     ) -> Result<(), InputsFault>
-        requires now { self.old.now.0 < 2 ^ 40 }
+        requires now { self.old.now.0 < MOST_TICKS }
         requires lines { meaning.of_tick self.old.now.0 lines.now ≡ lines.now }
         ensures image { self.new.image ≡ self.old.image }
         ensures standing { OnOk result (standing_of E.Executor self.new ≡ after (standing_of E.Executor self.old) (ticks (plan_of self.old.image) lines.now (standing_of E.Executor self.old))) }

@@ -1,4 +1,5 @@
 use Rattle.std.proofs.Common.{◌≡◌, ◌≤◌, ◌+◌, ◌^◌, false}
+use Rattle.apex_types.specs.declared.limits.TheConstants.{MOST_TICKS}
 use Rattle.apex_types.proofs.Writing.{IsUnderWay}
 use Rattle.apex_types.specs.Line.{text_of}
 use Rattle.machine_meaning.specs.MachineMeaning.{machine_module, machine_trace}
@@ -12,7 +13,7 @@ invariant-loop-left g l = record {
   image : (machine_of l.machine).image ≡ (machine_of l.fn.machine).image;
   failed : (machine_of l.machine).failed ≡ false;
   order : AreFrom (machine_of l.machine).standing.now l.lines;
-  limit : (machine_of l.machine).standing.now + l.left ≤ 2 ^ 40;
+  limit : (machine_of l.machine).standing.now + l.left ≤ MOST_TICKS;
   under_way : IsUnderWay (g.S.Sink.taken l.fn.sink) (g.S.Sink.taken l.sink) (text_of (machine_trace (machine_of l.fn.machine).image l.devices l.ticks)) (text_of (lines_of (machine_module (machine_of l.fn.machine).image).plan l.lines l.left (machine_of l.machine).standing));
   quiet : g.S.Sink.failures l.sink ≡ g.S.Sink.failures l.fn.sink;
 }

@@ -1,4 +1,5 @@
 use Rattle.std.proofs.Common.{◌≡◌, ◌≤◌, ◌+◌, ◌++◌, ◌^◌}
+use Rattle.apex_types.specs.declared.limits.TheConstants.{MOST_TICKS}
 use Rattle.machine_meaning.specs.MachineMeaning.{machine_module}
 use Rattle.image.specs.Views.{image_of}
 use Rattle.isolation.specs.Slices.{machine_inputs}
@@ -12,7 +13,7 @@ abbrev pub invariant-loop-left : goal.invariant-loop-left
 invariant-loop-left l = record {
   image : l.module.image ≡ l.fn.module.image;
   order : AreFrom l.module.now.0 l.lines;
-  limit : l.module.now.0 + l.left ≤ 2 ^ 40;
+  limit : l.module.now.0 + l.left ≤ MOST_TICKS;
   so_far : machine_inputs (image_of l.fn.module.image) l.watched.0 l.devices l.ticks ≡ l.inputs.lines.items ++ brought_of (machine_module (image_of l.fn.module.image)).plan l.watched.0 l.lines l.left (standing_of machine l.module);
 }
 

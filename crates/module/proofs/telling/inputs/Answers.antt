@@ -1,4 +1,5 @@
 use Rattle.std.proofs.Common.{rules, ◌≡◌, ◌≤◌, ◌^◌, ℕ, Some, option_map}
+use Rattle.apex_types.specs.declared.limits.TheConstants.{MOST_TICKS}
 use Rattle.machine_meaning.specs.Image.{Item}
 use Rattle.machine_meaning.specs.ImageReading.{image_at}
 use Rattle.image.specs.Views.{image_of}
@@ -10,6 +11,6 @@ pub returns-clause-text : goal.returns-clause-text
 returns-clause-text g c =
     let loaded = image_of c.in_ok-image.image in
     let name = c.args.partition.now in
-    let few : c.args.ticks ≤ 2 ^ 40 = search rules in
+    let few : c.args.ticks ≤ MOST_TICKS = search rules in
     let number : Some c.in-Some.number.0 ≡ option_map (λ (f : ℕ × Item). f.0) (numbered loaded name) = search rules in
     told (image_at c.args.image.now) loaded name c.args.devices.now c.args.ticks c.in-Some.number.0 _ _ c.tell_numbered.result c.in_ok-image.ensures few number c.tell_numbered.ensures.told

@@ -2,6 +2,7 @@ use Rattle.std.proofs.Common.{rules, ◌≡◌, ◌-◌, ◌≤◌, ℕ, length,
 use Rattle.std.proofs.lemmas.Option.{slice_get-get_or}
 use Rattle.std.specs.Prelude.{slice_get}
 use Rattle.std.specs.Io.KnownBytes.{Appends}
+use Rattle.apex_types.specs.declared.limits.TheConstants.{MOST_DEVICE_LINES}
 use Rattle.apex_types.specs.Line.{TakesBeginning}
 use Rattle.apex_types.specs.declared.device.DeviceLine.{DeviceLine}
 use Rattle.machine_meaning.specs.MachineMeaning.{verdict_for}
@@ -54,7 +55,7 @@ returns-in_err-write_inputs-clause-told g c = λ s is.
     let taken = lines_taken lines c.deref.ensures.value c.in_ok-lines.ensures.accepted in
     let brought : inputs ≡ machine_inputs loaded s.number lines c.args.ticks =
     c.deref-2.ensures.value ∙ c.in_ok-inputs.ensures.inputs ∙ ap (λ (i : Image). machine_inputs i c.args.number.0 lines c.args.ticks) first ∙ ap (λ (p : ℕ). machine_inputs loaded p lines c.args.ticks) (slice_number loaded c.args.number.0 s is) in
-    let few : length inputs ≤ 65_536 = subst (λ (ls : List InputLine). length ls ≤ 65_536) (sym c.deref-2.ensures.value) c.in_ok-inputs.inputs.few in
+    let few : length inputs ≤ MOST_DEVICE_LINES = subst (λ (ls : List InputLine). length ls ≤ MOST_DEVICE_LINES) (sym c.deref-2.ensures.value) c.in_ok-inputs.inputs.few in
     let row = row_at image loaded c.args.number.0 item s same c.requires.there here is in
     let out = subst (λ (r : Partition). TakesBeginning old new (replay_text r inputs)) row c.in_err-write_inputs.ensures.beginning in
     let answer : c.from_residual-in_err-write_inputs.result ≡ Err Write = search rules in
@@ -76,7 +77,7 @@ returns-clause-told g c = λ s is.
     let number = slice_number loaded c.args.number.0 s is in
     let brought : inputs ≡ machine_inputs loaded s.number lines c.args.ticks =
     c.deref-2.ensures.value ∙ c.in_ok-inputs.ensures.inputs ∙ ap (λ (i : Image). machine_inputs i c.args.number.0 lines c.args.ticks) first ∙ ap (λ (p : ℕ). machine_inputs loaded p lines c.args.ticks) number in
-    let few : length inputs ≤ 65_536 = subst (λ (ls : List InputLine). length ls ≤ 65_536) (sym c.deref-2.ensures.value) c.in_ok-inputs.inputs.few in
+    let few : length inputs ≤ MOST_DEVICE_LINES = subst (λ (ls : List InputLine). length ls ≤ MOST_DEVICE_LINES) (sym c.deref-2.ensures.value) c.in_ok-inputs.inputs.few in
     let row = row_at image loaded c.args.number.0 item s same c.requires.there here is in
     let out = subst (λ (r : Partition). Appends old new (replay_text r inputs)) row c.in_ok-write_inputs.ensures.ok in
     text_told loaded s c.args.devices.now lines c.args.ticks inputs old new c.args.image.lawful (subst (λ (p : ℕ). slice loaded p ≡ Some s) number is) taken c.requires.ticks brought few c.in_ok-write_inputs.ensures.words out
