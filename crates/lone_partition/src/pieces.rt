@@ -33,7 +33,7 @@ pub fn write_advance<E: Executor, S: Sink>(
     ensures written { HasAdvancedWritten moment.at most (member_of E.Executor partition.old mem.old) (member_of E.Executor partition.new mem.new) (sent_of S.Sink output.old) (sent_of S.Sink output.new) result }
 {
     output.trace.clear();
-    let count = partition.advance(mem, moment.at, most, output.trace);
+    let count = partition.advance(mem, moment, most, output.trace);
     output.write();
     count
 }
@@ -105,11 +105,11 @@ fn advance_window<E: Executor, S: Sink>(
     ensures run { (lines : List InputLine) → AreFrom tick_of_input (moment.at.now.0 + most) lines → HasRunSome (around surroundings.now) lines most moment.at (member_of E.Executor partition.old mem.old) (member_of E.Executor partition.new mem.new) (sent_of S.Sink output.old) (sent_of S.Sink output.new) result }
 {
     let schedule = &surroundings.schedule;
-    if schedule.ended(moment.at).is_some() {
+    if schedule.ended(moment).is_some() {
         return 0;
     }
-    let count = at_most(schedule.until_change(moment.at), most);
-    match schedule.owner(moment.at) {
+    let count = at_most(schedule.until_change(moment), most);
+    match schedule.owner(moment) {
         Some(_) => write_piece(partition, mem, moment, count, output),
         None => count,
     }
@@ -135,7 +135,7 @@ pub fn advance<E: Executor, S: Sink>(
     ensures run { HasRunSome (around surroundings.now) lines.now most moment.at (member_of E.Executor partition.old mem.old) (member_of E.Executor partition.new mem.new) (sent_of S.Sink output.old) (sent_of S.Sink output.new) result }
 {
     let quiet = until_input(lines, moment.at.now, most);
-    let still = partition.kernel().still_ticks(moment.at, quiet);
+    let still = partition.kernel().still_ticks(moment, quiet);
     if still > 0 {
         return still;
     }

@@ -44,17 +44,16 @@ fn step_member<E: Executor>(
     ensures member { let x = member_of E.Executor partition.old mem.old in member_of E.Executor partition.new mem.new ≡ with_world x (step_of moment.at step.now x).world }
     ensures lines { trace.new.text.items ≡ text_of (step_of moment.at step.now (member_of E.Executor partition.old mem.old)).lines }
 {
-    let at = moment.at;
     trace.clear();
     match step {
-        Step::Start(condition) => partition.clear(mem, at, *condition, trace),
-        Step::Arrive(port, message) => partition.arrive(mem, at, *port, copied(message), trace),
-        Step::Admit(port) => partition.admit(mem, at, *port, trace),
+        Step::Start(condition) => partition.clear(mem, moment, *condition, trace),
+        Step::Arrive(port, message) => partition.arrive(mem, moment, *port, copied(message), trace),
+        Step::Admit(port) => partition.admit(mem, moment, *port, trace),
         Step::GoOut(channel, message) => {
-            partition.go_out(mem, at, *channel, copied(message), trace)
+            partition.go_out(mem, moment, *channel, copied(message), trace)
         }
-        Step::BreakDown => partition.fault(mem, at, trace),
-        Step::Tick => partition.tick(mem, at, trace),
+        Step::BreakDown => partition.fault(mem, moment, trace),
+        Step::Tick => partition.tick(mem, moment, trace),
     }
 }
 
@@ -89,7 +88,7 @@ pub fn write_leave<E: Executor, S: Sink>(
     ensures written { IsMade (goes (leaves moment.at port) (member_of E.Executor partition.old mem.old)) (member_of E.Executor partition.new mem.new) (sent_of S.Sink output.old) (sent_of S.Sink output.new) }
 {
     output.trace.clear();
-    let message = partition.move_one(mem, moment.at, port, output.trace);
+    let message = partition.move_one(mem, moment, port, output.trace);
     output.write();
     message
 }

@@ -66,8 +66,8 @@ fn send_and_tick<E: Executor, S: Sink>(
     ensures fits { E.laid mem.new ≡ E.layout partition.new.executor }
     ensures written { IsMade (done_in (sends_and_ticks (around surroundings.now) moment.at (member_of E.Executor partition.old mem.old))) (member_of E.Executor partition.new mem.new) (sent_of S.Sink output.old) (sent_of S.Sink output.new) }
 {
-    let ended = surroundings.schedule.ended(moment.at);
-    let owner = surroundings.schedule.owner(moment.at);
+    let ended = surroundings.schedule.ended(moment);
+    let owner = surroundings.schedule.owner(moment);
     let ends = ended.is_some();
     send_ended(ends, surroundings, partition, mem, moment, output);
     tick_own(owner.is_some(), partition, mem, moment, output);

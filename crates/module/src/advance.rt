@@ -48,9 +48,9 @@ impl<E: Executor<Mem = PartitionMem>> Members<E> {
         ensures { IsMade (done_in (meaning.moves_and_ticks (plan_of plan.now) moment.at (members_in E.Executor self.old))) (members_in E.Executor self.new) (sent_of S.Sink output.old) (sent_of S.Sink output.new) }
     {
         let channels = plan.channels.as_slice();
-        let ended = plan.schedule.ended(moment.at);
+        let ended = plan.schedule.ended(moment);
         self.move_ended(channels, moment, ended, output);
-        self.tick_owner(moment, plan.schedule.owner(moment.at), output);
+        self.tick_owner(moment, plan.schedule.owner(moment), output);
     }
 
     /// A tick of the module with the devices' lines of this tick. It answers the tick with the origin that

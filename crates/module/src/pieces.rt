@@ -28,9 +28,7 @@ impl<E: Executor<Mem = PartitionMem>> Members<E> {
         let mut least = most;
         let mut place = 0;
         while place < self.partitions.len() {
-            least = self.partitions[place]
-                .kernel()
-                .still_ticks(moment.at, least);
+            least = self.partitions[place].kernel().still_ticks(moment, least);
             if least == 0 {
                 return 0;
             }
@@ -172,11 +170,11 @@ impl<E: Executor<Mem = PartitionMem>> Module<E> {
         ensures image { self.new.image ≡ self.old.image }
         ensures run { (lines : List DeviceLine) → AreFrom (moment.at.now.0 + most) lines → HasPassedSome (plan_of self.old.image) lines most (standing_of E.Executor self.old) (standing_of E.Executor self.new) (sent_of S.Sink output.old) (sent_of S.Sink output.new) result }
     {
-        if self.image.schedule.ended(moment.at).is_some() {
+        if self.image.schedule.ended(moment).is_some() {
             return 0;
         }
-        let count = at_most(self.image.schedule.until_change(moment.at), most);
-        match self.image.schedule.owner(moment.at) {
+        let count = at_most(self.image.schedule.until_change(moment), most);
+        match self.image.schedule.owner(moment) {
             None => {
                 self.skip(count);
                 count

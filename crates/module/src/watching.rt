@@ -47,7 +47,7 @@ impl<E: Executor<Mem = PartitionMem>> Members<E> {
         ensures members { OnOk result (members_in E.Executor self.new ≡ (meaning.moves_and_ticks (plan_of plan.now) moment.at (members_in E.Executor self.old)).members) }
         ensures inputs { AreCollected moment.at.now.0 (brought_moved (plan_of plan.now) watched.0 (members_in E.Executor self.old) (Some moment.at)) inputs.old.lines.items inputs.new.lines.items result }
     {
-        let ended = plan.schedule.ended(moment.at);
+        let ended = plan.schedule.ended(moment);
         let now = moment.at.now;
         self.bring_ended(plan.channels.as_slice(), ended, now, watched, inputs)?;
         self.move_and_tick(plan, moment, output);
