@@ -1,6 +1,6 @@
 //! Many ticks of a partition at once.
 
-ghost use Rattle.std.specs.Prelude.{◌≡◌, ◌≤◌, ◌<◌, ◌+◌, ◌^◌, ℕ, [], length, Some, None};
+ghost use Rattle.std.specs.Prelude.{◌≡◌, ◌≤◌, ◌<◌, ◌+◌, ℕ, [], length, Some, None};
 ghost use Rattle.apex_types.specs.declared.limits.TheConstants.{MOST_TICKS};
 ghost use Rattle.apex_types.specs.Room.{IsEmpty};
 ghost use Rattle.kernel_meaning.specs.Partition as meaning;

@@ -1,6 +1,6 @@
 //! Clear, the normal start, SET_PARTITION_MODE, and what ends a body.
 
-ghost use Rattle.std.specs.Prelude.{◌≡◌, ◌≤◌, ◌+◌, ◌^◌, length, pos};
+ghost use Rattle.std.specs.Prelude.{◌≡◌, ◌+◌, length, pos};
 ghost use Rattle.apex_types.specs.Room.{HasRoom, Grows};
 ghost use Rattle.kernel_meaning.specs.Kernel.{of_processes};
 ghost use Rattle.kernel_meaning.specs.PartitionServices as meaning;

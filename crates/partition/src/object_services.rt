@@ -1,6 +1,6 @@
 //! The dispatch of service calls on objects.
 
-ghost use Rattle.std.specs.Prelude.{◌≡◌, ◌≤◌, ◌+◌, ◌^◌, length};
+ghost use Rattle.std.specs.Prelude.{◌≡◌, ◌+◌, length};
 ghost use Rattle.apex_types.specs.Room.{HasRoom, Grows};
 ghost use Rattle.kernel_meaning.specs.ObjectServices.{serves_objects};
 ghost use Rattle.kernel_meaning.specs.Sharing.{both};

@@ -1,6 +1,6 @@
 //! The dispatch of service calls.
 
-ghost use Rattle.std.specs.Prelude.{◌≡◌, ◌≤◌, ◌+◌, ◌^◌, length};
+ghost use Rattle.std.specs.Prelude.{◌≡◌, ◌+◌, length};
 ghost use Rattle.apex_types.specs.Room.{HasRoom, Grows};
 ghost use Rattle.kernel_meaning.specs.Partition as meaning;
 ghost use Rattle.kernel_meaning.specs.Made.{IsMade};
