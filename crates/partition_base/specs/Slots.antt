@@ -1,5 +1,5 @@
 -- The slots of a partition as the definitions see them.
-use Rattle.std.specs.Prelude.{◌≡◌, ℕ, ℤ, Bool, true, false, List, [], ◌∷◌, Option, Some, None, length, map, slice_get}
+use Rattle.std.specs.Prelude.{ℕ, ℤ, Bool, true, false, List, [], ◌∷◌, Option, Some, None, length, map}
 use Rattle.apex_types.specs.declared.row.BodyRow.{BodyRow}
 use Rattle.machine_meaning.specs.MachineControl.{MachineControl}
 use Rattle.processor.specs.declared.context.Context.{Context}

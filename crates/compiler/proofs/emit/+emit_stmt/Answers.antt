@@ -1,4 +1,4 @@
-use Rattle.std.proofs.Common.{◌≡◌, suc, ◌+◌, ◌++◌, ◌∷◌, length, min, refl, sym, ap, ◌∙◌, arith, drop, drop-cons, get_or}
+use Rattle.std.proofs.Common.{◌≡◌, suc, ◌+◌, ◌++◌, ◌∷◌, length, min, refl, sym, ap, ◌∙◌, arith, drop, drop-cons}
 use Rattle.pal_meaning.specs.Program as cost
 use Rattle.compiling_laws.specs.CompiledCode as code_of
 use Rattle.pal_base.specs.ProgramView.{expr_of, stmt_of, block_of}
