@@ -3,12 +3,15 @@ use Rattle.std.proofs.Common.{◌≡◌, ℕ, List, [], ◌∷◌, ◌++◌, len
 use Rattle.std.proofs.lemmas.List.{length-map, length-take-le, take-map}
 use Rattle.std.specs.List.{Contains}
 use Rattle.std.proofs.lemmas.List.Elements.{Contains-append_cases, Contains-append_left, Contains-append_right, Contains-push_cases}
-use Rattle.pal_meaning.specs.Grammar.{Word, words_of}
-use Rattle.pal_meaning.specs.Beginning.{LeavesAt}
+use Rattle.pal_meaning.specs.Grammar.{Word, Name, Number, ServiceWord, words_of}
+use Rattle.apex_types.specs.declared.service.Service.TheVariants.{GetTime}
+use Rattle.pal_laws.proofs.Even.{shape}
+use Rattle.pal_laws.proofs.EvenReadings.{alike_begins}
+use Rattle.pal_meaning.specs.Beginning.{IsBeginning, LeavesAt}
 use Rattle.pal_meaning.specs.Lines.{word_line}
 use Rattle.pal_base.proofs.Lined.{lined_at}
 use Rattle.pal_base.specs.Lined.{HasFewLines, AreLined, first_line}
-use Rattle.pal_base.specs.Next.{IsMisfit, MayFollow, AreNext, IsLookedFor, IsFit, IsNoted}
+use Rattle.pal_base.specs.Next.{IsMisfit, IsOf, MayFollow, AreTried, AreNext, IsLookedFor, IsFit, IsNoted}
 use Rattle.pal_base.specs.declared.looking.Fit.{Fit}
 use Rattle.pal_base.specs.declared.looking.Fit.TheVariants as fit
 use Rattle.pal_base.specs.declared.looking.LookedFor.{LookedFor}
@@ -99,10 +102,10 @@ starts name before = (λ k follows. all_kinds k, λ k h. absurd (nothing_in k h)
 pub listing_starts : (name : List ℕ) (before : List Word) (words : List WordKind) → words ≡ [] → Listing name before words kinds
 listing_starts name before words none = subst (λ xs. Listing name before xs kinds) (sym none) (starts name before)
 
-ends : (name : List ℕ) (before : List Word) (words : List WordKind) → Listing name before words [] → AreNext name before words
+ends : (name : List ℕ) (before : List Word) (words : List WordKind) → Listing name before words [] → AreTried name before words
 ends name before words so_far = (λ k follows. subst (λ xs. Contains xs k) (append-nil words) (so_far.0 k follows), so_far.1)
 
-pub listing_ends : (name : List ℕ) (before : List Word) (words left : List WordKind) → Listing name before words left → length left ≡ 0 → AreNext name before words
+pub listing_ends : (name : List ℕ) (before : List Word) (words left : List WordKind) → Listing name before words left → length left ≡ 0 → AreTried name before words
 listing_ends name before words [] so_far none = ends name before words so_far
 listing_ends name before words (k ∷ ks) so_far none = absurd (omega (arith, none))
 
@@ -136,10 +139,33 @@ listing_goes_on name before old new others k fit.Fits so_far fits noted = subst 
 listing_goes_on name before old new others k fit.TooDeep so_far fits noted = subst (λ xs. Listing name before xs others) (sym noted) (listing_skips name before old others k so_far fits)
 listing_goes_on name before old new others k fit.Misfit so_far fits noted = subst (λ xs. Listing name before xs others) (sym noted) (listing_skips name before old others k so_far fits)
 
+-- one word of a kind stands for all
+stands_for : (name : List ℕ) (before : List Word) (k : WordKind) (word : Word) → IsOf k word → IsBeginning (before ++ word ∷ []) → MayFollow name before k
+stands_for name before kind.Name word is begins = alike_begins before word (Name name) (ap shape is.1) begins
+stands_for name before kind.Number word is begins = alike_begins before word (Number (Some 0)) (ap shape is.1) begins
+stands_for name before kind.Service word is begins = alike_begins before word (ServiceWord GetTime) (ap shape is.1) begins
+stands_for name before (kind.Mark mark) word is begins = subst (λ w. IsBeginning (before ++ w ∷ [])) is begins
+stands_for name before kind.End word is begins = absurd is
+
+each_may : (name : List ℕ) (before : List Word) (k : WordKind) (word : Word) → IsOf k word → MayFollow name before k → IsBeginning (before ++ word ∷ [])
+each_may name before kind.Name word is may = alike_begins before (Name name) word (sym (ap shape is.1)) may
+each_may name before kind.Number word is may = alike_begins before (Number (Some 0)) word (sym (ap shape is.1)) may
+each_may name before kind.Service word is may = alike_begins before (ServiceWord GetTime) word (sym (ap shape is.1)) may
+each_may name before (kind.Mark mark) word is may = subst (λ w. IsBeginning (before ++ w ∷ [])) (sym is) may
+each_may name before kind.End word is may = absurd is
+
+next_of : (name : List ℕ) (before : List Word) (words : List WordKind) → AreTried name before words → AreNext before words
+next_of name before words tried = (
+  λ k word is begins. tried.0 k (stands_for name before k word is begins),
+  λ k word is listed. each_may name before k word is (tried.1 k listed),
+  tried.0 kind.End,
+  tried.1 kind.End,
+)
+
 -- what is looked for where a text leaves the grammar
 pub looked_so : (text : List ℕ) (view : Token → Word) (all ts whole front back : List Token) (count last : ℕ) (found : Option Misfit) (misfit : Misfit) (name : List ℕ) (looked_for : LookedFor) →
     map view all ≡ words_of text → ts ≡ all → found ≡ Some misfit → IsMisfit (map view ts) found → whole ≡ all → count ≡ length all - misfit.left → front ≡ take count whole → back ≡ drop count whole →
-    looked_for.place ≡ length front → looked_for.line ≡ first_line last back → (HasFewLines text → AreLined text 0 all × (last ≡ word_line text (length all))) → AreNext name (map view front) looked_for.words.items → IsLookedFor text (Some looked_for)
+    looked_for.place ≡ length front → looked_for.line ≡ first_line last back → (HasFewLines text → AreLined text 0 all × (last ≡ word_line text (length all))) → AreTried name (map view front) looked_for.words.items → IsLookedFor text (Some looked_for)
 looked_so text view all ts whole front back count last found misfit name looked_for words same is given again at cut left so line lined next =
     let so_many : length (map view ts) ≡ length all = length-map ts view ∙ ap length same in
     let place : looked_for.place ≡ count = so ∙ ap length (cut ∙ ap (take count) again) ∙ length-take-le count all (omega (arith, at)) in
@@ -149,5 +175,5 @@ looked_so text view all ts whole front back count last found misfit name looked_
     ap (map view) (cut ∙ ap (take count) again) ∙ sym (take-map view count all) ∙ ap (take count) words ∙ ap (λ n. take n (words_of text)) (sym place) in (
       subst (λ (ws : List Word). LeavesAt ws looked_for.place) (ap (map view) same ∙ words) (subst (λ n. LeavesAt (map view ts) n) here leaves),
       λ few. line ∙ ap (first_line last) (left ∙ ap (drop count) again) ∙ lined_at text 0 count all last (lined few).0 ((lined few).1 ∙ ap (word_line text) (omega arith)) (omega (arith, at)) ∙ ap (word_line text) (omega (arith, place)),
-      (name, subst (λ (ws : List Word). AreNext name ws looked_for.words.items) front_words next),
+      subst (λ (ws : List Word). AreNext ws looked_for.words.items) front_words (next_of name (map view front) looked_for.words.items next),
     )

@@ -1,6 +1,7 @@
 -- What may come next behind some words.
 use Rattle.std.specs.Prelude.{◌≡◌, ℕ, ◌-◌, ◌<◌, ◌≤◌, List, [], ◌∷◌, ◌++◌, Option, Some, None, slice_get, take, length}
 use Rattle.std.specs.List.{Contains}
+use Rattle.apex_types.specs.declared.service.Service.{Service}
 use Rattle.apex_types.specs.declared.service.Service.TheVariants.{GetTime}
 use Rattle.pal_meaning.specs.Beginning.{IsWhole, IsBeginning, LeavesAt}
 use Rattle.pal_meaning.specs.Grammar.{Word, Name, Number, ServiceWord, Mark, words_of}
@@ -15,8 +16,37 @@ use Rattle.pal_base.specs.declared.looking.WordKind.{WordKind}
 use Rattle.pal_base.specs.declared.looking.WordKind.TheVariants as kind
 use Rattle.pal_base.specs.declared.source.Misfit.{Misfit}
 
--- A word of this kind may stand behind these words, or the end of the text. The grammar never asks which
--- name, which number or which service stands at a place; so one of each is taken for all.
+-- a word of this kind; the end of a text is no word
+abbrev pub IsOf : WordKind → Word → Type 0
+IsOf kind.Name word = (name : List ℕ) × (word ≡ Name name)
+IsOf kind.Number word = (number : Option ℕ) × (word ≡ Number number)
+IsOf kind.Service word = (service : Service) × (word ≡ ServiceWord service)
+IsOf (kind.Mark mark) word = word ≡ Mark (mark_text mark)
+IsOf kind.End word = ⊥
+
+-- Behind these words exactly the words of the listed kinds may stand, whichever name, number or service it is, and the
+-- end of the text exactly if it is listed.
+abbrev pub AreNext : List Word → List WordKind → Type 0
+AreNext before kinds =
+    ((k : WordKind) (word : Word) → IsOf k word → IsBeginning (before ++ word ∷ []) → Contains kinds k)
+    × ((k : WordKind) (word : Word) → IsOf k word → Contains kinds k → IsBeginning (before ++ word ∷ []))
+    × (IsWhole before → Contains kinds kind.End) × (Contains kinds kind.End → IsWhole before)
+
+-- What is looked for in a text that is not in the grammar: the place where its words leave the grammar, the line of that
+-- place, and what may stand there.
+abbrev pub IsLookedFor : List ℕ → Option LookedFor → Type 0
+IsLookedFor text None = IsWhole (words_of text)
+IsLookedFor text (Some looked_for) =
+    LeavesAt (words_of text) looked_for.place × (HasFewLines text → looked_for.line ≡ word_line text looked_for.place) ×
+    AreNext (take looked_for.place (words_of text)) looked_for.words.items
+
+-- where these words leave the grammar, if they do
+abbrev pub IsMisfit : List Word → Option Misfit → Type 0
+IsMisfit words None = IsWhole words
+IsMisfit words (Some misfit) = (misfit.left ≤ length words) × LeavesAt words (length words - misfit.left)
+
+-- A word of this kind may stand behind these words, or the end of the text. One name, one number and one service are tried
+-- for all.
 abbrev pub MayFollow : List ℕ → List Word → WordKind → Type 0
 MayFollow name before kind.Name = IsBeginning (before ++ Name name ∷ [])
 MayFollow name before kind.Number = IsBeginning (before ++ Number (Some 0) ∷ [])
@@ -25,20 +55,8 @@ MayFollow name before (kind.Mark mark) = IsBeginning (before ++ Mark (mark_text 
 MayFollow name before kind.End = IsWhole before
 
 -- a kind of word may stand behind these words exactly if it is listed
-abbrev pub AreNext : List ℕ → List Word → List WordKind → Type 0
-AreNext name before kinds = ((k : WordKind) → MayFollow name before k → Contains kinds k) × ((k : WordKind) → Contains kinds k → MayFollow name before k)
-
--- What is looked for in a text that is not in the grammar: the place where its words leave the grammar, the line of that
--- place, and what may stand there.
-abbrev pub IsLookedFor : List ℕ → Option LookedFor → Type 0
-IsLookedFor text None = IsWhole (words_of text)
-IsLookedFor text (Some looked_for) =
-    LeavesAt (words_of text) looked_for.place × (HasFewLines text → looked_for.line ≡ word_line text looked_for.place) × ((name : List ℕ) × AreNext name (take looked_for.place (words_of text)) looked_for.words.items)
-
--- where these words leave the grammar, if they do
-abbrev pub IsMisfit : List Word → Option Misfit → Type 0
-IsMisfit words None = IsWhole words
-IsMisfit words (Some misfit) = (misfit.left ≤ length words) × LeavesAt words (length words - misfit.left)
+abbrev pub AreTried : List ℕ → List Word → List WordKind → Type 0
+AreTried name before kinds = ((k : WordKind) → MayFollow name before k → Contains kinds k) × ((k : WordKind) → Contains kinds k → MayFollow name before k)
 
 -- the first name of a text, where there is one
 abbrev pub first_name : List (List ℕ) → List ℕ

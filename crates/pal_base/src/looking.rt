@@ -2,7 +2,7 @@
 
 ghost use Rattle.std.specs.Prelude.{◌≡◌, ◌++◌, ◌∷◌, [], length, IfOk, OnOk};
 ghost use Rattle.pal_base.specs.Lined.{first_line};
-ghost use Rattle.pal_base.specs.Next.{IsLookedFor, IsMisfit, IsFit, IsWordFit, IsFitAt, IsNoted, AreNext, first_name};
+ghost use Rattle.pal_base.specs.Next.{IsLookedFor, IsMisfit, IsFit, IsWordFit, IsFitAt, IsNoted, AreTried, first_name};
 ghost use Rattle.pal_base.specs.Seen.{seen, names_of};
 ghost use Rattle.pal_base.specs.WordView.{word_of};
 
@@ -150,7 +150,7 @@ impl Source {
     ) -> Result<LookedFor, AllocError>
         ensures place { IfOk result (λ it. it.place ≡ length before.now) }
         ensures line { IfOk result (λ it. it.line ≡ first_line self.now.last_line behind.now) }
-        ensures next { IfOk result (λ it. AreNext (first_name (names_of self.now)) (seen self.now before.now) it.words.items) }
+        ensures next { IfOk result (λ it. AreTried (first_name (names_of self.now)) (seen self.now before.now) it.words.items) }
     {
         let mut words = Vec::new(alloc);
         let mut deeper = Vec::new(alloc);
