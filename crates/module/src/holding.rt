@@ -11,10 +11,10 @@ ghost use Rattle.module.specs.Views.{members_in};
 
 use crate::bringing::bring_by;
 use crate::collected::Collected;
-use crate::exchange::channel_from;
 use crate::inputs_fault::InputsFault;
 use crate::member::Members;
 use apex_types::{PartitionId, PortId, Ticks, Words};
+use lone_partition::channel_from;
 use partition_base::Executor;
 use regions::PartitionMem;
 use window_table::ChannelRow;
