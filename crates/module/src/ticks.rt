@@ -17,7 +17,7 @@ use regions::PartitionMem;
 impl<E: Executor<Mem = PartitionMem>> Module<E> {
     /// The tick that comes next, with the origin that counts. There is none after a shutdown.
     pub fn moment(&self) -> Option<Moment>
-        ensures { next_at result ≡ moment_of self.now.now self.now.origin }
+        ensures { next_at result ≡ moment_of self.entry.now.now self.entry.now.origin }
     {
         let origin = self.origin?;
         Some(Moment {

@@ -22,4 +22,4 @@ returns g c =
     let i = c.loop-end.end-index in
     let now = members_in g.E.Executor c.loop-end.self in
     let past : length ends ≤ i = search rules in
-    is_over now (ap (λ (es : List ChannelEnd). delivers_all c.args.moment.at (channel_of c.args.channel.now) c.args.message.now es now) (drop_all ends i past)) c.loop-end.invariant
+    is_over now (ap (λ (es : List ChannelEnd). delivers_all c.args.moment.at (channel_of c.args.channel.now) c.args.message.now es now) (drop_all i ends past)) c.loop-end.invariant

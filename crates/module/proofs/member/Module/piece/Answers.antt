@@ -9,8 +9,8 @@ use Rattle.module.specs.Written.{AreFrom}
 use Rattle.module.proofs.Parts.{fewer_left}
 use Rattle.module.proofs.member.Module.piece.Goals as goal
 
-pub stretch-requires-clause-owner : goal.stretch-requires-clause-owner
-stretch-requires-clause-owner g c = λ i below.
+pub stretch-count-requires-clause-owner : goal.stretch-count-requires-clause-owner
+stretch-count-requires-clause-owner g c = λ i below.
     let now = c.loop-left.invariant.now in
     let few = c.loop-left.invariant.few in
     let start : c.args.moment.at.now.0 ≡ c.args.self.now.now.0 = ap (λ (t : Ticks). t.0) c.requires.now in
@@ -19,8 +19,8 @@ stretch-requires-clause-owner g c = λ i below.
     ∙ ap (λ t. owner (plan_of c.args.self.now.image).schedule (tick_from c.args.moment.at.origin.0 t)) there
     ∙ c.requires.owner (c.args.most - c.loop-left.left + i) (omega (arith, few, below))
 
-pub stretch-requires-clause-ended : goal.stretch-requires-clause-ended
-stretch-requires-clause-ended g c = λ i below.
+pub stretch-count-requires-clause-ended : goal.stretch-count-requires-clause-ended
+stretch-count-requires-clause-ended g c = λ i below.
     let now = c.loop-left.invariant.now in
     let few = c.loop-left.invariant.few in
     let start : c.args.moment.at.now.0 ≡ c.args.self.now.now.0 = ap (λ (t : Ticks). t.0) c.requires.now in
