@@ -1,13 +1,12 @@
-use Rattle.std.proofs.Common.{◌≡◌, List, None, Some, IfOk, refl, sym, ap, subst, ◌∙◌, rules}
+use Rattle.std.proofs.Common.{◌≡◌, ◌++◌, append-nil, map, List, None, Some, IfOk, refl, sym, ap, subst, ◌∙◌, rules}
 use Rattle.apex_types.specs.declared.identity.Ticks.{Ticks}
 use Rattle.isolation.specs.declared.input.Input.{Input}
-use Rattle.isolation.specs.Brought.{brought_tick}
+use Rattle.isolation.specs.Brought.{brought_tick, line_in}
 use Rattle.module_meaning.specs.Module.{Course}
 use Rattle.lone_partition.specs.Outputs.{next_at}
 use Rattle.module.specs.Collecting.{AreCollected, IsMadeUnseen}
 use Rattle.module.specs.Standing.{begins, moment_of}
 use Rattle.module.specs.Views.{members_in, plan_of}
-use Rattle.module.proofs.Collecting.{none_collected}
 use Rattle.module.proofs.Brought.{brought_at, brought_nowhere}
 use Rattle.module.proofs.Standing.{goes_from, goes_nowhere, moment_now}
 use Rattle.module.proofs.member.Module.go_watched.Goals as goal
@@ -26,7 +25,7 @@ returns-in_default-clause-inputs g c =
     let old = c.args.inputs.now.lines.items in
     let none : c.moment.result ≡ None = search rules in
     let nothing = brought_nowhere (plan_of m.image) c.args.watched.0 c.args.lines.now m.now ms m.origin (ap next_at (sym none) ∙ c.moment.ensures) in
-    subst (λ (is : List Input). AreCollected m.now.0 is old old _) (sym nothing) (none_collected m.now.0 old _)
+    subst (λ (is : List Input). old ≡ old ++ map (line_in m.now.0) is) (sym nothing) (sym (append-nil old))
 
 pub returns-clause-made : goal.returns-clause-made
 returns-clause-made g c =
