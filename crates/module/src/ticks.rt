@@ -60,7 +60,9 @@ impl<E: Executor<Mem = PartitionMem>> Module<E> {
         ensures now { self.new.now ≡ self.old.now }
         ensures written { IsCourse (ticks (plan_of self.old.image) lines.now (standing_of E.Executor self.old)) (next_at result) (members_in E.Executor self.new.members) (sent_of S.Sink output.old) (sent_of S.Sink output.new) }
     {
-        let moment = self.moment()?;
+        let Some(moment) = self.moment() else {
+            return None;
+        };
         self.members
             .begin_and_tick(&self.image, moment, lines, output)
     }

@@ -25,7 +25,7 @@ returns-then-still-gt0-clause-run g c =
     let lines = c.args.lines.now in
     let at = c.in-Some.moment.at in
     let n = c.still_ticks-still.result in
-    let some : 0 < n = omega (arith, c.if-still-gt0.true) in
+    let ahead : 0 < n = omega (arith, c.if-still-gt0.true) in
     let some : c.moment.result ≡ Some c.in-Some.moment = search rules in
     let is : Some at ≡ moment_of c.args.self.now.now c.args.self.now.origin = ap next_at (sym some) ∙ c.moment.ensures in
     let here : at.now.0 ≡ s.now = ap (λ (t : Ticks). t.0) (moment_now c.args.self.now.now c.args.self.now.origin at is) in
@@ -36,7 +36,7 @@ returns-then-still-gt0-clause-run g c =
     (subst (λ (next : Standing e.Control). HasPassedSome plan lines n s next sent sent n) (sym c.skip.ensures.standing)
     (run_still plan lines n at.now.0 at.origin.0 s sent here from (omega (arith, here))
     (subst (λ u. AreFrom (u + n) lines) (sym here) (from_lower (s.now + n) (s.now + c.until_line-quiet.result) lines (omega (arith, c.still_ticks-still.ensures.within)) c.until_line-quiet.ensures.from))
-    (c.still_ticks-still.ensures.still some)))
+    (c.still_ticks-still.ensures.still ahead)))
 
 pub returns-clause-order : goal.returns-clause-order
 returns-clause-order g c =
