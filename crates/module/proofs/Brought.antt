@@ -1,6 +1,7 @@
 -- What the ticks of a module bring one partition, one tick after another.
 use Rattle.std.proofs.Common.{◌≡◌, ℕ, zero, suc, ◌+◌, ◌<◌, ◌≤◌, ◌^◌, ◌==◌, Bool, if◌then◌else◌, List, [], ◌∷◌, ◌++◌, length, map, option_map, is_some, false, true, Option, Some, None, refl, sym, ap, subst, ◌∙◌, append_assoc, append-nil, length-append, arith}
 use Rattle.std.proofs.lemmas.List.{length-map}
+use Rattle.std.proofs.lemmas.Option.{none-some, same_Some}
 use Rattle.apex_types.specs.declared.device.DeviceLine.{DeviceLine}
 use Rattle.apex_types.specs.declared.identity.At.{At}
 use Rattle.apex_types.specs.declared.identity.Ticks.{Ticks}
@@ -11,7 +12,7 @@ use Rattle.isolation.specs.declared.input.Input.{Input}
 use Rattle.isolation.specs.declared.input.InputLine.{InputLine}
 use Rattle.isolation.specs.Brought.{brought_in_all, brought_moved, brought_tick, inputs_from, inputs_of, line_in}
 use Rattle.module.specs.Collecting.{HasNoRoom, IsMadeUnseen, brought_from, brought_next, brought_of}
-use Rattle.module.specs.Standing.{Standing, after, at_first, begins, origin_of, ticks, ticks_from, ticks_in}
+use Rattle.module.specs.Standing.{Standing, after, at_first, begins, moment_of, origin_of, ticks, ticks_from, ticks_in}
 use Rattle.module.specs.declared.inputs_fault.InputsFault.{InputsFault}
 use Rattle.module.proofs.Collecting.{no_room_for_more}
 use Rattle.module.proofs.DeviceLines.{of_tick_again, same_tick, tick_now}
@@ -112,3 +113,15 @@ no_room_for_all tick whole so_far now rest is f all split h =
     let count : length whole ≡ length so_far + (length is + length rest) =
     ap length all ∙ length-append so_far now ∙ ap (λ (k : ℕ). length so_far + k) (ap length split ∙ length-append (map (line_in tick) is) rest ∙ ap (λ (k : ℕ). k + length rest) (length-map is (line_in tick))) in
     no_room_for_more (length so_far + length is) (length whole) f (omega (arith, count)) h
+
+-- ---- the tick that comes next
+
+pub brought_at : {C : Type 0} (plan : Plan) (p : ℕ) (lines : List DeviceLine) (now : Ticks) (ms : List (Member C)) (o : Option Ticks) (at : At) → Some at ≡ moment_of now o
+    → brought_tick plan p at lines (begins at.now.0 ms).members ≡ brought_from plan p lines now.0 ms (ticks_in o)
+brought_at plan p lines now ms None at e = absurd (none-some at (sym e))
+brought_at plan p lines now ms (Some origin) at e = ap (λ (a : At). brought_tick plan p a lines (begins a.now.0 ms).members) (same_Some at (record { now = now; origin = origin }) e)
+
+-- after a shutdown nothing comes
+pub brought_nowhere : {C : Type 0} (plan : Plan) (p : ℕ) (lines : List DeviceLine) (now : Ticks) (ms : List (Member C)) (o : Option Ticks) → None ≡ moment_of now o → brought_from plan p lines now.0 ms (ticks_in o) ≡ []
+brought_nowhere plan p lines now ms None e = refl
+brought_nowhere plan p lines now ms (Some origin) e = let at : At = record { now = now; origin = origin } in absurd (none-some at e)

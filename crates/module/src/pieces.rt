@@ -48,7 +48,7 @@ impl<E: Executor<Mem = PartitionMem>> Members<E> {
         most: u32,
         output: &mut Output<'_, S>,
     ) -> u32
-        requires { moment.at.now.0 + most ≤ MOST_TICKS }
+        requires soon { moment.at.now.0 + most ≤ MOST_TICKS }
         ensures written { HasMovedWritten moment.at most place (members_in E.Executor self.old) (slice_get (members_in E.Executor self.old) place) (members_in E.Executor self.new) (sent_of S.Sink output.old) (sent_of S.Sink output.new) result }
         ensures others { (q : ℕ) → q ≢ place → slice_get self.new.memory q ≡ slice_get self.old.memory q }
     {
@@ -63,7 +63,7 @@ impl<E: Executor<Mem = PartitionMem>> Members<E> {
 /// Of so many ticks from one on, those before the first of these lines, which are of this tick or later
 /// ones.
 fn until_line(lines: &[DeviceLine], now: Ticks, most: u32) -> u32
-    requires { AreFrom now.0 lines.now }
+    requires order { AreFrom now.0 lines.now }
     ensures within { result ≤ most }
     ensures from { AreFrom (now.0 + result) lines.now }
 {
@@ -88,7 +88,7 @@ fn at_most(ticks: u64, most: u32) -> u32
 impl<E: Executor<Mem = PartitionMem>> Module<E> {
     /// So many ticks are over, and the next one comes, with the same origin.
     fn skip(&mut self, ticks: u32)
-        requires { self.old.now.0 + ticks ≤ MOST_TICKS }
+        requires soon { self.old.now.0 + ticks ≤ MOST_TICKS }
         ensures image { self.new.image ≡ self.old.image }
         ensures standing { standing_of E.Executor self.new ≡ record { members = members_in E.Executor self.old.members; now = self.old.now.0 + ticks; origin = ticks_in self.old.origin } }
         ensures origin { self.new.origin ≡ self.old.origin }

@@ -61,7 +61,9 @@ impl<E: Executor<Mem = PartitionMem>> Module<E> {
         ensures now { self.new.now ≡ self.old.now }
         ensures written { IsCourse (ticks (plan_of self.old.image) lines.now (standing_of E.Executor self.old)) (next_at result) (members_in E.Executor self.new.members) (sent_of S.Sink output.old) (sent_of S.Sink output.new) }
     {
-        let moment = self.moment()?;
+        let Some(moment) = self.moment() else {
+            return None;
+        };
         self.members
             .begin_and_tick(&self.image, moment, lines, output)
     }
@@ -69,7 +71,7 @@ impl<E: Executor<Mem = PartitionMem>> Module<E> {
 
 /// Of these lines, which are of this tick or later ones, those of this tick, and those of later ticks.
 pub fn split_tick(lines: &[DeviceLine], tick: u64) -> (&[DeviceLine], &[DeviceLine])
-    requires { AreFrom tick lines.now }
+    requires order { AreFrom tick lines.now }
     ensures own { result.0.now ≡ meaning.of_tick tick lines.now }
     ensures of_tick { meaning.of_tick tick result.0.now ≡ result.0.now }
     ensures later { AreFrom (tick + 1) result.1.now }
@@ -80,7 +82,7 @@ pub fn split_tick(lines: &[DeviceLine], tick: u64) -> (&[DeviceLine], &[DeviceLi
 
 /// How many of these lines, which are of this tick or later ones, are of this tick.
 fn count_of_tick(lines: &[DeviceLine], now: Ticks) -> usize
-    requires { AreFrom now.0 lines.now }
+    requires order { AreFrom now.0 lines.now }
     ensures within { result ≤ length lines.now }
     ensures now { take result lines.now ≡ meaning.of_tick now.0 lines.now }
     ensures later { AreFrom (now.0 + 1) (drop result lines.now) }

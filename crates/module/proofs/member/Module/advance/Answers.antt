@@ -25,8 +25,9 @@ returns-then-still-gt0-clause-run g c =
     let lines = c.args.lines.now in
     let at = c.in-Some.moment.at in
     let n = c.still_ticks-still.result in
-    let some : 0 < n = omega (arith, c.if-still-gt0.true) in
-    let is : Some at ≡ moment_of c.args.self.now.now c.args.self.now.origin = ap next_at (sym c.in-Some.is) ∙ c.moment-moment.ensures in
+    let ahead : 0 < n = omega (arith, c.if-still-gt0.true) in
+    let some : c.moment.result ≡ Some c.in-Some.moment = search rules in
+    let is : Some at ≡ moment_of c.args.self.now.now c.args.self.now.origin = ap next_at (sym some) ∙ c.moment.ensures in
     let here : at.now.0 ≡ s.now = ap (λ (t : Ticks). t.0) (moment_now c.args.self.now.now c.args.self.now.origin at is) in
     let from : s.origin ≡ Some at.origin.0 = ap ticks_in (moment_origin c.args.self.now.now c.args.self.now.origin at is) in
     let sent = sent_of g.S.Sink c.args.output.now in
@@ -35,13 +36,14 @@ returns-then-still-gt0-clause-run g c =
     (subst (λ (next : Standing e.Control). HasPassedSome plan lines n s next sent sent n) (sym c.skip.ensures.standing)
     (run_still plan lines n at.now.0 at.origin.0 s sent here from (omega (arith, here))
     (subst (λ u. AreFrom (u + n) lines) (sym here) (from_lower (s.now + n) (s.now + c.until_line-quiet.result) lines (omega (arith, c.still_ticks-still.ensures.within)) c.until_line-quiet.ensures.from))
-    (c.still_ticks-still.ensures.still some)))
+    (c.still_ticks-still.ensures.still ahead)))
 
 pub returns-clause-order : goal.returns-clause-order
 returns-clause-order g c =
     let at = c.in-Some.moment.at in
     let s = standing_of g.E.Executor c.args.self.now in
-    let is : Some at ≡ moment_of c.args.self.now.now c.args.self.now.origin = ap next_at (sym c.in-Some.is) ∙ c.moment-moment.ensures in
+    let some : c.moment.result ≡ Some c.in-Some.moment = search rules in
+    let is : Some at ≡ moment_of c.args.self.now.now c.args.self.now.origin = ap next_at (sym some) ∙ c.moment.ensures in
     let here : at.now.0 ≡ s.now = ap (λ (t : Ticks). t.0) (moment_now c.args.self.now.now c.args.self.now.origin at is) in
     let order = subst (λ u. AreFrom (u + c.until_line-quiet.result) c.args.lines.now) (sym here) c.until_line-quiet.ensures.from in
     still_ahead _ _ (plan_of c.args.self.now.image) c.args.lines.now c.until_line-quiet.result at.now.0 c.advance_window.result s (standing_of g.E.Executor c.advance_window.new.self) here order (c.advance_window.ensures.run c.args.lines.now order)
@@ -50,7 +52,8 @@ pub returns-clause-run : goal.returns-clause-run
 returns-clause-run g c =
     let at = c.in-Some.moment.at in
     let s = standing_of g.E.Executor c.args.self.now in
-    let is : Some at ≡ moment_of c.args.self.now.now c.args.self.now.origin = ap next_at (sym c.in-Some.is) ∙ c.moment-moment.ensures in
+    let some : c.moment.result ≡ Some c.in-Some.moment = search rules in
+    let is : Some at ≡ moment_of c.args.self.now.now c.args.self.now.origin = ap next_at (sym some) ∙ c.moment.ensures in
     let here : at.now.0 ≡ s.now = ap (λ (t : Ticks). t.0) (moment_now c.args.self.now.now c.args.self.now.origin at is) in
     let order = subst (λ u. AreFrom (u + c.until_line-quiet.result) c.args.lines.now) (sym here) c.until_line-quiet.ensures.from in
     run_fewer _ _ (plan_of c.args.self.now.image) c.args.lines.now c.until_line-quiet.result c.args.most c.advance_window.result s (standing_of g.E.Executor c.advance_window.new.self) c.until_line-quiet.ensures.within (c.advance_window.ensures.run c.args.lines.now order)
