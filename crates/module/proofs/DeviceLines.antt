@@ -118,7 +118,7 @@ input_now plan at (input.Message channel m) ms = refl
 input_now plan at (input.PartitionFault p) ms = refl
 input_now plan at input.ModuleFault ms = fault_now at plan.fault ms
 
-inputs_now : {C : Type 0} (plan : Plan) (ls : List DeviceLine) (at : At) (ms : List (Member C)) → IsNow at.now.0 (inputs_all plan at ls ms).at
+pub inputs_now : {C : Type 0} (plan : Plan) (ls : List DeviceLine) (at : At) (ms : List (Member C)) → IsNow at.now.0 (inputs_all plan at ls ms).at
 inputs_now plan [] at ms = refl
 inputs_now plan (l ∷ ls) at ms =
     let first = inputs plan at l.input ms in

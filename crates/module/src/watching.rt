@@ -99,7 +99,6 @@ impl<E: Executor<Mem = PartitionMem>> Members<E> {
 
 impl<E: Executor<Mem = PartitionMem>> Module<E> {
     /// The next tick, with the devices' lines of it, and what it brings the watched partition.
-    #[tactic(auto, using(crate::proofs::Standing::ticks_now))]
     pub fn tick_watched(
         &mut self,
         lines: &[DeviceLine],
