@@ -1,7 +1,9 @@
 //! A process with a time capacity: when something is due for it, and whether a choice would change
 //! anything.
 
-use apex_types::{At, BodyRow, Mode, Name, Out, Priority, ProcessIndex, ProcessRow, Runner, Ticks};
+use apex_types::{
+    At, BodyRow, Mode, Moment, Name, Out, Priority, ProcessIndex, ProcessRow, Runner, Ticks,
+};
 use process_table_base::{Points, ProcessTable};
 use std::alloc::Global;
 use std::process::Abort;
@@ -27,12 +29,14 @@ fn table(rt: &impl Abort, alloc: Global) -> ProcessTable {
 
 /// The process is started at tick 10 of normal mode.
 fn start(table: &mut ProcessTable) {
-    let at = At {
-        now: Ticks(10),
-        origin: Ticks(0),
+    let moment = Moment {
+        at: At {
+            now: Ticks(10),
+            origin: Ticks(0),
+        },
     };
     let points = Points {
-        at,
+        moment,
         next: Ticks(40),
     };
     table.start(Mode::Normal, points, PROCESS, Ticks(0), &mut Out::new());

@@ -155,12 +155,14 @@ fn owners_and_ends(rt: HostRuntime) {
 fn changes(rt: HostRuntime) {
     let schedule = schedule(&rt, rt.alloc(), TABLE);
     for tick in 0..20u64 {
-        let at = At {
-            now: Ticks(27 + tick),
-            origin: Ticks(7),
+        let moment = Moment {
+            at: At {
+                now: Ticks(27 + tick),
+                origin: Ticks(7),
+            },
         };
         let until = u64::from(at_place(&UNTIL_CHANGE, tick));
-        assert_eq!(rt; schedule.until_change(at), until, "from {tick}");
+        assert_eq!(rt; schedule.until_change(moment), until, "from {tick}");
     }
 }
 

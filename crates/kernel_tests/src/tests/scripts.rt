@@ -161,12 +161,14 @@ fn schedule(rt: &impl Abort, alloc: Global) -> Schedule {
 }
 
 /// In how many of the thousand ticks from a tick on nothing happens.
-fn still(partition: &Partition<Scripted>, now: u64) -> u32 {
-    let at = At {
-        now: Ticks(now),
-        origin: Ticks(0),
+fn still(partition: &Partition<Scripted>, now: u8) -> u32 {
+    let moment = Moment {
+        at: At {
+            now: Ticks(u64::from(now)),
+            origin: Ticks(0),
+        },
     };
-    partition.kernel().still_ticks(at, 1000)
+    partition.kernel().still_ticks(moment, 1000)
 }
 
 /// Expects these lines of a tick.
