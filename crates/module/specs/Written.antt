@@ -1,5 +1,5 @@
 -- What is written of a step of the module.
-use Rattle.std.specs.Prelude.{◌≡◌, ◌≤◌, ℕ, List, [], ◌∷◌, Option}
+use Rattle.std.specs.Prelude.{false, ◌≡◌, ◌≤◌, ℕ, List, [], ◌∷◌, Option}
 use Rattle.apex_types.specs.Line.{text_of}
 use Rattle.apex_types.specs.declared.device.DeviceLine.{DeviceLine}
 use Rattle.apex_types.specs.declared.identity.At.{At}
@@ -23,9 +23,9 @@ pub record IsCourse {C : Type 0} (c : Course C) (answer : Option At) (now : List
   pub at : answer ≡ c.at
   pub made : IsMade (done_in c) now old new
 
--- The module has gone one tick on, and the lines of the tick were to be written.
+-- The module has gone one tick on, unless the sink has failed, and the lines of the tick were to be written.
 pub record HasGoneOn {C : Type 0} (c : Course C) (old_standing new_standing : Standing C) (old new : Sent) : Type 0 where
-  pub standing : new_standing ≡ after old_standing c
+  pub standing : new.failed ≡ false → new_standing ≡ after old_standing c
   pub sent : HasSent old new (text_of c.lines)
 
 -- the ticks of these lines are in order, and none is below this one

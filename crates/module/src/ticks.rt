@@ -28,7 +28,7 @@ impl<E: Executor<Mem = PartitionMem>> Module<E> {
         })
     }
 
-    /// The next tick, with the devices' lines of it.
+    /// The next tick, with the devices' lines of it. Where the sink fails, the tick is not over.
     #[tactic(auto, using(crate::proofs::Standing::ticks_now))]
     pub fn tick<S: Sink>(&mut self, lines: &[DeviceLine], output: &mut Output<'_, S>)
         requires now { self.old.now.0 < MOST_TICKS }
@@ -37,7 +37,9 @@ impl<E: Executor<Mem = PartitionMem>> Module<E> {
         ensures written { HasGoneOn (ticks (plan_of self.old.image) lines.now (standing_of E.Executor self.old)) (standing_of E.Executor self.old) (standing_of E.Executor self.new) (sent_of S.Sink output.old) (sent_of S.Sink output.new) }
     {
         let last = self.go(lines, output);
-        self.pass(last);
+        if !output.has_failed() {
+            self.pass(last);
+        }
     }
 
     /// The tick is over, and the next one comes, with the origin that counts from here on.
