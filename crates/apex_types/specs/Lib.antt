@@ -1,13 +1,13 @@
 pub mod CodeWords
 pub mod CostBounds
+pub mod Costs
 pub mod Line
 pub mod Lines
 pub mod NameText
-pub mod StoredName
-pub mod OperatorCosts
+pub mod Places
 pub mod Room
 pub mod Runners
 pub mod ServiceCalls
 pub mod ServiceShape
 pub mod Sink
-pub mod WrittenCosts
+pub mod StoredName

@@ -3,14 +3,14 @@ use Rattle.std.specs.Prelude.{◌≡◌, ℕ, ◌+◌, ◌≤◌, [], length}
 use Rattle.apex_types.specs.declared.limits.TheConstants.{MOST_ACTIONS, MOST_EVENTS}
 use Rattle.apex_types.specs.declared.out.Out.{Out}
 
--- room for so many lines and so many actions more
-abbrev pub HasRoom : ℕ → Out → Type 0
-HasRoom n out = (length out.lines.items + n ≤ MOST_EVENTS) × (length out.actions.items + n ≤ MOST_ACTIONS)
+-- room for so many lines more, and for so many actions more
+abbrev pub HasRoom : ℕ → ℕ → Out → Type 0
+HasRoom lines actions out = (length out.lines.items + lines ≤ MOST_EVENTS) × (length out.actions.items + actions ≤ MOST_ACTIONS)
 
 -- no line and no action yet
 abbrev pub IsEmpty : Out → Type 0
 IsEmpty out = (out.lines.items ≡ []) × (out.actions.items ≡ [])
 
--- at most so many lines and so many actions more
-abbrev pub Grows : ℕ → Out → Out → Type 0
-Grows n before after = (length after.lines.items ≤ length before.lines.items + n) × (length after.actions.items ≤ length before.actions.items + n)
+-- at most so many lines more, and at most so many actions more
+abbrev pub Grows : ℕ → ℕ → Out → Out → Type 0
+Grows lines actions before after = (length after.lines.items ≤ length before.lines.items + lines) × (length after.actions.items ≤ length before.actions.items + actions)

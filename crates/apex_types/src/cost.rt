@@ -48,7 +48,7 @@ pub struct Costs {
 pub const UNKNOWN_COST: u32 = 1;
 
 impl Costs {
-    ghost use Rattle.apex_types.specs.WrittenCosts.{written_costs};
+    ghost use Rattle.apex_types.specs.Costs.{written_costs};
 
     /// The costs of every module.
     pub fn written() -> Self

@@ -2,6 +2,7 @@
 
 ghost use Rattle.std.specs.Prelude.{◌≡◌, ◌≤◌};
 ghost use Rattle.apex_types.specs.declared.limits.TheConstants.{MOST_TICKS};
+ghost use Rattle.apex_types.specs.Places.{place_of_number};
 
 /// A count of processor ticks, or the tick of that number.
 #[derive(Clone, Copy, Debug, PartialEq, Eq, PartialOrd, Ord)]
@@ -26,9 +27,29 @@ pub struct Moment {
 #[derive(Clone, Copy, Debug, PartialEq, Eq)]
 pub struct PartitionId(pub u8);
 
+impl PartitionId {
+    /// Its place among the partitions of its module, from 0. No partition has the number 0.
+    pub fn place(self) -> Option<u8>
+        ensures { result ≡ place_of_number self.0 }
+    {
+        let PartitionId(number) = self;
+        number.checked_sub(1)
+    }
+}
+
 /// A port by its place among its partition's ports, from 1.
 #[derive(Clone, Copy, Debug, PartialEq, Eq)]
 pub struct PortId(pub u8);
+
+impl PortId {
+    /// Its place among its partition's ports, from 0. No port has the number 0.
+    pub fn place(self) -> Option<u8>
+        ensures { result ≡ place_of_number self.0 }
+    {
+        let PortId(number) = self;
+        number.checked_sub(1)
+    }
+}
 
 /// A channel by its place in the module table, from 0.
 #[derive(Clone, Copy, Debug, PartialEq, Eq)]

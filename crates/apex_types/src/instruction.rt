@@ -23,7 +23,7 @@ pub enum BinaryOperator {
 }
 
 impl BinaryOperator {
-    ghost use Rattle.apex_types.specs.OperatorCosts.{cost_of_binary};
+    ghost use Rattle.apex_types.specs.Costs.{cost_of_binary};
 
     /// What this operator costs in ticks.
     pub fn cost(self, costs: &Costs) -> u32

@@ -103,8 +103,9 @@ pub const MOST_REPORT_WORDS: u8 = 16;
 /// its deadline and change its state once, and the choice and the end of a service tell a few more.
 pub const MOST_EVENTS: usize = 256;
 
-/// The most that a phase of a tick asks of the processor, the data and the error queue.
-pub const MOST_ACTIONS: usize = 128;
+/// The most that a phase of a tick asks of the processor, the data and the error queue: the words of a
+/// message and an answer for each process, the answer to a call, and the three of a Clear.
+pub const MOST_ACTIONS: usize = 2 * MOST_PROCESSES as usize + 4;
 
 /// The most bytes of a word in a line: its digits, its sign and the space before it.
 pub const MOST_WORD_BYTES: usize = 21;

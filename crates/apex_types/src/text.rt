@@ -341,9 +341,9 @@ fn push_error<const N: usize>(
 }
 
 fn push_kind<const N: usize>(line: &mut ArrayVec<u8, N>, kind: &EventKind)
-    requires { array_vec_len line.old + 70 + MOST_NAME_BYTES + MOST_WORD_BYTES * MOST_WORDS ≤ N }
+    requires { array_vec_len line.old + 64 + MOST_WORD_BYTES * MOST_WORDS ≤ N }
     ensures items { line.new.items ≡ line.old.items ++ kind_text kind.now }
-    ensures len { array_vec_len line.new ≤ array_vec_len line.old + 70 + MOST_NAME_BYTES + MOST_WORD_BYTES * MOST_WORDS }
+    ensures len { array_vec_len line.new ≤ array_vec_len line.old + 64 + MOST_WORD_BYTES * MOST_WORDS }
 {
     match kind {
         EventKind::State(who, state) => {

@@ -2,7 +2,7 @@
 use Rattle.std.proofs.Common.{◌≡◌, [], ◌∷◌, ◌++◌, length, map, refl, arith, length-append}
 use Rattle.std.proofs.lemmas.List.{length-map}
 use Rattle.apex_types.specs.declared.cost.Costs.{Costs}
-use Rattle.apex_types.specs.OperatorCosts.{cost_of_binary}
+use Rattle.apex_types.specs.Costs.{cost_of_binary}
 use Rattle.apex_types.specs.ServiceShape.{cost_of_service}
 use Rattle.pal_meaning.specs.Program.{Procedure, Body, Expr, Links, Exprs, Stmt, Block}
 use Rattle.pal_meaning.specs.Program.{Literal, Read, Element, Unary, Chain, Apply, NoLink, MoreLinks, NoExpr, MoreExprs}

@@ -6,7 +6,7 @@ use Rattle.std.proofs.lemmas.Bool.{and_parts, cond_both, leb-true}
 use Rattle.std.proofs.lemmas.List.Sums.{sum_by-append, sum_by-cons}
 use Rattle.apex_types.specs.CostBounds.{are_costs, is_cost}
 use Rattle.apex_types.specs.declared.cost.Costs.{Costs}
-use Rattle.apex_types.specs.declared.limits.TheConstants.{MOST_COST, MOST_LOCALS, MOST_PARAMETERS, MOST_WORK_TICKS}
+use Rattle.apex_types.specs.declared.limits.TheConstants.{MOST_COST, MOST_LOCALS, MOST_PARAMETERS, MOST_SOURCE_BYTES, MOST_WORK_TICKS}
 use Rattle.apex_types.specs.declared.instruction.BinaryOperator.{BinaryOperator}
 use Rattle.apex_types.specs.declared.instruction.BinaryOperator.TheVariants.{Add, Subtract, Multiply, Divide, Remainder}
 use Rattle.apex_types.specs.declared.place.Place.{Place}
@@ -18,7 +18,7 @@ use Rattle.apex_types.specs.ServiceShape.{class_of, cost_of_class}
 use Rattle.pal_meaning.specs.Program as program
 use Rattle.pal_meaning.specs.Syntax as written
 use Rattle.apex_types.specs.ServiceShape.{arguments_of, cost_of_service}
-use Rattle.apex_types.specs.OperatorCosts.{cost_of_binary}
+use Rattle.apex_types.specs.Costs.{cost_of_binary}
 use Rattle.compiling_laws.specs.Bounds.{IsBodyHeld, IsProcedureHeld, IsHandlerHeld, AreProcessesHeld, AreProceduresHeld, AreCostsHeld}
 use Rattle.pal_meaning.specs.Program.{costs_of_expr, costs_of_links, costs_of_exprs, costs_of_stmt, costs_of_block, costs_of_procedure, costs_of_body, size_of_procedure, size_of_body, size_of_handler, size_of_process, size_of}
 use Rattle.pal_meaning.specs.Grammar.{IsWritten}
@@ -194,6 +194,6 @@ pub accepted_size : (ports : List PortRow) (period : ℕ) (text : List ℕ) (p :
 accepted_size ports period text p r written judged =
     subst (λ (q : program.Program). size_of q ≤ 2 * length text) (accepted ports period p r judged).is (text_few ports p text written.1)
 
-pub accepted_costs : (costs : Costs) (ports : List PortRow) (period : ℕ) (text : List ℕ) (p : written.Program) (r : program.Program) → IsWritten (words_of text) p → length text ≤ 1_048_576 → verdict ports period p ≡ Ok r → AreCostsHeld costs r
+pub accepted_costs : (costs : Costs) (ports : List PortRow) (period : ℕ) (text : List ℕ) (p : written.Program) (r : program.Program) → IsWritten (words_of text) p → length text ≤ MOST_SOURCE_BYTES → verdict ports period p ≡ Ok r → AreCostsHeld costs r
 accepted_costs costs ports period text p r written short judged =
     subst (AreCostsHeld costs) (accepted ports period p r judged).is (held costs ports p (omega (arith, text_few ports p text written.1)))

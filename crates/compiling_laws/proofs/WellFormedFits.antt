@@ -5,7 +5,7 @@ use Rattle.std.specs.List.{list_all, cons_option, sum_by}
 use Rattle.std.proofs.lemmas.Bool.{and_parts, leb-true, eqb-true, cond_both, cond-true, le-leb}
 use Rattle.std.proofs.lemmas.List.{length-map}
 use Rattle.std.proofs.lemmas.List.Sums.{sum_by-cons}
-use Rattle.apex_types.specs.declared.limits.TheConstants.{LEAST_STACK_WORDS, MOST_INSTRUCTIONS, MOST_LOCALS, MOST_PARAMETERS, MOST_PROCEDURES, MOST_STACK_WORDS, MOST_WORK_TICKS}
+use Rattle.apex_types.specs.declared.limits.TheConstants.{LEAST_STACK_WORDS, MOST_INSTRUCTIONS, MOST_LOCALS, MOST_PARAMETERS, MOST_PROCEDURES, MOST_PROCESSES, MOST_STACK_WORDS, MOST_WORK_TICKS}
 use Rattle.apex_types.specs.declared.denotation.Denotation.{Denotation}
 use Rattle.apex_types.specs.declared.denotation.Denotation.TheVariants as denotation
 use Rattle.apex_types.specs.declared.shape.ArgumentKind.{ArgumentKind}
@@ -97,7 +97,7 @@ declaration_slots n ports c (d ∷ ds) = (declared_slot n ports c d.name d.kind,
 
 process_slots : (n count : ℕ) (ps : List written.Process) → EachEntry (IsSlotWithin n) (process_entries count ps)
 process_slots n count [] = tt
-process_slots n count (p ∷ ps) = (tt, process_slots n (unwrap_or (counted 31 count 1) count) ps)
+process_slots n count (p ∷ ps) = (tt, process_slots n (unwrap_or (counted MOST_PROCESSES count 1) count) ps)
 
 -- a name that is a local is one of the body's slots
 pub slots_in_scope : (ports : List PortRow) (p : written.Program) (n : ℕ) (own : List (List ℕ)) → length own ≤ n → (name : List ℕ) → IsSlotWithin n (scope_of (own_entries 0 own) (declared_entries ports p) name)
@@ -187,7 +187,7 @@ own_no_procedures procedures place (x ∷ xs) = (tt, own_no_procedures procedure
 
 processes_no_procedures : (procedures : List program.Procedure) (count : ℕ) (ps : List written.Process) → EachEntry (NamesProcedure procedures) (process_entries count ps)
 processes_no_procedures procedures count [] = tt
-processes_no_procedures procedures count (p ∷ ps) = (tt, processes_no_procedures procedures (unwrap_or (counted 31 count 1) count) ps)
+processes_no_procedures procedures count (p ∷ ps) = (tt, processes_no_procedures procedures (unwrap_or (counted MOST_PROCESSES count 1) count) ps)
 
 -- ---- expressions and statements
 

@@ -7,7 +7,7 @@ use Rattle.std.proofs.lemmas.Bool.{and_parts, and_from, not-true, or_from, leb-t
 use Rattle.std.proofs.lemmas.List.{length-map, append-nil}
 use Rattle.std.proofs.lemmas.List.Sums.{sum_by-cons}
 use Rattle.std.proofs.lemmas.List.Folds.{list_any-append}
-use Rattle.apex_types.specs.declared.limits.TheConstants.{GREATEST_PRIORITY, LEAST_STACK_WORDS, MOST_INSTRUCTIONS, MOST_LOCALS, MOST_PARAMETERS, MOST_STACK_WORDS, MOST_TICKS}
+use Rattle.apex_types.specs.declared.limits.TheConstants.{GREATEST_PRIORITY, LEAST_STACK_WORDS, MOST_INSTRUCTIONS, MOST_LOCALS, MOST_PARAMETERS, MOST_PROCESSES, MOST_STACK_WORDS, MOST_TICKS}
 use Rattle.apex_types.specs.NameText.{is_name}
 use Rattle.apex_types.specs.declared.denotation.Denotation.{Denotation}
 use Rattle.apex_types.specs.declared.row.ProcessRow.{ProcessRow}
@@ -209,7 +209,7 @@ bodies_lawful ports period p names limits periods fits =
     let l5 = and_parts (keeps_counts no_counts p.declarations) (list_all (keeps_declaration declared) p.declarations) l4.0 in
     let t = all_totals declared p.declarations l5.0 l5.1 in
     let small = fits.size in
-    let few : length p.processes ≤ 31 = leb-true (length p.processes) 31 l1.1 in
+    let few : length p.processes ≤ MOST_PROCESSES = leb-true (length p.processes) MOST_PROCESSES l1.1 in
     let before = declaration_entries ports no_counts p.declarations in
     let new = new_behind [] before (process_entries 0 p.processes) (and_parts _ _ names).0 in
     record {

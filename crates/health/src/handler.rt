@@ -10,6 +10,7 @@ ghost use Rattle.kernel_meaning.specs.Step.{nothing};
 
 use crate::errors::Errors;
 use crate::respond::is_handler_created;
+use apex_types::limits::MOST_REPORT_WORDS;
 use apex_types::{Action, ArrayPlace, ErrorKind, Mode, Out, ReturnCode, Runner, Service};
 use process_table_base::{ProcessTable, fill, is_dormant, is_large_enough, is_same};
 
@@ -23,19 +24,19 @@ pub fn create_error_handler(
     caller: Runner,
     out: &mut Out,
 )
-    requires { HasRoom 1 out.old }
+    requires { HasRoom 1 1 out.old }
     ensures step { IsMade (meaning.create_error_handler mode (both table.old errors.now) caller) (both table.new errors.now) out.old out.new }
-    ensures grows { Grows 1 out.old out.new }
+    ensures grows { Grows 1 1 out.old out.new }
 {
     let service = Service::CreateErrorHandler;
     if mode == Mode::Normal {
-        return table.refuse(caller, service, ReturnCode::InvalidMode, &[], out);
+        return table.refuse(caller, service, ReturnCode::InvalidMode, out);
     }
     if !errors.has_handler() {
-        return table.refuse(caller, service, ReturnCode::InvalidConfig, &[], out);
+        return table.refuse(caller, service, ReturnCode::InvalidConfig, out);
     }
     if is_handler_created(table) {
-        return table.refuse(caller, service, ReturnCode::NoAction, &[], out);
+        return table.refuse(caller, service, ReturnCode::NoAction, out);
     }
     table.answer(caller, service, ReturnCode::NoError, &[], out);
     table.create(Runner::Handler);
@@ -58,9 +59,9 @@ fn take_error(
     array: ArrayPlace,
     out: &mut Out,
 )
-    requires { HasRoom 2 out.old }
+    requires { HasRoom 1 2 out.old }
     ensures step { IsMade (meaning.takes_error (both table.now errors.old) caller array errors.old.waiting) (both table.now errors.new) out.old out.new }
-    ensures grows { Grows 2 out.old out.new }
+    ensures grows { Grows 1 2 out.old out.new }
 {
     let service = Service::GetErrorStatus;
     match errors.pop() {
@@ -71,7 +72,7 @@ fn take_error(
             table.answer(caller, service, ReturnCode::NoError, &outputs, out);
             fill(Some(array), &error.words, out);
         }
-        None => table.refuse(caller, service, ReturnCode::NoAction, &[0, 0, 0], out),
+        None => table.refuse(caller, service, ReturnCode::NoAction, out),
     }
 }
 
@@ -86,16 +87,16 @@ pub fn get_error_status(
     array: ArrayPlace,
     out: &mut Out,
 )
-    requires { HasRoom 2 out.old }
+    requires { HasRoom 1 2 out.old }
     ensures step { IsMade (meaning.get_error_status (both table.now errors.old) caller array) (both table.now errors.new) out.old out.new }
-    ensures grows { Grows 2 out.old out.new }
+    ensures grows { Grows 1 2 out.old out.new }
 {
     let service = Service::GetErrorStatus;
     if !is_same(caller, Runner::Handler) {
-        return table.refuse(caller, service, ReturnCode::InvalidConfig, &[0, 0, 0], out);
+        return table.refuse(caller, service, ReturnCode::InvalidConfig, out);
     }
-    if !is_large_enough(16, array) {
-        return table.refuse(caller, service, ReturnCode::InvalidParam, &[0, 0, 0], out);
+    if !is_large_enough(MOST_REPORT_WORDS, array) {
+        return table.refuse(caller, service, ReturnCode::InvalidParam, out);
     }
     take_error(table, errors, caller, array, out);
 }
@@ -103,9 +104,9 @@ pub fn get_error_status(
 /// A created handler that is dormant begins with a fresh stack, and is ready.
 #[tactic(auto, using(crate::proofs::Waking::waking))]
 fn begin_if_dormant(table: &mut ProcessTable, out: &mut Out)
-    requires { HasRoom 1 out.old }
+    requires { HasRoom 1 1 out.old }
     ensures step { IsMade (meaning.begins_if_dormant table.old (row_of table.old Runner.Handler)) table.new out.old out.new }
-    ensures grows { Grows 1 out.old out.new }
+    ensures grows { Grows 1 1 out.old out.new }
 {
     if let Some(row) = table.row(Runner::Handler) {
         if row.created && is_dormant(&row) {
@@ -135,9 +136,9 @@ pub fn handler_stays(table: &ProcessTable, errors: &Errors, mode: Mode) -> bool
 
 /// In normal mode a dormant error handler starts if an error waits for it, and is ready.
 pub fn start_handler(table: &mut ProcessTable, errors: &Errors, mode: Mode, out: &mut Out)
-    requires { HasRoom 1 out.old }
+    requires { HasRoom 1 1 out.old }
     ensures step { IsMade (meaning.starts_handler mode (both table.old errors.now)) table.new out.old out.new }
-    ensures grows { Grows 1 out.old out.new }
+    ensures grows { Grows 1 1 out.old out.new }
 {
     if mode == Mode::Normal && errors.is_waiting() {
         begin_if_dormant(table, out);

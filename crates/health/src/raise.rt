@@ -29,9 +29,9 @@ fn raise(
     message: Words,
     out: &mut Out,
 ) -> Option<PartitionAction>
-    requires { HasRoom 3 out.old }
+    requires { HasRoom 2 2 out.old }
     ensures step { IsMade (after (leaves_none (answers table.now caller Service.RaiseApplicationError ReturnCode.NoError [])) (meaning.raises health mode (both table.now errors.now) caller ErrorKind.ApplicationError message.items)) result out.old out.new }
-    ensures grows { Grows 3 out.old out.new }
+    ensures grows { Grows 2 2 out.old out.new }
 {
     let service = Service::RaiseApplicationError;
     table.answer(caller, service, ReturnCode::NoError, &[], out);
@@ -51,13 +51,13 @@ fn raise_message(
     words: Words,
     out: &mut Out,
 ) -> Option<PartitionAction>
-    requires { HasRoom 3 out.old }
+    requires { HasRoom 2 2 out.old }
     ensures step { IsMade (row (λ c. leaves_none (refuses table.now caller Service.RaiseApplicationError c)) ((not (meaning.is_message_length array.size length), ReturnCode.InvalidParam) ∷ []) (after (leaves_none (answers table.now caller Service.RaiseApplicationError ReturnCode.NoError [])) (meaning.raises health mode (both table.now errors.now) caller ErrorKind.ApplicationError (first_words length words.items)))) result out.old out.new }
-    ensures grows { Grows 3 out.old out.new }
+    ensures grows { Grows 2 2 out.old out.new }
 {
     if !is_message_length(array.size, length) {
         let service = Service::RaiseApplicationError;
-        table.refuse(caller, service, ReturnCode::InvalidParam, &[], out);
+        table.refuse(caller, service, ReturnCode::InvalidParam, out);
         return None;
     }
     let message = first_words(length, &words);
@@ -80,13 +80,13 @@ pub fn raise_application_error(
     words: Words,
     out: &mut Out,
 ) -> Option<PartitionAction>
-    requires { HasRoom 3 out.old }
+    requires { HasRoom 2 2 out.old }
     ensures step { IsMade (meaning.raise_application_error health mode (both table.now errors.now) caller error array length words.items) result out.old out.new }
-    ensures grows { Grows 3 out.old out.new }
+    ensures grows { Grows 2 2 out.old out.new }
 {
     if !is_application_error(error) {
         let service = Service::RaiseApplicationError;
-        table.refuse(caller, service, ReturnCode::InvalidParam, &[], out);
+        table.refuse(caller, service, ReturnCode::InvalidParam, out);
         return None;
     }
     raise_message(

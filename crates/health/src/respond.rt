@@ -74,9 +74,9 @@ fn response_at(level: ErrorLevel, action: PartitionAction) -> Response
 
 /// The error of a process waits for the handler, with its message.
 fn queue(runner: Runner, error: ErrorKind, words: Words, out: &mut Out)
-    requires { HasRoom 1 out.old }
+    requires { HasRoom 0 1 out.old }
     ensures step { IsTold (meaning.queues runner error words.items) out.old out.new }
-    ensures grows { Grows 1 out.old out.new }
+    ensures grows { Grows 0 1 out.old out.new }
 {
     if let Runner::Process(process) = runner {
         out.actions.push(Action::Queue(WaitingError {
@@ -96,9 +96,9 @@ fn wait_or_leave(
     response: Response,
     out: &mut Out,
 ) -> Option<PartitionAction>
-    requires { HasRoom 1 out.old }
+    requires { HasRoom 0 1 out.old }
     ensures step { IsMade (meaning.waits_or_leaves runner error words.items response) result out.old out.new }
-    ensures grows { Grows 1 out.old out.new }
+    ensures grows { Grows 0 1 out.old out.new }
 {
     match response {
         Response::Handler => {
@@ -122,9 +122,9 @@ pub fn raise_error(
     words: Words,
     out: &mut Out,
 ) -> Option<PartitionAction>
-    requires { HasRoom 2 out.old }
+    requires { HasRoom 1 1 out.old }
     ensures step { IsMade (meaning.raises health mode (both table.now errors.now) runner error words.items) result out.old out.new }
-    ensures grows { Grows 2 out.old out.new }
+    ensures grows { Grows 1 1 out.old out.new }
 {
     let level = level_of(mode, table, errors, runner);
     let response = response_at(level, action_of(health, error));

@@ -28,13 +28,13 @@ pub fn report_application_message(
     words: Words,
     out: &mut Out,
 )
-    requires { HasRoom 2 out.old }
+    requires { HasRoom 2 1 out.old }
     ensures step { IsTold (meaning.report table.now caller array length words.items) out.old out.new }
-    ensures grows { Grows 2 out.old out.new }
+    ensures grows { Grows 2 1 out.old out.new }
 {
     let service = Service::ReportApplicationMessage;
     if !is_message_length(array.size, length) {
-        return table.refuse(caller, service, ReturnCode::InvalidParam, &[], out);
+        return table.refuse(caller, service, ReturnCode::InvalidParam, out);
     }
     table.answer(caller, service, ReturnCode::NoError, &[], out);
     let mut message = words;

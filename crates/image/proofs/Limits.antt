@@ -5,6 +5,7 @@ use Rattle.std.specs.List.{list_any}
 use Rattle.std.proofs.lemmas.Bool.{or_from, ne_eqb}
 use Rattle.std.proofs.lemmas.List.{length-map}
 use Rattle.apex_types.specs.declared.row.WindowRow.{WindowRow}
+use Rattle.apex_types.specs.declared.limits.TheConstants.{MOST_PARTITIONS}
 use Rattle.module_meaning.specs.Table.{Partition}
 use Rattle.machine_meaning.specs.Image.{Item, Image}
 use Rattle.machine_meaning.specs.ImageReading.{Fault, Limit, fields_at, keeps_table_rules}
@@ -34,7 +35,7 @@ none_empty frame before [] h = refl
 none_empty frame before (it ∷ its) h =
     or_from (it.row.period == 0) _ (ne_eqb it.row.period 0 (λ e. omega (arith, e, h.0.partition.period.least))) (none_empty frame (before ++ item_of it ∷ []) its h.1)
 
-pub few_within : (f : Fields) → IsWithinLimits (fields_of f) → length f.partitions.items ≤ 16
+pub few_within : (f : Fields) → IsWithinLimits (fields_of f) → length f.partitions.items ≤ MOST_PARTITIONS
 few_within f h = omega (arith, length-map f.partitions.items item_of, h.item_count.most)
 
 pub periods_within : (f : Fields) → IsWithinLimits (fields_of f) → list_any (λ p. p.period == 0) (rows_of f.partitions.items) ≡ false

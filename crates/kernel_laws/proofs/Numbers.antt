@@ -8,6 +8,7 @@ use Rattle.kernel_meaning.specs.Partition.{most_words}
 use Rattle.kernel_meaning.specs.Step.{first_words}
 use Rattle.kernel_meaning.specs.Processes.{Processes, process_at, numbered, index, row_of}
 use Rattle.std.specs.Prelude.{take, min}
+use Rattle.apex_types.specs.declared.limits.TheConstants.{MOST_WORDS}
 
 pub process_at-low : (s : Processes) (id : ℤ) → id <ℤ pos 1 → process_at s id ≡ None
 process_at-low s (negsuc n) h = refl
@@ -40,7 +41,7 @@ pub most_words-low : (size : ℤ) → size <ℤ pos 0 → most_words size ≡ 0
 most_words-low (pos n) h = absurd (omega (arith, ints))
 most_words-low (negsuc n) h = refl
 
-pub most_words-count : (size : ℤ) → pos 0 ≤ℤ size → most_words size ≡ min (nat_abs size) 16
+pub most_words-count : (size : ℤ) → pos 0 ≤ℤ size → most_words size ≡ min (nat_abs size) MOST_WORDS
 most_words-count (pos n) h = refl
 most_words-count (negsuc n) h = absurd (omega (arith, ints))
 

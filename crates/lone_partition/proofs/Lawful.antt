@@ -4,7 +4,7 @@ use Rattle.std.specs.Prelude.{ℤ, ◌^◌}
 use Rattle.std.specs.Option.{option_map}
 use Rattle.std.proofs.lemmas.List.{length-map}
 use Rattle.std.proofs.lemmas.Option.{none-some, same_Some, slice_get-get_or}
-use Rattle.apex_types.specs.declared.limits.TheConstants.{MOST_TICKS}
+use Rattle.apex_types.specs.declared.limits.TheConstants.{MOST_PARTITIONS, MOST_PORTS, MOST_TICKS}
 use Rattle.apex_types.specs.declared.row.BodyRow.{BodyRow}
 use Rattle.apex_types.specs.declared.row.PortKind.{PortKind}
 use Rattle.apex_types.specs.declared.row.PortKind.TheVariants as kinds
@@ -87,14 +87,14 @@ items_fit frame before (i ∷ items) h (suc place) item e = items_fit frame (bef
 pub items_of_image_fit : (image : Image) → AreFittingItems image.partitions.items
 items_of_image_fit image = items_fit image.schedule.frame [] image.partitions.items image.lawful.limits.items
 
-pub items_of_image_few : (image : Image) → length image.partitions.items ≤ 16
+pub items_of_image_few : (image : Image) → length image.partitions.items ≤ MOST_PARTITIONS
 items_of_image_few image = let same = length-map image.partitions.items item_of in let most = image.lawful.limits.item_count.most in omega arith
 
 -- the item at a place
 pub item_fits_here : (image : Image) (place : ℕ) (item : PartitionItem) → place < length image.partitions.items → item ≡ get_or image.partitions.items place item → IsFittingItem item
 item_fits_here image place item within is = items_of_image_fit image place item (slice_get-get_or image.partitions.items place item within ∙ ap Some (sym is))
 
-pub few_ports_here : (image : Image) (place : ℕ) (item : PartitionItem) → place < length image.partitions.items → item ≡ get_or image.partitions.items place item → length item.row.ports.items ≤ 16
+pub few_ports_here : (image : Image) (place : ℕ) (item : PartitionItem) → place < length image.partitions.items → item ≡ get_or image.partitions.items place item → length item.row.ports.items ≤ MOST_PORTS
 few_ports_here image place item within is = (item_fits_here image place item within is).rows.port_count
 
 pub ruleset fitting_items = (items_of_image_fit, items_of_image_few, item_fits_here, few_ports_here)

@@ -13,8 +13,8 @@ ghost use Rattle.lone_partition.specs.Loading.{IsFittingItem, fresh_item};
 
 use apex_types::PartitionId;
 use image::PartitionItem;
-use partition::{Fixed, Partition};
-use partition_base::{Machine, memory_plan};
+use partition::{Fixed, Partition, PartitionRows};
+use partition_base::{FittingSection, Machine, memory_plan};
 use regions::Memory;
 use std::alloc::{AllocError, Global};
 use window_table::{PartitionRow, Schedule};
@@ -49,8 +49,13 @@ pub fn load_partition(
     ensures member { IfOk result (λ partition. member_of machine partition (fresh_item item.now) ≡ machine_member (view fixed) item.now.row.ports.items (section_of item.now.section)) }
     ensures fits { IfOk result (λ partition. laid_of (fresh_item item.now) ≡ layout_of partition.executor) }
 {
-    let executor = Machine::new(alloc, &item.section)?;
-    let partition = Partition::new(alloc, fixed, &item.row.ports, &item.section, executor)?;
+    let section = &item.section;
+    let executor = Machine::new(alloc, FittingSection { section })?;
+    let rows = PartitionRows {
+        ports: &item.row.ports,
+        section,
+    };
+    let partition = Partition::new(alloc, fixed, rows, executor)?;
     Ok(partition)
 }
 

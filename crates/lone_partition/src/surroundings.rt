@@ -49,7 +49,7 @@ impl Surroundings {
     pub fn way_out(&self, port: PortId) -> Option<Name>
         ensures { result ≡ way_out (around self.now) port }
     {
-        let place = port.0.checked_sub(1)?;
+        let place = port.place()?;
         match self.ways_out.get(usize::from(place)) {
             Some(way) => *way,
             None => None,

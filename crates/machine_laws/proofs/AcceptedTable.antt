@@ -328,7 +328,7 @@ text_limits text items limits names apart same_rows sections =
     let n1 = or_parts _ (list_any (λ (p : PartitionText). has_twice (λ (q r : PortText). same q.name r.name) p.ports) ps) names in
     let n2 = or_parts (has_twice (λ (p q : PartitionText). same p.name q.name) ps) (has_twice (λ (c d : ChannelText). same c.name d.name) text.channels) n1.0 in
     let frame = inside 1 (pos MOST_FRAME_TICKS) text.frame c3.0 in
-    let frame_is = not_negative 1 16777216 text.frame c3.0 in
+    let frame_is = not_negative 1 MOST_FRAME_TICKS text.frame c3.0 in
     let partitions = count_inside 1 MOST_PARTITIONS ps c3.1 in
     let windows = count_inside 1 MOST_WINDOWS text.windows c2.1 in
     let channels = count_inside 0 MOST_CHANNELS text.channels c1.1 in
@@ -402,7 +402,7 @@ text_in_order text limits apart =
     let c3 = or_parts (is_outside 1 (pos MOST_FRAME_TICKS) text.frame) (is_count_outside 1 MOST_PARTITIONS ps) c2.0 in
     let rows = or_parts (list_any exceeds_window text.windows) (list_any exceeds_channel text.channels) l2.1 in
     let frame = inside 1 (pos MOST_FRAME_TICKS) text.frame c3.0 in
-    let frame_is = not_negative 1 16777216 text.frame c3.0 in
+    let frame_is = not_negative 1 MOST_FRAME_TICKS text.frame c3.0 in
     let follow : overlaps_after (pos (nat_abs text.frame)) (pos 0) text.windows ≡ false = subst (λ (z : ℤ). overlaps_after z (pos 0) text.windows ≡ false) frame_is apart in
     (frame.least, windows_in_order ps (nat_abs text.frame) 0 text.windows follow rows.0)
 

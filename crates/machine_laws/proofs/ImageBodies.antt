@@ -4,7 +4,7 @@ use Rattle.std.specs.Prelude.{◌&&◌, FitsSigned}
 use Rattle.std.specs.List.{flat_map}
 use Rattle.std.specs.Int.{w16, w32, w64}
 use Rattle.std.proofs.lemmas.Bool.{leb-true, le-leb, eqb-true}
-use Rattle.apex_types.specs.declared.limits.TheConstants.{GREATEST_PRIORITY, LEAST_STACK_WORDS, MOST_INSTRUCTIONS, MOST_PARAMETERS, MOST_PROCEDURES, MOST_SLOTS, MOST_STACK_WORDS, MOST_TICKS}
+use Rattle.apex_types.specs.declared.limits.TheConstants.{GREATEST_PRIORITY, LEAST_STACK_WORDS, MOST_INSTRUCTIONS, MOST_PARAMETERS, MOST_PROCEDURES, MOST_PROCESSES, MOST_SLOTS, MOST_STACK_WORDS, MOST_TICKS}
 use Rattle.apex_types.specs.declared.row.RoutineRow.{RoutineRow}
 use Rattle.apex_types.specs.declared.row.BodyRow.{BodyRow}
 use Rattle.apex_types.specs.declared.row.ProcessRow.{ProcessRow}
@@ -195,8 +195,8 @@ unfolding bodies_at bodies
 bodies_reads unit = said (bodies_at unit) _ bodies _ (AreBodies unit)
     (first (list_at 0 MOST_PROCEDURES (λ _. routine_at)) _ (λ (b : Bodies). b.routines) (list routine) (λ b. list process b.processes ++ (body b.init ++ handler b.handler)) _ _
     (list_reads (λ _. routine_at) routine (λ _. IsRoutine) 0 MOST_PROCEDURES (lit< tt) (λ _. routine_reads))
-    (λ routines p. first (list_at 0 31 (process_at unit)) _ (λ (b : Bodies). b.processes) (list process) (λ b. body b.init ++ handler b.handler) _ _
-    (list_reads (process_at unit) process (IsProcess unit) 0 31 (lit< tt) (process_reads unit))
+    (λ routines p. first (list_at 0 MOST_PROCESSES (process_at unit)) _ (λ (b : Bodies). b.processes) (list process) (λ b. body b.init ++ handler b.handler) _ _
+    (list_reads (process_at unit) process (IsProcess unit) 0 MOST_PROCESSES (lit< tt) (process_reads unit))
     (λ processes q. first body_at _ (λ (b : Bodies). b.init) body (λ b. handler b.handler) IsBody _
     body_reads
     (λ init r. last handler_at (λ handler. record { routines = routines; processes = processes; init = init; handler = handler }) (λ (b : Bodies). b.handler) handler IsHandler handler_reads (λ a. refl))

@@ -5,7 +5,7 @@ use Rattle.apex_types.specs.declared.event.Event.{Event}
 use Rattle.apex_types.specs.declared.event.Subject.TheVariants.{Process}
 use Rattle.apex_types.specs.declared.identity.Runner.{Runner}
 use Rattle.apex_types.specs.declared.process.ProcessStatus.{ProcessStatus}
-use Rattle.apex_types.specs.WrittenCosts.{written_costs}
+use Rattle.apex_types.specs.Costs.{written_costs}
 use Rattle.apex_types.specs.declared.row.BodyRow.{BodyRow}
 use Rattle.apex_types.specs.declared.row.PortRow.{PortRow}
 use Rattle.apex_types.specs.declared.row.ProcessRow.{ProcessRow}

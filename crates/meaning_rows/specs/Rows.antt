@@ -2,7 +2,7 @@
 -- text of a trace, over the sources and over the image.
 use Rattle.std.specs.Prelude.{ℕ, ℤ, pos, zero, suc, ◌+◌, true, false, List, [], ◌∷◌, ◌++◌, flat_map, map, Option, Some, None, Result, Ok, Err, option_map, unwrap_or, replicate, codes}
 use Rattle.toml.specs.Parse.{parse_document}
-use Rattle.apex_types.specs.WrittenCosts.{written_costs}
+use Rattle.apex_types.specs.Costs.{written_costs}
 use Rattle.apex_types.specs.Line.{text_of}
 use Rattle.apex_types.specs.declared.codes.ErrorKind.{ErrorKind}
 use Rattle.apex_types.specs.declared.codes.ModuleAction.TheVariants as of_module

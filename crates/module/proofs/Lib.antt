@@ -7,7 +7,7 @@ pub mod DeviceLines
 pub mod Devices
 pub mod Headline
 pub mod Isolated
-pub mod Lawful
+pub mod Loaded
 pub mod Machines
 pub mod Members
 pub mod Parts

@@ -3,6 +3,7 @@ use Rattle.std.proofs.Common.{◌≡◌, ◌≢◌, ◌≤◌, ◌<◌, ℕ, zer
 use Rattle.std.specs.Prelude.{slice_get, slice_set, option_map}
 use Rattle.std.proofs.lemmas.List.{length-map, length-set, map-append, map-set}
 use Rattle.std.proofs.lemmas.Option.{none-some, same_Some}
+use Rattle.apex_types.specs.declared.limits.TheConstants.{MOST_PARTITIONS}
 use Rattle.kernel_meaning.specs.Kernel.{Kernel}
 use Rattle.module_meaning.specs.Module.{of_member, ports_of}
 use Rattle.kernel_meaning.specs.Partition.{Member}
@@ -21,8 +22,8 @@ get_other (a ∷ xs) (suc n) (suc q) x h = get_other xs n q x (λ e. h (ap suc e
 
 pub ruleset others = (get_other, length-set)
 
-pub few_set : {A : Type 0} (xs : List A) (n : ℕ) (x : A) → length xs ≤ 16 → length (slice_set xs n x) ≤ 16
-few_set xs n x h = subst (λ (k : ℕ). k ≤ 16) (sym (length-set xs n x)) h
+pub few_set : {A : Type 0} (xs : List A) (n : ℕ) (x : A) → length xs ≤ MOST_PARTITIONS → length (slice_set xs n x) ≤ MOST_PARTITIONS
+few_set xs n x h = subst (λ (k : ℕ). k ≤ MOST_PARTITIONS) (sym (length-set xs n x)) h
 
 -- what is seen of a partition's ports is seen of its kernel
 pub ports_seen : {C : Type 0} (o : Option (Member C)) (k : Kernel) → Some k ≡ option_map (λ (x : Member C). x.world.kernel) o → of_member [] ports_of o ≡ k.ports.ports

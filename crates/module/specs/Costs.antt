@@ -1,7 +1,7 @@
 -- What the bodies of the partitions of a module cost.
 use Rattle.std.specs.Prelude.{◌≡◌, ℕ, List, [], ◌∷◌, ◌++◌, map, Option, Some, None, Ok}
 use Rattle.apex_types.specs.declared.cost.Costs.{Costs}
-use Rattle.apex_types.specs.WrittenCosts.{written_costs}
+use Rattle.apex_types.specs.Costs.{written_costs}
 use Rattle.pal_meaning.specs.Program as cost
 use Rattle.module_meaning.specs.Table.{Partition, Table}
 use Rattle.pal_meaning.specs.Program.{Program, Procedure, Body, Process}

@@ -8,7 +8,6 @@ pub mod Standing
 pub mod Isolated
 pub mod SourcesIsolated
 pub mod Lines
-pub mod Loading
 pub mod Machines
 pub mod Members
 pub mod Pieces

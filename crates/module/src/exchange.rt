@@ -127,7 +127,7 @@ impl<E: Executor<Mem = PartitionMem>> Members<E> {
     pub fn kernel(&self, number: PartitionId) -> Option<&Kernel>
         ensures { option_map (λ k. k.now) result ≡ option_map (λ x. x.world.kernel) (at_number (members_in E.Executor self.now) number.0) }
     {
-        let place = number.0.checked_sub(1)?;
+        let place = number.place()?;
         self.kernel_at(usize::from(place))
     }
 

@@ -2,15 +2,11 @@
 
 ghost use Rattle.std.specs.Prelude.{◌≡◌, ◌≤◌, length, map, IfOk};
 ghost use Rattle.apex_types.specs.declared.limits.TheConstants.{MOST_PARTITIONS};
-ghost use Rattle.module_meaning.specs.Table.{fixed_of};
-ghost use Rattle.machine_meaning.specs.MachineMeaning.{machine_member, machine_members, machine_module};
-ghost use Rattle.image.specs.Items.{items_of, partition_of, section_of};
+ghost use Rattle.machine_meaning.specs.MachineMeaning.{machine_members, machine_module};
+ghost use Rattle.image.specs.Items.{items_of};
 ghost use Rattle.image.specs.Views.{image_of};
-ghost use Rattle.partition.specs.View.{fixed_of as view};
 ghost use Rattle.partition_base.specs.contracts.machine.MachineExecutor.TheImpl.{ghosts as machine};
-ghost use Rattle.partition.specs.Members.{member_of};
-ghost use Rattle.partition_base.specs.Machines.{laid_of, layout_of};
-ghost use Rattle.module.specs.Loading.{AreFittingItems, IsFittingItem, fresh_item};
+ghost use Rattle.lone_partition.specs.Loading.{AreFittingItems, fresh_item};
 ghost use Rattle.module.specs.Members.{members_of, AreFitting};
 ghost use Rattle.module.specs.Standing.{at_first};
 ghost use Rattle.module.specs.Views.{standing_of};
@@ -19,15 +15,16 @@ ghost use Rattle.window_table.specs.Schedules.{schedule_of};
 use crate::member::{Members, Module};
 use apex_types::{PartitionId, Ticks};
 use image::{Image, PartitionItem};
-use partition::{Fixed, Partition};
+use lone_partition::{fixed, load_partition};
+use partition::Partition;
 use partition_base::{Machine, memory_plan};
 use regions::Memory;
 use std::alloc::{AllocError, Global};
-use window_table::{PartitionRow, Schedule};
+use window_table::Schedule;
 
 impl Module<Machine> {
     /// The partitions of an image, idle, with nothing created. An error is one of memory.
-    #[tactic(auto, using(crate::proofs::Lawful::fitting_items))]
+    #[tactic(auto, using(lone_partition::proofs::Lawful::fitting_items))]
     pub fn load(alloc: Global, image: Image) -> Result<Module<Machine>, AllocError>
         ensures standing { IfOk result (λ loaded. standing_of machine loaded ≡ at_first (machine_module (image_of image)).members) }
         ensures image { IfOk result (λ loaded. loaded.image ≡ image) }
@@ -75,38 +72,4 @@ fn load_partitions(
         number += 1;
     }
     Ok(partitions)
-}
-
-/// What no tick of a partition changes.
-fn fixed(
-    alloc: Global,
-    schedule: &Schedule,
-    number: PartitionId,
-    row: &PartitionRow,
-) -> Result<Fixed, AllocError>
-    ensures { IfOk result (λ fixed. view fixed ≡ fixed_of (schedule_of schedule.now) number.0 (partition_of row.now)) }
-{
-    Ok(Fixed {
-        name: row.name,
-        number,
-        period: row.period,
-        duration: row.duration,
-        schedule: schedule.of_partition(alloc, number)?,
-        health: row.health,
-    })
-}
-
-/// A partition, idle; its memory is to be the one that its section asks for.
-fn load_partition(
-    alloc: Global,
-    fixed: Fixed,
-    item: &PartitionItem,
-) -> Result<Partition<Machine>, AllocError>
-    requires { IsFittingItem item.now }
-    ensures member { IfOk result (λ partition. member_of machine partition (fresh_item item.now) ≡ machine_member (view fixed) item.now.row.ports.items (section_of item.now.section)) }
-    ensures fits { IfOk result (λ partition. laid_of (fresh_item item.now) ≡ layout_of partition.executor) }
-{
-    let executor = Machine::new(alloc, &item.section)?;
-    let partition = Partition::new(alloc, fixed, &item.row.ports, &item.section, executor)?;
-    Ok(partition)
 }

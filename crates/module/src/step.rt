@@ -60,7 +60,7 @@ impl<E: Executor<Mem = PartitionMem>> Members<E> {
         ensures written { IsMade (meaning.steps (step_of moment.at step.now) (members_in E.Executor self.old) number.0) (members_in E.Executor self.new) (sent_of S.Sink output.old) (sent_of S.Sink output.new) }
         ensures others { (q : ℕ) → number.0 ≢ q + 1 → slice_get self.new.memory q ≡ slice_get self.old.memory q }
     {
-        if let Some(place) = number.0.checked_sub(1) {
+        if let Some(place) = number.place() {
             self.step_at(usize::from(place), moment, step, output);
         }
     }
@@ -100,7 +100,7 @@ impl<E: Executor<Mem = PartitionMem>> Members<E> {
         ensures written { IsMade (meaning.steps (leaves moment.at port) (members_in E.Executor self.old) number.0) (members_in E.Executor self.new) (sent_of S.Sink output.old) (sent_of S.Sink output.new) }
         ensures others { (q : ℕ) → number.0 ≢ q + 1 → slice_get self.new.memory q ≡ slice_get self.old.memory q }
     {
-        let place = number.0.checked_sub(1)?;
+        let place = number.place()?;
         self.leave_at(usize::from(place), moment, port, output)
     }
 }

@@ -12,6 +12,7 @@ use Rattle.apex_types.specs.declared.identity.PortId.{PortId}
 use Rattle.apex_types.specs.declared.row.ChannelEnd.{ChannelEnd}
 use Rattle.apex_types.specs.declared.row.ChannelEnd.TheVariants.{Device, Port}
 use Rattle.apex_types.specs.declared.row.PortRow.{PortRow}
+use Rattle.apex_types.specs.declared.limits.TheConstants.{MOST_PARTITIONS, MOST_WORDS}
 use Rattle.machine_meaning.specs.MachineMeaning.{row_of_item}
 use Rattle.module_meaning.specs.DeviceText.{words_of_port, words_of_partition, words_of_end, words_of_ends}
 use Rattle.machine_meaning.specs.Image as meant
@@ -31,7 +32,7 @@ use Rattle.module_base.specs.Views.{rows_in}
 pub few_channels : (image : Image) → length image.channels.items ≤ 64
 few_channels image = let same = length-map image.channels.items channel_of in let most = image.lawful.limits.channel_count.most in omega arith
 
-pub few_partitions : (image : Image) → length image.partitions.items ≤ 16
+pub few_partitions : (image : Image) → length image.partitions.items ≤ MOST_PARTITIONS
 few_partitions image = let same = length-map image.partitions.items item_of in let most = image.lawful.limits.item_count.most in omega arith
 
 pub from_one : {A : Type 0} (xs : List A) (n : ℕ) → 0 < n → at_number xs n ≡ slice_get xs (n - 1)
@@ -64,25 +65,25 @@ words_past image e p q items i is known place same past =
 
 -- no port takes more words than a message has
 
-words_of_each : (before ports : List PortRow) (n : ℕ) → EachBeside IsPort before ports → words_of_port (slice_get ports n) ≤ 16
+words_of_each : (before ports : List PortRow) (n : ℕ) → EachBeside IsPort before ports → words_of_port (slice_get ports n) ≤ MOST_WORDS
 words_of_each before [] n h = omega arith
 words_of_each before (p ∷ ports) zero h = h.0.words.most
 words_of_each before (p ∷ ports) (suc n) h = words_of_each (before ++ p ∷ []) ports n h.1
 
-words_of_numbered : (ports : List PortRow) (n : ℕ) → EachBeside IsPort [] ports → words_of_port (at_number ports n) ≤ 16
+words_of_numbered : (ports : List PortRow) (n : ℕ) → EachBeside IsPort [] ports → words_of_port (at_number ports n) ≤ MOST_WORDS
 words_of_numbered ports zero h = omega arith
 words_of_numbered ports (suc n) h = words_of_each [] ports n h
 
-words_of_item : (frame : ℕ) (before items : List Item) (n port : ℕ) → EachBeside (IsItem frame) before items → words_of_partition (slice_get (map row_of_item items) n) port ≤ 16
+words_of_item : (frame : ℕ) (before items : List Item) (n port : ℕ) → EachBeside (IsItem frame) before items → words_of_partition (slice_get (map row_of_item items) n) port ≤ MOST_WORDS
 words_of_item frame before [] n port h = omega arith
 words_of_item frame before (it ∷ items) zero port h = words_of_numbered it.partition.ports port h.0.partition.ports
 words_of_item frame before (it ∷ items) (suc n) port h = words_of_item frame (before ++ it ∷ []) items n port h.1
 
-words_of_row : (image : Image) (n port : ℕ) → words_of_partition (at_number (rows_in image) n) port ≤ 16
+words_of_row : (image : Image) (n port : ℕ) → words_of_partition (at_number (rows_in image) n) port ≤ MOST_WORDS
 words_of_row image zero port = omega arith
 words_of_row image (suc n) port = words_of_item image.schedule.frame [] (items_of image.partitions.items) n port image.lawful.limits.items
 
-few_words : (image : Image) (ends : List ChannelEnd) → words_of_ends (rows_in image) ends ≤ 16
+few_words : (image : Image) (ends : List ChannelEnd) → words_of_ends (rows_in image) ends ≤ MOST_WORDS
 few_words image [] = omega arith
 few_words image (Device ∷ ends) = omega arith
 few_words image (Port p q ∷ ends) = words_of_row image p.0 q.0
@@ -97,11 +98,11 @@ long_message image ends ws e =
     lt-leb (length ws) (words_of_ends (rows_in image) ends) (omega (arith, few_words image ends, leb-false (length ws) 16 (cut (nat_le (length ws) 16) (message ws) e)))
 
 -- so are they for a port of at most 16
-pub long_arrival : (most : ℕ) (ws : List ℤ) → most ≤ 16 → held.TooMany ≡ fitting ws → nat_le (length ws) most ≡ false
+pub long_arrival : (most : ℕ) (ws : List ℤ) → most ≤ MOST_WORDS → held.TooMany ≡ fitting ws → nat_le (length ws) most ≡ false
 long_arrival most ws few e = lt-leb (length ws) most (omega (arith, few, leb-false (length ws) 16 (cut (nat_le (length ws) 16) (message ws) e)))
 
 -- ---- the ports of a row
-few_words_each : (before ports : List PortRow) → EachBeside IsPort before ports → AllByRecursion (λ (x : PortRow). x.words ≤ 16) ports
+few_words_each : (before ports : List PortRow) → EachBeside IsPort before ports → AllByRecursion (λ (x : PortRow). x.words ≤ MOST_WORDS) ports
 few_words_each before [] h = tt
 few_words_each before (p ∷ ports) h = (h.0.words.most, few_words_each (before ++ p ∷ []) ports h.1)
 
@@ -111,7 +112,7 @@ ports_of_item frame before (x ∷ items) zero it h e =
     let is : x ≡ it = same_Some x it e in
     subst (λ (y : Item). HasPorts y.partition) is (record {
       count = h.0.partition.port_count.most;
-      words = All-from_recursion (λ (y : PortRow). y.words ≤ 16) x.partition.ports (few_words_each [] x.partition.ports h.0.partition.ports);
+      words = All-from_recursion (λ (y : PortRow). y.words ≤ MOST_WORDS) x.partition.ports (few_words_each [] x.partition.ports h.0.partition.ports);
     })
 ports_of_item frame before (x ∷ items) (suc n) it h e = ports_of_item frame (before ++ x ∷ []) items n it h.1 e
 

@@ -1,6 +1,7 @@
 -- Words that are read one by one, of which the first ones are kept.
 use Rattle.std.proofs.Common.{◌≡◌, ℕ, ℤ, ◌≤◌, ◌+◌, Bool, true, false, cond, List, [], ◌∷◌, ◌++◌, length, Option, Some, None, refl, sym, ap, ◌∙◌, arith, append_assoc, append-nil, length-append}
 use Rattle.std.proofs.lemmas.Bool.{lt-leb, le-leb}
+use Rattle.apex_types.specs.declared.limits.TheConstants.{MOST_WORDS}
 use Rattle.arrayvec.specs.ArrayVec.{ArrayVec}
 use Rattle.module_meaning.specs.DeviceText.{piece, pieces_behind_marks, word, words, put_word}
 use Rattle.kernel_meaning.specs.Step.{message}
@@ -41,7 +42,7 @@ in_time : (b : Bool) (m : ArrayVec ℤ) → b ≡ true → cond b (held.Few m) h
 in_time true m e = refl
 in_time false m e = cc
 
-pub read_on_done : (kept : List ℤ) → length kept ≤ 16 → read_on kept false (Some []) ≡ Some (held.Few (message kept))
+pub read_on_done : (kept : List ℤ) → length kept ≤ MOST_WORDS → read_on kept false (Some []) ≡ Some (held.Few (message kept))
 read_on_done kept short =
     rw (append-nil kept) (ap (λ (m : MessageWords). Some m) (in_time _ (message kept) (le-leb (length kept) 16 short)))
 
@@ -66,7 +67,7 @@ drops_one kept is_long rest text front more w full r f b e =
     ∙ ap (read_on kept is_long) (next_word text front more w f b e)
     ∙ read_on_long kept is_long w (words (pieces_of 32 more)) full
 
-pub all_read : (kept : List ℤ) (is_long : Bool) (rest : Option (List ℕ)) → length kept ≤ 16 → is_long ≡ false → rest ≡ None → read_on kept is_long (words (pieces_of 32 rest)) ≡ Some (held.Few (message kept))
+pub all_read : (kept : List ℤ) (is_long : Bool) (rest : Option (List ℕ)) → length kept ≤ MOST_WORDS → is_long ≡ false → rest ≡ None → read_on kept is_long (words (pieces_of 32 rest)) ≡ Some (held.Few (message kept))
 unfolding words
 all_read kept is_long rest short fits none =
     ap (λ (o : Option (List ℕ)). read_on kept is_long (words (pieces_of 32 o))) none

@@ -1,9 +1,10 @@
 -- What the row of a partition of an image has.
 use Rattle.std.specs.Prelude.{◌≤◌, length, All}
+use Rattle.apex_types.specs.declared.limits.TheConstants.{MOST_PORTS, MOST_WORDS}
 use Rattle.apex_types.specs.declared.row.PortRow.{PortRow}
 use Rattle.module_meaning.specs.Table.{Partition}
 
--- at most 16 ports, each for messages of at most 16 words
+-- no more ports than a partition may have, each for messages of no more words than a message may have
 pub record HasPorts (row : Partition) : Type 0 where
-  pub count : length row.ports ≤ 16
-  pub words : All (λ (x : PortRow). x.words ≤ 16) row.ports
+  pub count : length row.ports ≤ MOST_PORTS
+  pub words : All (λ (x : PortRow). x.words ≤ MOST_WORDS) row.ports

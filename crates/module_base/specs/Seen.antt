@@ -1,5 +1,6 @@
 -- What the code holds of the lines of a device text.
 use Rattle.std.specs.Prelude.{ℕ, ℤ, List, [], length, nat_le, if◌then◌else◌, Option, Some, None}
+use Rattle.apex_types.specs.declared.limits.TheConstants.{MOST_WORDS}
 use Rattle.module_meaning.specs.DeviceText as meant
 use Rattle.module_meaning.specs.DeviceText.{pieces}
 use Rattle.kernel_meaning.specs.Step.{message}
@@ -16,7 +17,7 @@ pieces_of mark (Some text) = pieces mark text
 
 -- the words, unless they are more than a message has
 abbrev pub fitting : List ℤ → MessageWords
-fitting ws = if nat_le (length ws) 16 then words.Few (message ws) else words.TooMany
+fitting ws = if nat_le (length ws) MOST_WORDS then words.Few (message ws) else words.TooMany
 
 abbrev pub seen : meant.Written → Written
 seen (meant.Message channel ws) = written.Message channel (fitting ws)

@@ -177,10 +177,10 @@ fn words_of_end(image: &Image, end: ChannelEnd) -> u8
     let ChannelEnd::Port(partition, port) = end else {
         return 0;
     };
-    if partition.0 == 0 {
+    let Some(place) = partition.place() else {
         return 0;
-    }
-    match image.partitions.get(usize::from(partition.0 - 1)) {
+    };
+    match image.partitions.get(usize::from(place)) {
         Some(item) => words_of_port(item.row.ports.as_slice(), port),
         None => 0,
     }
@@ -190,10 +190,10 @@ fn words_of_end(image: &Image, end: ChannelEnd) -> u8
 fn words_of_port(ports: &[PortRow], port: PortId) -> u8
     ensures { result ≡ words_of_port (at_number ports.now port.0) }
 {
-    if port.0 == 0 {
+    let Some(place) = port.place() else {
         return 0;
-    }
-    match ports.get(usize::from(port.0 - 1)) {
+    };
+    match ports.get(usize::from(place)) {
         Some(row) => row.words,
         None => 0,
     }

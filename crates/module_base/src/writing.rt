@@ -76,9 +76,9 @@ fn line_bytes(row: &PartitionRow, line: &InputLine) -> Line
 
 /// What stands behind the tick.
 fn push_input(line: &mut Line, row: &PartitionRow, input: &Input)
-    requires { array_vec_len line.old + 70 + MOST_NAME_BYTES + MOST_WORD_BYTES * MOST_WORDS ≤ MOST_LINE_BYTES }
+    requires { array_vec_len line.old + 64 + MOST_WORD_BYTES * MOST_WORDS ≤ MOST_LINE_BYTES }
     ensures items { line.new.items ≡ line.old.items ++ behind_tick (partition_of row.now) input.now }
-    ensures len { array_vec_len line.new ≤ array_vec_len line.old + 70 + MOST_NAME_BYTES + MOST_WORD_BYTES * MOST_WORDS }
+    ensures len { array_vec_len line.new ≤ array_vec_len line.old + 64 + MOST_WORD_BYTES * MOST_WORDS }
     ensures words { IsWritable input.now }
 {
     match input {
@@ -101,10 +101,10 @@ fn name_of_port(ports: &[PortRow], port: PortId) -> &[u8]
     ensures name { result.now ≡ name_of_port (at_number ports.now port.0) }
     ensures short { length result.now ≤ MOST_NAME_BYTES }
 {
-    if port.0 == 0 {
+    let Some(place) = port.place() else {
         return b"".as_slice();
-    }
-    match ports.get(usize::from(port.0 - 1)) {
+    };
+    match ports.get(usize::from(place)) {
         Some(row) => row.name.as_bytes(),
         None => b"".as_slice(),
     }

@@ -12,6 +12,7 @@ use Rattle.apex_types.specs.declared.row.PortRow.{PortRow}
 use Rattle.apex_types.specs.declared.denotation.Denotation.{Denotation}
 use Rattle.apex_types.specs.declared.denotation.Denotation.TheVariants.{Scalar, Object}
 use Rattle.apex_types.specs.declared.denotation.ObjectKind.TheVariants as object
+use Rattle.apex_types.specs.declared.limits.TheConstants.{MOST_PROCESSES}
 use Rattle.pal_base.specs.declared.syntax.Declaration.{Declaration}
 use Rattle.pal_base.specs.declared.syntax.Process.{Process}
 use Rattle.pal_base.specs.View.{name_of, declaration_of, declared_of, process_of}
@@ -176,13 +177,13 @@ module _ (names : List (List ℕ)) (ports : List PortRow) where
       ∙ ap (λ t. record { name = t; meaning = declared_meaning ports c t (declared_of names x.kind) } ∷ declaration_entries ports next rest) (sym named)
       ∙ ap (λ v. record { name = text; meaning = v } ∷ declaration_entries ports next rest) (sym means)
 
-  pub process_left : (ps : List Process) (i : ℕ) (x : Process) (c n v : ℕ) (text : List ℕ) → i < length ps → x ≡ get_or ps i x → text ≡ name_of names x.name → v ≡ meant.next 31 c → n ≡ unwrap_or (counted 31 c 1) c
+  pub process_left : (ps : List Process) (i : ℕ) (x : Process) (c n v : ℕ) (text : List ℕ) → i < length ps → x ≡ get_or ps i x → text ≡ name_of names x.name → v ≡ meant.next MOST_PROCESSES c → n ≡ unwrap_or (counted MOST_PROCESSES c 1) c
       → process_entries c (map (process_of names) (drop i ps)) ≡ record { name = text; meaning = Object object.Process v } ∷ process_entries n (map (process_of names) (drop (i + 1) ps))
   process_left ps i x c n v text lt is named numbered next =
       let rest = map (process_of names) (drop (i + 1) ps) in
       ap (λ l. process_entries c (map (process_of names) l)) (drop-cons ps i x lt ∙ ap (λ y. y ∷ drop (suc i) ps) (sym is) ∙ ap (λ j. x ∷ drop j ps) (next_of i))
-      ∙ ap (λ k. record { name = name_of names x.name; meaning = Object object.Process (meant.next 31 c) } ∷ process_entries k rest) (sym next)
-      ∙ ap (λ t. record { name = t; meaning = Object object.Process (meant.next 31 c) } ∷ process_entries n rest) (sym named)
+      ∙ ap (λ k. record { name = name_of names x.name; meaning = Object object.Process (meant.next MOST_PROCESSES c) } ∷ process_entries k rest) (sym next)
+      ∙ ap (λ t. record { name = t; meaning = Object object.Process (meant.next MOST_PROCESSES c) } ∷ process_entries n rest) (sym named)
       ∙ ap (λ k. record { name = text; meaning = Object object.Process k } ∷ process_entries n rest) (sym numbered)
 
 -- entries that were entered one list after the other

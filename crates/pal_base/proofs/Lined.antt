@@ -1,5 +1,6 @@
 -- Each word of a text has its line.
 use Rattle.std.proofs.Common.{◌≡◌, ℕ, zero, suc, ◌+◌, ◌-◌, ◌<◌, ◌≤◌, false, List, [], ◌∷◌, ◌++◌, length, drop, length-append, sym, ap, ◌∙◌, subst, arith}
+use Rattle.apex_types.specs.declared.limits.TheConstants.{MOST_SOURCE_BYTES}
 use Rattle.pal_meaning.specs.Beginning.{LeavesAt}
 use Rattle.pal_meaning.specs.Grammar.{Word, behind_blanks, word_at, words_of}
 use Rattle.pal_meaning.specs.Lines.{feeds, from_word, word_line}
@@ -79,5 +80,5 @@ line_so error refusal line last text ts ws is at words many lined given =
     subst (λ r. IsLineOf r line text) (sym is) (line_is error line last text ts ws at words many lined.0 (lined.1 ∙ ap (word_line text) so_many) given)
 
 -- the lines of a source text are few
-pub few_lines : (text : List ℕ) → length text ≤ 1048576 → HasFewLines text
+pub few_lines : (text : List ℕ) → length text ≤ MOST_SOURCE_BYTES → HasFewLines text
 few_lines text le = omega (arith, le)

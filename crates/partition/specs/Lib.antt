@@ -1,3 +1,4 @@
 pub mod View
 pub mod Fresh
+pub mod WithinFact
 pub mod Members

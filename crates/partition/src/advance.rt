@@ -10,7 +10,7 @@ ghost use Rattle.bursts.specs.Quiet.{HasNothingDue};
 ghost use Rattle.bursts.specs.Running.{advances_by, burst_of, with_control};
 ghost use Rattle.partition.specs.Members.{member_of, HasAdvanced, HasGone, IsMoved, IsTold, TellsSome};
 ghost use Rattle.processor.specs.Views.{asks_of};
-ghost use Rattle.partition.specs.declared.rooms.TheConstants.{ROOM_FOR_TICK, ROOM_TO_SERVE};
+ghost use Rattle.partition.specs.declared.rooms.TheConstants.{LINES_FOR_TICK, LINES_TO_SERVE};
 
 use crate::partition::Partition;
 use apex_types::{At, EventLog, Moment, Runner, Ticks};
@@ -46,7 +46,7 @@ impl<E: Executor> Partition<E> {
     )
         requires fits { E.laid mem.old ≡ E.layout self.old.executor }
         requires idle { IsEmpty self.old.out }
-        requires room { ROOM_TO_SERVE ≤ L.room log.old }
+        requires room { LINES_TO_SERVE ≤ L.room log.old }
         ensures fits { E.laid mem.new ≡ E.layout self.new.executor }
         ensures idle { IsEmpty self.new.out }
         ensures moved { let x = member_of E.Executor self.old mem.old in IsMoved (meaning.moved moment.at x.engine (meaning.treats_asked moment.at x.world.kernel runner (asks_of outcome) (meaning.given (asks_of outcome) x.world.words)) x.world) x (member_of E.Executor self.new mem.new) (IsTold L.EventLog log.old log.new) }
@@ -72,7 +72,7 @@ impl<E: Executor> Partition<E> {
         requires soon { moment.at.now.0 + k ≤ MOST_TICKS }
         requires fits { E.laid mem.old ≡ E.layout self.old.executor }
         requires idle { IsEmpty self.old.out }
-        requires room { ROOM_TO_SERVE ≤ L.room log.old }
+        requires room { LINES_TO_SERVE ≤ L.room log.old }
         requires runs { self.old.kernel.processes.running ≡ Some runner }
         requires choice { meaning.chooses_with_handler self.old.kernel ≡ nothing self.old.kernel }
         requires due { (i : ℕ) → i < k → HasNothingDue (tick_from moment.at.origin.0 (moment.at.now.0 + i)) self.old.kernel }
@@ -103,7 +103,7 @@ impl<E: Executor> Partition<E> {
         requires soon { moment.at.now.0 + k ≤ MOST_TICKS }
         requires fits { E.laid mem.old ≡ E.layout self.old.executor }
         requires idle { IsEmpty self.old.out }
-        requires room { ROOM_FOR_TICK ≤ L.room log.old }
+        requires room { LINES_FOR_TICK ≤ L.room log.old }
         ensures fits { E.laid mem.new ≡ E.layout self.new.executor }
         ensures idle { IsEmpty self.new.out }
         ensures within { result ≤ k }

@@ -5,6 +5,7 @@ ghost use Rattle.apex_types.specs.Room.{HasRoom, Grows};
 ghost use Rattle.kernel_meaning.specs.HealthServices as meaning;
 ghost use Rattle.kernel_meaning.specs.Kernel.{of_errors, of_processes, with_errors};
 ghost use Rattle.kernel_meaning.specs.Made.{IsMade};
+ghost use Rattle.partition.specs.declared.rooms.TheConstants.{ACTIONS_TO_CLEAR, LINES_TO_CLEAR};
 
 use crate::kernel::Kernel;
 use apex_types::{
@@ -27,9 +28,9 @@ impl Kernel {
 
     /// An ignored fault of INIT leaves the partition idle.
     fn go_on(&mut self, runner: Runner, error: ErrorKind, out: &mut Out)
-        requires { HasRoom 3 out.old }
+        requires { HasRoom LINES_TO_CLEAR ACTIONS_TO_CLEAR out.old }
         ensures step { IsMade (meaning.goes_on self.old runner error) self.new out.old out.new }
-        ensures grows { Grows 3 out.old out.new }
+        ensures grows { Grows LINES_TO_CLEAR ACTIONS_TO_CLEAR out.old out.new }
     {
         if let Runner::Init = runner {
             if is_fault(error) {
@@ -40,9 +41,9 @@ impl Kernel {
 
     /// The partition enters the mode that its action for the error leads to, if it leads to one.
     fn enter_mode(&mut self, runner: Runner, error: ErrorKind, mode: Option<Mode>, out: &mut Out)
-        requires { HasRoom 3 out.old }
+        requires { HasRoom LINES_TO_CLEAR ACTIONS_TO_CLEAR out.old }
         ensures step { IsMade (meaning.enters_mode self.old runner error mode) self.new out.old out.new }
-        ensures grows { Grows 3 out.old out.new }
+        ensures grows { Grows LINES_TO_CLEAR ACTIONS_TO_CLEAR out.old out.new }
     {
         match mode {
             Some(mode) => self.clear(mode, StartCondition::HmPartitionRestart, out),
@@ -58,9 +59,9 @@ impl Kernel {
         left: Option<PartitionAction>,
         out: &mut Out,
     )
-        requires { HasRoom 3 out.old }
+        requires { HasRoom LINES_TO_CLEAR ACTIONS_TO_CLEAR out.old }
         ensures step { IsMade (meaning.acts_on_error self.old runner error left) self.new out.old out.new }
-        ensures grows { Grows 3 out.old out.new }
+        ensures grows { Grows LINES_TO_CLEAR ACTIONS_TO_CLEAR out.old out.new }
     {
         if let Some(action) = left {
             self.enter_mode(runner, error, mode_of_action(action), out);
@@ -69,9 +70,9 @@ impl Kernel {
 
     /// The line of an error with how it is handled, then what is done. `words` are its message.
     fn handle(&mut self, runner: Runner, error: ErrorKind, words: Words, out: &mut Out)
-        requires { HasRoom 5 out.old }
+        requires { HasRoom (1 + LINES_TO_CLEAR) (1 + ACTIONS_TO_CLEAR) out.old }
         ensures step { IsMade (meaning.handles self.old runner error words.items) self.new out.old out.new }
-        ensures grows { Grows 5 out.old out.new }
+        ensures grows { Grows (1 + LINES_TO_CLEAR) (1 + ACTIONS_TO_CLEAR) out.old out.new }
     {
         let health = self.fixed.health;
         let table = &self.processes;
@@ -90,9 +91,9 @@ impl Kernel {
 
     /// One with a fault becomes dormant first; then its error is handled.
     pub(crate) fn fault(&mut self, runner: Runner, error: ErrorKind, out: &mut Out)
-        requires { HasRoom 6 out.old }
+        requires { HasRoom (2 + LINES_TO_CLEAR) (2 + ACTIONS_TO_CLEAR) out.old }
         ensures step { IsMade (meaning.faults self.old runner error) self.new out.old out.new }
-        ensures grows { Grows 6 out.old out.new }
+        ensures grows { Grows (2 + LINES_TO_CLEAR) (2 + ACTIONS_TO_CLEAR) out.old out.new }
     {
         self.rest(runner, out);
         self.handle(runner, error, Words::new(), out);
@@ -100,9 +101,9 @@ impl Kernel {
 
     /// A Clear that an error leads to, if it leads to one.
     pub(crate) fn then_clear(&mut self, mode: Option<Mode>, out: &mut Out)
-        requires { HasRoom 3 out.old }
+        requires { HasRoom LINES_TO_CLEAR ACTIONS_TO_CLEAR out.old }
         ensures step { IsMade (meaning.then_clears self.old mode) self.new out.old out.new }
-        ensures grows { Grows 3 out.old out.new }
+        ensures grows { Grows LINES_TO_CLEAR ACTIONS_TO_CLEAR out.old out.new }
     {
         if let Some(mode) = mode {
             self.clear(mode, StartCondition::HmPartitionRestart, out);
@@ -111,9 +112,9 @@ impl Kernel {
 
     /// A fault of the partition's hardware: its line, then what the partition's action for it does.
     pub(crate) fn break_down(&mut self, out: &mut Out)
-        requires { HasRoom 4 out.old }
+        requires { HasRoom (1 + LINES_TO_CLEAR) ACTIONS_TO_CLEAR out.old }
         ensures step { IsMade (meaning.breaks self.old) self.new out.old out.new }
-        ensures grows { Grows 4 out.old out.new }
+        ensures grows { Grows (1 + LINES_TO_CLEAR) ACTIONS_TO_CLEAR out.old out.new }
     {
         let error = ErrorKind::HardwareFault;
         let action = self.action_of(error);
@@ -131,18 +132,18 @@ impl Kernel {
         words: Words,
         out: &mut Out,
     )
-        requires { HasRoom 2 out.old }
+        requires { HasRoom 2 1 out.old }
         ensures step { IsMade (of_processes self.old (meaning.report self.old.processes caller array length words.items)) self.new out.old out.new }
-        ensures grows { Grows 2 out.old out.new }
+        ensures grows { Grows 2 1 out.old out.new }
     {
         report_application_message(&self.processes, caller, array, length, words, out);
     }
 
     /// CREATE_ERROR_HANDLER (ARINC 653 Part 1, health monitoring).
     pub(crate) fn create_error_handler(&mut self, caller: Runner, out: &mut Out)
-        requires { HasRoom 1 out.old }
+        requires { HasRoom 1 1 out.old }
         ensures step { IsMade (of_errors self.old (meaning.create_error_handler self.old.mode (with_errors self.old) caller)) self.new out.old out.new }
-        ensures grows { Grows 1 out.old out.new }
+        ensures grows { Grows 1 1 out.old out.new }
     {
         let mode = self.mode;
         create_error_handler(&mut self.processes, &self.errors, mode, caller, out);
@@ -150,9 +151,9 @@ impl Kernel {
 
     /// GET_ERROR_STATUS (ARINC 653 Part 1, health monitoring).
     pub(crate) fn get_error_status(&mut self, caller: Runner, array: ArrayPlace, out: &mut Out)
-        requires { HasRoom 2 out.old }
+        requires { HasRoom 1 2 out.old }
         ensures step { IsMade (of_errors self.old (meaning.get_error_status (with_errors self.old) caller array)) self.new out.old out.new }
-        ensures grows { Grows 2 out.old out.new }
+        ensures grows { Grows 1 2 out.old out.new }
     {
         get_error_status(&self.processes, &mut self.errors, caller, array, out);
     }
@@ -168,9 +169,9 @@ impl Kernel {
         words: Words,
         out: &mut Out,
     )
-        requires { HasRoom 6 out.old }
+        requires { HasRoom (2 + LINES_TO_CLEAR) (2 + ACTIONS_TO_CLEAR) out.old }
         ensures step { IsMade (meaning.raises_application_error self.old caller error array length words.items) self.new out.old out.new }
-        ensures grows { Grows 6 out.old out.new }
+        ensures grows { Grows (2 + LINES_TO_CLEAR) (2 + ACTIONS_TO_CLEAR) out.old out.new }
     {
         let health = self.fixed.health;
         let table = &self.processes;

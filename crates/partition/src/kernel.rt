@@ -10,17 +10,17 @@ ghost use Rattle.kernel_meaning.specs.Made.{IsMade};
 ghost use Rattle.kernel_meaning.specs.Step.{nothing};
 ghost use Rattle.kernel_meaning.specs.Windows.{tick_from};
 ghost use Rattle.bursts.specs.Quiet.{HasNothingDue};
-ghost use Rattle.partition.specs.Fresh.{AreWithinLimits, idle_kernel};
+ghost use Rattle.partition.specs.Fresh.{idle_kernel};
 ghost use Rattle.partition.specs.View.{fixed_of};
-ghost use Rattle.process_table_base.specs.declared.rooms.TheConstants.{ROOM_TO_TREAT_DUE};
+ghost use Rattle.process_table_base.specs.declared.rooms.TheConstants.{ACTIONS_TO_TREAT_DUE, LINES_TO_TREAT_DUE};
+ghost use Rattle.partition.specs.declared.rooms.TheConstants.{ACTIONS_TO_CHOOSE, LINES_TO_CHOOSE};
 
 use crate::fixed::Fixed;
-use apex_types::{
-    ErrorKind, Mode, Moment, Name, Out, PortRow, Runner, Section, StartCondition, Subject,
-};
+use crate::partition::PartitionRows;
+use apex_types::{ErrorKind, Mode, Moment, Name, Out, Runner, StartCondition, Subject};
 use health::{Errors, free_places, handler_stays, start_handler};
 use ports::Ports;
-use process_table_base::{Points, ProcessTable};
+use process_table_base::{Points, ProcessRows, ProcessTable};
 use std::alloc::{AllocError, Global};
 use std::marker::Model;
 use sync_objects_base::Objects;
@@ -51,20 +51,18 @@ impl Model for Kernel {
 impl Kernel {
     /// The kernel of a section's partition with these ports, in idle mode: no process, object or port is
     /// created, no message is there, and no error waits. An error is one of memory.
-    pub fn new(
-        alloc: Global,
-        fixed: Fixed,
-        ports: &[PortRow],
-        section: &Section,
-    ) -> Result<Kernel, AllocError>
-        requires { AreWithinLimits ports.now section.now }
-        ensures { IfOk result (λ kernel. kernel ≡ idle_kernel (fixed_of fixed) ports.now section.now) }
+    pub fn new(alloc: Global, fixed: Fixed, rows: PartitionRows<'_>) -> Result<Kernel, AllocError>
+        ensures { IfOk result (λ kernel. kernel ≡ idle_kernel (fixed_of fixed) rows.entry.ports.now rows.entry.section.now) }
     {
+        let section = rows.section;
+        let processes = ProcessRows {
+            rows: &section.processes,
+        };
         Ok(Kernel {
             fixed,
             mode: Mode::Idle,
             condition: StartCondition::NormalStart,
-            processes: ProcessTable::new(alloc, &section.processes)?,
+            processes: ProcessTable::new(alloc, processes)?,
             objects: Objects::new(
                 alloc,
                 &section.semaphores,
@@ -72,7 +70,7 @@ impl Kernel {
                 &section.buffers,
                 &section.blackboards,
             )?,
-            ports: Ports::new(alloc, ports)?,
+            ports: Ports::new(alloc, rows.ports)?,
             errors: Errors::new(alloc, section.handler.is_some())?,
         })
     }
@@ -108,9 +106,9 @@ impl Kernel {
 
     /// The error handler starts if an error waits for it; then the choice of who runs.
     pub(crate) fn choose(&mut self, out: &mut Out)
-        requires { HasRoom 3 out.old }
+        requires { HasRoom LINES_TO_CHOOSE ACTIONS_TO_CHOOSE out.old }
         ensures step { IsMade (tick.chooses_with_handler self.old) self.new out.old out.new }
-        ensures grows { Grows 3 out.old out.new }
+        ensures grows { Grows LINES_TO_CHOOSE ACTIONS_TO_CHOOSE out.old out.new }
     {
         let mode = self.mode;
         start_handler(&mut self.processes, &self.errors, mode, out);
@@ -138,10 +136,10 @@ impl Kernel {
     /// Due times and deadlines are treated; the mode of the Clear that a missed deadline leads to, if it
     /// leads to one.
     pub(crate) fn treat_due(&mut self, moment: Moment, out: &mut Out) -> Option<Mode>
-        requires room { HasRoom ROOM_TO_TREAT_DUE out.old }
+        requires room { HasRoom LINES_TO_TREAT_DUE ACTIONS_TO_TREAT_DUE out.old }
         ensures step { IsMade (of_processes self.old (tick.treats_due moment.at self.old).step) self.new out.old out.new }
         ensures clears { result ≡ (tick.treats_due moment.at self.old).clears }
-        ensures grows { Grows ROOM_TO_TREAT_DUE out.old out.new }
+        ensures grows { Grows LINES_TO_TREAT_DUE ACTIONS_TO_TREAT_DUE out.old out.new }
     {
         let action = self.action_of(ErrorKind::DeadlineMissed);
         let free = free_places(&self.processes, &self.errors, self.mode);

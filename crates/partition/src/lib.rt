@@ -18,4 +18,4 @@ mod tick;
 
 pub use fixed::Fixed;
 pub use kernel::Kernel;
-pub use partition::Partition;
+pub use partition::{Partition, PartitionRows};

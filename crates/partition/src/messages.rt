@@ -10,7 +10,7 @@ ghost use Rattle.kernel_meaning.specs.Objects.{port_at, is_source};
 ghost use Rattle.kernel_meaning.specs.Made.{IsMade};
 ghost use Rattle.partition.specs.Members.{member_of, IsMoved, IsTold};
 ghost use Rattle.ports.specs.Held.{message_behind};
-ghost use Rattle.process_table_base.specs.declared.rooms.TheConstants.{ROOM_TO_RELEASE_ALL};
+ghost use Rattle.process_table_base.specs.declared.rooms.TheConstants.{ACTIONS_TO_RELEASE_ALL, LINES_TO_RELEASE_ALL};
 
 use crate::kernel::Kernel;
 use crate::partition::Partition;
@@ -28,9 +28,9 @@ fn place_of(port: PortId) -> u8
 impl Kernel {
     /// A message arrives at a port.
     fn arrive(&mut self, moment: Moment, port: PortId, message: Words, out: &mut Out)
-        requires { HasRoom 4 out.old }
+        requires { HasRoom 3 2 out.old }
         ensures step { IsMade (of_ports self.old (arrival.arrives moment.at (with_ports self.old) (meaning.place_of_port port) message)) self.new out.old out.new }
-        ensures grows { Grows 4 out.old out.new }
+        ensures grows { Grows 3 2 out.old out.new }
     {
         let table = &mut self.processes;
         arrive(table, &mut self.ports, moment, place_of(port), message, out);
@@ -38,19 +38,19 @@ impl Kernel {
 
     /// The first message of a port leaves it, if it holds one.
     fn move_one(&mut self, port: PortId, out: &mut Out) -> Option<Words>
-        requires { HasRoom 1 out.old }
+        requires { HasRoom 1 0 out.old }
         ensures message { result ≡ arrival.first_message (port_at self.old.ports (meaning.place_of_port port)) }
         ensures step { IsMade (of_ports_alone self.old (arrival.leaves self.old.ports (meaning.place_of_port port))) self.new out.old out.new }
-        ensures grows { Grows 1 out.old out.new }
+        ensures grows { Grows 1 0 out.old out.new }
     {
         self.ports.move_one(place_of(port), out)
     }
 
     /// The senders that wait at a port enter it in their order, as long as there is room.
     fn admit(&mut self, port: PortId, out: &mut Out)
-        requires { HasRoom ROOM_TO_RELEASE_ALL out.old }
+        requires { HasRoom LINES_TO_RELEASE_ALL ACTIONS_TO_RELEASE_ALL out.old }
         ensures step { IsMade (of_ports self.old (arrival.admits (with_ports self.old) (meaning.place_of_port port))) self.new out.old out.new }
-        ensures grows { Grows ROOM_TO_RELEASE_ALL out.old out.new }
+        ensures grows { Grows LINES_TO_RELEASE_ALL ACTIONS_TO_RELEASE_ALL out.old out.new }
     {
         admit(&mut self.processes, &mut self.ports, place_of(port), out);
     }
@@ -66,7 +66,7 @@ impl Kernel {
     pub fn is_source(&self, port: PortId) -> Option<bool>
         ensures { result ≡ option_map is_source (at_number self.now.ports.ports port.0) }
     {
-        let place = port.0.checked_sub(1)?;
+        let place = port.place()?;
         self.ports.is_source(place)
     }
 
@@ -74,7 +74,7 @@ impl Kernel {
     pub fn message_count(&self, port: PortId) -> Option<u8>
         ensures { result ≡ option_map (λ x. length x.messages) (at_number self.now.ports.ports port.0) }
     {
-        let place = port.0.checked_sub(1)?;
+        let place = port.place()?;
         self.ports.message_count(place)
     }
 
@@ -82,7 +82,7 @@ impl Kernel {
     pub fn message_behind(&self, port: PortId, before: u8) -> Option<Words>
         ensures { result ≡ message_behind before (at_number self.now.ports.ports port.0) }
     {
-        let place = port.0.checked_sub(1)?;
+        let place = port.place()?;
         self.ports.message_behind(place, before)
     }
 }

@@ -6,7 +6,7 @@ ghost use Rattle.kernel_meaning.specs.Kernel.{of_processes};
 ghost use Rattle.kernel_meaning.specs.PartitionServices as meaning;
 ghost use Rattle.kernel_meaning.specs.Processes.{rests_found, row_of};
 ghost use Rattle.kernel_meaning.specs.Made.{IsMade, IsTold};
-ghost use Rattle.partition.specs.declared.rooms.TheConstants.{ROOM_TO_SET_MODE, ROOM_TO_START_NORMALLY};
+ghost use Rattle.partition.specs.declared.rooms.TheConstants.{ACTIONS_TO_CLEAR, ACTIONS_TO_SET_MODE, ACTIONS_TO_START_NORMALLY, LINES_TO_CLEAR, LINES_TO_SET_MODE, LINES_TO_START_NORMALLY};
 
 use crate::kernel::Kernel;
 use apex_types::{
@@ -19,9 +19,9 @@ impl Kernel {
     /// All processes and objects go, no error waits, and the ports are empty and no longer created; a
     /// cold start restores the data; unless the mode is idle, INIT starts.
     pub(crate) fn clear(&mut self, mode: Mode, condition: StartCondition, out: &mut Out)
-        requires { HasRoom 3 out.old }
+        requires { HasRoom LINES_TO_CLEAR ACTIONS_TO_CLEAR out.old }
         ensures step { IsMade (meaning.clears self.old mode condition) self.new out.old out.new }
-        ensures grows { Grows 3 out.old out.new }
+        ensures grows { Grows LINES_TO_CLEAR ACTIONS_TO_CLEAR out.old out.new }
     {
         out.lines.push(EventKind::Mode(mode));
         out.actions.push(Action::StopAll);
@@ -43,17 +43,17 @@ impl Kernel {
 
     /// This one becomes dormant.
     pub(crate) fn rest(&mut self, runner: Runner, out: &mut Out)
-        requires { HasRoom 1 out.old }
+        requires { HasRoom 1 1 out.old }
         ensures step { IsMade (of_processes self.old (rests_found self.old.processes runner (row_of self.old.processes runner))) self.new out.old out.new }
-        ensures grows { Grows 1 out.old out.new }
+        ensures grows { Grows 1 1 out.old out.new }
     {
         self.processes.rest(runner, out);
     }
 
     fn enter_normal(&mut self, out: &mut Out)
-        requires { HasRoom 1 out.old }
+        requires { HasRoom 1 0 out.old }
         ensures step { IsMade (meaning.enters_normal self.old) self.new out.old out.new }
-        ensures grows { Grows 1 out.old out.new }
+        ensures grows { Grows 1 0 out.old out.new }
     {
         out.lines.push(EventKind::Mode(Mode::Normal));
         self.mode = Mode::Normal;
@@ -61,9 +61,9 @@ impl Kernel {
 
     /// INIT becomes dormant, the mode normal, then those that wait for it start in number order.
     fn start_normally(&mut self, moment: Moment, out: &mut Out)
-        requires room { HasRoom ROOM_TO_START_NORMALLY out.old }
+        requires room { HasRoom LINES_TO_START_NORMALLY ACTIONS_TO_START_NORMALLY out.old }
         ensures step { IsMade (meaning.starts_normally moment.at self.old) self.new out.old out.new }
-        ensures grows { Grows ROOM_TO_START_NORMALLY out.old out.new }
+        ensures grows { Grows LINES_TO_START_NORMALLY ACTIONS_TO_START_NORMALLY out.old out.new }
     {
         let points = self.points(moment);
         self.rest(Runner::Init, out);
@@ -90,9 +90,9 @@ impl Kernel {
     /// period and duration in ticks, the level of the preemption lock, the mode, and the start
     /// condition.
     pub fn get_partition_status(&self, caller: Runner, out: &mut Out)
-        requires { HasRoom 1 out.old }
+        requires { HasRoom 1 1 out.old }
         ensures step { IsTold (meaning.get_partition_status self.now caller) out.old out.new }
-        ensures grows { Grows 1 out.old out.new }
+        ensures grows { Grows 1 1 out.old out.new }
     {
         let outputs = self.status();
         let service = Service::GetPartitionStatus;
@@ -104,20 +104,20 @@ impl Kernel {
     /// INVALID_PARAM: the number is no mode's; NO_ACTION: normal mode in normal mode; INVALID_MODE: a
     /// warm start in a cold start.
     pub fn set_partition_mode(&mut self, moment: Moment, caller: Runner, mode: i64, out: &mut Out)
-        requires room { HasRoom ROOM_TO_SET_MODE out.old }
+        requires room { HasRoom LINES_TO_SET_MODE ACTIONS_TO_SET_MODE out.old }
         ensures step { IsMade (meaning.set_partition_mode moment.at self.old caller mode) self.new out.old out.new }
-        ensures grows { Grows ROOM_TO_SET_MODE out.old out.new }
+        ensures grows { Grows LINES_TO_SET_MODE ACTIONS_TO_SET_MODE out.old out.new }
     {
         let service = Service::SetPartitionMode;
         let processes = &self.processes;
         let Some(wanted) = mode_of(mode) else {
-            return processes.refuse(caller, service, ReturnCode::InvalidParam, &[], out);
+            return processes.refuse(caller, service, ReturnCode::InvalidParam, out);
         };
         if wanted == Mode::Normal && self.mode == Mode::Normal {
-            return processes.refuse(caller, service, ReturnCode::NoAction, &[], out);
+            return processes.refuse(caller, service, ReturnCode::NoAction, out);
         }
         if wanted == Mode::WarmStart && self.mode == Mode::ColdStart {
-            return processes.refuse(caller, service, ReturnCode::InvalidMode, &[], out);
+            return processes.refuse(caller, service, ReturnCode::InvalidMode, out);
         }
         processes.answer(caller, service, ReturnCode::NoError, &[], out);
         match wanted {
@@ -128,9 +128,9 @@ impl Kernel {
 
     /// The end of a body: a process or the handler becomes dormant, INIT leaves the partition idle.
     pub(crate) fn end_body(&mut self, runner: Runner, out: &mut Out)
-        requires { HasRoom 3 out.old }
+        requires { HasRoom LINES_TO_CLEAR ACTIONS_TO_CLEAR out.old }
         ensures step { IsMade (meaning.ends_body self.old runner) self.new out.old out.new }
-        ensures grows { Grows 3 out.old out.new }
+        ensures grows { Grows LINES_TO_CLEAR ACTIONS_TO_CLEAR out.old out.new }
     {
         match runner {
             Runner::Init => self.clear(Mode::Idle, StartCondition::PartitionRestart, out),

@@ -5,7 +5,7 @@ ghost use Rattle.apex_types.specs.Room.{HasRoom, Grows};
 ghost use Rattle.kernel_meaning.specs.ObjectServices.{serves_objects};
 ghost use Rattle.kernel_meaning.specs.Sharing.{both};
 ghost use Rattle.kernel_meaning.specs.Made.{IsMade};
-ghost use Rattle.partition.specs.declared.rooms.TheConstants.{ROOM_TO_SERVE};
+ghost use Rattle.partition.specs.declared.rooms.TheConstants.{ACTIONS_TO_SERVE, LINES_TO_SERVE};
 
 use apex_types::{Call, Mode, Moment, Out, Runner, Words};
 use process_table_base::ProcessTable;
@@ -30,9 +30,9 @@ pub(crate) fn serve_objects(
     words: &Words,
     out: &mut Out,
 )
-    requires room { HasRoom ROOM_TO_SERVE out.old }
+    requires room { HasRoom LINES_TO_SERVE ACTIONS_TO_SERVE out.old }
     ensures step { IsMade (serves_objects mode moment.at (both table.old objects.old) caller call words.now.items) (both table.new objects.new) out.old out.new }
-    ensures grows { Grows ROOM_TO_SERVE out.old out.new }
+    ensures grows { Grows LINES_TO_SERVE ACTIONS_TO_SERVE out.old out.new }
 {
     match call {
         Call::CreateBuffer { name } => create_buffer(table, objects, mode, caller, name, out),

@@ -3,12 +3,22 @@
 ghost use Rattle.std.specs.Prelude.{◌≡◌, IfOk};
 ghost use Rattle.partition.specs.Fresh.{AreWithinLimits, idle_kernel};
 ghost use Rattle.partition.specs.View.{fixed_of};
+ghost use Rattle.partition.specs.WithinFact.{within_prop};
 
 use crate::fixed::Fixed;
 use crate::kernel::Kernel;
 use apex_types::{Out, PortRow, Section};
 use partition_base::Executor;
 use std::alloc::{AllocError, Global};
+
+/// The ports of a partition and its section: it has no more processes, ports and objects of a kind than a
+/// partition may have, and no period, time capacity or refresh period longer than a run.
+#[derive(Clone, Copy)]
+pub struct PartitionRows<'a> {
+    pub ports: &'a [PortRow],
+    pub section: &'a Section,
+    pub ghost within: { AreWithinLimits ports.now section.now } by { within_prop ports.now section.now },
+}
 
 /// The kernel of a partition, and what runs its processes.
 #[derive(Drop)]
@@ -26,16 +36,14 @@ impl<E: Executor + Drop> Partition<E> {
     pub fn new(
         alloc: Global,
         fixed: Fixed,
-        ports: &[PortRow],
-        section: &Section,
+        rows: PartitionRows<'_>,
         executor: E,
     ) -> Result<Partition<E>, AllocError>
-        requires { AreWithinLimits ports.now section.now }
-        ensures kernel { IfOk result (λ partition. partition.kernel ≡ idle_kernel (fixed_of fixed) ports.now section.now) }
+        ensures kernel { IfOk result (λ partition. partition.kernel ≡ idle_kernel (fixed_of fixed) rows.entry.ports.now rows.entry.section.now) }
         ensures executor { IfOk result (λ partition. partition.executor ≡ executor) }
     {
         Ok(Partition {
-            kernel: Kernel::new(alloc, fixed, ports, section)?,
+            kernel: Kernel::new(alloc, fixed, rows)?,
             executor,
             out: Out::new(),
         })

@@ -5,7 +5,7 @@ ghost use Rattle.apex_types.specs.Room.{HasRoom, Grows};
 ghost use Rattle.kernel_meaning.specs.PortServices as meaning;
 ghost use Rattle.kernel_meaning.specs.Sharing.{both};
 ghost use Rattle.kernel_meaning.specs.Made.{IsMade};
-ghost use Rattle.partition.specs.declared.rooms.TheConstants.{ROOM_TO_SERVE};
+ghost use Rattle.partition.specs.declared.rooms.TheConstants.{ACTIONS_TO_SERVE, LINES_TO_SERVE};
 
 use apex_types::{Call, Mode, Moment, Out, Runner, Words};
 use ports::{
@@ -47,9 +47,9 @@ pub(crate) fn serve_ports(
     words: &Words,
     out: &mut Out,
 )
-    requires room { HasRoom ROOM_TO_SERVE out.old }
+    requires room { HasRoom LINES_TO_SERVE ACTIONS_TO_SERVE out.old }
     ensures step { IsMade (meaning.serves_ports mode moment.at (both table.old ports.old) caller call words.now.items) (both table.new ports.new) out.old out.new }
-    ensures grows { Grows ROOM_TO_SERVE out.old out.new }
+    ensures grows { Grows LINES_TO_SERVE ACTIONS_TO_SERVE out.old out.new }
 {
     match call {
         Call::CreateSamplingPort { name } => {

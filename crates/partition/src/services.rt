@@ -5,7 +5,7 @@ ghost use Rattle.apex_types.specs.Room.{HasRoom, Grows};
 ghost use Rattle.kernel_meaning.specs.Partition as meaning;
 ghost use Rattle.kernel_meaning.specs.Made.{IsMade};
 ghost use Rattle.processor.specs.Views.{asks_of};
-ghost use Rattle.partition.specs.declared.rooms.TheConstants.{ROOM_TO_SERVE};
+ghost use Rattle.partition.specs.declared.rooms.TheConstants.{ACTIONS_TO_SERVE, LINES_TO_SERVE};
 
 use crate::kernel::Kernel;
 use crate::object_services::serve_objects;
@@ -28,9 +28,9 @@ impl Kernel {
         words: &Words,
         out: &mut Out,
     )
-        requires room { HasRoom ROOM_TO_SERVE out.old }
+        requires room { HasRoom LINES_TO_SERVE ACTIONS_TO_SERVE out.old }
         ensures step { IsMade (meaning.treats_asked moment.at self.old runner (asks_of outcome) words.now.items) self.new out.old out.new }
-        ensures grows { Grows ROOM_TO_SERVE out.old out.new }
+        ensures grows { Grows LINES_TO_SERVE ACTIONS_TO_SERVE out.old out.new }
     {
         match outcome {
             Outcome::Busy | Outcome::Local => {}
@@ -42,9 +42,9 @@ impl Kernel {
 
     /// Serves a call; `words` are those that it hands in.
     fn serve(&mut self, moment: Moment, caller: Runner, call: Call, words: &Words, out: &mut Out)
-        requires room { HasRoom ROOM_TO_SERVE out.old }
+        requires room { HasRoom LINES_TO_SERVE ACTIONS_TO_SERVE out.old }
         ensures step { IsMade (meaning.serves moment.at self.old caller call words.now.items) self.new out.old out.new }
-        ensures grows { Grows ROOM_TO_SERVE out.old out.new }
+        ensures grows { Grows LINES_TO_SERVE ACTIONS_TO_SERVE out.old out.new }
     {
         match call {
             Call::GetPartitionStatus => self.get_partition_status(caller, out),
@@ -76,9 +76,9 @@ impl Kernel {
         words: &Words,
         out: &mut Out,
     )
-        requires room { HasRoom ROOM_TO_SERVE out.old }
+        requires room { HasRoom LINES_TO_SERVE ACTIONS_TO_SERVE out.old }
         ensures step { IsMade (meaning.serves_processes moment.at self.old caller call words.now.items) self.new out.old out.new }
-        ensures grows { Grows ROOM_TO_SERVE out.old out.new }
+        ensures grows { Grows LINES_TO_SERVE ACTIONS_TO_SERVE out.old out.new }
     {
         let mode = self.mode;
         let table = &mut self.processes;
@@ -122,9 +122,9 @@ impl Kernel {
         words: &Words,
         out: &mut Out,
     )
-        requires room { HasRoom ROOM_TO_SERVE out.old }
+        requires room { HasRoom LINES_TO_SERVE ACTIONS_TO_SERVE out.old }
         ensures step { IsMade (meaning.serves_shared moment.at self.old caller call words.now.items) self.new out.old out.new }
-        ensures grows { Grows ROOM_TO_SERVE out.old out.new }
+        ensures grows { Grows LINES_TO_SERVE ACTIONS_TO_SERVE out.old out.new }
     {
         if is_on_ports(call) {
             self.serve_ports(moment, caller, call, words, out)
@@ -142,9 +142,9 @@ impl Kernel {
         words: &Words,
         out: &mut Out,
     )
-        requires room { HasRoom ROOM_TO_SERVE out.old }
+        requires room { HasRoom LINES_TO_SERVE ACTIONS_TO_SERVE out.old }
         ensures step { IsMade (meaning.serves_objects moment.at self.old caller call words.now.items) self.new out.old out.new }
-        ensures grows { Grows ROOM_TO_SERVE out.old out.new }
+        ensures grows { Grows LINES_TO_SERVE ACTIONS_TO_SERVE out.old out.new }
     {
         let mode = self.mode;
         let table = &mut self.processes;
@@ -169,9 +169,9 @@ impl Kernel {
         words: &Words,
         out: &mut Out,
     )
-        requires room { HasRoom ROOM_TO_SERVE out.old }
+        requires room { HasRoom LINES_TO_SERVE ACTIONS_TO_SERVE out.old }
         ensures step { IsMade (meaning.serves_ports moment.at self.old caller call words.now.items) self.new out.old out.new }
-        ensures grows { Grows ROOM_TO_SERVE out.old out.new }
+        ensures grows { Grows LINES_TO_SERVE ACTIONS_TO_SERVE out.old out.new }
     {
         let mode = self.mode;
         let table = &mut self.processes;

@@ -7,8 +7,8 @@ ghost use Rattle.kernel_meaning.specs.Partition as meaning;
 ghost use Rattle.kernel_meaning.specs.Made.{IsMade};
 ghost use Rattle.partition.specs.Members.{member_of, acts_all, IsMoved, IsTold};
 ghost use Rattle.processor.specs.Views.{asks_of};
-ghost use Rattle.partition.specs.declared.rooms.TheConstants.{ROOM_FOR_DUE, ROOM_FOR_TICK, ROOM_TO_CHOOSE, ROOM_TO_CLEAR, ROOM_TO_PREPARE, ROOM_TO_SERVE};
-ghost use Rattle.process_table_base.specs.declared.rooms.TheConstants.{ROOM_TO_TREAT_DUE};
+ghost use Rattle.partition.specs.declared.rooms.TheConstants.{LINES_FOR_DUE, LINES_FOR_TICK, LINES_TO_CHOOSE, LINES_TO_CLEAR, LINES_TO_PREPARE, LINES_TO_SERVE};
+ghost use Rattle.process_table_base.specs.declared.rooms.TheConstants.{LINES_TO_TREAT_DUE};
 
 use crate::acting::{act_all, tell};
 use crate::partition::Partition;
@@ -85,12 +85,12 @@ impl<E: Executor> Partition<E> {
     fn treat<L: EventLog>(&mut self, mem: &mut E::Mem, moment: Moment, log: &mut L) -> Option<Mode>
         requires fits { E.laid mem.old ≡ E.layout self.old.executor }
         requires idle { IsEmpty self.old.out }
-        requires room { ROOM_TO_TREAT_DUE ≤ L.room log.old }
+        requires room { LINES_TO_TREAT_DUE ≤ L.room log.old }
         ensures fits { E.laid mem.new ≡ E.layout self.new.executor }
         ensures idle { IsEmpty self.new.out }
         ensures clears { result ≡ (meaning.treats_due moment.at (member_of E.Executor self.old mem.old).world.kernel).clears }
         ensures moved { let x = member_of E.Executor self.old mem.old in IsMoved (meaning.treating_phase x.engine moment.at x.world) x (member_of E.Executor self.new mem.new) (IsTold L.EventLog log.old log.new) }
-        ensures few { L.room log.old ≤ L.room log.new + ROOM_TO_TREAT_DUE }
+        ensures few { L.room log.old ≤ L.room log.new + LINES_TO_TREAT_DUE }
     {
         let name = self.kernel.name();
         let clears = self.kernel.treat_due(moment, &mut self.out);
@@ -108,11 +108,11 @@ impl<E: Executor> Partition<E> {
     )
         requires fits { E.laid mem.old ≡ E.layout self.old.executor }
         requires idle { IsEmpty self.old.out }
-        requires room { ROOM_TO_CLEAR ≤ L.room log.old }
+        requires room { LINES_TO_CLEAR ≤ L.room log.old }
         ensures fits { E.laid mem.new ≡ E.layout self.new.executor }
         ensures idle { IsEmpty self.new.out }
         ensures moved { let x = member_of E.Executor self.old mem.old in IsMoved (meaning.clearing_phase x.engine moment.at clears x.world) x (member_of E.Executor self.new mem.new) (IsTold L.EventLog log.old log.new) }
-        ensures few { L.room log.old ≤ L.room log.new + ROOM_TO_CLEAR }
+        ensures few { L.room log.old ≤ L.room log.new + LINES_TO_CLEAR }
     {
         if clears.is_some() {
             let name = self.kernel.name();
@@ -125,11 +125,11 @@ impl<E: Executor> Partition<E> {
     fn treat_due<L: EventLog>(&mut self, mem: &mut E::Mem, moment: Moment, log: &mut L)
         requires fits { E.laid mem.old ≡ E.layout self.old.executor }
         requires idle { IsEmpty self.old.out }
-        requires room { ROOM_FOR_DUE ≤ L.room log.old }
+        requires room { LINES_FOR_DUE ≤ L.room log.old }
         ensures fits { E.laid mem.new ≡ E.layout self.new.executor }
         ensures idle { IsEmpty self.new.out }
         ensures moved { let x = member_of E.Executor self.old mem.old in IsMoved (meaning.due_phase x.engine moment.at x.world) x (member_of E.Executor self.new mem.new) (IsTold L.EventLog log.old log.new) }
-        ensures few { L.room log.old ≤ L.room log.new + ROOM_FOR_DUE }
+        ensures few { L.room log.old ≤ L.room log.new + LINES_FOR_DUE }
     {
         let clears = self.treat(mem, moment, log);
         self.then_clear(mem, moment, clears, log);
@@ -139,11 +139,11 @@ impl<E: Executor> Partition<E> {
     fn choose<L: EventLog>(&mut self, mem: &mut E::Mem, moment: Moment, log: &mut L)
         requires fits { E.laid mem.old ≡ E.layout self.old.executor }
         requires idle { IsEmpty self.old.out }
-        requires room { ROOM_TO_CHOOSE ≤ L.room log.old }
+        requires room { LINES_TO_CHOOSE ≤ L.room log.old }
         ensures fits { E.laid mem.new ≡ E.layout self.new.executor }
         ensures idle { IsEmpty self.new.out }
         ensures moved { let x = member_of E.Executor self.old mem.old in IsMoved (meaning.choice_phase x.engine moment.at x.world) x (member_of E.Executor self.new mem.new) (IsTold L.EventLog log.old log.new) }
-        ensures few { L.room log.old ≤ L.room log.new + ROOM_TO_CHOOSE }
+        ensures few { L.room log.old ≤ L.room log.new + LINES_TO_CHOOSE }
     {
         let name = self.kernel.name();
         self.kernel.choose(&mut self.out);
@@ -154,11 +154,11 @@ impl<E: Executor> Partition<E> {
     fn prepare<L: EventLog>(&mut self, mem: &mut E::Mem, moment: Moment, log: &mut L)
         requires fits { E.laid mem.old ≡ E.layout self.old.executor }
         requires idle { IsEmpty self.old.out }
-        requires room { ROOM_TO_PREPARE ≤ L.room log.old }
+        requires room { LINES_TO_PREPARE ≤ L.room log.old }
         ensures fits { E.laid mem.new ≡ E.layout self.new.executor }
         ensures idle { IsEmpty self.new.out }
         ensures moved { let x = member_of E.Executor self.old mem.old in IsMoved (meaning.prepares x.engine moment.at x.world) x (member_of E.Executor self.new mem.new) (IsTold L.EventLog log.old log.new) }
-        ensures few { L.room log.old ≤ L.room log.new + ROOM_TO_PREPARE }
+        ensures few { L.room log.old ≤ L.room log.new + LINES_TO_PREPARE }
     {
         self.treat_due(mem, moment, log);
         self.choose(mem, moment, log);
@@ -168,7 +168,7 @@ impl<E: Executor> Partition<E> {
     fn spend<L: EventLog>(&mut self, mem: &mut E::Mem, moment: Moment, runner: Runner, log: &mut L)
         requires fits { E.laid mem.old ≡ E.layout self.old.executor }
         requires idle { IsEmpty self.old.out }
-        requires room { ROOM_TO_SERVE ≤ L.room log.old }
+        requires room { LINES_TO_SERVE ≤ L.room log.old }
         ensures fits { E.laid mem.new ≡ E.layout self.new.executor }
         ensures idle { IsEmpty self.new.out }
         ensures moved { let x = member_of E.Executor self.old mem.old in IsMoved (meaning.spends x.engine moment.at runner x.world) x (member_of E.Executor self.new mem.new) (IsTold L.EventLog log.old log.new) }
@@ -185,7 +185,7 @@ impl<E: Executor> Partition<E> {
     fn spend_chosen<L: EventLog>(&mut self, mem: &mut E::Mem, moment: Moment, log: &mut L)
         requires fits { E.laid mem.old ≡ E.layout self.old.executor }
         requires idle { IsEmpty self.old.out }
-        requires room { ROOM_TO_SERVE ≤ L.room log.old }
+        requires room { LINES_TO_SERVE ≤ L.room log.old }
         ensures fits { E.laid mem.new ≡ E.layout self.new.executor }
         ensures idle { IsEmpty self.new.out }
         ensures moved { let x = member_of E.Executor self.old mem.old in IsMoved (meaning.spending_phase x.engine moment.at x.world) x (member_of E.Executor self.new mem.new) (IsTold L.EventLog log.old log.new) }
@@ -225,7 +225,7 @@ impl<E: Executor> Partition<E> {
     pub(crate) fn whole_tick<L: EventLog>(&mut self, mem: &mut E::Mem, moment: Moment, log: &mut L)
         requires fits { E.laid mem.old ≡ E.layout self.old.executor }
         requires idle { IsEmpty self.old.out }
-        requires room { ROOM_FOR_TICK ≤ L.room log.old }
+        requires room { LINES_FOR_TICK ≤ L.room log.old }
         ensures fits { E.laid mem.new ≡ E.layout self.new.executor }
         ensures idle { IsEmpty self.new.out }
         ensures moved { let x = member_of E.Executor self.old mem.old in IsMoved (meaning.advances moment.at x) x (member_of E.Executor self.new mem.new) (IsTold L.EventLog log.old log.new) }

@@ -1,8 +1,9 @@
 -- What the processor of a partition counts on in a loaded section, and how it is seen.
 use Rattle.std.specs.Prelude.{◌≤◌, List, ◌∷◌, map, length}
-use Rattle.apex_types.specs.WrittenCosts.{written_costs}
+use Rattle.apex_types.specs.Costs.{written_costs}
 use Rattle.apex_types.specs.declared.row.BodyRow.{BodyRow}
 use Rattle.apex_types.specs.declared.row.Section.{Section}
+use Rattle.apex_types.specs.declared.limits.TheConstants.{MOST_INSTRUCTIONS}
 use Rattle.engine_meaning.specs.Engine.{Engine}
 use Rattle.machine_meaning.specs.Instructions.{reading}
 use Rattle.machine_meaning.specs.MachineControl.{MachineControl, machine_engine}
@@ -20,9 +21,9 @@ bodies_of s = map body_of_row s.processes.items
 abbrev pub engine_of_section : Section → Engine MachineControl
 engine_of_section s = machine_engine written_costs (map reading s.code.items) s.routines.items (body_at s.init s.handler (bodies_of s))
 
--- At most 65,536 instructions, and each routine has room for its slots and two saved words.
+-- No more instructions than there may be, and each routine has room for its slots and two saved words.
 pub record IsFittingSection (s : Section) : Type 0 where
-  pub code : length s.code.items ≤ 65_536
+  pub code : length s.code.items ≤ MOST_INSTRUCTIONS
   pub routines : AreFitting s.routines.items
 
 -- the bodies of INIT, of the handler and of the processes, in order

@@ -6,4 +6,4 @@ mod machine;
 mod slot;
 
 pub use executor::Executor;
-pub use machine::{Machine, memory_plan, message, put};
+pub use machine::{FittingSection, Machine, memory_plan, message, put};

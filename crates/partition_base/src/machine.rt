@@ -8,13 +8,13 @@ ghost use Rattle.engine_meaning.specs.Engine.{or_init};
 ghost use Rattle.engine_meaning.specs.Operators.{put_words};
 ghost use Rattle.machine_meaning.specs.MachineMeaning.{body_of_row};
 ghost use Rattle.regions.specs.Space.{planned, put};
-ghost use Rattle.partition_base.specs.Sections.{fresh_memory};
+ghost use Rattle.partition_base.specs.Sections.{IsFittingSection, fresh_memory};
 ghost use Rattle.partition_base.specs.Slots.{stack_of_body, is_begun};
 
 use crate::executor::Executor;
 use crate::slot::{self, Slot};
 use apex_types::{BodyRow, Costs, ProcessRow, Runner, Section, Words};
-use processor::{Burst, Code, Outcome};
+use processor::{Burst, Code, CodeRows, Outcome};
 use regions::{MemoryPlan, PartitionMem, Region};
 use std::alloc::{AllocError, Global};
 
@@ -117,25 +117,36 @@ pub fn put(memory: &mut PartitionMem, place: usize, array: &[i64])
     }
 }
 
+/// A section that the processor can run: it has no more instructions than there may be, and each routine has
+/// room for its slots and two saved words.
+#[derive(Clone, Copy)]
+pub struct FittingSection<'a> {
+    pub section: &'a Section,
+    pub ghost fitting: { IsFittingSection section.now },
+}
+
 impl Machine {
     ghost use Rattle.std.specs.Prelude.{None};
     ghost use Rattle.engine_meaning.specs.Engine.{body_at};
     ghost use Rattle.partition_base.specs.Machines.{engine_of, controls_of, initial_of, bodies_in, layout_of, laid_of};
-    ghost use Rattle.partition_base.specs.Sections.{IsFittingSection, engine_of_section, fresh_memory};
+    ghost use Rattle.partition_base.specs.Sections.{engine_of_section, fresh_memory};
 
     /// The processor of a partition's section, with nothing begun. An error is one of memory.
-    pub fn new(alloc: Global, section: &Section) -> Result<Machine, AllocError>
-        requires { IsFittingSection section.now }
-        ensures engine { IfOk result (λ machine. engine_of machine ≡ engine_of_section section.now) }
-        ensures controls { IfOk result (λ machine. controls_of machine (fresh_memory section.now) ≡ replicate (2 + length section.now.processes.items) None) }
-        ensures fits { IfOk result (λ machine. laid_of (fresh_memory section.now) ≡ layout_of machine) }
-        ensures initial { IfOk result (λ machine. initial_of machine ≡ section.now.initial.items) }
+    pub fn new(alloc: Global, fitting: FittingSection<'_>) -> Result<Machine, AllocError>
+        ensures engine { IfOk result (λ machine. engine_of machine ≡ engine_of_section fitting.entry.section.now) }
+        ensures controls { IfOk result (λ machine. controls_of machine (fresh_memory fitting.entry.section.now) ≡ replicate (2 + length fitting.entry.section.now.processes.items) None) }
+        ensures fits { IfOk result (λ machine. laid_of (fresh_memory fitting.entry.section.now) ≡ layout_of machine) }
+        ensures initial { IfOk result (λ machine. initial_of machine ≡ fitting.entry.section.now.initial.items) }
     {
-        let routines = Vec::from_slice(alloc, &section.routines)?;
+        let section = fitting.section;
+        let rows = CodeRows {
+            bytes: &section.code,
+            routines: &section.routines,
+        };
         let processes = bodies(alloc, &section.processes)?;
         let handler = section.handler.unwrap_or(section.init);
         Ok(Machine {
-            code: Code::read(alloc, &Costs::written(), &section.code, routines)?,
+            code: Code::read(alloc, &Costs::written(), rows)?,
             init: section.init,
             handler: section.handler,
             slots: fresh_slots(alloc, &section.init, &handler, &processes)?,

@@ -10,7 +10,7 @@ ghost use Rattle.kernel_meaning.specs.Sharing.{both};
 ghost use Rattle.kernel_meaning.specs.Made.{IsMade};
 ghost use Rattle.kernel_meaning.specs.Sharing.{first_waiting};
 ghost use Rattle.ports.specs.Status.{placed_port, port_status};
-ghost use Rattle.process_table_base.specs.declared.rooms.TheConstants.{ROOM_TO_RELEASE_ALL};
+ghost use Rattle.process_table_base.specs.declared.rooms.TheConstants.{ACTIONS_TO_RELEASE_ALL, LINES_TO_RELEASE_ALL};
 
 use crate::port::PortStatus;
 use crate::ports::Ports;
@@ -29,9 +29,9 @@ fn arrive_sampling(
 )
     requires status { port ≡ port_status (placed_port ports.old place) }
     requires kind { is_sampling (placed_port ports.old place) ≡ true }
-    requires room { HasRoom 1 out.old }
+    requires room { HasRoom 1 0 out.old }
     ensures step { IsMade (meaning.arrives_sampling moment.at (both table.now ports.old) place (placed_port ports.old place) message) (both table.now ports.new) out.old out.new }
-    ensures grows { Grows 1 out.old out.new }
+    ensures grows { Grows 1 0 out.old out.new }
 {
     let line = EventKind::Arrive(port.row.name, copied(&message));
     out.lines.push(line);
@@ -48,9 +48,9 @@ fn store(
     out: &mut Out,
 )
     requires status { port ≡ port_status (placed_port ports.old place) }
-    requires room { HasRoom 1 out.old }
+    requires room { HasRoom 1 0 out.old }
     ensures step { IsMade (meaning.arrives_queuing (both table.now ports.old) place (placed_port ports.old place) message None) (both table.now ports.new) out.old out.new }
-    ensures grows { Grows 1 out.old out.new }
+    ensures grows { Grows 1 0 out.old out.new }
 {
     if !port.is_full() {
         let line = EventKind::Arrive(port.row.name, copied(&message));
@@ -74,9 +74,9 @@ fn arrive_queuing(
 )
     requires place { place < MOST_OBJECTS }
     requires status { port ≡ port_status (placed_port ports.old place) }
-    requires room { HasRoom 4 out.old }
+    requires room { HasRoom 3 2 out.old }
     ensures step { IsMade (meaning.arrives_queuing (both table.old ports.old) place (placed_port ports.old place) message (first_waiting table.old (list place))) (both table.new ports.new) out.old out.new }
-    ensures grows { Grows 4 out.old out.new }
+    ensures grows { Grows 3 2 out.old out.new }
 {
     match table.first_waiting(ListKey::Port(place)) {
         Some((receiver, _)) => {
@@ -100,9 +100,9 @@ pub fn arrive(
     message: Words,
     out: &mut Out,
 )
-    requires { HasRoom 4 out.old }
+    requires { HasRoom 3 2 out.old }
     ensures step { IsMade (meaning.arrives moment.at (both table.old ports.old) place message) (both table.new ports.new) out.old out.new }
-    ensures grows { Grows 4 out.old out.new }
+    ensures grows { Grows 3 2 out.old out.new }
 {
     let Some(port) = ports.status(place) else {
         return;
@@ -116,9 +116,9 @@ pub fn arrive(
 
 /// The message of a sender comes behind the others if there is room, and the sender is released.
 fn admit_one(table: &mut ProcessTable, ports: &mut Ports, entry: Entry, place: u8, out: &mut Out)
-    requires { HasRoom 2 out.old }
+    requires { HasRoom 2 1 out.old }
     ensures step { IsMade (meaning.enters_port (both table.old ports.old) place entry (port_at ports.old place)) (both table.new ports.new) out.old out.new }
-    ensures grows { Grows 2 out.old out.new }
+    ensures grows { Grows 2 1 out.old out.new }
 {
     let Some(port) = ports.status(place) else {
         return;
@@ -140,9 +140,9 @@ fn admit_each(
     place: u8,
     out: &mut Out,
 )
-    requires { HasRoom (2 * length entries.now) out.old }
+    requires { HasRoom (2 * length entries.now) (length entries.now) out.old }
     ensures step { IsMade (meaning.all_enter entries.now place (both table.old ports.old)) (both table.new ports.new) out.old out.new }
-    ensures grows { Grows (2 * length entries.now) out.old out.new }
+    ensures grows { Grows (2 * length entries.now) (length entries.now) out.old out.new }
 {
     if let Some((entry, rest)) = entries.split_first() {
         admit_one(table, ports, *entry, place, out);
@@ -153,9 +153,9 @@ fn admit_each(
 /// The senders that wait at the port at a place enter it in their order, as long as there is room.
 #[tactic(auto, using(crate::proofs::Entering::entering))]
 pub fn admit(table: &mut ProcessTable, ports: &mut Ports, place: u8, out: &mut Out)
-    requires { HasRoom ROOM_TO_RELEASE_ALL out.old }
+    requires { HasRoom LINES_TO_RELEASE_ALL ACTIONS_TO_RELEASE_ALL out.old }
     ensures step { IsMade (meaning.admits (both table.old ports.old) place) (both table.new ports.new) out.old out.new }
-    ensures grows { Grows ROOM_TO_RELEASE_ALL out.old out.new }
+    ensures grows { Grows LINES_TO_RELEASE_ALL ACTIONS_TO_RELEASE_ALL out.old out.new }
 {
     if place < ports.count() {
         let entries = table.waiting(ListKey::Port(place));

@@ -20,9 +20,9 @@ pub(crate) fn deliver(
     out: &mut Out,
 )
     requires outputs { length outputs.now ≤ 6 }
-    requires room { HasRoom 2 out.old }
+    requires room { HasRoom 1 2 out.old }
     ensures step { IsTold (delivers table.now caller service code outputs.now array message) out.old out.new }
-    ensures grows { Grows 2 out.old out.new }
+    ensures grows { Grows 1 2 out.old out.new }
 {
     table.answer(caller, service, code, outputs, out);
     out.actions.push(Action::Write(array.base, message));

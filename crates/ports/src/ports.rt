@@ -269,10 +269,10 @@ impl Ports {
     /// The first message of the port at a place leaves it, if it holds one.
     #[tactic(auto, using(crate::proofs::Moving::moving))]
     pub fn move_one(&mut self, place: u8, out: &mut Out) -> Option<Words>
-        requires { HasRoom 1 out.old }
+        requires { HasRoom 1 0 out.old }
         ensures message { result ≡ services.first_message (meaning.port_at self.old place) }
         ensures step { IsMade (services.leaves self.old place) self.new out.old out.new }
-        ensures grows { Grows 1 out.old out.new }
+        ensures grows { Grows 1 0 out.old out.new }
     {
         let port = self.status(place)?;
         let message = self.take_first(place)?;

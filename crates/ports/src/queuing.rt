@@ -29,19 +29,19 @@ pub fn create_queuing_port(
     name: i64,
     out: &mut Out,
 )
-    requires { HasRoom 1 out.old }
+    requires { HasRoom 1 1 out.old }
     ensures step { IsMade (meaning.create_queuing_port mode (both table.now ports.old) caller name) (both table.now ports.new) out.old out.new }
-    ensures grows { Grows 1 out.old out.new }
+    ensures grows { Grows 1 1 out.old out.new }
 {
     let service = Service::CreateQueuingPort;
     if mode == Mode::Normal {
-        return table.refuse(caller, service, ReturnCode::InvalidMode, &[0], out);
+        return table.refuse(caller, service, ReturnCode::InvalidMode, out);
     }
     let Some((place, port)) = ports.queuing(name) else {
-        return table.refuse(caller, service, ReturnCode::InvalidConfig, &[0], out);
+        return table.refuse(caller, service, ReturnCode::InvalidConfig, out);
     };
     if port.created {
-        return table.refuse(caller, service, ReturnCode::NoAction, &[0], out);
+        return table.refuse(caller, service, ReturnCode::NoAction, out);
     }
     table.answer(caller, service, ReturnCode::NoError, &[name], out);
     ports.create(place);
@@ -56,16 +56,16 @@ pub fn get_queuing_port_id(
     name: i64,
     out: &mut Out,
 )
-    requires { HasRoom 1 out.old }
+    requires { HasRoom 1 1 out.old }
     ensures step { IsMade (meaning.get_queuing_port_id (both table.now ports.now) caller name) (both table.now ports.now) out.old out.new }
-    ensures grows { Grows 1 out.old out.new }
+    ensures grows { Grows 1 1 out.old out.new }
 {
     let service = Service::GetQueuingPortId;
     match ports.queuing(name) {
         Some((_, port)) if port.created => {
             table.answer(caller, service, ReturnCode::NoError, &[name], out)
         }
-        _ => table.refuse(caller, service, ReturnCode::InvalidConfig, &[0], out),
+        _ => table.refuse(caller, service, ReturnCode::InvalidConfig, out),
     }
 }
 
@@ -84,9 +84,9 @@ fn send(
     requires limit { durations.is_duration limit ≡ true }
     requires place { place < MOST_OBJECTS }
     requires status { port ≡ port_status (placed_port ports.old place) }
-    requires room { HasRoom 1 out.old }
+    requires room { HasRoom 1 1 out.old }
     ensures step { IsMade (meaning.sends moment.at (both table.old ports.old) caller limit message place (placed_port ports.old place)) (both table.new ports.new) out.old out.new }
-    ensures grows { Grows 1 out.old out.new }
+    ensures grows { Grows 1 1 out.old out.new }
 {
     let service = Service::SendQueuingMessage;
     if port.is_full() {
@@ -121,22 +121,22 @@ pub fn send_queuing_message(
     words: &Words,
     out: &mut Out,
 )
-    requires room { HasRoom 1 out.old }
+    requires room { HasRoom 1 1 out.old }
     ensures step { IsMade (meaning.send_queuing_message moment.at (both table.old ports.old) caller id array length limit words.now.items) (both table.new ports.new) out.old out.new }
-    ensures grows { Grows 1 out.old out.new }
+    ensures grows { Grows 1 1 out.old out.new }
 {
     let service = Service::SendQueuingMessage;
     let Some((place, port)) = ports.queuing(id) else {
-        return table.refuse(caller, service, ReturnCode::InvalidParam, &[], out);
+        return table.refuse(caller, service, ReturnCode::InvalidParam, out);
     };
     if !port.created || !is_duration(limit) {
-        return table.refuse(caller, service, ReturnCode::InvalidParam, &[], out);
+        return table.refuse(caller, service, ReturnCode::InvalidParam, out);
     }
     if !port.is_source() {
-        return table.refuse(caller, service, ReturnCode::InvalidMode, &[], out);
+        return table.refuse(caller, service, ReturnCode::InvalidMode, out);
     }
     if !is_length(port.row.words, array, length) {
-        return table.refuse(caller, service, ReturnCode::InvalidParam, &[], out);
+        return table.refuse(caller, service, ReturnCode::InvalidParam, out);
     }
     let message = first_words(length, words);
     send(
@@ -170,9 +170,9 @@ fn receive(
     requires limit { durations.is_duration limit ≡ true }
     requires place { place < MOST_OBJECTS }
     requires discipline { discipline ≡ discipline_of (placed_port ports.old place).row.kind }
-    requires room { HasRoom 2 out.old }
+    requires room { HasRoom 1 2 out.old }
     ensures step { let x = placed_port ports.old place in IsMade (meaning.receives moment.at (both table.old ports.old) caller array limit place x x.messages) (both table.new ports.new) out.old out.new }
-    ensures grows { Grows 2 out.old out.new }
+    ensures grows { Grows 1 2 out.old out.new }
 {
     let service = Service::ReceiveQueuingMessage;
     if let Some((message, overflowed)) = ports.receive_message(place) {
@@ -206,22 +206,22 @@ pub fn receive_queuing_message(
     limit: i64,
     out: &mut Out,
 )
-    requires room { HasRoom 2 out.old }
+    requires room { HasRoom 1 2 out.old }
     ensures step { IsMade (meaning.receive_queuing_message moment.at (both table.old ports.old) caller id array limit) (both table.new ports.new) out.old out.new }
-    ensures grows { Grows 2 out.old out.new }
+    ensures grows { Grows 1 2 out.old out.new }
 {
     let service = Service::ReceiveQueuingMessage;
     let Some((place, port)) = ports.queuing(id) else {
-        return table.refuse(caller, service, ReturnCode::InvalidParam, &[0], out);
+        return table.refuse(caller, service, ReturnCode::InvalidParam, out);
     };
     if !port.created || !is_duration(limit) {
-        return table.refuse(caller, service, ReturnCode::InvalidParam, &[0], out);
+        return table.refuse(caller, service, ReturnCode::InvalidParam, out);
     }
     if port.is_source() {
-        return table.refuse(caller, service, ReturnCode::InvalidMode, &[0], out);
+        return table.refuse(caller, service, ReturnCode::InvalidMode, out);
     }
     if !is_large_enough(port.row.words, array) {
-        return table.refuse(caller, service, ReturnCode::InvalidParam, &[0], out);
+        return table.refuse(caller, service, ReturnCode::InvalidParam, out);
     }
     let discipline = port.discipline();
     receive(
@@ -241,9 +241,9 @@ fn tell_status(
 )
     requires place { place < MOST_OBJECTS }
     requires status { port ≡ port_status (placed_port ports.now place) }
-    requires room { HasRoom 1 out.old }
+    requires room { HasRoom 1 1 out.old }
     ensures step { let b = both table.now ports.now in IsTold (answers b caller Service.GetQueuingPortStatus ReturnCode.NoError (meaning.queuing_status b place (placed_port ports.now place))) out.old out.new }
-    ensures grows { Grows 1 out.old out.new }
+    ensures grows { Grows 1 1 out.old out.new }
 {
     let waiting = table.waiting_count(ListKey::Port(place));
     let outputs = [
@@ -267,17 +267,16 @@ pub fn get_queuing_port_status(
     id: i64,
     out: &mut Out,
 )
-    requires { HasRoom 1 out.old }
+    requires { HasRoom 1 1 out.old }
     ensures step { IsMade (meaning.get_queuing_port_status (both table.now ports.now) caller id) (both table.now ports.now) out.old out.new }
-    ensures grows { Grows 1 out.old out.new }
+    ensures grows { Grows 1 1 out.old out.new }
 {
     let service = Service::GetQueuingPortStatus;
-    let zeros = [0, 0, 0, 0, 0];
     let Some((place, port)) = ports.queuing(id) else {
-        return table.refuse(caller, service, ReturnCode::InvalidParam, &zeros, out);
+        return table.refuse(caller, service, ReturnCode::InvalidParam, out);
     };
     if !port.created {
-        return table.refuse(caller, service, ReturnCode::InvalidParam, &zeros, out);
+        return table.refuse(caller, service, ReturnCode::InvalidParam, out);
     }
     tell_status(table, ports, caller, place, port, out);
 }
@@ -292,19 +291,19 @@ pub fn clear_queuing_port(
     id: i64,
     out: &mut Out,
 )
-    requires { HasRoom 1 out.old }
+    requires { HasRoom 1 1 out.old }
     ensures step { IsMade (meaning.clear_queuing_port (both table.now ports.old) caller id) (both table.now ports.new) out.old out.new }
-    ensures grows { Grows 1 out.old out.new }
+    ensures grows { Grows 1 1 out.old out.new }
 {
     let service = Service::ClearQueuingPort;
     let Some((place, port)) = ports.queuing(id) else {
-        return table.refuse(caller, service, ReturnCode::InvalidParam, &[], out);
+        return table.refuse(caller, service, ReturnCode::InvalidParam, out);
     };
     if !port.created {
-        return table.refuse(caller, service, ReturnCode::InvalidParam, &[], out);
+        return table.refuse(caller, service, ReturnCode::InvalidParam, out);
     }
     if port.is_source() {
-        return table.refuse(caller, service, ReturnCode::InvalidMode, &[], out);
+        return table.refuse(caller, service, ReturnCode::InvalidMode, out);
     }
     table.answer(caller, service, ReturnCode::NoError, &[], out);
     ports.empty(place);

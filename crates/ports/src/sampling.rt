@@ -24,19 +24,19 @@ pub fn create_sampling_port(
     name: i64,
     out: &mut Out,
 )
-    requires { HasRoom 1 out.old }
+    requires { HasRoom 1 1 out.old }
     ensures step { IsMade (meaning.create_sampling_port mode (both table.now ports.old) caller name) (both table.now ports.new) out.old out.new }
-    ensures grows { Grows 1 out.old out.new }
+    ensures grows { Grows 1 1 out.old out.new }
 {
     let service = Service::CreateSamplingPort;
     if mode == Mode::Normal {
-        return table.refuse(caller, service, ReturnCode::InvalidMode, &[0], out);
+        return table.refuse(caller, service, ReturnCode::InvalidMode, out);
     }
     let Some((place, port)) = ports.sampling(name) else {
-        return table.refuse(caller, service, ReturnCode::InvalidConfig, &[0], out);
+        return table.refuse(caller, service, ReturnCode::InvalidConfig, out);
     };
     if port.created {
-        return table.refuse(caller, service, ReturnCode::NoAction, &[0], out);
+        return table.refuse(caller, service, ReturnCode::NoAction, out);
     }
     table.answer(caller, service, ReturnCode::NoError, &[name], out);
     ports.create(place);
@@ -51,16 +51,16 @@ pub fn get_sampling_port_id(
     name: i64,
     out: &mut Out,
 )
-    requires { HasRoom 1 out.old }
+    requires { HasRoom 1 1 out.old }
     ensures step { IsMade (meaning.get_sampling_port_id (both table.now ports.now) caller name) (both table.now ports.now) out.old out.new }
-    ensures grows { Grows 1 out.old out.new }
+    ensures grows { Grows 1 1 out.old out.new }
 {
     let service = Service::GetSamplingPortId;
     match ports.sampling(name) {
         Some((_, port)) if port.created => {
             table.answer(caller, service, ReturnCode::NoError, &[name], out)
         }
-        _ => table.refuse(caller, service, ReturnCode::InvalidConfig, &[0], out),
+        _ => table.refuse(caller, service, ReturnCode::InvalidConfig, out),
     }
 }
 
@@ -78,22 +78,22 @@ pub fn write_sampling_message(
     words: &Words,
     out: &mut Out,
 )
-    requires { HasRoom 1 out.old }
+    requires { HasRoom 1 1 out.old }
     ensures step { IsMade (meaning.write_sampling_message (both table.now ports.old) caller id array length words.now.items) (both table.now ports.new) out.old out.new }
-    ensures grows { Grows 1 out.old out.new }
+    ensures grows { Grows 1 1 out.old out.new }
 {
     let service = Service::WriteSamplingMessage;
     let Some((place, port)) = ports.sampling(id) else {
-        return table.refuse(caller, service, ReturnCode::InvalidParam, &[], out);
+        return table.refuse(caller, service, ReturnCode::InvalidParam, out);
     };
     if !port.created {
-        return table.refuse(caller, service, ReturnCode::InvalidParam, &[], out);
+        return table.refuse(caller, service, ReturnCode::InvalidParam, out);
     }
     if !port.is_source() {
-        return table.refuse(caller, service, ReturnCode::InvalidMode, &[], out);
+        return table.refuse(caller, service, ReturnCode::InvalidMode, out);
     }
     if !is_length(port.row.words, array, length) {
-        return table.refuse(caller, service, ReturnCode::InvalidParam, &[], out);
+        return table.refuse(caller, service, ReturnCode::InvalidParam, out);
     }
     table.answer(caller, service, ReturnCode::NoError, &[], out);
     ports.put_sample(place, first_words(length, words));
@@ -110,9 +110,9 @@ fn read(
     place: u8,
     out: &mut Out,
 )
-    requires { HasRoom 2 out.old }
+    requires { HasRoom 1 2 out.old }
     ensures step { let x = placed_port ports.old place in IsMade (meaning.reads_sample moment.at (both table.now ports.old) caller array place x x.messages) (both table.now ports.new) out.old out.new }
-    ensures grows { Grows 2 out.old out.new }
+    ensures grows { Grows 1 2 out.old out.new }
 {
     let service = Service::ReadSamplingMessage;
     match ports.read_message(place, moment) {
@@ -129,7 +129,7 @@ fn read(
                 out,
             );
         }
-        None => table.refuse(caller, service, ReturnCode::NoAction, &[0, 0], out),
+        None => table.refuse(caller, service, ReturnCode::NoAction, out),
     }
 }
 
@@ -147,22 +147,22 @@ pub fn read_sampling_message(
     array: ArrayPlace,
     out: &mut Out,
 )
-    requires room { HasRoom 2 out.old }
+    requires room { HasRoom 1 2 out.old }
     ensures step { IsMade (meaning.read_sampling_message moment.at (both table.now ports.old) caller id array) (both table.now ports.new) out.old out.new }
-    ensures grows { Grows 2 out.old out.new }
+    ensures grows { Grows 1 2 out.old out.new }
 {
     let service = Service::ReadSamplingMessage;
     let Some((place, port)) = ports.sampling(id) else {
-        return table.refuse(caller, service, ReturnCode::InvalidParam, &[0, 0], out);
+        return table.refuse(caller, service, ReturnCode::InvalidParam, out);
     };
     if !port.created {
-        return table.refuse(caller, service, ReturnCode::InvalidParam, &[0, 0], out);
+        return table.refuse(caller, service, ReturnCode::InvalidParam, out);
     }
     if port.is_source() {
-        return table.refuse(caller, service, ReturnCode::InvalidMode, &[0, 0], out);
+        return table.refuse(caller, service, ReturnCode::InvalidMode, out);
     }
     if !is_large_enough(port.row.words, array) {
-        return table.refuse(caller, service, ReturnCode::InvalidParam, &[0, 0], out);
+        return table.refuse(caller, service, ReturnCode::InvalidParam, out);
     }
     read(table, ports, moment, caller, array, place, out);
 }
@@ -177,9 +177,9 @@ pub fn get_sampling_port_status(
     id: i64,
     out: &mut Out,
 )
-    requires { HasRoom 1 out.old }
+    requires { HasRoom 1 1 out.old }
     ensures step { IsMade (meaning.get_sampling_port_status (both table.now ports.now) caller id) (both table.now ports.now) out.old out.new }
-    ensures grows { Grows 1 out.old out.new }
+    ensures grows { Grows 1 1 out.old out.new }
 {
     let service = Service::GetSamplingPortStatus;
     match ports.sampling(id) {
@@ -190,12 +190,6 @@ pub fn get_sampling_port_status(
             let outputs = [words, direction, refresh, validity_number(port.valid)];
             table.answer(caller, service, ReturnCode::NoError, &outputs, out)
         }
-        _ => table.refuse(
-            caller,
-            service,
-            ReturnCode::InvalidParam,
-            &[0, 0, 0, 0],
-            out,
-        ),
+        _ => table.refuse(caller, service, ReturnCode::InvalidParam, out),
     }
 }

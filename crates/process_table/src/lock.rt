@@ -63,16 +63,16 @@ fn unlocked(lock: Lock) -> Lock
 /// free again; the level is its output. NO_ACTION: the caller is the handler, or the mode is not
 /// normal; INVALID_CONFIG: the level is 16.
 pub fn lock_preemption(table: &mut ProcessTable, mode: Mode, caller: Runner, out: &mut Out)
-    requires { HasRoom 1 out.old }
+    requires { HasRoom 1 1 out.old }
     ensures step { IsMade (meaning.lock_preemption mode table.old caller) table.new out.old out.new }
-    ensures grows { Grows 1 out.old out.new }
+    ensures grows { Grows 1 1 out.old out.new }
 {
     let service = Service::LockPreemption;
     if may_not_lock(mode, caller) {
-        return table.refuse(caller, service, ReturnCode::NoAction, &[0], out);
+        return table.refuse(caller, service, ReturnCode::NoAction, out);
     }
     if level_of(table.lock()) >= MOST_LOCK_LEVEL {
-        return table.refuse(caller, service, ReturnCode::InvalidConfig, &[0], out);
+        return table.refuse(caller, service, ReturnCode::InvalidConfig, out);
     }
     let lock = locked_by(caller, table.lock());
     let level = i64::from(level_of(lock));
@@ -84,13 +84,13 @@ pub fn lock_preemption(table: &mut ProcessTable, mode: Mode, caller: Runner, out
 /// output; at 0 it is free. NO_ACTION: the caller is the handler, the mode is not normal, or the
 /// level is 0.
 pub fn unlock_preemption(table: &mut ProcessTable, mode: Mode, caller: Runner, out: &mut Out)
-    requires { HasRoom 1 out.old }
+    requires { HasRoom 1 1 out.old }
     ensures step { IsMade (meaning.unlock_preemption mode table.old caller) table.new out.old out.new }
-    ensures grows { Grows 1 out.old out.new }
+    ensures grows { Grows 1 1 out.old out.new }
 {
     let service = Service::UnlockPreemption;
     if may_not_lock(mode, caller) || table.lock() == Lock::Free {
-        return table.refuse(caller, service, ReturnCode::NoAction, &[0], out);
+        return table.refuse(caller, service, ReturnCode::NoAction, out);
     }
     let lock = unlocked(table.lock());
     let level = i64::from(level_of(lock));
@@ -101,9 +101,9 @@ pub fn unlock_preemption(table: &mut ProcessTable, mode: Mode, caller: Runner, o
 /// GET_MY_ID (ARINC 653 Part 1, process management): the number of the caller, as its output.
 /// INVALID_MODE: the caller is INIT or the handler.
 pub fn get_my_id(table: &ProcessTable, caller: Runner, out: &mut Out)
-    requires { HasRoom 1 out.old }
+    requires { HasRoom 1 1 out.old }
     ensures step { IsTold (meaning.get_my_id table.now caller (meaning.number_of caller)) out.old out.new }
-    ensures grows { Grows 1 out.old out.new }
+    ensures grows { Grows 1 1 out.old out.new }
 {
     let service = Service::GetMyId;
     match caller {
@@ -111,6 +111,6 @@ pub fn get_my_id(table: &ProcessTable, caller: Runner, out: &mut Out)
             let number = i64::from(process.0) + 1;
             table.answer(caller, service, ReturnCode::NoError, &[number], out)
         }
-        _ => table.refuse(caller, service, ReturnCode::InvalidMode, &[0], out),
+        _ => table.refuse(caller, service, ReturnCode::InvalidMode, out),
     }
 }

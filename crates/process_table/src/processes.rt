@@ -26,16 +26,16 @@ fn word_of_deadline(deadline: Option<Ticks>) -> i64
 /// GET_PROCESS_ID (ARINC 653 Part 1, process management): the number of a process, as its output.
 /// INVALID_CONFIG: no process of this number was created.
 pub fn get_process_id(table: &ProcessTable, caller: Runner, name: i64, out: &mut Out)
-    requires { HasRoom 1 out.old }
+    requires { HasRoom 1 1 out.old }
     ensures step { IsTold (meaning.get_process_id table.now caller name) out.old out.new }
-    ensures grows { Grows 1 out.old out.new }
+    ensures grows { Grows 1 1 out.old out.new }
 {
     let service = Service::GetProcessId;
     match table.process_at(name) {
         Some((_, row)) if row.created => {
             table.answer(caller, service, ReturnCode::NoError, &[name], out)
         }
-        _ => table.refuse(caller, service, ReturnCode::InvalidConfig, &[0], out),
+        _ => table.refuse(caller, service, ReturnCode::InvalidConfig, out),
     }
 }
 
@@ -43,9 +43,9 @@ pub fn get_process_id(table: &ProcessTable, caller: Runner, name: i64, out: &mut
 /// priority, and the tick of its deadline, -1 for none. INVALID_PARAM: no process of this number was
 /// created.
 pub fn get_process_status(table: &ProcessTable, caller: Runner, id: i64, out: &mut Out)
-    requires { HasRoom 1 out.old }
+    requires { HasRoom 1 1 out.old }
     ensures step { IsTold (meaning.get_process_status table.now caller id) out.old out.new }
-    ensures grows { Grows 1 out.old out.new }
+    ensures grows { Grows 1 1 out.old out.new }
 {
     let service = Service::GetProcessStatus;
     match table.process_at(id) {
@@ -56,7 +56,7 @@ pub fn get_process_status(table: &ProcessTable, caller: Runner, id: i64, out: &m
             let outputs = [state, priority, deadline];
             table.answer(caller, service, ReturnCode::NoError, &outputs, out)
         }
-        _ => table.refuse(caller, service, ReturnCode::InvalidParam, &[0, 0, 0], out),
+        _ => table.refuse(caller, service, ReturnCode::InvalidParam, out),
     }
 }
 
@@ -70,19 +70,19 @@ pub fn create_process(
     name: i64,
     out: &mut Out,
 )
-    requires { HasRoom 1 out.old }
+    requires { HasRoom 1 1 out.old }
     ensures step { IsMade (meaning.create_process mode table.old caller name) table.new out.old out.new }
-    ensures grows { Grows 1 out.old out.new }
+    ensures grows { Grows 1 1 out.old out.new }
 {
     let service = Service::CreateProcess;
     if mode == Mode::Normal {
-        return table.refuse(caller, service, ReturnCode::InvalidMode, &[0], out);
+        return table.refuse(caller, service, ReturnCode::InvalidMode, out);
     }
     let Some((process, row)) = table.process_at(name) else {
-        return table.refuse(caller, service, ReturnCode::InvalidConfig, &[0], out);
+        return table.refuse(caller, service, ReturnCode::InvalidConfig, out);
     };
     if row.created {
-        return table.refuse(caller, service, ReturnCode::NoAction, &[0], out);
+        return table.refuse(caller, service, ReturnCode::NoAction, out);
     }
     table.answer(caller, service, ReturnCode::NoError, &[name], out);
     table.create(process);
@@ -92,19 +92,19 @@ pub fn create_process(
 /// ready process goes last among those that have it. INVALID_PARAM: no process of this number was
 /// created, or a priority below 1 or above 239; INVALID_MODE: it is dormant.
 pub fn set_priority(table: &mut ProcessTable, caller: Runner, id: i64, priority: i64, out: &mut Out)
-    requires { HasRoom 1 out.old }
+    requires { HasRoom 1 1 out.old }
     ensures step { IsMade (meaning.set_priority table.old caller id priority) table.new out.old out.new }
-    ensures grows { Grows 1 out.old out.new }
+    ensures grows { Grows 1 1 out.old out.new }
 {
     let service = Service::SetPriority;
     let Some((process, row)) = table.process_at(id) else {
-        return table.refuse(caller, service, ReturnCode::InvalidParam, &[], out);
+        return table.refuse(caller, service, ReturnCode::InvalidParam, out);
     };
     if !row.created || priority < 1 || priority > GREATEST_PRIORITY as i64 {
-        return table.refuse(caller, service, ReturnCode::InvalidParam, &[], out);
+        return table.refuse(caller, service, ReturnCode::InvalidParam, out);
     }
     if is_dormant(&row) {
-        return table.refuse(caller, service, ReturnCode::InvalidMode, &[], out);
+        return table.refuse(caller, service, ReturnCode::InvalidMode, out);
     }
     table.answer(caller, service, ReturnCode::NoError, &[], out);
     table.take_priority(process, Priority(priority as u8));
@@ -113,19 +113,19 @@ pub fn set_priority(table: &mut ProcessTable, caller: Runner, id: i64, priority:
 /// STOP (ARINC 653 Part 1, process management): another process becomes dormant. INVALID_PARAM: no
 /// process of this number was created, or the caller's own; NO_ACTION: it is dormant.
 pub fn stop(table: &mut ProcessTable, caller: Runner, id: i64, out: &mut Out)
-    requires { HasRoom 2 out.old }
+    requires { HasRoom 2 2 out.old }
     ensures step { IsMade (meaning.stop table.old caller id) table.new out.old out.new }
-    ensures grows { Grows 2 out.old out.new }
+    ensures grows { Grows 2 2 out.old out.new }
 {
     let service = Service::Stop;
     let Some((process, row)) = table.process_at(id) else {
-        return table.refuse(caller, service, ReturnCode::InvalidParam, &[], out);
+        return table.refuse(caller, service, ReturnCode::InvalidParam, out);
     };
     if !row.created || is_same(caller, process) {
-        return table.refuse(caller, service, ReturnCode::InvalidParam, &[], out);
+        return table.refuse(caller, service, ReturnCode::InvalidParam, out);
     }
     if is_dormant(&row) {
-        return table.refuse(caller, service, ReturnCode::NoAction, &[], out);
+        return table.refuse(caller, service, ReturnCode::NoAction, out);
     }
     table.answer(caller, service, ReturnCode::NoError, &[], out);
     table.rest(process, out);
@@ -134,9 +134,9 @@ pub fn stop(table: &mut ProcessTable, caller: Runner, id: i64, out: &mut Out)
 /// STOP_SELF (ARINC 653 Part 1, process management), and the end of a body: the caller becomes dormant,
 /// and gets no answer. At the end of INIT nothing is done here: the partition's Clear is left to be done.
 pub fn stop_self(table: &mut ProcessTable, caller: Runner, out: &mut Out)
-    requires { HasRoom 1 out.old }
+    requires { HasRoom 1 1 out.old }
     ensures step { IsMade (meaning.stop_self table.old caller) table.new out.old out.new }
-    ensures grows { Grows 1 out.old out.new }
+    ensures grows { Grows 1 1 out.old out.new }
 {
     if let Runner::Init = caller {
         return;
@@ -155,19 +155,19 @@ pub fn start(
     id: i64,
     out: &mut Out,
 )
-    requires room { HasRoom 3 out.old }
+    requires room { HasRoom 2 2 out.old }
     ensures step { IsMade (meaning.start mode points.moment.at points.next.0 table.old caller id) table.new out.old out.new }
-    ensures grows { Grows 2 out.old out.new }
+    ensures grows { Grows 2 2 out.old out.new }
 {
     let service = Service::Start;
     let Some((process, row)) = table.process_at(id) else {
-        return table.refuse(caller, service, ReturnCode::InvalidParam, &[], out);
+        return table.refuse(caller, service, ReturnCode::InvalidParam, out);
     };
     if !row.created {
-        return table.refuse(caller, service, ReturnCode::InvalidParam, &[], out);
+        return table.refuse(caller, service, ReturnCode::InvalidParam, out);
     }
     if !is_dormant(&row) {
-        return table.refuse(caller, service, ReturnCode::NoAction, &[], out);
+        return table.refuse(caller, service, ReturnCode::NoAction, out);
     }
     table.answer(caller, service, ReturnCode::NoError, &[], out);
     table.start(mode, points, process, Ticks(0), out);
@@ -196,19 +196,19 @@ pub fn delayed_start(
     delay: i64,
     out: &mut Out,
 )
-    requires room { HasRoom 3 out.old }
+    requires room { HasRoom 2 2 out.old }
     ensures step { IsMade (meaning.delayed_start mode points.moment.at points.next.0 table.old caller id delay) table.new out.old out.new }
-    ensures grows { Grows 2 out.old out.new }
+    ensures grows { Grows 2 2 out.old out.new }
 {
     let service = Service::DelayedStart;
     let Some((process, row)) = table.process_at(id) else {
-        return table.refuse(caller, service, ReturnCode::InvalidParam, &[], out);
+        return table.refuse(caller, service, ReturnCode::InvalidParam, out);
     };
     if !row.created || !is_delay(delay) || is_beyond(delay, row.period) {
-        return table.refuse(caller, service, ReturnCode::InvalidParam, &[], out);
+        return table.refuse(caller, service, ReturnCode::InvalidParam, out);
     }
     if !is_dormant(&row) {
-        return table.refuse(caller, service, ReturnCode::NoAction, &[], out);
+        return table.refuse(caller, service, ReturnCode::NoAction, out);
     }
     table.answer(caller, service, ReturnCode::NoError, &[], out);
     table.start(mode, points, process, Ticks(delay as u64), out);

@@ -30,19 +30,19 @@ pub fn suspend_self(
     limit: i64,
     out: &mut Out,
 )
-    requires room { HasRoom 1 out.old }
+    requires room { HasRoom 1 1 out.old }
     ensures step { IsMade (meaning.suspend_self moment.at table.old caller limit) table.new out.old out.new }
-    ensures grows { Grows 1 out.old out.new }
+    ensures grows { Grows 1 1 out.old out.new }
 {
     let service = Service::SuspendSelf;
     if table.is_busy(caller) {
-        return table.refuse(caller, service, ReturnCode::InvalidMode, &[], out);
+        return table.refuse(caller, service, ReturnCode::InvalidMode, out);
     }
     if !is_duration(limit) {
-        return table.refuse(caller, service, ReturnCode::InvalidParam, &[], out);
+        return table.refuse(caller, service, ReturnCode::InvalidParam, out);
     }
     if is_periodic(&table.row(caller)) {
-        return table.refuse(caller, service, ReturnCode::InvalidMode, &[], out);
+        return table.refuse(caller, service, ReturnCode::InvalidMode, out);
     }
     if limit == 0 {
         table.answer(caller, service, ReturnCode::NoError, &[], out);
@@ -65,22 +65,22 @@ fn holds(lock: Lock, process: Runner) -> bool
 /// INVALID_PARAM: no process of this number was created, or the caller's own; INVALID_MODE: it is
 /// dormant or periodic, or holds the preemption lock; NO_ACTION: it is suspended.
 pub fn suspend(table: &mut ProcessTable, caller: Runner, id: i64, out: &mut Out)
-    requires { HasRoom 2 out.old }
+    requires { HasRoom 2 1 out.old }
     ensures step { IsMade (meaning.suspend table.old caller id) table.new out.old out.new }
-    ensures grows { Grows 2 out.old out.new }
+    ensures grows { Grows 2 1 out.old out.new }
 {
     let service = Service::Suspend;
     let Some((process, row)) = table.process_at(id) else {
-        return table.refuse(caller, service, ReturnCode::InvalidParam, &[], out);
+        return table.refuse(caller, service, ReturnCode::InvalidParam, out);
     };
     if !row.created || is_same(caller, process) {
-        return table.refuse(caller, service, ReturnCode::InvalidParam, &[], out);
+        return table.refuse(caller, service, ReturnCode::InvalidParam, out);
     }
     if is_dormant(&row) || row.period.is_some() || holds(table.lock(), process) {
-        return table.refuse(caller, service, ReturnCode::InvalidMode, &[], out);
+        return table.refuse(caller, service, ReturnCode::InvalidMode, out);
     }
     if row.suspended {
-        return table.refuse(caller, service, ReturnCode::NoAction, &[], out);
+        return table.refuse(caller, service, ReturnCode::NoAction, out);
     }
     table.answer(caller, service, ReturnCode::NoError, &[], out);
     table.suspend(process, out);
@@ -91,22 +91,22 @@ pub fn suspend(table: &mut ProcessTable, caller: Runner, id: i64, out: &mut Out)
 /// number was created, or the caller's own; INVALID_MODE: it is dormant or periodic; NO_ACTION: it is
 /// not suspended.
 pub fn resume(table: &mut ProcessTable, caller: Runner, id: i64, out: &mut Out)
-    requires { HasRoom 3 out.old }
+    requires { HasRoom 3 2 out.old }
     ensures step { IsMade (meaning.resume table.old caller id) table.new out.old out.new }
-    ensures grows { Grows 3 out.old out.new }
+    ensures grows { Grows 3 2 out.old out.new }
 {
     let service = Service::Resume;
     let Some((process, row)) = table.process_at(id) else {
-        return table.refuse(caller, service, ReturnCode::InvalidParam, &[], out);
+        return table.refuse(caller, service, ReturnCode::InvalidParam, out);
     };
     if !row.created || is_same(caller, process) {
-        return table.refuse(caller, service, ReturnCode::InvalidParam, &[], out);
+        return table.refuse(caller, service, ReturnCode::InvalidParam, out);
     }
     if is_dormant(&row) || row.period.is_some() {
-        return table.refuse(caller, service, ReturnCode::InvalidMode, &[], out);
+        return table.refuse(caller, service, ReturnCode::InvalidMode, out);
     }
     if !row.suspended {
-        return table.refuse(caller, service, ReturnCode::NoAction, &[], out);
+        return table.refuse(caller, service, ReturnCode::NoAction, out);
     }
     table.answer(caller, service, ReturnCode::NoError, &[], out);
     table.resume(process, out);

@@ -14,9 +14,9 @@ use process_table_base::{ProcessTable, is_delay, is_duration};
 
 /// GET_TIME (ARINC 653 Part 1, time management): the current tick.
 pub fn get_time(table: &ProcessTable, moment: Moment, caller: Runner, out: &mut Out)
-    requires room { HasRoom 1 out.old }
+    requires room { HasRoom 1 1 out.old }
     ensures step { IsTold (meaning.get_time moment.at table.now caller) out.old out.new }
-    ensures grows { Grows 1 out.old out.new }
+    ensures grows { Grows 1 1 out.old out.new }
 {
     let now = moment.at.now.0 as i64;
     table.answer(caller, Service::GetTime, ReturnCode::NoError, &[now], out);
@@ -32,25 +32,25 @@ pub fn timed_wait(
     delay: i64,
     out: &mut Out,
 )
-    requires room { HasRoom 1 out.old }
+    requires room { HasRoom 1 1 out.old }
     ensures step { IsMade (meaning.timed_wait moment.at table.old caller delay) table.new out.old out.new }
-    ensures grows { Grows 1 out.old out.new }
+    ensures grows { Grows 1 1 out.old out.new }
 {
     let service = Service::TimedWait;
     if table.is_busy(caller) {
-        return table.refuse(caller, service, ReturnCode::InvalidMode, &[], out);
+        return table.refuse(caller, service, ReturnCode::InvalidMode, out);
     }
     if !is_delay(delay) {
-        return table.refuse(caller, service, ReturnCode::InvalidParam, &[], out);
+        return table.refuse(caller, service, ReturnCode::InvalidParam, out);
     }
     wait_for(table, moment, caller, delay, out);
 }
 
 fn wait_for(table: &mut ProcessTable, moment: Moment, caller: Runner, delay: i64, out: &mut Out)
     requires delay { is_delay delay ≡ true }
-    requires room { HasRoom 1 out.old }
+    requires room { HasRoom 1 1 out.old }
     ensures step { IsMade (meaning.delays moment.at table.old caller delay) table.new out.old out.new }
-    ensures grows { Grows 1 out.old out.new }
+    ensures grows { Grows 1 1 out.old out.new }
 {
     let service = Service::TimedWait;
     if delay == 0 {
@@ -65,20 +65,20 @@ fn wait_for(table: &mut ProcessTable, moment: Moment, caller: Runner, delay: i64
 /// PERIODIC_WAIT (ARINC 653 Part 1, time management): the caller waits for its next release, a period
 /// after the last; it has kept its deadline. INVALID_MODE: the caller may not wait, or is aperiodic.
 pub fn periodic_wait(table: &mut ProcessTable, caller: Runner, out: &mut Out)
-    requires { HasRoom 1 out.old }
+    requires { HasRoom 1 1 out.old }
     ensures step { IsMade (meaning.periodic_wait table.old caller) table.new out.old out.new }
-    ensures grows { Grows 1 out.old out.new }
+    ensures grows { Grows 1 1 out.old out.new }
 {
     let service = Service::PeriodicWait;
     if table.is_busy(caller) {
-        return table.refuse(caller, service, ReturnCode::InvalidMode, &[], out);
+        return table.refuse(caller, service, ReturnCode::InvalidMode, out);
     }
     let Some(row) = table.row(caller) else {
-        return table.refuse(caller, service, ReturnCode::InvalidMode, &[], out);
+        return table.refuse(caller, service, ReturnCode::InvalidMode, out);
     };
     match row.period {
         Some(period) => table.wait_for_period(caller, period, out),
-        None => table.refuse(caller, service, ReturnCode::InvalidMode, &[], out),
+        None => table.refuse(caller, service, ReturnCode::InvalidMode, out),
     }
 }
 
@@ -120,25 +120,25 @@ pub fn replenish(
     budget: i64,
     out: &mut Out,
 )
-    requires room { HasRoom 1 out.old }
+    requires room { HasRoom 1 1 out.old }
     ensures step { IsMade (meaning.replenish mode moment.at table.old caller budget) table.new out.old out.new }
-    ensures grows { Grows 1 out.old out.new }
+    ensures grows { Grows 1 1 out.old out.new }
 {
     let service = Service::Replenish;
     if may_not_lock(mode, caller) {
-        return table.refuse(caller, service, ReturnCode::NoAction, &[], out);
+        return table.refuse(caller, service, ReturnCode::NoAction, out);
     }
     if !is_duration(budget) {
-        return table.refuse(caller, service, ReturnCode::InvalidParam, &[], out);
+        return table.refuse(caller, service, ReturnCode::InvalidParam, out);
     }
     let Some(row) = table.row(caller) else {
         return table.answer(caller, service, ReturnCode::NoError, &[], out);
     };
     if row.capacity.is_none() {
-        return table.refuse(caller, service, ReturnCode::NoAction, &[], out);
+        return table.refuse(caller, service, ReturnCode::NoAction, out);
     }
     if reaches_past(moment, budget, &row) {
-        return table.refuse(caller, service, ReturnCode::InvalidMode, &[], out);
+        return table.refuse(caller, service, ReturnCode::InvalidMode, out);
     }
     table.answer(caller, service, ReturnCode::NoError, &[], out);
     table.set_deadline(caller, deadline_in(moment, budget));

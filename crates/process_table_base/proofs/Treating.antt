@@ -18,6 +18,7 @@ use Rattle.apex_types.specs.declared.out.Out.{Out}
 use Rattle.apex_types.specs.declared.process.Due.{Due}
 use Rattle.apex_types.specs.declared.process.Due.TheVariants as due_time
 use Rattle.apex_types.specs.declared.process.ProcessStatus.{ProcessStatus}
+use Rattle.apex_types.specs.declared.limits.TheConstants.{MOST_PROCESSES}
 use Rattle.kernel_meaning.specs.Times.{Treated, due_from, ends_wait, goes_on, is_past, misses, then_others, tick_of, timed_out, treated_after, treats, treats_deadline, treats_due}
 use Rattle.kernel_meaning.specs.Processes.{Processes, index, no_longer_waits, released, row_of, wakes}
 use Rattle.kernel_meaning.specs.Times.{released_at}
@@ -208,14 +209,14 @@ pub record IsUnderWay (at : At) (action : PartitionAction) (mask free : ℕ) (s 
   pub place : ℕ
   pub count : ℕ
   pub is_left : IsLeft at.now.0 mask s.rows place count
-  pub few : place + count ≤ 31
+  pub few : place + count ≤ MOST_PROCESSES
   pub part : (due_from at action count place free s).step.part ≡ whole.step.part
   pub lines : out.lines.items ++ (due_from at action count place free s).step.lines ≡ first.lines.items ++ whole.step.lines
   pub actions : out.actions.items ++ (due_from at action count place free s).step.actions ≡ first.actions.items ++ whole.step.actions
   pub free_left : (due_from at action count place free s).free ≡ whole.free
   pub clears : (due_from at action count place free s).clears ≡ whole.clears
   pub lines_room : length out.lines.items ≤ length first.lines.items + 3 * place
-  pub actions_room : length out.actions.items ≤ length first.actions.items + 3 * place
+  pub actions_room : length out.actions.items ≤ length first.actions.items + 2 * place
 
 -- Where nobody has a bit any longer, what was told is the whole.
 pub ended : (at : At) (action : PartitionAction) (mask free : ℕ) (s : Processes) (out first : Out) (whole : Treated) → mask ≡ 0 → IsUnderWay at action mask free s out first whole →

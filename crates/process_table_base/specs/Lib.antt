@@ -1,4 +1,5 @@
 pub mod Bounds
+pub mod ShortFact
 pub mod DueMask
 pub mod LeastNumber
 pub mod Own

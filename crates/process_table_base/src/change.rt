@@ -25,7 +25,7 @@ pub fn answer(
     out: &mut Out,
 )
     requires outputs { length outputs.now ≤ 6 }
-    requires room { HasRoom 1 out.old }
+    requires room { HasRoom 1 1 out.old }
     ensures lines { out.new.lines.items ≡ out.old.lines.items ++ EventKind.Return who service code ∷ [] }
     ensures actions { out.new.actions.items ≡ out.old.actions.items ++ Action.Reply runner (message (pos (code_number code) ∷ outputs.now)) ∷ [] }
 {
@@ -74,10 +74,10 @@ fn zeros_of_wait(wait: Wait) -> &'static [i64]
 
 /// The line of one that begins to wait; there is none where it waited before.
 fn tell_waiting(row: &ProcessStatus, out: &mut Out)
-    requires { HasRoom 1 out.old }
+    requires { HasRoom 1 0 out.old }
     ensures lines { out.new.lines.items ≡ out.old.lines.items ++ meaning.waiting_lines row.now.who row.now.state }
     ensures actions { out.new.actions.items ≡ out.old.actions.items }
-    ensures grows { Grows 1 out.old out.new }
+    ensures grows { Grows 1 0 out.old out.new }
 {
     match row.state {
         ProcessState::Waiting => {}
@@ -103,9 +103,9 @@ impl ProcessTable {
     pub(crate) fn wake_as(&mut self, runner: Runner, row: ProcessStatus, out: &mut Out)
         requires runner { place_of runner < MOST_RUNNERS }
         requires bounded { IsBounded row }
-        requires room { HasRoom 1 out.old }
+        requires room { HasRoom 1 0 out.old }
         ensures step { IsMade (meaning.wakes self.old runner row) self.new out.old out.new }
-        ensures grows { Grows 1 out.old out.new }
+        ensures grows { Grows 1 0 out.old out.new }
     {
         let awake = ProcessStatus {
             wait: Wait::Nothing,
@@ -137,9 +137,9 @@ impl ProcessTable {
     )
         requires bounded { IsBounded row }
         requires reason { IsDelayed reason }
-        requires room { HasRoom 1 out.old }
+        requires room { HasRoom 1 0 out.old }
         ensures step { IsMade (meaning.waits self.old runner row reason due) self.new out.old out.new }
-        ensures grows { Grows 1 out.old out.new }
+        ensures grows { Grows 1 0 out.old out.new }
     {
         tell_waiting(&row, out);
         let waiting = ProcessStatus {
@@ -156,9 +156,9 @@ impl ProcessTable {
     #[tactic(auto, using(crate::proofs::Bounds::bounds))]
     pub(crate) fn rest_as(&mut self, runner: Runner, row: ProcessStatus, out: &mut Out)
         requires bounded { IsBounded row }
-        requires room { HasRoom 1 out.old }
+        requires room { HasRoom 1 1 out.old }
         ensures step { IsMade (meaning.rests self.old runner row) self.new out.old out.new }
-        ensures grows { Grows 1 out.old out.new }
+        ensures grows { Grows 1 1 out.old out.new }
     {
         out.lines
             .push(EventKind::State(row.who, ProcessState::Dormant));
@@ -185,9 +185,9 @@ impl ProcessTable {
         out: &mut Out,
     )
         requires outputs { length outputs.now ≤ 6 }
-        requires room { HasRoom 1 out.old }
+        requires room { HasRoom 1 1 out.old }
         ensures step { IsTold (meaning.answers_wait self.now runner row.now code outputs.now wait) out.old out.new }
-        ensures grows { Grows 1 out.old out.new }
+        ensures grows { Grows 1 1 out.old out.new }
     {
         match wait {
             Wait::Service(service) | Wait::Object { service, .. } => {
@@ -210,9 +210,9 @@ impl ProcessTable {
         requires runner { place_of runner < MOST_RUNNERS }
         requires bounded { IsBounded row }
         requires outputs { length outputs.now ≤ 6 }
-        requires room { HasRoom 2 out.old }
+        requires room { HasRoom 2 1 out.old }
         ensures step { IsMade (meaning.released_with self.old runner row code outputs.now) self.new out.old out.new }
-        ensures grows { Grows 2 out.old out.new }
+        ensures grows { Grows 2 1 out.old out.new }
     {
         self.answer_wait(runner, &row, code, outputs, row.wait, out);
         self.leave_queues(runner);
@@ -230,9 +230,9 @@ impl ProcessTable {
     )
         requires runner { place_of runner < MOST_RUNNERS }
         requires bounded { IsBounded row }
-        requires room { HasRoom 2 out.old }
+        requires room { HasRoom 2 1 out.old }
         ensures step { IsMade (meaning.released self.old runner row code) self.new out.old out.new }
-        ensures grows { Grows 2 out.old out.new }
+        ensures grows { Grows 2 1 out.old out.new }
     {
         self.release_with(runner, row, code, zeros_of_wait(row.wait), out);
     }
@@ -247,28 +247,19 @@ impl ProcessTable {
         out: &mut Out,
     )
         requires outputs { length outputs.now ≤ 6 }
-        requires room { HasRoom 1 out.old }
+        requires room { HasRoom 1 1 out.old }
         ensures step { IsTold (meaning.answers self.now runner service code outputs.now) out.old out.new }
-        ensures grows { Grows 1 out.old out.new }
+        ensures grows { Grows 1 1 out.old out.new }
     {
         answer(runner, self.subject(runner), service, code, outputs, out);
     }
 
-    /// A refused service changes nothing; `zeros` are its outputs.
-    pub fn refuse(
-        &self,
-        runner: Runner,
-        service: Service,
-        code: ReturnCode,
-        zeros: &[i64],
-        out: &mut Out,
-    )
-        requires outputs { zeros.now ≡ step.zeros service }
-        requires few { length zeros.now ≤ 6 }
-        requires room { HasRoom 1 out.old }
+    /// A refused service changes nothing, and its outputs are zeros.
+    pub fn refuse(&self, runner: Runner, service: Service, code: ReturnCode, out: &mut Out)
+        requires room { HasRoom 1 1 out.old }
         ensures step { IsTold (meaning.refuses self.now runner service code) out.old out.new }
-        ensures grows { Grows 1 out.old out.new }
+        ensures grows { Grows 1 1 out.old out.new }
     {
-        self.answer(runner, service, code, zeros, out);
+        self.answer(runner, service, code, zeros(service), out);
     }
 }

@@ -47,9 +47,9 @@ impl ProcessTable {
 
     /// The one that was running is ready, and keeps its place.
     fn leave_processor(&mut self, running: Option<Runner>, out: &mut Out)
-        requires { HasRoom 1 out.old }
+        requires { HasRoom 1 0 out.old }
         ensures step { IsMade (meaning.leaves_processor self.old running) self.new out.old out.new }
-        ensures grows { Grows 1 out.old out.new }
+        ensures grows { Grows 1 0 out.old out.new }
     {
         if let Some(runner) = running {
             if let Some(row) = self.row(runner) {
@@ -63,9 +63,9 @@ impl ProcessTable {
 
     /// This one runs.
     fn take_processor(&mut self, chosen: Option<Runner>, out: &mut Out)
-        requires { HasRoom 1 out.old }
+        requires { HasRoom 1 0 out.old }
         ensures step { IsMade (meaning.takes_processor self.old chosen) self.new out.old out.new }
-        ensures grows { Grows 1 out.old out.new }
+        ensures grows { Grows 1 0 out.old out.new }
     {
         if let Some(runner) = chosen {
             if let Some(row) = self.row(runner) {
@@ -87,9 +87,9 @@ impl ProcessTable {
 
     /// A change of the chosen one writes that the old one is ready and that the new one runs.
     pub fn choose(&mut self, mode: Mode, out: &mut Out)
-        requires { HasRoom 2 out.old }
+        requires { HasRoom 2 0 out.old }
         ensures step { IsMade (meaning.chooses mode self.old) self.new out.old out.new }
-        ensures grows { Grows 2 out.old out.new }
+        ensures grows { Grows 2 0 out.old out.new }
     {
         let running = self.running();
         let mut reads = 0;

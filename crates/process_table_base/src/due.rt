@@ -8,7 +8,7 @@ ghost use Rattle.kernel_meaning.specs.Times as meaning;
 ghost use Rattle.kernel_meaning.specs.Processes.{row_of};
 ghost use Rattle.kernel_meaning.specs.Made.{IsMade};
 ghost use Rattle.process_table_base.specs.Bounds.{IsBounded};
-ghost use Rattle.process_table_base.specs.declared.rooms.TheConstants.{ROOM_TO_TREAT_DUE};
+ghost use Rattle.process_table_base.specs.declared.rooms.TheConstants.{ACTIONS_TO_TREAT_DUE, LINES_TO_TREAT_DUE};
 ghost use Rattle.process_table_base.specs.DueMask.{IsSplit};
 ghost use Rattle.process_table_base.specs.Treating.{IsTreated};
 
@@ -34,9 +34,9 @@ impl ProcessTable {
         requires runner { place_of runner < MOST_RUNNERS }
         requires bounded { IsBounded row }
         requires past { meaning.tick_of due ≤ MOST_TICKS }
-        requires room { HasRoom 2 out.old }
+        requires room { HasRoom 2 1 out.old }
         ensures step { IsMade (meaning.ends_wait self.old runner row due) self.new out.old out.new }
-        ensures grows { Grows 2 out.old out.new }
+        ensures grows { Grows 2 1 out.old out.new }
     {
         match due {
             Due::Release(tick) => {
@@ -50,9 +50,9 @@ impl ProcessTable {
     fn treat_due(&mut self, moment: Moment, runner: Runner, row: ProcessStatus, out: &mut Out)
         requires runner { place_of runner < MOST_RUNNERS }
         requires bounded { IsBounded row }
-        requires room { HasRoom 2 out.old }
+        requires room { HasRoom 2 1 out.old }
         ensures step { IsMade (meaning.treats_due moment.at self.old runner row row.due) self.new out.old out.new }
-        ensures grows { Grows 2 out.old out.new }
+        ensures grows { Grows 2 1 out.old out.new }
     {
         if let Some(due) = row.due {
             if tick_of(due).0 <= moment.at.now.0 {
@@ -72,9 +72,9 @@ impl ProcessTable {
         out: &mut Out,
     ) -> Treated
         requires bounded { IsBounded row }
-        requires room { HasRoom 1 out.old }
+        requires room { HasRoom 1 1 out.old }
         ensures treated { IsTreated (meaning.misses free action self.old process row) self.new out.old out.new result }
-        ensures grows { Grows 1 out.old out.new }
+        ensures grows { Grows 1 1 out.old out.new }
     {
         let row_now = ProcessStatus {
             deadline: None,
@@ -111,9 +111,9 @@ impl ProcessTable {
         process: ProcessIndex,
         out: &mut Out,
     ) -> Treated
-        requires { HasRoom 1 out.old }
+        requires { HasRoom 1 1 out.old }
         ensures treated { IsTreated (meaning.treats_deadline moment.at free action self.old process (row_of self.old (Runner.Process process))) self.new out.old out.new result }
-        ensures grows { Grows 1 out.old out.new }
+        ensures grows { Grows 1 1 out.old out.new }
     {
         if let Some(row) = self.row(Runner::Process(process)) {
             if is_past(moment.at.now, row.deadline) {
@@ -132,9 +132,9 @@ impl ProcessTable {
         process: ProcessIndex,
         out: &mut Out,
     ) -> Treated
-        requires room { HasRoom 3 out.old }
+        requires room { HasRoom 3 2 out.old }
         ensures treated { IsTreated (meaning.treats moment.at free action self.old process (row_of self.old (Runner.Process process))) self.new out.old out.new result }
-        ensures grows { Grows 3 out.old out.new }
+        ensures grows { Grows 3 2 out.old out.new }
     {
         let runner = Runner::Process(process);
         let Some(row) = self.row(runner) else {
@@ -154,9 +154,9 @@ impl ProcessTable {
         action: PartitionAction,
         out: &mut Out,
     ) -> Treated
-        requires room { HasRoom ROOM_TO_TREAT_DUE out.old }
+        requires room { HasRoom LINES_TO_TREAT_DUE ACTIONS_TO_TREAT_DUE out.old }
         ensures treated { IsTreated (meaning.due moment.at free action self.old) self.new out.old out.new result }
-        ensures grows { Grows ROOM_TO_TREAT_DUE out.old out.new }
+        ensures grows { Grows LINES_TO_TREAT_DUE ACTIONS_TO_TREAT_DUE out.old out.new }
     {
         let mut left = self.due_mask(moment.at.now);
         let mut free = free;

@@ -22,7 +22,11 @@ pub use due::{Treated, mode_of_action};
 pub use duration::{is_delay, is_duration, time_out};
 pub use find::is_dormant;
 pub use message::{first_words, is_large_enough, is_length};
-pub use rooms::{ROOM_TO_GIVE_ALL, ROOM_TO_RELEASE_ALL, ROOM_TO_TREAT_DUE};
+pub use records::ProcessRows;
+pub use rooms::{
+    ACTIONS_TO_GIVE_ALL, ACTIONS_TO_RELEASE_ALL, ACTIONS_TO_TREAT_DUE, LINES_TO_GIVE_ALL,
+    LINES_TO_RELEASE_ALL, LINES_TO_TREAT_DUE,
+};
 pub use start::Points;
 pub use table::{ProcessTable, is_same};
 pub use waiting::fill;

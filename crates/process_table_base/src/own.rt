@@ -17,9 +17,9 @@ use apex_types::{Due, Out, ReturnCode, Runner, Service, Wait, Words};
 impl ProcessTable {
     /// It waits in a service, until its due time if it has one. There is no line where it waited before.
     pub fn wait(&mut self, runner: Runner, service: Service, due: Option<Due>, out: &mut Out)
-        requires { HasRoom 1 out.old }
+        requires { HasRoom 1 0 out.old }
         ensures step { IsMade (own_step self.old runner (λ r. meaning.waits self.old runner r (Wait.Service service) due)) self.new out.old out.new }
-        ensures grows { Grows 1 out.old out.new }
+        ensures grows { Grows 1 0 out.old out.new }
     {
         if let Some(row) = self.row(runner) {
             self.wait_as(runner, row, Wait::Service(service), due, out);
@@ -29,10 +29,10 @@ impl ProcessTable {
     /// The service in which it waits answers with outputs of 0, if it waits in one; then it is ready.
     /// Those who wait on keep their order.
     pub fn release(&mut self, runner: Runner, code: ReturnCode, out: &mut Out)
-        requires { HasRoom 2 out.old }
+        requires { HasRoom 2 1 out.old }
         ensures order { (disciplines : Key → Discipline) (number : ℕ → ℕ) (next : ℕ) → AreQueues disciplines number next self.old.queues → AreQueues disciplines number next self.new.queues }
         ensures step { IsMade (own_step self.old runner (λ r. meaning.released self.old runner r code)) self.new out.old out.new }
-        ensures grows { Grows 2 out.old out.new }
+        ensures grows { Grows 2 1 out.old out.new }
     {
         if let Some(row) = self.row(runner) {
             self.release_as(runner, row, code, out);
@@ -41,9 +41,9 @@ impl ProcessTable {
 
     /// It becomes ready and goes last. One that is suspended waits on until it is resumed.
     pub fn wake(&mut self, runner: Runner, out: &mut Out)
-        requires { HasRoom 1 out.old }
+        requires { HasRoom 1 0 out.old }
         ensures step { IsMade (own_step self.old runner (meaning.wakes self.old runner)) self.new out.old out.new }
-        ensures grows { Grows 1 out.old out.new }
+        ensures grows { Grows 1 0 out.old out.new }
     {
         if let Some(row) = self.row(runner) {
             self.wake_as(runner, row, out);
@@ -53,9 +53,9 @@ impl ProcessTable {
     /// It becomes dormant: it is in no list, has no due time, no deadline and nothing left to do, and
     /// the lock is free if it held it.
     pub fn rest(&mut self, runner: Runner, out: &mut Out)
-        requires { HasRoom 1 out.old }
+        requires { HasRoom 1 1 out.old }
         ensures step { IsMade (own_step self.old runner (meaning.rests self.old runner)) self.new out.old out.new }
-        ensures grows { Grows 1 out.old out.new }
+        ensures grows { Grows 1 1 out.old out.new }
     {
         if let Some(row) = self.row(runner) {
             self.rest_as(runner, row, out);
@@ -65,9 +65,9 @@ impl ProcessTable {
     /// A receiver takes a message: the words go into its array, its call answers how many they are, and
     /// it is ready.
     pub fn give(&mut self, runner: Runner, message: &Words, out: &mut Out)
-        requires { HasRoom 3 out.old }
+        requires { HasRoom 2 2 out.old }
         ensures step { IsMade (own_step self.old runner (λ r. gives self.old runner r message.now)) self.new out.old out.new }
-        ensures grows { Grows 3 out.old out.new }
+        ensures grows { Grows 2 2 out.old out.new }
     {
         if let Some(row) = self.row(runner) {
             self.give_as(runner, row, message, out);

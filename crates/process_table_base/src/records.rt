@@ -7,7 +7,9 @@ ghost use Rattle.kernel_meaning.specs.Fresh.{fresh_row, handler_row, init_row};
 ghost use Rattle.machine_meaning.specs.MachineMeaning.{machine_row};
 ghost use Rattle.kernel_meaning.specs.Times.{ticks};
 ghost use Rattle.links.specs.Timers.{IsDueMask, IsNextDue, number_of};
+ghost use Rattle.apex_types.specs.declared.limits.TheConstants.{MOST_PROCESSES};
 ghost use Rattle.process_table_base.specs.Bounds.{AreAllBounded, AreShort, IsBounded};
+ghost use Rattle.process_table_base.specs.ShortFact.{shorts_prop};
 ghost use Rattle.process_table_base.specs.States.{put_state};
 ghost use Rattle.process_table_base.specs.Timed.{AreTimed, deadlines, due_times};
 
@@ -89,16 +91,23 @@ fn fresh_rows(alloc: Global, processes: &[ProcessRow]) -> Result<Vec<ProcessStat
     Ok(rows)
 }
 
+/// The rows of a partition's processes, no more than it may have, each with a period and a time capacity
+/// that a run can have.
+#[derive(Clone, Copy)]
+pub struct ProcessRows<'a> {
+    pub rows: &'a [ProcessRow],
+    pub ghost few: { length rows.now ≤ MOST_PROCESSES },
+    pub ghost short: { AreShort rows.now } by { shorts_prop rows.now },
+}
+
 impl Records {
     /// No process is created. An error is one of memory.
     #[tactic(auto, using(crate::proofs::Bounds::bounds))]
-    pub(crate) fn new(alloc: Global, processes: &[ProcessRow]) -> Result<Records, AllocError>
-        requires few { length processes.now ≤ MOST_PROCESSES }
-        requires short { AreShort processes.now }
-        ensures { IfOk result (λ records. records ≡ init_row ∷ handler_row ∷ map machine_row processes.now) }
+    pub(crate) fn new(alloc: Global, processes: ProcessRows<'_>) -> Result<Records, AllocError>
+        ensures { IfOk result (λ records. records ≡ init_row ∷ handler_row ∷ map machine_row processes.entry.rows.now) }
     {
         Ok(Records {
-            rows: fresh_rows(alloc, processes)?,
+            rows: fresh_rows(alloc, processes.rows)?,
             timers: Timers::new(),
         })
     }

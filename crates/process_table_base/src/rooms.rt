@@ -1,12 +1,21 @@
-//! The room for lines and for actions that steps over several processes need.
+//! The room that what is done with many processes needs: for its lines, and for what it asks for.
 
 use apex_types::MOST_PROCESSES;
 
-/// All who wait in a list are released: each is answered and is ready.
-pub const ROOM_TO_RELEASE_ALL: u16 = 2 * MOST_PROCESSES as u16;
+/// Each that waits at an object answers and becomes ready.
+pub const LINES_TO_RELEASE_ALL: u16 = 2 * MOST_PROCESSES as u16;
 
-/// All who wait in a list take a message: it goes into the array of each, each is answered and is ready.
-pub const ROOM_TO_GIVE_ALL: u16 = 3 * MOST_PROCESSES as u16;
+/// Each that waits at an object has its answer.
+pub const ACTIONS_TO_RELEASE_ALL: u16 = MOST_PROCESSES as u16;
 
-/// What is due is treated: each process is answered, is ready, and misses its deadline.
-pub const ROOM_TO_TREAT_DUE: u16 = 3 * MOST_PROCESSES as u16;
+/// Each that waits at an object has a message: it answers and becomes ready.
+pub const LINES_TO_GIVE_ALL: u16 = 2 * MOST_PROCESSES as u16;
+
+/// Each that waits at an object has the message's words and its answer.
+pub const ACTIONS_TO_GIVE_ALL: u16 = 2 * MOST_PROCESSES as u16;
+
+/// Each process may answer and become ready, and may miss its deadline.
+pub const LINES_TO_TREAT_DUE: u16 = 3 * MOST_PROCESSES as u16;
+
+/// Each process may have an answer, and an error that waits for the handler.
+pub const ACTIONS_TO_TREAT_DUE: u16 = 2 * MOST_PROCESSES as u16;

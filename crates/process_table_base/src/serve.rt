@@ -37,9 +37,9 @@ impl ProcessTable {
 
     /// A process waits for what it waited for, and until it is resumed.
     pub fn suspend(&mut self, process: Runner, out: &mut Out)
-        requires { HasRoom 1 out.old }
+        requires { HasRoom 1 0 out.old }
         ensures step { IsMade (own_step self.old process (meaning.suspends self.old process)) self.new out.old out.new }
-        ensures grows { Grows 1 out.old out.new }
+        ensures grows { Grows 1 0 out.old out.new }
     {
         let Some(row) = self.row(process) else {
             return;
@@ -54,9 +54,9 @@ impl ProcessTable {
     /// A process suspends itself: it waits until it is resumed, or for so long.
     pub fn suspend_self(&mut self, moment: Moment, process: Runner, limit: i64, out: &mut Out)
         requires limit { is_duration limit ≡ true }
-        requires room { HasRoom 1 out.old }
+        requires room { HasRoom 1 0 out.old }
         ensures step { IsMade (meaning.suspends_self moment.at self.old process limit (row_of self.old process)) self.new out.old out.new }
-        ensures grows { Grows 1 out.old out.new }
+        ensures grows { Grows 1 0 out.old out.new }
     {
         if let Some(row) = self.row(process) {
             let suspended = ProcessStatus {
@@ -71,9 +71,9 @@ impl ProcessTable {
     /// A process is suspended no longer: its SUSPEND_SELF ends, and if it waits for nothing else it is
     /// ready.
     pub fn resume(&mut self, process: Runner, out: &mut Out)
-        requires { HasRoom 2 out.old }
+        requires { HasRoom 2 1 out.old }
         ensures step { IsMade (own_step self.old process (meaning.resumes self.old process)) self.new out.old out.new }
-        ensures grows { Grows 2 out.old out.new }
+        ensures grows { Grows 2 1 out.old out.new }
     {
         let Some(row) = self.row(process) else {
             return;
@@ -96,9 +96,9 @@ impl ProcessTable {
     #[tactic(auto, using(crate::proofs::Bounds::bounds))]
     pub fn wait_for_period(&mut self, process: Runner, period: Ticks, out: &mut Out)
         requires period { period.0 ≤ MOST_TICKS }
-        requires room { HasRoom 1 out.old }
+        requires room { HasRoom 1 0 out.old }
         ensures step { IsMade (own_step self.old process (λ r. meaning.waits_for_period self.old process r (Some period))) self.new out.old out.new }
-        ensures grows { Grows 1 out.old out.new }
+        ensures grows { Grows 1 0 out.old out.new }
     {
         let Some(row) = self.row(process) else {
             return;

@@ -63,9 +63,9 @@ impl ProcessTable {
         out: &mut Out,
     )
         requires delay { delay.0 ≤ MOST_TICKS }
-        requires room { HasRoom 2 out.old }
+        requires room { HasRoom 1 1 out.old }
         ensures step { IsMade (own_step self.old process (meaning.starts mode points.moment.at points.next.0 self.old process delay)) self.new out.old out.new }
-        ensures grows { Grows 1 out.old out.new }
+        ensures grows { Grows 1 1 out.old out.new }
     {
         let Some(row) = self.row(process) else {
             return;
@@ -84,9 +84,9 @@ impl ProcessTable {
 
     fn wait_for_release(&mut self, process: Runner, row: ProcessStatus, tick: Ticks, out: &mut Out)
         requires bounded { IsBounded row }
-        requires room { HasRoom 1 out.old }
+        requires room { HasRoom 1 0 out.old }
         ensures step { IsMade (meaning.waits_for_release self.old process row tick.0) self.new out.old out.new }
-        ensures grows { Grows 1 out.old out.new }
+        ensures grows { Grows 1 0 out.old out.new }
     {
         self.wait_as(
             process,
@@ -110,9 +110,9 @@ impl ProcessTable {
         requires delay { delay.0 ≤ MOST_TICKS }
         requires process { place_of process < MOST_RUNNERS }
         requires bounded { IsBounded row }
-        requires room { HasRoom 1 out.old }
+        requires room { HasRoom 1 0 out.old }
         ensures step { IsMade (meaning.starts_in_normal points.moment.at points.next.0 self.old process delay row) self.new out.old out.new }
-        ensures grows { Grows 1 out.old out.new }
+        ensures grows { Grows 1 0 out.old out.new }
     {
         let now = points.moment.at.now;
         if row.period.is_some() {
@@ -126,9 +126,9 @@ impl ProcessTable {
 
     /// A process that was started before normal mode takes the normal case of its start.
     fn start_waiting(&mut self, points: Points, process: Runner, out: &mut Out)
-        requires room { HasRoom 1 out.old }
+        requires room { HasRoom 1 0 out.old }
         ensures step { IsMade (meaning.starts_waiting points.moment.at points.next.0 self.old process (row_of self.old process)) self.new out.old out.new }
-        ensures grows { Grows 1 out.old out.new }
+        ensures grows { Grows 1 0 out.old out.new }
     {
         if let Some(row) = self.row(process) {
             if let Wait::NormalStart(delay) = row.wait {
@@ -140,9 +140,9 @@ impl ProcessTable {
     /// Each process that was started before normal mode takes the normal case of its start, in
     /// number order.
     pub fn start_all_waiting(&mut self, points: Points, out: &mut Out)
-        requires room { HasRoom MOST_PROCESSES out.old }
+        requires room { HasRoom MOST_PROCESSES 0 out.old }
         ensures step { IsMade (meaning.start_all_waiting points.moment.at points.next.0 self.old) self.new out.old out.new }
-        ensures grows { Grows MOST_PROCESSES out.old out.new }
+        ensures grows { Grows MOST_PROCESSES 0 out.old out.new }
     {
         let mut left = self.count().saturating_sub(2);
         let mut place = 0u8;

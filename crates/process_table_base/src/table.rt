@@ -9,14 +9,13 @@ ghost use Rattle.kernel_meaning.specs.ProcessServices.{level_of};
 ghost use Rattle.kernel_meaning.specs.Fresh.{fresh_processes, no_message};
 ghost use Rattle.machine_meaning.specs.MachineMeaning.{machine_row};
 ghost use Rattle.links.specs.Timers.{IsDueMask, IsNextDue, number_of};
-ghost use Rattle.process_table_base.specs.Bounds.{AreShort, IsBounded};
+ghost use Rattle.process_table_base.specs.Bounds.{IsBounded};
 ghost use Rattle.process_table_base.specs.States.{put_state};
 ghost use Rattle.process_table_base.specs.Timed.{AreQuiet, deadlines, due_times};
 
-use crate::records::Records;
+use crate::records::{ProcessRows, Records};
 use apex_types::{
-    Entry, Lock, MOST_PROCESSES, MOST_RUNNERS, Mode, ProcessRow, ProcessState, ProcessStatus,
-    Runner, Ticks, Words,
+    Entry, Lock, MOST_RUNNERS, Mode, ProcessRow, ProcessState, ProcessStatus, Runner, Ticks, Words,
 };
 use links::{ReadyLists, WaitingLists};
 use std::alloc::{AllocError, Global};
@@ -59,10 +58,8 @@ fn no_messages(alloc: Global, processes: &[ProcessRow]) -> Result<Vec<Words>, Al
 
 impl ProcessTable {
     /// No process is created, and none runs or waits. An error is one of memory.
-    pub fn new(alloc: Global, processes: &[ProcessRow]) -> Result<ProcessTable, AllocError>
-        requires few { length processes.now ≤ MOST_PROCESSES }
-        requires short { AreShort processes.now }
-        ensures { IfOk result (λ table. table ≡ fresh_processes (map machine_row processes.now)) }
+    pub fn new(alloc: Global, processes: ProcessRows<'_>) -> Result<ProcessTable, AllocError>
+        ensures { IfOk result (λ table. table ≡ fresh_processes (map machine_row processes.entry.rows.now)) }
     {
         Ok(ProcessTable {
             records: Records::new(alloc, processes)?,
@@ -70,7 +67,7 @@ impl ProcessTable {
             running: None,
             lock: Lock::Free,
             queues: WaitingLists::new(alloc)?,
-            handed: no_messages(alloc, processes)?,
+            handed: no_messages(alloc, processes.rows)?,
         })
     }
 

@@ -12,7 +12,7 @@ ghost use Rattle.kernel_meaning.specs.Made.{IsMade};
 ghost use Rattle.kernel_meaning.specs.Sharing as meaning;
 ghost use Rattle.kernel_laws.specs.WaitingOrder.{AreQueues};
 ghost use Rattle.process_table_base.specs.Bounds.{IsBounded};
-ghost use Rattle.process_table_base.specs.declared.rooms.TheConstants.{ROOM_TO_GIVE_ALL, ROOM_TO_RELEASE_ALL};
+ghost use Rattle.process_table_base.specs.declared.rooms.TheConstants.{ACTIONS_TO_GIVE_ALL, ACTIONS_TO_RELEASE_ALL, LINES_TO_GIVE_ALL, LINES_TO_RELEASE_ALL};
 ghost use Rattle.process_table_base.specs.LeastNumber.{IsLeast};
 
 use crate::change::zeros;
@@ -35,10 +35,10 @@ fn put_message(handed: &mut Vec<Words>, process: ProcessIndex, message: Words)
 
 /// The words go into an array, if there is one.
 pub fn fill(array: Option<ArrayPlace>, message: &Words, out: &mut Out)
-    requires { HasRoom 1 out.old }
+    requires { HasRoom 0 1 out.old }
     ensures lines { out.new.lines.items ≡ out.old.lines.items }
     ensures actions { out.new.actions.items ≡ out.old.actions.items ++ meaning.writes array message.now }
-    ensures grows { Grows 1 out.old out.new }
+    ensures grows { Grows 0 1 out.old out.new }
 {
     if let Some(array) = array {
         out.actions.push(Action::Write(array.base, copied(message)));
@@ -146,28 +146,16 @@ impl ProcessTable {
         out: &mut Out,
     )
         requires limit { is_duration limit ≡ true }
-        requires room { HasRoom 1 out.old }
+        requires room { HasRoom 1 1 out.old }
         ensures step { IsMade (meaning.blocks moment.at self.old caller limit waiting message) self.new out.old out.new }
-        ensures grows { Grows 1 out.old out.new }
+        ensures grows { Grows 1 1 out.old out.new }
     {
         let service = waiting.service;
         if limit == 0 {
-            return self.refuse(
-                caller,
-                service,
-                ReturnCode::NotAvailable,
-                zeros(service),
-                out,
-            );
+            return self.refuse(caller, service, ReturnCode::NotAvailable, out);
         }
         if self.is_busy(caller) {
-            return self.refuse(
-                caller,
-                service,
-                ReturnCode::InvalidMode,
-                zeros(service),
-                out,
-            );
+            return self.refuse(caller, service, ReturnCode::InvalidMode, out);
         }
         if let Some(row) = self.row(caller) {
             self.enter(caller, waiting, message, &row);
@@ -181,9 +169,9 @@ impl ProcessTable {
 
     /// Releases one that is found.
     fn release_found(&mut self, process: ProcessIndex, out: &mut Out)
-        requires { HasRoom 2 out.old }
+        requires { HasRoom 2 1 out.old }
         ensures step { IsMade (meaning.releases_found self.old (processes.numbered process (processes.row_of self.old (Runner.Process process)))) self.new out.old out.new }
-        ensures grows { Grows 2 out.old out.new }
+        ensures grows { Grows 2 1 out.old out.new }
     {
         if let Some((runner, row)) = self.numbered(process) {
             self.release_as(runner, row, ReturnCode::NoError, out);
@@ -192,9 +180,9 @@ impl ProcessTable {
 
     /// Releases each of these in turn.
     fn release_each(&mut self, entries: &[Entry], out: &mut Out)
-        requires { HasRoom (2 * length entries.now) out.old }
+        requires { HasRoom (2 * length entries.now) (length entries.now) out.old }
         ensures step { IsMade (meaning.releases_all entries.now self.old) self.new out.old out.new }
-        ensures grows { Grows (2 * length entries.now) out.old out.new }
+        ensures grows { Grows (2 * length entries.now) (length entries.now) out.old out.new }
     {
         if let Some((entry, rest)) = entries.split_first() {
             self.release_found(entry.process, out);
@@ -204,9 +192,9 @@ impl ProcessTable {
 
     /// Releases all who wait in a list, in its order.
     pub fn release_all(&mut self, list: ListKey, out: &mut Out)
-        requires { HasRoom ROOM_TO_RELEASE_ALL out.old }
+        requires { HasRoom LINES_TO_RELEASE_ALL ACTIONS_TO_RELEASE_ALL out.old }
         ensures step { IsMade (meaning.releases_all (meaning.waiting self.old list) self.old) self.new out.old out.new }
-        ensures grows { Grows ROOM_TO_RELEASE_ALL out.old out.new }
+        ensures grows { Grows LINES_TO_RELEASE_ALL ACTIONS_TO_RELEASE_ALL out.old out.new }
     {
         let entries = self.waiting(list);
         self.release_each(entries.as_slice(), out);
@@ -223,9 +211,9 @@ impl ProcessTable {
     )
         requires runner { place_of runner < MOST_RUNNERS }
         requires bounded { IsBounded row }
-        requires room { HasRoom 3 out.old }
+        requires room { HasRoom 2 2 out.old }
         ensures step { IsMade (meaning.gives self.old runner row message.now) self.new out.old out.new }
-        ensures grows { Grows 3 out.old out.new }
+        ensures grows { Grows 2 2 out.old out.new }
     {
         fill(array_of_wait(row.wait), message, out);
         let length = message.len() as i64;
@@ -234,9 +222,9 @@ impl ProcessTable {
 
     /// Gives a message to one that is found.
     fn give_found(&mut self, process: ProcessIndex, message: &Words, out: &mut Out)
-        requires { HasRoom 3 out.old }
+        requires { HasRoom 2 2 out.old }
         ensures step { IsMade (meaning.gives_found self.old (processes.numbered process (processes.row_of self.old (Runner.Process process))) message.now) self.new out.old out.new }
-        ensures grows { Grows 3 out.old out.new }
+        ensures grows { Grows 2 2 out.old out.new }
     {
         if let Some((runner, row)) = self.numbered(process) {
             self.give_as(runner, row, message, out);
@@ -245,9 +233,9 @@ impl ProcessTable {
 
     /// Gives a message to each of these in turn.
     fn give_each(&mut self, entries: &[Entry], message: &Words, out: &mut Out)
-        requires { HasRoom (3 * length entries.now) out.old }
+        requires { HasRoom (2 * length entries.now) (2 * length entries.now) out.old }
         ensures step { IsMade (meaning.gives_all entries.now message.now self.old) self.new out.old out.new }
-        ensures grows { Grows (3 * length entries.now) out.old out.new }
+        ensures grows { Grows (2 * length entries.now) (2 * length entries.now) out.old out.new }
     {
         if let Some((entry, rest)) = entries.split_first() {
             self.give_found(entry.process, message, out);
@@ -257,9 +245,9 @@ impl ProcessTable {
 
     /// Gives a message to all who wait in a list, in its order.
     pub fn give_all(&mut self, list: ListKey, message: &Words, out: &mut Out)
-        requires { HasRoom ROOM_TO_GIVE_ALL out.old }
+        requires { HasRoom LINES_TO_GIVE_ALL ACTIONS_TO_GIVE_ALL out.old }
         ensures step { IsMade (meaning.gives_all (meaning.waiting self.old list) message.now self.old) self.new out.old out.new }
-        ensures grows { Grows ROOM_TO_GIVE_ALL out.old out.new }
+        ensures grows { Grows LINES_TO_GIVE_ALL ACTIONS_TO_GIVE_ALL out.old out.new }
     {
         let entries = self.waiting(list);
         self.give_each(entries.as_slice(), message, out);

@@ -19,7 +19,7 @@ mod registers;
 mod turn;
 
 pub use burst::{advance, step};
-pub use code::Code;
+pub use code::{Code, CodeRows};
 pub use codec::{decode, encode, encode_and_decode_agree, fields, op_name};
 pub use context::Context;
 pub use outcome::{Burst, Outcome};

@@ -11,7 +11,7 @@ ghost use Rattle.kernel_meaning.specs.Sharing.{answers};
 ghost use Rattle.sync_objects_base.specs.Status.{blackboard_at};
 ghost use Rattle.kernel_meaning.specs.Sharing.{both};
 ghost use Rattle.sync_objects.specs.Both.{number_of_occupied};
-ghost use Rattle.process_table_base.specs.declared.rooms.TheConstants.{ROOM_TO_GIVE_ALL};
+ghost use Rattle.process_table_base.specs.declared.rooms.TheConstants.{ACTIONS_TO_GIVE_ALL, LINES_TO_GIVE_ALL};
 
 use apex_types::{
     Action, ArrayPlace, Discipline, ListKey, Mode, Moment, Out, ReturnCode, Runner, Service,
@@ -31,19 +31,19 @@ pub fn create_blackboard(
     name: i64,
     out: &mut Out,
 )
-    requires { HasRoom 1 out.old }
+    requires { HasRoom 1 1 out.old }
     ensures step { IsMade (meaning.create_blackboard mode (both table.now objects.old) caller name) (both table.now objects.new) out.old out.new }
-    ensures grows { Grows 1 out.old out.new }
+    ensures grows { Grows 1 1 out.old out.new }
 {
     let service = Service::CreateBlackboard;
     if mode == Mode::Normal {
-        return table.refuse(caller, service, ReturnCode::InvalidMode, &[0], out);
+        return table.refuse(caller, service, ReturnCode::InvalidMode, out);
     }
     let Some((place, blackboard)) = objects.blackboard(name) else {
-        return table.refuse(caller, service, ReturnCode::InvalidConfig, &[0], out);
+        return table.refuse(caller, service, ReturnCode::InvalidConfig, out);
     };
     if blackboard.created {
-        return table.refuse(caller, service, ReturnCode::NoAction, &[0], out);
+        return table.refuse(caller, service, ReturnCode::NoAction, out);
     }
     table.answer(caller, service, ReturnCode::NoError, &[name], out);
     objects.create_blackboard(place);
@@ -58,16 +58,16 @@ pub fn get_blackboard_id(
     name: i64,
     out: &mut Out,
 )
-    requires { HasRoom 1 out.old }
+    requires { HasRoom 1 1 out.old }
     ensures step { IsMade (meaning.get_blackboard_id (both table.now objects.now) caller name) (both table.now objects.now) out.old out.new }
-    ensures grows { Grows 1 out.old out.new }
+    ensures grows { Grows 1 1 out.old out.new }
 {
     let service = Service::GetBlackboardId;
     match objects.blackboard(name) {
         Some((_, blackboard)) if blackboard.created => {
             table.answer(caller, service, ReturnCode::NoError, &[name], out)
         }
-        _ => table.refuse(caller, service, ReturnCode::InvalidConfig, &[0], out),
+        _ => table.refuse(caller, service, ReturnCode::InvalidConfig, out),
     }
 }
 
@@ -82,9 +82,9 @@ fn display(
     out: &mut Out,
 )
     requires place { place < MOST_OBJECTS }
-    requires room { HasRoom (1 + ROOM_TO_GIVE_ALL) out.old }
+    requires room { HasRoom (1 + LINES_TO_GIVE_ALL) (1 + ACTIONS_TO_GIVE_ALL) out.old }
     ensures step { let b = both table.old objects.old in IsMade (after (answers b caller Service.DisplayBlackboard ReturnCode.NoError []) (meaning.displays b message place (blackboard_at objects.old place))) (both table.new objects.new) out.old out.new }
-    ensures grows { Grows (1 + ROOM_TO_GIVE_ALL) out.old out.new }
+    ensures grows { Grows (1 + LINES_TO_GIVE_ALL) (1 + ACTIONS_TO_GIVE_ALL) out.old out.new }
 {
     let service = Service::DisplayBlackboard;
     table.answer(caller, service, ReturnCode::NoError, &[], out);
@@ -106,16 +106,16 @@ pub fn display_blackboard(
     words: &Words,
     out: &mut Out,
 )
-    requires { HasRoom (1 + ROOM_TO_GIVE_ALL) out.old }
+    requires { HasRoom (1 + LINES_TO_GIVE_ALL) (1 + ACTIONS_TO_GIVE_ALL) out.old }
     ensures step { IsMade (meaning.display_blackboard (both table.old objects.old) caller id array length words.now.items) (both table.new objects.new) out.old out.new }
-    ensures grows { Grows (1 + ROOM_TO_GIVE_ALL) out.old out.new }
+    ensures grows { Grows (1 + LINES_TO_GIVE_ALL) (1 + ACTIONS_TO_GIVE_ALL) out.old out.new }
 {
     let service = Service::DisplayBlackboard;
     let Some((place, blackboard)) = objects.blackboard(id) else {
-        return table.refuse(caller, service, ReturnCode::InvalidParam, &[], out);
+        return table.refuse(caller, service, ReturnCode::InvalidParam, out);
     };
     if !blackboard.created || !is_length(blackboard.row.words, array, length) {
-        return table.refuse(caller, service, ReturnCode::InvalidParam, &[], out);
+        return table.refuse(caller, service, ReturnCode::InvalidParam, out);
     }
     let message = first_words(length, words);
     display(table, objects, caller, message, place, out);
@@ -130,9 +130,9 @@ pub fn clear_blackboard(
     id: i64,
     out: &mut Out,
 )
-    requires { HasRoom 1 out.old }
+    requires { HasRoom 1 1 out.old }
     ensures step { IsMade (meaning.clear_blackboard (both table.now objects.old) caller id) (both table.now objects.new) out.old out.new }
-    ensures grows { Grows 1 out.old out.new }
+    ensures grows { Grows 1 1 out.old out.new }
 {
     let service = Service::ClearBlackboard;
     match objects.blackboard(id) {
@@ -140,7 +140,7 @@ pub fn clear_blackboard(
             table.answer(caller, service, ReturnCode::NoError, &[], out);
             objects.show(place, None)
         }
-        _ => table.refuse(caller, service, ReturnCode::InvalidParam, &[], out),
+        _ => table.refuse(caller, service, ReturnCode::InvalidParam, out),
     }
 }
 
@@ -157,9 +157,9 @@ fn read(
 )
     requires limit { durations.is_duration limit ≡ true }
     requires place { place < MOST_OBJECTS }
-    requires room { HasRoom 2 out.old }
+    requires room { HasRoom 1 2 out.old }
     ensures step { IsMade (meaning.reads moment.at (both table.old objects.now) caller array limit place (blackboard_at objects.now place).shown) (both table.new objects.now) out.old out.new }
-    ensures grows { Grows 2 out.old out.new }
+    ensures grows { Grows 1 2 out.old out.new }
 {
     let service = Service::ReadBlackboard;
     if let Some(message) = objects.shown(place) {
@@ -193,17 +193,17 @@ pub fn read_blackboard(
     limit: i64,
     out: &mut Out,
 )
-    requires room { HasRoom 2 out.old }
+    requires room { HasRoom 1 2 out.old }
     ensures step { IsMade (meaning.read_blackboard moment.at (both table.old objects.now) caller id array limit) (both table.new objects.now) out.old out.new }
-    ensures grows { Grows 2 out.old out.new }
+    ensures grows { Grows 1 2 out.old out.new }
 {
     let service = Service::ReadBlackboard;
     let Some((place, blackboard)) = objects.blackboard(id) else {
-        return table.refuse(caller, service, ReturnCode::InvalidParam, &[0], out);
+        return table.refuse(caller, service, ReturnCode::InvalidParam, out);
     };
     let large = is_large_enough(blackboard.row.words, array);
     if !blackboard.created || !large || !is_duration(limit) {
-        return table.refuse(caller, service, ReturnCode::InvalidParam, &[0], out);
+        return table.refuse(caller, service, ReturnCode::InvalidParam, out);
     }
     read(table, objects, moment, caller, array, limit, place, out);
 }
@@ -226,9 +226,9 @@ pub fn get_blackboard_status(
     id: i64,
     out: &mut Out,
 )
-    requires { HasRoom 1 out.old }
+    requires { HasRoom 1 1 out.old }
     ensures step { IsMade (meaning.get_blackboard_status (both table.now objects.now) caller id) (both table.now objects.now) out.old out.new }
-    ensures grows { Grows 1 out.old out.new }
+    ensures grows { Grows 1 1 out.old out.new }
 {
     let service = Service::GetBlackboardStatus;
     match objects.blackboard(id) {
@@ -239,6 +239,6 @@ pub fn get_blackboard_status(
             let outputs = [occupied, words, i64::from(waiting)];
             table.answer(caller, service, ReturnCode::NoError, &outputs, out)
         }
-        _ => table.refuse(caller, service, ReturnCode::InvalidParam, &[0, 0, 0], out),
+        _ => table.refuse(caller, service, ReturnCode::InvalidParam, out),
     }
 }

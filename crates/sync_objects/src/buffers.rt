@@ -29,19 +29,19 @@ pub fn create_buffer(
     name: i64,
     out: &mut Out,
 )
-    requires { HasRoom 1 out.old }
+    requires { HasRoom 1 1 out.old }
     ensures step { IsMade (meaning.create_buffer mode (both table.now objects.old) caller name) (both table.now objects.new) out.old out.new }
-    ensures grows { Grows 1 out.old out.new }
+    ensures grows { Grows 1 1 out.old out.new }
 {
     let service = Service::CreateBuffer;
     if mode == Mode::Normal {
-        return table.refuse(caller, service, ReturnCode::InvalidMode, &[0], out);
+        return table.refuse(caller, service, ReturnCode::InvalidMode, out);
     }
     let Some((place, buffer)) = objects.buffer(name) else {
-        return table.refuse(caller, service, ReturnCode::InvalidConfig, &[0], out);
+        return table.refuse(caller, service, ReturnCode::InvalidConfig, out);
     };
     if buffer.created {
-        return table.refuse(caller, service, ReturnCode::NoAction, &[0], out);
+        return table.refuse(caller, service, ReturnCode::NoAction, out);
     }
     table.answer(caller, service, ReturnCode::NoError, &[name], out);
     objects.create_buffer(place);
@@ -56,16 +56,16 @@ pub fn get_buffer_id(
     name: i64,
     out: &mut Out,
 )
-    requires { HasRoom 1 out.old }
+    requires { HasRoom 1 1 out.old }
     ensures step { IsMade (meaning.get_buffer_id (both table.now objects.now) caller name) (both table.now objects.now) out.old out.new }
-    ensures grows { Grows 1 out.old out.new }
+    ensures grows { Grows 1 1 out.old out.new }
 {
     let service = Service::GetBufferId;
     match objects.buffer(name) {
         Some((_, buffer)) if buffer.created => {
             table.answer(caller, service, ReturnCode::NoError, &[name], out)
         }
-        _ => table.refuse(caller, service, ReturnCode::InvalidConfig, &[0], out),
+        _ => table.refuse(caller, service, ReturnCode::InvalidConfig, out),
     }
 }
 
@@ -85,9 +85,9 @@ fn send(
     requires limit { durations.is_duration limit ≡ true }
     requires place { place < MOST_OBJECTS }
     requires status { buffer ≡ buffer_status (buffer_at objects.old place) }
-    requires room { HasRoom 4 out.old }
+    requires room { HasRoom 3 3 out.old }
     ensures step { IsMade (meaning.sends moment.at (both table.old objects.old) caller limit message place (buffer_at objects.old place)) (both table.new objects.new) out.old out.new }
-    ensures grows { Grows 4 out.old out.new }
+    ensures grows { Grows 3 3 out.old out.new }
 {
     let service = Service::SendBuffer;
     let list = ListKey::Buffer(place);
@@ -125,19 +125,19 @@ pub fn send_buffer(
     words: &Words,
     out: &mut Out,
 )
-    requires room { HasRoom 4 out.old }
+    requires room { HasRoom 3 3 out.old }
     ensures step { IsMade (meaning.send_buffer moment.at (both table.old objects.old) caller id array length limit words.now.items) (both table.new objects.new) out.old out.new }
-    ensures grows { Grows 4 out.old out.new }
+    ensures grows { Grows 3 3 out.old out.new }
 {
     let service = Service::SendBuffer;
     let Some((place, buffer)) = objects.buffer(id) else {
-        return table.refuse(caller, service, ReturnCode::InvalidParam, &[], out);
+        return table.refuse(caller, service, ReturnCode::InvalidParam, out);
     };
     if !buffer.created || !is_length(buffer.row.words, array, length) {
-        return table.refuse(caller, service, ReturnCode::InvalidParam, &[], out);
+        return table.refuse(caller, service, ReturnCode::InvalidParam, out);
     }
     if !is_duration(limit) {
-        return table.refuse(caller, service, ReturnCode::InvalidParam, &[], out);
+        return table.refuse(caller, service, ReturnCode::InvalidParam, out);
     }
     let message = first_words(length, words);
     send(
@@ -149,9 +149,9 @@ pub fn send_buffer(
 fn admit(table: &mut ProcessTable, objects: &mut Objects, place: u8, out: &mut Out)
     requires place { place < MOST_OBJECTS }
     requires free { let x = buffer_at objects.old place in length x.messages < x.row.depth }
-    requires room { HasRoom 2 out.old }
+    requires room { HasRoom 2 1 out.old }
     ensures step { IsMade (meaning.admits (both table.old objects.old) place (buffer_at objects.old place) (first_waiting table.old (meaning.list place))) (both table.new objects.new) out.old out.new }
-    ensures grows { Grows 2 out.old out.new }
+    ensures grows { Grows 2 1 out.old out.new }
 {
     if let Some((sender, _)) = table.first_waiting(ListKey::Buffer(place)) {
         objects.push_message(place, table.handed_by(sender));
@@ -171,9 +171,9 @@ fn deliver(
 )
     requires place { place < MOST_OBJECTS }
     requires free { let x = buffer_at objects.old place in length x.messages < x.row.depth }
-    requires room { HasRoom 4 out.old }
+    requires room { HasRoom 3 3 out.old }
     ensures step { IsMade (delivers (both table.old objects.old) caller array place (buffer_at objects.old place) message) (both table.new objects.new) out.old out.new }
-    ensures grows { Grows 4 out.old out.new }
+    ensures grows { Grows 3 3 out.old out.new }
 {
     let service = Service::ReceiveBuffer;
     let count = message.len() as i64;
@@ -198,9 +198,9 @@ fn receive(
     requires limit { durations.is_duration limit ≡ true }
     requires place { place < MOST_OBJECTS }
     requires discipline { discipline ≡ (buffer_at objects.old place).row.discipline }
-    requires room { HasRoom 4 out.old }
+    requires room { HasRoom 3 3 out.old }
     ensures step { let x = buffer_at objects.old place in IsMade (meaning.receives moment.at (both table.old objects.old) caller array limit place x x.messages) (both table.new objects.new) out.old out.new }
-    ensures grows { Grows 4 out.old out.new }
+    ensures grows { Grows 3 3 out.old out.new }
 {
     if let Some(message) = objects.pop_message(place) {
         return deliver(table, objects, caller, array, place, message, out);
@@ -230,17 +230,17 @@ pub fn receive_buffer(
     limit: i64,
     out: &mut Out,
 )
-    requires room { HasRoom 4 out.old }
+    requires room { HasRoom 3 3 out.old }
     ensures step { IsMade (meaning.receive_buffer moment.at (both table.old objects.old) caller id array limit) (both table.new objects.new) out.old out.new }
-    ensures grows { Grows 4 out.old out.new }
+    ensures grows { Grows 3 3 out.old out.new }
 {
     let service = Service::ReceiveBuffer;
     let Some((place, buffer)) = objects.buffer(id) else {
-        return table.refuse(caller, service, ReturnCode::InvalidParam, &[0], out);
+        return table.refuse(caller, service, ReturnCode::InvalidParam, out);
     };
     let large = is_large_enough(buffer.row.words, array);
     if !buffer.created || !large || !is_duration(limit) {
-        return table.refuse(caller, service, ReturnCode::InvalidParam, &[0], out);
+        return table.refuse(caller, service, ReturnCode::InvalidParam, out);
     }
     let discipline = buffer.row.discipline;
     receive(
@@ -258,9 +258,9 @@ pub fn get_buffer_status(
     id: i64,
     out: &mut Out,
 )
-    requires { HasRoom 1 out.old }
+    requires { HasRoom 1 1 out.old }
     ensures step { IsMade (meaning.get_buffer_status (both table.now objects.now) caller id) (both table.now objects.now) out.old out.new }
-    ensures grows { Grows 1 out.old out.new }
+    ensures grows { Grows 1 1 out.old out.new }
 {
     let service = Service::GetBufferStatus;
     match objects.buffer(id) {
@@ -272,12 +272,6 @@ pub fn get_buffer_status(
             let outputs = [messages, depth, words, i64::from(waiting)];
             table.answer(caller, service, ReturnCode::NoError, &outputs, out)
         }
-        _ => table.refuse(
-            caller,
-            service,
-            ReturnCode::InvalidParam,
-            &[0, 0, 0, 0],
-            out,
-        ),
+        _ => table.refuse(caller, service, ReturnCode::InvalidParam, out),
     }
 }

@@ -5,7 +5,7 @@ ghost use Rattle.apex_types.specs.Room.{HasRoom, Grows};
 ghost use Rattle.kernel_meaning.specs.EventServices as meaning;
 ghost use Rattle.kernel_meaning.specs.Made.{IsMade};
 ghost use Rattle.kernel_meaning.specs.Sharing.{both};
-ghost use Rattle.process_table_base.specs.declared.rooms.TheConstants.{ROOM_TO_RELEASE_ALL};
+ghost use Rattle.process_table_base.specs.declared.rooms.TheConstants.{ACTIONS_TO_RELEASE_ALL, LINES_TO_RELEASE_ALL};
 
 use apex_types::{
     Discipline, ListKey, Mode, Moment, Out, ReturnCode, Runner, Service, Waiting, Words,
@@ -24,19 +24,19 @@ pub fn create_event(
     name: i64,
     out: &mut Out,
 )
-    requires { HasRoom 1 out.old }
+    requires { HasRoom 1 1 out.old }
     ensures step { IsMade (meaning.create_event mode (both table.now objects.old) caller name) (both table.now objects.new) out.old out.new }
-    ensures grows { Grows 1 out.old out.new }
+    ensures grows { Grows 1 1 out.old out.new }
 {
     let service = Service::CreateEvent;
     if mode == Mode::Normal {
-        return table.refuse(caller, service, ReturnCode::InvalidMode, &[0], out);
+        return table.refuse(caller, service, ReturnCode::InvalidMode, out);
     }
     let Some((place, event)) = objects.event(name) else {
-        return table.refuse(caller, service, ReturnCode::InvalidConfig, &[0], out);
+        return table.refuse(caller, service, ReturnCode::InvalidConfig, out);
     };
     if event.is_created() {
-        return table.refuse(caller, service, ReturnCode::NoAction, &[0], out);
+        return table.refuse(caller, service, ReturnCode::NoAction, out);
     }
     table.answer(caller, service, ReturnCode::NoError, &[name], out);
     objects.put_event(place, event.created());
@@ -51,16 +51,16 @@ pub fn get_event_id(
     name: i64,
     out: &mut Out,
 )
-    requires { HasRoom 1 out.old }
+    requires { HasRoom 1 1 out.old }
     ensures step { IsMade (meaning.get_event_id (both table.now objects.now) caller name) (both table.now objects.now) out.old out.new }
-    ensures grows { Grows 1 out.old out.new }
+    ensures grows { Grows 1 1 out.old out.new }
 {
     let service = Service::GetEventId;
     match objects.event(name) {
         Some((_, event)) if event.is_created() => {
             table.answer(caller, service, ReturnCode::NoError, &[name], out)
         }
-        _ => table.refuse(caller, service, ReturnCode::InvalidConfig, &[0], out),
+        _ => table.refuse(caller, service, ReturnCode::InvalidConfig, out),
     }
 }
 
@@ -73,9 +73,9 @@ pub fn set_event(
     id: i64,
     out: &mut Out,
 )
-    requires { HasRoom (1 + ROOM_TO_RELEASE_ALL) out.old }
+    requires { HasRoom (1 + LINES_TO_RELEASE_ALL) (1 + ACTIONS_TO_RELEASE_ALL) out.old }
     ensures step { IsMade (meaning.set_event (both table.old objects.old) caller id) (both table.new objects.new) out.old out.new }
-    ensures grows { Grows (1 + ROOM_TO_RELEASE_ALL) out.old out.new }
+    ensures grows { Grows (1 + LINES_TO_RELEASE_ALL) (1 + ACTIONS_TO_RELEASE_ALL) out.old out.new }
 {
     let service = Service::SetEvent;
     match objects.event(id) {
@@ -84,7 +84,7 @@ pub fn set_event(
             objects.put_event(place, event.with_state(true));
             table.release_all(ListKey::Event(place), out)
         }
-        _ => table.refuse(caller, service, ReturnCode::InvalidParam, &[], out),
+        _ => table.refuse(caller, service, ReturnCode::InvalidParam, out),
     }
 }
 
@@ -97,9 +97,9 @@ pub fn reset_event(
     id: i64,
     out: &mut Out,
 )
-    requires { HasRoom 1 out.old }
+    requires { HasRoom 1 1 out.old }
     ensures step { IsMade (meaning.reset_event (both table.now objects.old) caller id) (both table.now objects.new) out.old out.new }
-    ensures grows { Grows 1 out.old out.new }
+    ensures grows { Grows 1 1 out.old out.new }
 {
     let service = Service::ResetEvent;
     match objects.event(id) {
@@ -107,7 +107,7 @@ pub fn reset_event(
             table.answer(caller, service, ReturnCode::NoError, &[], out);
             objects.put_event(place, event.with_state(false))
         }
-        _ => table.refuse(caller, service, ReturnCode::InvalidParam, &[], out),
+        _ => table.refuse(caller, service, ReturnCode::InvalidParam, out),
     }
 }
 
@@ -124,16 +124,16 @@ pub fn wait_event(
     limit: i64,
     out: &mut Out,
 )
-    requires room { HasRoom 1 out.old }
+    requires room { HasRoom 1 1 out.old }
     ensures step { IsMade (meaning.wait_event moment.at (both table.old objects.now) caller id limit) (both table.new objects.now) out.old out.new }
-    ensures grows { Grows 1 out.old out.new }
+    ensures grows { Grows 1 1 out.old out.new }
 {
     let service = Service::WaitEvent;
     let Some((place, event)) = objects.event(id) else {
-        return table.refuse(caller, service, ReturnCode::InvalidParam, &[], out);
+        return table.refuse(caller, service, ReturnCode::InvalidParam, out);
     };
     if !event.is_created() || !is_duration(limit) {
-        return table.refuse(caller, service, ReturnCode::InvalidParam, &[], out);
+        return table.refuse(caller, service, ReturnCode::InvalidParam, out);
     }
     if event.is_up() {
         return table.answer(caller, service, ReturnCode::NoError, &[], out);
@@ -163,9 +163,9 @@ pub fn get_event_status(
     id: i64,
     out: &mut Out,
 )
-    requires { HasRoom 1 out.old }
+    requires { HasRoom 1 1 out.old }
     ensures step { IsMade (meaning.get_event_status (both table.now objects.now) caller id) (both table.now objects.now) out.old out.new }
-    ensures grows { Grows 1 out.old out.new }
+    ensures grows { Grows 1 1 out.old out.new }
 {
     let service = Service::GetEventStatus;
     match objects.event(id) {
@@ -175,6 +175,6 @@ pub fn get_event_status(
             let outputs = [state, i64::from(waiting)];
             table.answer(caller, service, ReturnCode::NoError, &outputs, out)
         }
-        _ => table.refuse(caller, service, ReturnCode::InvalidParam, &[0, 0], out),
+        _ => table.refuse(caller, service, ReturnCode::InvalidParam, out),
     }
 }

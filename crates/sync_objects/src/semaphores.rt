@@ -21,19 +21,19 @@ pub fn create_semaphore(
     name: i64,
     out: &mut Out,
 )
-    requires { HasRoom 1 out.old }
+    requires { HasRoom 1 1 out.old }
     ensures step { IsMade (meaning.create_semaphore mode (both table.now objects.old) caller name) (both table.now objects.new) out.old out.new }
-    ensures grows { Grows 1 out.old out.new }
+    ensures grows { Grows 1 1 out.old out.new }
 {
     let service = Service::CreateSemaphore;
     if mode == Mode::Normal {
-        return table.refuse(caller, service, ReturnCode::InvalidMode, &[0], out);
+        return table.refuse(caller, service, ReturnCode::InvalidMode, out);
     }
     let Some((place, semaphore)) = objects.semaphore(name) else {
-        return table.refuse(caller, service, ReturnCode::InvalidConfig, &[0], out);
+        return table.refuse(caller, service, ReturnCode::InvalidConfig, out);
     };
     if semaphore.is_created() {
-        return table.refuse(caller, service, ReturnCode::NoAction, &[0], out);
+        return table.refuse(caller, service, ReturnCode::NoAction, out);
     }
     table.answer(caller, service, ReturnCode::NoError, &[name], out);
     objects.put_semaphore(place, semaphore.created());
@@ -48,16 +48,16 @@ pub fn get_semaphore_id(
     name: i64,
     out: &mut Out,
 )
-    requires { HasRoom 1 out.old }
+    requires { HasRoom 1 1 out.old }
     ensures step { IsMade (meaning.get_semaphore_id (both table.now objects.now) caller name) (both table.now objects.now) out.old out.new }
-    ensures grows { Grows 1 out.old out.new }
+    ensures grows { Grows 1 1 out.old out.new }
 {
     let service = Service::GetSemaphoreId;
     match objects.semaphore(name) {
         Some((_, semaphore)) if semaphore.is_created() => {
             table.answer(caller, service, ReturnCode::NoError, &[name], out)
         }
-        _ => table.refuse(caller, service, ReturnCode::InvalidConfig, &[0], out),
+        _ => table.refuse(caller, service, ReturnCode::InvalidConfig, out),
     }
 }
 
@@ -75,16 +75,16 @@ pub fn wait_semaphore(
     limit: i64,
     out: &mut Out,
 )
-    requires room { HasRoom 1 out.old }
+    requires room { HasRoom 1 1 out.old }
     ensures step { IsMade (meaning.wait_semaphore moment.at (both table.old objects.old) caller id limit) (both table.new objects.new) out.old out.new }
-    ensures grows { Grows 1 out.old out.new }
+    ensures grows { Grows 1 1 out.old out.new }
 {
     let service = Service::WaitSemaphore;
     let Some((place, semaphore)) = objects.semaphore(id) else {
-        return table.refuse(caller, service, ReturnCode::InvalidParam, &[], out);
+        return table.refuse(caller, service, ReturnCode::InvalidParam, out);
     };
     if !semaphore.is_created() || !is_duration(limit) {
-        return table.refuse(caller, service, ReturnCode::InvalidParam, &[], out);
+        return table.refuse(caller, service, ReturnCode::InvalidParam, out);
     }
     let value = semaphore.value();
     if 0 < value {
@@ -110,20 +110,20 @@ pub fn signal_semaphore(
     id: i64,
     out: &mut Out,
 )
-    requires { HasRoom 3 out.old }
+    requires { HasRoom 3 2 out.old }
     ensures step { IsMade (meaning.signal_semaphore (both table.old objects.old) caller id) (both table.new objects.new) out.old out.new }
-    ensures grows { Grows 3 out.old out.new }
+    ensures grows { Grows 3 2 out.old out.new }
 {
     let service = Service::SignalSemaphore;
     let Some((place, semaphore)) = objects.semaphore(id) else {
-        return table.refuse(caller, service, ReturnCode::InvalidParam, &[], out);
+        return table.refuse(caller, service, ReturnCode::InvalidParam, out);
     };
     if !semaphore.is_created() {
-        return table.refuse(caller, service, ReturnCode::InvalidParam, &[], out);
+        return table.refuse(caller, service, ReturnCode::InvalidParam, out);
     }
     let value = semaphore.value();
     if value >= semaphore.maximum() {
-        return table.refuse(caller, service, ReturnCode::NoAction, &[], out);
+        return table.refuse(caller, service, ReturnCode::NoAction, out);
     }
     table.answer(caller, service, ReturnCode::NoError, &[], out);
     match table.first_waiting(ListKey::Semaphore(place)) {
@@ -141,9 +141,9 @@ pub fn get_semaphore_status(
     id: i64,
     out: &mut Out,
 )
-    requires { HasRoom 1 out.old }
+    requires { HasRoom 1 1 out.old }
     ensures step { IsMade (meaning.get_semaphore_status (both table.now objects.now) caller id) (both table.now objects.now) out.old out.new }
-    ensures grows { Grows 1 out.old out.new }
+    ensures grows { Grows 1 1 out.old out.new }
 {
     let service = Service::GetSemaphoreStatus;
     match objects.semaphore(id) {
@@ -154,6 +154,6 @@ pub fn get_semaphore_status(
             let outputs = [value, maximum, i64::from(waiting)];
             table.answer(caller, service, ReturnCode::NoError, &outputs, out)
         }
-        _ => table.refuse(caller, service, ReturnCode::InvalidParam, &[0, 0, 0], out),
+        _ => table.refuse(caller, service, ReturnCode::InvalidParam, out),
     }
 }

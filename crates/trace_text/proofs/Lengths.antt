@@ -1,4 +1,4 @@
--- No line of an event that can be written has more than 512 bytes.
+-- No line of an event that can be written has more bytes than a line may have.
 use Rattle.std.proofs.Common.{ℕ, ℤ, pos, negsuc, ◌+◌, ◌*◌, ◌<◌, ◌≤◌, List, [], ◌∷◌, ◌++◌, length, Option, Some, None, codes, arith, length-append, lit<, lit≤}
 use Rattle.std.specs.Prelude.{◌&&◌, nat_le, FitsSigned, IsTrue}
 use Rattle.std.specs.Fmt.{decimal, signed_decimal}
@@ -6,7 +6,7 @@ use Rattle.std.specs.Int.{w64}
 use Rattle.std.specs.List.{list_all}
 use Rattle.std.proofs.lemmas.Bool.{and_parts, leb-true}
 use Rattle.std.proofs.lemmas.Fmt.{length-decimal-le, length_signed_le}
-use Rattle.apex_types.specs.declared.limits.TheConstants.{MOST_NAME_BYTES}
+use Rattle.apex_types.specs.declared.limits.TheConstants.{MOST_LINE_BYTES, MOST_NAME_BYTES}
 use Rattle.apex_types.specs.CodeWords.{return_code_number, mode_word, state_word, error_word, level_word, level_of_response, action_word}
 use Rattle.apex_types.specs.Line.{thirteen_digits, partition_text, subject_text, culprit_text, words_text, kind_text, line_of}
 use Rattle.apex_types.specs.NameText.{is_name, is_lower_case, is_name_byte}
@@ -145,7 +145,7 @@ kind_short (event.Out channel words) good = named_short (codes "OUT ") channel w
 digits_short : (n : ℕ) → length (thirteen_digits n) ≤ 13
 digits_short n = lit≤ tt
 
-pub line_short : (e : Event) → CanBeWritten e → length (line_of e) ≤ 512
+pub line_short : (e : Event) → CanBeWritten e → length (line_of e) ≤ MOST_LINE_BYTES
 line_short e can =
     let front = spaced (thirteen_digits e.tick.0) (partition_text e.partition) 13 30 (digits_short e.tick.0) (partition_short e.partition can.partition) in
     let both = spaced (thirteen_digits e.tick.0 ++ codes " " ++ partition_text e.partition) (kind_text e.kind) 44 400 front (kind_short e.kind can.parts) in

@@ -7,6 +7,7 @@ use Rattle.std.proofs.lemmas.Bool.{and_parts, and_from, cases_lt}
 use Rattle.std.proofs.lemmas.List.{take-append-drop, take-append-le}
 use Rattle.apex_types.specs.Line.{line_of}
 use Rattle.apex_types.specs.declared.event.Event.{Event}
+use Rattle.apex_types.specs.declared.limits.TheConstants.{MOST_LINE_BYTES}
 use Rattle.module_meaning.specs.DeviceText.{pieces_behind_marks}
 use Rattle.trace_text.specs.Stream.{NextIn, NoneIn, SeesLine}
 use Rattle.trace_text.specs.Trace.{CanBeWritten, IsNext}
@@ -46,7 +47,7 @@ front_free bytes more e rest can is short =
 long_enough : (n m : ℕ) → (n ≤ m → ⊥) → m + 1 ≤ n
 long_enough n m h = elim (cases_lt m n) [ inl high ↦ omega (arith, high) | inr low ↦ absurd (h low) ]
 
-within : (bytes more : List ℕ) (e : Event) (rest : List ℕ) → CanBeWritten e → bytes ++ more ≡ line_of e ++ rest → (pieces_behind_marks 10 bytes ≢ []) ⊎ (512 ≤ length bytes) ⊎ (more ≡ []) → length (line_of e) ≤ length bytes
+within : (bytes more : List ℕ) (e : Event) (rest : List ℕ) → CanBeWritten e → bytes ++ more ≡ line_of e ++ rest → (pieces_behind_marks 10 bytes ≢ []) ⊎ (MOST_LINE_BYTES ≤ length bytes) ⊎ (more ≡ []) → length (line_of e) ≤ length bytes
 within bytes more e rest can is (inl feed) =
     let above = long_enough (length bytes) (length (body_of e)) (λ short. feed (no_feed_free bytes (front_free bytes more e rest can is short))) in
     omega (arith, above, line_length e)
@@ -82,7 +83,7 @@ at_end : (behind : Option (List ℕ)) (more : List ℕ) → behind ≡ Some more
 at_end None more e h = cc
 at_end (Some xs) more e h = let same : xs ≡ more = cc in sym same ∙ h
 
-none_known : (before : ℕ) (text bytes more : List ℕ) → text ≡ bytes ++ more → (pieces_behind_marks 10 bytes ≢ []) ⊎ (512 ≤ length bytes) ⊎ (more ≡ []) → ((e : Event) (rest : List ℕ) → IsNext before bytes e rest → ⊥) → (e : Event) (rest : List ℕ) → IsNext before text e rest → ⊥
+none_known : (before : ℕ) (text bytes more : List ℕ) → text ≡ bytes ++ more → (pieces_behind_marks 10 bytes ≢ []) ⊎ (MOST_LINE_BYTES ≤ length bytes) ⊎ (more ≡ []) → ((e : Event) (rest : List ℕ) → IsNext before bytes e rest → ⊥) → (e : Event) (rest : List ℕ) → IsNext before text e rest → ⊥
 none_known before text bytes more is seen none e rest next =
     let whole : bytes ++ more ≡ line_of e ++ rest = sym is ∙ next.parts in
     none e (drop (length (line_of e)) bytes)
@@ -104,7 +105,7 @@ none_left (Some text) (Some more) bytes none kept (inr (inr done)) = sym kept �
 
 -- ---- what the steps of a stream know
 
-pub sees : (bytes own : List ℕ) (behind : Option (List ℕ)) → bytes ≡ own → (pieces_behind_marks 10 bytes ≢ []) ⊎ (512 ≤ length bytes) → SeesLine own behind
+pub sees : (bytes own : List ℕ) (behind : Option (List ℕ)) → bytes ≡ own → (pieces_behind_marks 10 bytes ≢ []) ⊎ (MOST_LINE_BYTES ≤ length bytes) → SeesLine own behind
 sees bytes own behind same (inl feed) = inl (λ none. feed (ap (pieces_behind_marks 10) same ∙ none))
 sees bytes own behind same (inr long) = inr (inl (omega (arith, long, ap length same)))
 

@@ -23,6 +23,7 @@ use Rattle.apex_types.specs.declared.event.EventKind.TheVariants as event
 use Rattle.apex_types.specs.declared.event.Subject.{Subject}
 use Rattle.apex_types.specs.declared.event.Subject.TheVariants as subject
 use Rattle.apex_types.specs.declared.identity.Ticks.{Ticks}
+use Rattle.apex_types.specs.declared.limits.TheConstants.{MOST_WORDS}
 use Rattle.apex_types.specs.declared.service.Service.{Service}
 use Rattle.arrayvec.specs.ArrayVec.{ArrayVec}
 use Rattle.module_meaning.specs.DeviceText.{pieces, plain_number, if_at_most, words}
@@ -118,12 +119,12 @@ responses =
 abbrev pub response_of : List ℕ → List ℕ → Option Response
 response_of level action = find (λ r. same (level_word (level_of_response r)) level && same (action_word r) action) responses
 
--- at most 16 words
+-- no more words than a message may have
 abbrev pub few : Option (List ℤ) → Option (ArrayVec ℤ)
 few None = None
-few (Some ws) = if nat_le (length ws) 16 then Some (message ws) else None
+few (Some ws) = if nat_le (length ws) MOST_WORDS then Some (message ws) else None
 
--- 1 to 16 words
+-- one word or more, but no more than a message may have
 abbrev pub words_of : List (List ℕ) → Option (ArrayVec ℤ)
 words_of [] = None
 words_of (t ∷ ts) = few (words (t ∷ ts))

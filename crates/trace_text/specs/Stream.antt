@@ -3,6 +3,7 @@ use Rattle.std.specs.Prelude.{◌≡◌, ◌≢◌, ◌⊎◌, ℕ, ◌+◌, ◌
 use Rattle.std.specs.Io.KnownBytes.{IsAtEnd, prepend_known}
 use Rattle.module_meaning.specs.DeviceText.{pieces_behind_marks}
 use Rattle.apex_types.specs.declared.event.Event.{Event}
+use Rattle.apex_types.specs.declared.limits.TheConstants.{MOST_LINE_BYTES}
 use Rattle.trace_text.specs.Trace.{IsNext}
 use Rattle.trace_text.specs.declared.ahead.Ahead.{Ahead}
 use Rattle.trace_text.specs.declared.stream.StreamFault.{StreamFault}
@@ -40,4 +41,4 @@ IsStreamFault before lines text Memory = Unit {0}
 
 -- the first line of a text that begins with these bytes, if it is one of a trace, ends within them
 abbrev pub SeesLine : List ℕ → Option (List ℕ) → Type 0
-SeesLine bytes behind = (pieces_behind_marks 10 bytes ≢ []) ⊎ (512 ≤ length bytes) ⊎ IsAtEnd behind
+SeesLine bytes behind = (pieces_behind_marks 10 bytes ≢ []) ⊎ (MOST_LINE_BYTES ≤ length bytes) ⊎ IsAtEnd behind

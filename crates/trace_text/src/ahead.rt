@@ -3,12 +3,10 @@
 ghost use Rattle.std.specs.Prelude.{◌≡◌, ℕ, ◌+◌, ◌-◌, ◌<◌, ◌≤◌, [], length, take, drop, slice_range, IfOk, OnErr, OnOk, vec_len};
 ghost use Rattle.std.specs.Io.{ReadsAtMost};
 ghost use Rattle.std.specs.Io.KnownBytes.{Consumes, IsAtEnd, Keeps, prepend_known};
+ghost use Rattle.apex_types.specs.declared.limits.TheConstants.{MOST_LINE_BYTES};
 
 use std::alloc::{AllocError, Global};
 use std::io::{Error, ErrorKind, Read, Result};
-
-/// No line of a trace is longer, with its line feed.
-pub const LONGEST_LINE: usize = 512;
 
 /// How many bytes are held at most.
 const CAPACITY: usize = 8192;
@@ -57,7 +55,7 @@ impl Ahead {
 
     /// Reads once, and says how many bytes came.
     pub fn read_more<R: Read>(&mut self, reader: &mut R) -> Result<usize>
-        requires { length (ahead_bytes self.old) < 512 }
+        requires { length (ahead_bytes self.old) < MOST_LINE_BYTES }
         ensures kept { Keeps (prepend_known (ahead_bytes self.old) (R.remaining reader.old)) (prepend_known (ahead_bytes self.new) (R.remaining reader.new)) }
         ensures longer { IfOk result (λ n. length (ahead_bytes self.new) ≡ length (ahead_bytes self.old) + n) }
         ensures end { IfOk result (λ n. n ≡ 0 → IsAtEnd (R.remaining reader.new)) }

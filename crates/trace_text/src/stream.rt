@@ -2,14 +2,16 @@
 
 ghost use Rattle.std.specs.Prelude.{◌≡◌, ◌≢◌, ◌⊎◌, ◌<◌, ◌≤◌, [], length, true, false, IfOk, IfErr, IfSome, OnErr, OnOk, Ok, Some, None};
 ghost use Rattle.std.specs.Io.KnownBytes.{IsAtEnd, Keeps};
+ghost use Rattle.apex_types.specs.declared.limits.TheConstants.{MOST_LINE_BYTES};
 ghost use Rattle.module_meaning.specs.DeviceText.{pieces_behind_marks};
 ghost use Rattle.trace_text.specs.Trace.{CanBeWritten};
 ghost use Rattle.trace_text.specs.Stream.{IsStreamFault, NextIn, SeesLine, ahead_bytes, left, next_number};
 ghost use Rattle.trace_text.specs.declared.stream.StreamFault.TheVariants as faults;
 
-use crate::ahead::{Ahead, LONGEST_LINE};
+use crate::ahead::Ahead;
 use crate::piece::split_at;
 use crate::reader::{TraceFault, TraceReader};
+use apex_types::limits::MOST_LINE_BYTES;
 use apex_types::{Event, Ticks};
 use std::alloc::{AllocError, Global};
 use std::io::{self, Read};
@@ -137,9 +139,9 @@ impl<R: Read> TraceStream<R> {
 
 /// Whether the first line, if it is one of a trace, stands here to its end.
 fn has_line(bytes: &[u8]) -> bool
-    ensures found { result ≡ true → (pieces_behind_marks 10 bytes.now ≢ []) ⊎ (512 ≤ length bytes.now) }
-    ensures short { result ≡ false → length bytes.now < 512 }
+    ensures found { result ≡ true → (pieces_behind_marks 10 bytes.now ≢ []) ⊎ (MOST_LINE_BYTES ≤ length bytes.now) }
+    ensures short { result ≡ false → length bytes.now < MOST_LINE_BYTES }
 {
     let (_, behind) = split_at(b'\n', bytes);
-    behind.is_some() || bytes.len() >= LONGEST_LINE
+    behind.is_some() || bytes.len() >= MOST_LINE_BYTES
 }

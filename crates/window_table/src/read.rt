@@ -2,6 +2,7 @@
 
 ghost use Rattle.std.specs.Prelude.{◌<◌, ◌≡◌, ◌||◌, ◌==◌, false, IfOk, map, is_none, pos, nat_abs};
 ghost use Rattle.std.specs.List.{list_any};
+ghost use Rattle.apex_types.specs.declared.limits.TheConstants.{MOST_FRAME_TICKS};
 ghost use Rattle.module_meaning.specs.TableRules.{is_outside, exceeds_counts, exceeds_rows, exceeds_limits, exceeds_partition, has_same_names, has_unknown_name, overlaps, numbered, partition_row, has_unknown_action, judge_table, judge_text};
 ghost use Rattle.window_table.specs.Answers.{Judges, AnswersText, RefusesLimit, RefusesOverlap};
 ghost use Rattle.window_table.specs.Views.{table_of, table_text, partition_text, partition_view};
@@ -35,7 +36,7 @@ fn limited(alloc: Global, written: &WrittenTable<'_>) -> Result<Vec<PartitionRow
 }
 
 fn frame_row(frame: i64) -> u32
-    requires { is_outside 1 (pos 16777216) frame ≡ false }
+    requires { is_outside 1 (pos MOST_FRAME_TICKS) frame ≡ false }
     ensures same { pos result ≡ frame }
     ensures number { result ≡ nat_abs frame }
     ensures there { 0 < result }

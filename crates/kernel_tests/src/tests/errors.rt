@@ -11,7 +11,7 @@ use health::{
     Errors, action_of, create_error_handler, free_places, get_error_status, handler_stays,
     is_message_length, level_of, report_application_message, start_handler,
 };
-use process_table_base::ProcessTable;
+use process_table_base::{ProcessRows, ProcessTable};
 use std::alloc::Global;
 use std::process::Abort;
 
@@ -43,7 +43,7 @@ fn table(rt: &impl Abort, alloc: Global) -> ProcessTable {
             frame: 2,
         },
     }];
-    ProcessTable::new(alloc, &rows).expect(rt, "memory")
+    ProcessTable::new(alloc, ProcessRows { rows: &rows }).expect(rt, "memory")
 }
 
 /// No errors wait for the handler, which the partition has.
@@ -62,7 +62,7 @@ fn errors(rt: &impl Abort, alloc: Global, waiting: u8) -> Errors {
 
 /// A table in which INIT has created the handler, and what the call told.
 fn with_handler(rt: &impl Abort, alloc: Global, out: &mut Out) -> ProcessTable
-    requires { HasRoom 2 out.old }
+    requires { HasRoom 1 1 out.old }
 {
     let mut table = table(rt, alloc);
     let errors = no_errors(rt, alloc);

@@ -4,7 +4,7 @@
 use apex_types::{
     At, BodyRow, Mode, Moment, Name, Out, Priority, ProcessIndex, ProcessRow, Runner, Ticks,
 };
-use process_table_base::{Points, ProcessTable};
+use process_table_base::{Points, ProcessRows, ProcessTable};
 use std::alloc::Global;
 use std::process::Abort;
 
@@ -24,7 +24,7 @@ fn table(rt: &impl Abort, alloc: Global) -> ProcessTable {
             frame: 2,
         },
     }];
-    ProcessTable::new(alloc, &rows).expect(rt, "memory")
+    ProcessTable::new(alloc, ProcessRows { rows: &rows }).expect(rt, "memory")
 }
 
 /// The process is started at tick 10 of normal mode.

@@ -8,7 +8,7 @@ use apex_types::{
     At, BodyRow, Call, ErrorKind, Events, HealthTable, Moment, Name, PartitionAction, PartitionId,
     Priority, ProcessRow, Section, StartCondition, Ticks, TraceBuffer, WriterSink,
 };
-use partition::{Fixed, Partition};
+use partition::{Fixed, Partition, PartitionRows};
 use processor::Outcome;
 use regions::{Memory, MemoryPlan, PartitionMem};
 use scripted::{Part, Scripted};
@@ -114,7 +114,11 @@ fn partition(rt: &impl Abort, alloc: Global, script: Vec<Outcome>) -> Partition<
         health: HEALTH,
     };
     let section = section(alloc, name(rt, b"p")).expect(rt, "memory");
-    Partition::new(alloc, fixed, &[], &section, executor).expect(rt, "memory")
+    let rows = PartitionRows {
+        ports: &[],
+        section: &section,
+    };
+    Partition::new(alloc, fixed, rows, executor).expect(rt, "memory")
 }
 
 const BODY: BodyRow = BodyRow {

@@ -1,6 +1,6 @@
 use Rattle.std.proofs.Common.{◌≡◌, map, take}
 use Rattle.regions.specs.Space.{planned}
-use Rattle.module.specs.Loading.{fresh_item}
+use Rattle.lone_partition.specs.Loading.{fresh_item}
 use Rattle.module.proofs.load.load_memory.Given as goal
 
 abbrev pub invariant-loop-item : goal.invariant-loop-item

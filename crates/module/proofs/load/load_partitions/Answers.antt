@@ -9,10 +9,10 @@ use Rattle.image.specs.declared.item.PartitionItem.{PartitionItem}
 use Rattle.partition.specs.Members.{member_of}
 use Rattle.partition_base.specs.contracts.machine.MachineExecutor.TheImpl.{ghosts as machine}
 use Rattle.window_table.specs.Schedules.{schedule_of}
-use Rattle.module.specs.Loading.{fresh_item}
+use Rattle.lone_partition.specs.Loading.{fresh_item}
 use Rattle.module.specs.Members.{members_of, AreFitting}
 use Rattle.module.proofs.Built.{one_longer}
-use Rattle.module.proofs.Lawful.{one_more_loaded}
+use Rattle.module.proofs.Loaded.{one_more_loaded}
 use Rattle.module.proofs.Members.{one_more_member, one_more_fits}
 use Rattle.module.proofs.load.load_partitions.Goals as goal
 

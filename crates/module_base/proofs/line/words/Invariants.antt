@@ -1,4 +1,5 @@
 use Rattle.std.proofs.Common.{◌≡◌, ◌≤◌, option_map, option_copied, length}
+use Rattle.apex_types.specs.declared.limits.TheConstants.{MOST_WORDS}
 use Rattle.module_meaning.specs.DeviceText.{words, pieces}
 use Rattle.module_base.specs.Seen.{pieces_of, fitting}
 use Rattle.module_base.proofs.LineWords.{read_on, rest_length}
@@ -7,7 +8,7 @@ use Rattle.module_base.proofs.line.words.Given as goal
 abbrev pub invariant-loop-rest : goal.invariant-loop-rest
 invariant-loop-rest l = record {
   read : option_map fitting (words (pieces 32 l.fn.text)) ≡ read_on l.words.items l.is_long (words (pieces_of 32 (option_copied l.rest)));
-  short : length l.words.items ≤ 16;
+  short : length l.words.items ≤ MOST_WORDS;
 }
 
 abbrev pub decreases-loop-rest : goal.decreases-loop-rest

@@ -1,4 +1,4 @@
-use Rattle.module.proofs.Lawful.{items_of_image_fit, items_of_image_few}
+use Rattle.lone_partition.proofs.Lawful.{items_of_image_fit, items_of_image_few}
 use Rattle.module.proofs.load.Module+Machine.load.Goals as goal
 
 pub load_partitions-requires : goal.load_partitions-requires

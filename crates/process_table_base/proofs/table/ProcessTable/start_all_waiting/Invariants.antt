@@ -10,7 +10,7 @@ invariant-loop-left l = record {
   actions : l.out.actions.items ++ (start_from l.points.moment.at l.points.next.0 l.left l.place l.self).actions ≡ l.fn.out.actions.items ++ (start_all_waiting l.points.moment.at l.points.next.0 l.fn.self).actions;
   count : l.place + l.left ≤ MOST_PROCESSES;
   lines_room : length l.out.lines.items ≤ length l.fn.out.lines.items + l.place;
-  actions_room : length l.out.actions.items ≤ length l.fn.out.actions.items + l.place;
+  actions_room : length l.out.actions.items ≤ length l.fn.out.actions.items;
 }
 
 abbrev pub decreases-loop-left : goal.decreases-loop-left

@@ -1,8 +1,28 @@
--- What an operator with two operands costs in ticks.
-use Rattle.std.specs.Prelude.{ℕ}
+-- What the constructs of a program and the instructions of the processor cost in ticks, and what an operator with two operands does.
+use Rattle.std.specs.Prelude.{ℕ, refl}
 use Rattle.apex_types.specs.declared.cost.Costs.{Costs}
 use Rattle.apex_types.specs.declared.instruction.BinaryOperator.{BinaryOperator}
 use Rattle.apex_types.specs.declared.instruction.BinaryOperator.TheVariants.{Add, Subtract, Multiply, Divide, Remainder}
+
+abbrev pub written_costs : Costs
+written_costs = record {
+  literal = 1;
+  scalar = 1;
+  array = 2;
+  add = 1;
+  mul = 2;
+  div = 4;
+  logic = 1;
+  branch = 1;
+  jump = 1;
+  call = 3;
+  ret = 2;
+  create = 8;
+  message = 6;
+  service = 4;
+  end = 4;
+  within = refl;
+}
 
 abbrev pub cost_of_binary : Costs → BinaryOperator → ℕ
 cost_of_binary costs Add = costs.add

@@ -1,0 +1,6 @@
+-- The place from 0 of what has a number from 1.
+use Rattle.std.specs.Prelude.{ℕ, zero, suc, Option, Some, None}
+
+abbrev pub place_of_number : ℕ → Option ℕ
+place_of_number zero = None
+place_of_number (suc place) = Some place
