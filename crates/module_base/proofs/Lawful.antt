@@ -1,18 +1,19 @@
 -- What the type of an image says of its numbers and of its partitions' rows.
-use Rattle.std.proofs.Common.{◌≡◌, ℕ, zero, suc, ℤ, ◌-◌, ◌<◌, ◌≤◌, Bool, true, false, cond, List, [], ◌∷◌, ◌++◌, length, map, get_or, Option, Some, refl, sym, ap, subst, ◌∙◌, arith}
+use Rattle.std.proofs.Common.{◌≡◌, ℕ, zero, suc, ℤ, ◌<◌, ◌≤◌, Bool, true, false, cond, List, [], ◌∷◌, ◌++◌, length, map, get_or, Option, Some, refl, sym, ap, subst, ◌∙◌, arith}
 use Rattle.std.specs.Prelude.{slice_get, option_map, nat_le}
 use Rattle.std.specs.List.{AllByRecursion}
 use Rattle.std.proofs.lemmas.Bool.{lt-leb, leb-false}
 use Rattle.std.proofs.lemmas.List.{length-map}
 use Rattle.std.proofs.lemmas.List.Elements.{All-from_recursion}
-use Rattle.std.proofs.lemmas.Option.{same_Some, slice_get_read, slice_get_past, slice_get-map}
+use Rattle.std.proofs.lemmas.Option.{none-some, same_Some, slice_get_read, slice_get_past, slice_get-map}
 use Rattle.arrayvec.specs.ArrayVec.{ArrayVec}
+use Rattle.apex_types.specs.Places.{place_of_number}
 use Rattle.apex_types.specs.declared.identity.PartitionId.{PartitionId}
 use Rattle.apex_types.specs.declared.identity.PortId.{PortId}
 use Rattle.apex_types.specs.declared.row.ChannelEnd.{ChannelEnd}
 use Rattle.apex_types.specs.declared.row.ChannelEnd.TheVariants.{Device, Port}
 use Rattle.apex_types.specs.declared.row.PortRow.{PortRow}
-use Rattle.apex_types.specs.declared.limits.TheConstants.{MOST_PARTITIONS, MOST_WORDS}
+use Rattle.apex_types.specs.declared.limits.TheConstants.{MOST_CHANNELS, MOST_PARTITIONS, MOST_WORDS}
 use Rattle.machine_meaning.specs.MachineMeaning.{row_of_item}
 use Rattle.module_meaning.specs.DeviceText.{words_of_port, words_of_partition, words_of_end, words_of_ends}
 use Rattle.machine_meaning.specs.Image as meant
@@ -29,36 +30,37 @@ use Rattle.module_base.specs.Seen.{fitting}
 use Rattle.module_base.specs.declared.line.MessageWords.TheVariants as held
 use Rattle.module_base.specs.Views.{rows_in}
 
-pub few_channels : (image : Image) → length image.channels.items ≤ 64
+pub few_channels : (image : Image) → length image.channels.items ≤ MOST_CHANNELS
 few_channels image = let same = length-map image.channels.items channel_of in let most = image.lawful.limits.channel_count.most in omega arith
 
 pub few_partitions : (image : Image) → length image.partitions.items ≤ MOST_PARTITIONS
 few_partitions image = let same = length-map image.partitions.items item_of in let most = image.lawful.limits.item_count.most in omega arith
 
-pub from_one : {A : Type 0} (xs : List A) (n : ℕ) → 0 < n → at_number xs n ≡ slice_get xs (n - 1)
-from_one xs zero h = absurd (omega (arith, h))
-from_one xs (suc n) h = let e : suc n - 1 ≡ n = omega arith in rw e
+-- at the place that a number gives
+pub from_place : {A : Type 0} (xs : List A) (n place : ℕ) → place_of_number n ≡ Some place → at_number xs n ≡ slice_get xs place
+from_place xs zero place h = absurd (none-some place h)
+from_place xs (suc n) place h = ap (slice_get xs) (same_Some n place h)
 
 pub rows_get : (items : List PartitionItem) (n : ℕ) → slice_get (map row_of_item (items_of items)) n ≡ option_map (λ it. partition_of it.row) (slice_get items n)
 rows_get [] n = refl
 rows_get (it ∷ items) zero = refl
 rows_get (it ∷ items) (suc n) = rows_get items n
 
-pub words_at : (image : Image) (e : ChannelEnd) (p : PartitionId) (q : PortId) (items : List PartitionItem) (it : PartitionItem) (i : ℕ) → e ≡ Port p q → (p.0 ≡ 0 → ⊥) → i ≡ p.0 - 1 → items ≡ image.partitions.items → i < length items → it ≡ get_or items i it → words_of_end (rows_in image) e ≡ words_of_port (at_number it.row.ports.items q.0)
-words_at image e p q items it i is known place same within read =
+pub words_at : (image : Image) (e : ChannelEnd) (p : PartitionId) (q : PortId) (items : List PartitionItem) (it : PartitionItem) (i place : ℕ) → e ≡ Port p q → place_of_number p.0 ≡ Some place → i ≡ place → items ≡ image.partitions.items → i < length items → it ≡ get_or items i it → words_of_end (rows_in image) e ≡ words_of_port (at_number it.row.ports.items q.0)
+words_at image e p q items it i place is known at same within read =
     let found : slice_get items i ≡ Some it = slice_get_read items (length items) i it refl within read in
     ap (words_of_end (rows_in image)) is
-    ∙ ap (λ (o : Option Partition). words_of_partition o q.0) (from_one (rows_in image) p.0 (omega (arith, known))
-    ∙ ap (slice_get (rows_in image)) (sym place)
+    ∙ ap (λ (o : Option Partition). words_of_partition o q.0) (from_place (rows_in image) p.0 place known
+    ∙ ap (slice_get (rows_in image)) (sym at)
     ∙ ap (λ (its : List PartitionItem). slice_get (map row_of_item (items_of its)) i) (sym same)
     ∙ rows_get items i
     ∙ ap (option_map (λ (x : PartitionItem). partition_of x.row)) found)
 
-pub words_past : (image : Image) (e : ChannelEnd) (p : PartitionId) (q : PortId) (items : List PartitionItem) (i : ℕ) → e ≡ Port p q → (p.0 ≡ 0 → ⊥) → i ≡ p.0 - 1 → items ≡ image.partitions.items → length items ≤ i → 0 ≡ words_of_end (rows_in image) e
-words_past image e p q items i is known place same past =
+pub words_past : (image : Image) (e : ChannelEnd) (p : PartitionId) (q : PortId) (items : List PartitionItem) (i place : ℕ) → e ≡ Port p q → place_of_number p.0 ≡ Some place → i ≡ place → items ≡ image.partitions.items → length items ≤ i → 0 ≡ words_of_end (rows_in image) e
+words_past image e p q items i place is known at same past =
     sym (ap (words_of_end (rows_in image)) is
-    ∙ ap (λ (o : Option Partition). words_of_partition o q.0) (from_one (rows_in image) p.0 (omega (arith, known))
-    ∙ ap (slice_get (rows_in image)) (sym place)
+    ∙ ap (λ (o : Option Partition). words_of_partition o q.0) (from_place (rows_in image) p.0 place known
+    ∙ ap (slice_get (rows_in image)) (sym at)
     ∙ ap (λ (its : List PartitionItem). slice_get (map row_of_item (items_of its)) i) (sym same)
     ∙ rows_get items i
     ∙ ap (option_map (λ (x : PartitionItem). partition_of x.row)) (slice_get_past items i past)))

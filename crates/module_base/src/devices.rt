@@ -186,7 +186,7 @@ fn words_of_end(image: &Image, end: ChannelEnd) -> u8
     }
 }
 
-#[tactic(auto, using(crate::proofs::Lawful::from_one))]
+#[tactic(auto, using(crate::proofs::Lawful::from_place))]
 fn words_of_port(ports: &[PortRow], port: PortId) -> u8
     ensures { result ≡ words_of_port (at_number ports.now port.0) }
 {

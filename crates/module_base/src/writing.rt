@@ -96,7 +96,7 @@ fn push_input(line: &mut Line, row: &PartitionRow, input: &Input)
 }
 
 /// The name of a port; nothing where there is no such port.
-#[tactic(auto, using(crate::proofs::Lawful::from_one))]
+#[tactic(auto, using(crate::proofs::Lawful::from_place))]
 fn name_of_port(ports: &[PortRow], port: PortId) -> &[u8]
     ensures name { result.now ≡ name_of_port (at_number ports.now port.0) }
     ensures short { length result.now ≤ MOST_NAME_BYTES }
