@@ -49,7 +49,7 @@ TABLE = """
 25 CALL x      routine x, from 0 on
 26 RET  x      back; the frame has x slots
 27 WORK v      v ticks
-28 SVC  x      service x, 1 to 57
+28 SVC  x      service x (docs/SERVICES.md)
 29 END         the end of the body
 30 LDR  x      pop the address, push its word of region x
 31 STR  x      pop the word, then the address; into region x

@@ -25,7 +25,7 @@ syntax match palWordOperator "\%(and\|or\|not\)[a-z0-9_]\@!"
 syntax match palNumber "\d\+"
 syntax match palSign ":=\|->\|<>\|<=\|>=\|[-+*/%=<>]"
 
-" The 57 services (docs/SERVICES.md).
+" The services (docs/SERVICES.md), in the order of their numbers.
 syntax match palService "\%(GET_PARTITION_STATUS\|SET_PARTITION_MODE\|GET_PROCESS_ID\|GET_PROCESS_STATUS\|CREATE_PROCESS
       \\|SET_PRIORITY\|SUSPEND_SELF\|SUSPEND\|RESUME\|STOP_SELF\|STOP\|START\|DELAYED_START\|LOCK_PREEMPTION
       \\|UNLOCK_PREEMPTION\|GET_MY_ID\|TIMED_WAIT\|PERIODIC_WAIT\|GET_TIME\|REPLENISH\|CREATE_BUFFER
