@@ -52,9 +52,11 @@ def heads(source):
 
 
 def without_imports(file):
-    """The text of a file without its imports: they say where a name stands. What a name says counts where it stands (`promises_sum`)."""
-    ends = r"[^;]*;\n" if file.suffix == ".rt" else r".*\n"
-    return re.sub(rf"^ *(?:pub |ghost )?use {ends}", "", file.read_text(), flags=re.M)
+    """The text of a file without lines of comment, and without its imports, which say where a name stands. What a name says counts where it
+    stands (`promises_sum`)."""
+    comment, ends = ("//", r"[^;]*;\n") if file.suffix == ".rt" else ("--", r".*\n")
+    text = re.sub(rf"^ *{comment}.*\n", "", file.read_text(), flags=re.M)
+    return re.sub(rf"^ *(?:pub |ghost )?use {ends}", "", text, flags=re.M)
 
 
 def own_sum(name):

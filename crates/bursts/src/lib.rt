@@ -1,4 +1,7 @@
 //! Laws on many ticks at once.
+//!
+//! A burst is a number of ticks, or those up to the first that tells something: of a process one
+//! that asks the kernel, of a partition one that writes a line.
 #![tactic(auto)]
 
 ghost use Rattle.std.specs.Prelude.{◌≡◌, ℕ, ◌+◌, ◌<◌, ◌≤◌, Some, List, if◌then◌else◌};

@@ -1,4 +1,7 @@
 //! The command line of `mb`.
+//!
+//! `command` answers the status. It reads the words as its library does, takes files by name, and
+//! writes to two streams; its one contract says for each status what has changed of these.
 #![tactic(auto)]
 
 ghost use Rattle.std.specs.Prelude.{◌≡◌, ◌≤◌, ◌-◌, ◌^◌, ◌<◌, map};

@@ -1,4 +1,7 @@
 //! The image: the bytes that an integrator's tool writes and the kernel loads.
+//!
+//! Every [`Image`] is lawful, by its type: its bytes are read again as this image. The rules on
+//! windows, periods, releases and channels are those of the module table.
 #![tactic(auto)]
 
 mod fault;

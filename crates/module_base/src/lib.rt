@@ -1,4 +1,7 @@
 //! What a module is run on: the text of its devices, and the text of what comes to one partition alone.
+//!
+//! Both texts have the same forms and the same numbers of refusals; what differs is the word of a
+//! message and what a name may be.
 #![tactic(auto)]
 
 mod devices;

@@ -1,4 +1,8 @@
 //! One partition: its kernel, over any executor.
+//!
+//! It serves all calls of its processes, and it alone carries out what a step asks of the
+//! processor, the data and the error queue. No contract above this crate names a service or an
+//! opcode.
 #![tactic(auto)]
 
 mod acting;

@@ -1,5 +1,10 @@
 //! The processes of a partition: their records, the choice of who runs, what is due, and the changes
 //! of one process that services are made of.
+//!
+//! A contract says that a call makes the step of its definition (`IsMade`), or tells it where
+//! nothing changes (`IsTold`), and how many lines and actions it adds at most (`Grows`). A call
+//! that changes a process is handed the process, and takes the record that the table has of it;
+//! where there is no such process nothing happens.
 #![tactic(auto)]
 
 mod change;

@@ -1,4 +1,8 @@
 //! The module table: what an integrator states of partitions, ports, windows and channels.
+//!
+//! Tables and images have rows in common, so the rules on rows take anything that has a
+//! partition's row. A [`Schedule`] is the frame with its windows; it answers who owns a tick,
+//! whose window ends at it, and when a partition is released next.
 #![tactic(auto)]
 
 mod channels;
