@@ -34,6 +34,15 @@ pub fn answer(
         .push(Action::Reply(runner, answer_of(code, outputs)));
 }
 
+/// A service of someone is refused: its outputs are 0.
+pub fn refuse(runner: Runner, who: Subject, service: Service, code: ReturnCode, out: &mut Out)
+    requires room { HasRoom 1 1 out.old }
+    ensures lines { out.new.lines.items ≡ out.old.lines.items ++ EventKind.Return who service code ∷ [] }
+    ensures actions { out.new.actions.items ≡ out.old.actions.items ++ Action.Reply runner (message (pos (code_number code) ∷ step.zeros service)) ∷ [] }
+{
+    answer(runner, who, service, code, zeros(service), out);
+}
+
 /// The words of an answer: the code, then the outputs.
 fn answer_of(code: ReturnCode, outputs: &[i64]) -> Words
     requires { length outputs.now ≤ 6 }
@@ -260,6 +269,6 @@ impl ProcessTable {
         ensures step { IsTold (meaning.refuses self.now runner service code) out.old out.new }
         ensures grows { Grows 1 1 out.old out.new }
     {
-        self.answer(runner, service, code, zeros(service), out);
+        refuse(runner, self.subject(runner), service, code, out);
     }
 }
