@@ -142,8 +142,8 @@ pub fn stop_self(table: &mut ProcessTable, caller: Runner, out: &mut Out)
     if let Runner::Init = caller {
         return;
     }
-    if let Some(found) = table.found(caller) {
-        table.rest(found, out);
+    if let Some(caller) = table.found(caller) {
+        table.rest(caller, out);
     }
 }
 

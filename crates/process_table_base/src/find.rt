@@ -33,10 +33,10 @@ impl ProcessTable {
         ensures found { record_of result ≡ meaning.row_of self.now runner }
         ensures own { IfSome result (λ found. found.runner ≡ runner) }
     {
-        match self.row(runner) {
-            Some(row) => Some(Found { runner, row }),
-            None => None,
-        }
+        let Some(row) = self.row(runner) else {
+            return None;
+        };
+        Some(Found { runner, row })
     }
 
     /// The process with a number, with its record.
