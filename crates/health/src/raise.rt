@@ -32,14 +32,8 @@ fn raise(
     let caller = request.caller;
     let found = table.found(caller);
     let service = Service::RaiseApplicationError;
-    answer(
-        caller,
-        name_of(&found),
-        service,
-        ReturnCode::NoError,
-        &[],
-        out,
-    );
+    let code = ReturnCode::NoError;
+    answer(caller, name_of(&found), service, code, &[], out);
     let raised = Raised {
         runner: caller,
         who: name_of(&found),
