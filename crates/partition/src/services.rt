@@ -54,12 +54,15 @@ impl Kernel {
         }
     }
 
-    /// Serves a call; `words` are those that it hands in.
+    /// Serves a call; `words` are those that it hands in. A call on objects or on ports has a dispatch of
+    /// its own; all others are here.
     fn serve(&mut self, moment: Moment, caller: Runner, call: Call, words: Words, out: &mut Out)
         requires room { HasRoom LINES_TO_SERVE ACTIONS_TO_SERVE out.old }
         ensures step { IsMade (meaning.serves moment.at self.old caller call words.items) self.new out.old out.new }
         ensures grows { Grows LINES_TO_SERVE ACTIONS_TO_SERVE out.old out.new }
     {
+        let request = self.request(moment, caller);
+        let table = &mut self.processes;
         match call {
             Call::GetPartitionStatus => self.get_partition_status(caller, out),
             Call::SetPartitionMode { mode } => self.set_partition_mode(moment, caller, mode, out),
@@ -86,26 +89,6 @@ impl Kernel {
                 };
                 self.raise_application_error(moment, caller, error, handed, out)
             }
-            other => self.serve_processes(moment, caller, other, words, out),
-        }
-    }
-
-    /// Serves a call on processes or on time, and those on objects.
-    fn serve_processes(
-        &mut self,
-        moment: Moment,
-        caller: Runner,
-        call: Call,
-        words: Words,
-        out: &mut Out,
-    )
-        requires room { HasRoom LINES_TO_SERVE ACTIONS_TO_SERVE out.old }
-        ensures step { IsMade (meaning.serves_processes moment.at self.old caller call words.items) self.new out.old out.new }
-        ensures grows { Grows LINES_TO_SERVE ACTIONS_TO_SERVE out.old out.new }
-    {
-        let request = self.request(moment, caller);
-        let table = &mut self.processes;
-        match call {
             Call::GetProcessId { name } => get_process_id(table, request, name, out),
             Call::GetProcessStatus { process } => get_process_status(table, request, process, out),
             Call::CreateProcess { name } => create_process(table, request, name, out),
@@ -122,8 +105,7 @@ impl Kernel {
             }
             Call::DelayedStart { process, delay } => {
                 let points = self.points(moment);
-                let table = &mut self.processes;
-                delayed_start(table, request, points, process, delay, out)
+                delayed_start(&mut self.processes, request, points, process, delay, out)
             }
             Call::LockPreemption => lock_preemption(table, request, out),
             Call::UnlockPreemption => unlock_preemption(table, request, out),
@@ -132,63 +114,10 @@ impl Kernel {
             Call::PeriodicWait => periodic_wait(table, request, out),
             Call::GetTime => get_time(table, request, out),
             Call::Replenish { budget } => replenish(table, request, budget, out),
-            other => self.serve_shared(moment, caller, other, words, out),
+            other if is_on_ports(other) => {
+                serve_ports(table, &mut self.ports, request, other, words, out)
+            }
+            other => serve_objects(table, &mut self.objects, request, other, words, out),
         }
-    }
-
-    /// Serves a call on objects or ports.
-    fn serve_shared(
-        &mut self,
-        moment: Moment,
-        caller: Runner,
-        call: Call,
-        words: Words,
-        out: &mut Out,
-    )
-        requires room { HasRoom LINES_TO_SERVE ACTIONS_TO_SERVE out.old }
-        ensures step { IsMade (meaning.serves_shared moment.at self.old caller call words.items) self.new out.old out.new }
-        ensures grows { Grows LINES_TO_SERVE ACTIONS_TO_SERVE out.old out.new }
-    {
-        if is_on_ports(call) {
-            self.serve_ports(moment, caller, call, words, out)
-        } else {
-            self.serve_objects(moment, caller, call, words, out)
-        }
-    }
-
-    /// Serves a call on semaphores, events, buffers or blackboards.
-    fn serve_objects(
-        &mut self,
-        moment: Moment,
-        caller: Runner,
-        call: Call,
-        words: Words,
-        out: &mut Out,
-    )
-        requires room { HasRoom LINES_TO_SERVE ACTIONS_TO_SERVE out.old }
-        ensures step { IsMade (meaning.serves_objects moment.at self.old caller call words.items) self.new out.old out.new }
-        ensures grows { Grows LINES_TO_SERVE ACTIONS_TO_SERVE out.old out.new }
-    {
-        let request = self.request(moment, caller);
-        let table = &mut self.processes;
-        serve_objects(table, &mut self.objects, request, call, words, out);
-    }
-
-    /// Serves a call on ports.
-    fn serve_ports(
-        &mut self,
-        moment: Moment,
-        caller: Runner,
-        call: Call,
-        words: Words,
-        out: &mut Out,
-    )
-        requires room { HasRoom LINES_TO_SERVE ACTIONS_TO_SERVE out.old }
-        ensures step { IsMade (meaning.serves_ports moment.at self.old caller call words.items) self.new out.old out.new }
-        ensures grows { Grows LINES_TO_SERVE ACTIONS_TO_SERVE out.old out.new }
-    {
-        let request = self.request(moment, caller);
-        let table = &mut self.processes;
-        serve_ports(table, &mut self.ports, request, call, words, out);
     }
 }
