@@ -62,7 +62,6 @@ impl Kernel {
         ensures grows { Grows LINES_TO_SERVE ACTIONS_TO_SERVE out.old out.new }
     {
         let request = self.request(moment, caller);
-        let table = &mut self.processes;
         match call {
             Call::GetPartitionStatus => self.get_partition_status(caller, out),
             Call::SetPartitionMode { mode } => self.set_partition_mode(moment, caller, mode, out),
@@ -89,16 +88,26 @@ impl Kernel {
                 };
                 self.raise_application_error(moment, caller, error, handed, out)
             }
-            Call::GetProcessId { name } => get_process_id(table, request, name, out),
-            Call::GetProcessStatus { process } => get_process_status(table, request, process, out),
-            Call::CreateProcess { name } => create_process(table, request, name, out),
+            Call::GetProcessId { name } => get_process_id(&self.processes, request, name, out),
+            Call::GetProcessStatus { process } => get_process_status(
+                &self.processes,
+                request,
+                process,
+                out,
+            ),
+            Call::CreateProcess { name } => create_process(&mut self.processes, request, name, out),
             Call::SetPriority { process, priority } => {
-                set_priority(table, request, process, priority, out)
+                set_priority(&mut self.processes, request, process, priority, out)
             }
-            Call::SuspendSelf { timeout } => suspend_self(table, request, timeout, out),
-            Call::Suspend { process } => suspend(table, request, process, out),
-            Call::Resume { process } => resume(table, request, process, out),
-            Call::Stop { process } => stop(table, request, process, out),
+            Call::SuspendSelf { timeout } => suspend_self(
+                &mut self.processes,
+                request,
+                timeout,
+                out,
+            ),
+            Call::Suspend { process } => suspend(&mut self.processes, request, process, out),
+            Call::Resume { process } => resume(&mut self.processes, request, process, out),
+            Call::Stop { process } => stop(&mut self.processes, request, process, out),
             Call::Start { process } => {
                 let points = self.points(moment);
                 start(&mut self.processes, request, points, process, out)
@@ -107,17 +116,31 @@ impl Kernel {
                 let points = self.points(moment);
                 delayed_start(&mut self.processes, request, points, process, delay, out)
             }
-            Call::LockPreemption => lock_preemption(table, request, out),
-            Call::UnlockPreemption => unlock_preemption(table, request, out),
-            Call::GetMyId => get_my_id(table, request, out),
-            Call::TimedWait { delay } => timed_wait(table, request, delay, out),
-            Call::PeriodicWait => periodic_wait(table, request, out),
-            Call::GetTime => get_time(table, request, out),
-            Call::Replenish { budget } => replenish(table, request, budget, out),
+            Call::LockPreemption => lock_preemption(&mut self.processes, request, out),
+            Call::UnlockPreemption => unlock_preemption(&mut self.processes, request, out),
+            Call::GetMyId => get_my_id(&self.processes, request, out),
+            Call::TimedWait { delay } => timed_wait(&mut self.processes, request, delay, out),
+            Call::PeriodicWait => periodic_wait(&mut self.processes, request, out),
+            Call::GetTime => get_time(&self.processes, request, out),
+            Call::Replenish { budget } => replenish(&mut self.processes, request, budget, out),
             other if is_on_ports(other) => {
-                serve_ports(table, &mut self.ports, request, other, words, out)
+                serve_ports(
+                    &mut self.processes,
+                    &mut self.ports,
+                    request,
+                    other,
+                    words,
+                    out,
+                )
             }
-            other => serve_objects(table, &mut self.objects, request, other, words, out),
+            other => serve_objects(
+                &mut self.processes,
+                &mut self.objects,
+                request,
+                other,
+                words,
+                out,
+            ),
         }
     }
 }
