@@ -139,26 +139,12 @@ module _ (rows : List PortRow) where
 
     -- Each service on objects.
     pub objects_sound : (m : Mode) (at : At) (c : Call) (words : List ℤ) → IsKept (serves_objects m at b p c words)
-    objects_sound m at (call.CreateBuffer name) words = create_sound m b p _ name (buffer b.shared name) _ _ h (λ place x. h)
     objects_sound m at (call.SendBuffer id array size limit) words = send_buffer_sound at id array size limit words
     objects_sound m at (call.ReceiveBuffer id array limit) words = receive_buffer_sound at id array limit
-    objects_sound m at (call.GetBufferId name) words = get_id_sound b p _ name (buffer b.shared name) _ h
-    objects_sound m at (call.GetBufferStatus id) words = get_status_sound b p _ (buffer b.shared id) _ _ h
-    objects_sound m at (call.CreateBlackboard name) words = create_sound m b p _ name (blackboard b.shared name) _ _ h (λ place x. h)
     objects_sound m at (call.DisplayBlackboard id array size) words = display_blackboard_sound id array size words
     objects_sound m at (call.ReadBlackboard id array limit) words = read_blackboard_sound at id array limit
-    objects_sound m at (call.ClearBlackboard id) words = clear_blackboard_sound id
-    objects_sound m at (call.GetBlackboardId name) words = get_id_sound b p _ name (blackboard b.shared name) _ h
-    objects_sound m at (call.GetBlackboardStatus id) words = get_status_sound b p _ (blackboard b.shared id) _ _ h
-    objects_sound m at (call.CreateSemaphore name) words = create_sound m b p _ name (semaphore b.shared name) _ _ h (λ place x. h)
     objects_sound m at (call.WaitSemaphore id limit) words = wait_semaphore_sound at id limit
     objects_sound m at (call.SignalSemaphore id) words = signal_semaphore_sound id
-    objects_sound m at (call.GetSemaphoreId name) words = get_id_sound b p _ name (semaphore b.shared name) _ h
-    objects_sound m at (call.GetSemaphoreStatus id) words = get_status_sound b p _ (semaphore b.shared id) _ _ h
-    objects_sound m at (call.CreateEvent name) words = create_sound m b p _ name (event b.shared name) _ _ h (λ place x. h)
     objects_sound m at (call.SetEvent id) words = set_event_sound id
-    objects_sound m at (call.ResetEvent id) words = reset_event_sound id
     objects_sound m at (call.WaitEvent id limit) words = wait_event_sound at id limit
-    objects_sound m at (call.GetEventId name) words = get_id_sound b p _ name (event b.shared name) _ h
-    objects_sound m at (call.GetEventStatus id) words = get_status_sound b p _ (event b.shared id) _ _ h
-    objects_sound m at c words = h
+    objects_sound m at c words = search (either, on_sound)

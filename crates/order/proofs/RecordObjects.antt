@@ -153,29 +153,15 @@ module _ (b : Sharing Objects) (h : RecordsAgree b.processes) (p : Runner) where
 
   -- Each service on objects.
   pub objects_agree : (m : Mode) (at : At) (c : Call) (words : List ℤ) → IsKept (serves_objects m at b p c words)
-  objects_agree m at (call.CreateBuffer name) words = create_agrees m b p _ name (buffer b.shared name) _ _ h (λ place x. h)
   objects_agree m at (call.SendBuffer id array size limit) words = send_buffer_agrees at id array size limit words
   objects_agree m at (call.ReceiveBuffer id array limit) words = receive_buffer_agrees at id array limit
-  objects_agree m at (call.GetBufferId name) words = get_id_agrees b p _ name (buffer b.shared name) _ h
-  objects_agree m at (call.GetBufferStatus id) words = get_status_agrees b p _ (buffer b.shared id) _ _ h
-  objects_agree m at (call.CreateBlackboard name) words = create_agrees m b p _ name (blackboard b.shared name) _ _ h (λ place x. h)
   objects_agree m at (call.DisplayBlackboard id array size) words = display_blackboard_agrees id array size words
   objects_agree m at (call.ReadBlackboard id array limit) words = read_blackboard_agrees at id array limit
-  objects_agree m at (call.ClearBlackboard id) words = clear_blackboard_agrees id
-  objects_agree m at (call.GetBlackboardId name) words = get_id_agrees b p _ name (blackboard b.shared name) _ h
-  objects_agree m at (call.GetBlackboardStatus id) words = get_status_agrees b p _ (blackboard b.shared id) _ _ h
-  objects_agree m at (call.CreateSemaphore name) words = create_agrees m b p _ name (semaphore b.shared name) _ _ h (λ place x. h)
   objects_agree m at (call.WaitSemaphore id limit) words = wait_semaphore_agrees at id limit
   objects_agree m at (call.SignalSemaphore id) words = signal_semaphore_agrees id
-  objects_agree m at (call.GetSemaphoreId name) words = get_id_agrees b p _ name (semaphore b.shared name) _ h
-  objects_agree m at (call.GetSemaphoreStatus id) words = get_status_agrees b p _ (semaphore b.shared id) _ _ h
-  objects_agree m at (call.CreateEvent name) words = create_agrees m b p _ name (event b.shared name) _ _ h (λ place x. h)
   objects_agree m at (call.SetEvent id) words = set_event_agrees id
-  objects_agree m at (call.ResetEvent id) words = reset_event_agrees id
   objects_agree m at (call.WaitEvent id limit) words = wait_event_agrees at id limit
-  objects_agree m at (call.GetEventId name) words = get_id_agrees b p _ name (event b.shared name) _ h
-  objects_agree m at (call.GetEventStatus id) words = get_status_agrees b p _ (event b.shared id) _ _ h
-  objects_agree m at c words = h
+  objects_agree m at c words = search (either, on_agrees)
 
 -- ---- ports
 
@@ -220,18 +206,10 @@ module _ (b : Sharing Ports) (h : RecordsAgree b.processes) (p : Runner) where
 
   -- Each service on ports.
   pub ports_agree : (m : Mode) (at : At) (c : Call) (words : List ℤ) → IsPortKept (ports.serves_ports m at b p c words)
-  ports_agree m at (call.CreateSamplingPort name) words = create_agrees m b p _ name (sampling b.shared name) _ _ h (λ place x. h)
-  ports_agree m at (call.WriteSamplingMessage id array size) words = write_sampling_agrees id array size words
   ports_agree m at (call.ReadSamplingMessage id array) words = read_sampling_agrees at id array
-  ports_agree m at (call.GetSamplingPortId name) words = get_id_agrees b p _ name (sampling b.shared name) _ h
-  ports_agree m at (call.GetSamplingPortStatus id) words = get_status_agrees b p _ (sampling b.shared id) _ _ h
-  ports_agree m at (call.CreateQueuingPort name) words = create_agrees m b p _ name (queuing b.shared name) _ _ h (λ place x. h)
   ports_agree m at (call.SendQueuingMessage id array size limit) words = send_queuing_agrees at id array size limit words
   ports_agree m at (call.ReceiveQueuingMessage id array limit) words = receive_queuing_agrees at id array limit
-  ports_agree m at (call.GetQueuingPortId name) words = get_id_agrees b p _ name (queuing b.shared name) _ h
-  ports_agree m at (call.GetQueuingPortStatus id) words = get_status_agrees b p _ (queuing b.shared id) _ _ h
-  ports_agree m at (call.ClearQueuingPort id) words = clear_queuing_agrees id
-  ports_agree m at c words = h
+  ports_agree m at c words = search (either, on_agrees)
 
 -- ---- messages that come, and senders that enter
 
