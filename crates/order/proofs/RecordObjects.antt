@@ -19,9 +19,9 @@ use Rattle.kernel_meaning.specs.BlackboardServices as blackboards
 use Rattle.kernel_meaning.specs.BufferServices as buffers
 use Rattle.kernel_meaning.specs.EventServices as events
 use Rattle.kernel_meaning.specs.ObjectServices.{serves_objects}
-use Rattle.kernel_meaning.specs.Objects.{Objects, Blackboard, Buffer, Semaphore, Event, semaphore, event, buffer, blackboard}
+use Rattle.kernel_meaning.specs.Objects.{Objects, Blackboard, Buffer, Semaphore, Event}
 use Rattle.kernel_meaning.specs.PortServices as ports
-use Rattle.kernel_meaning.specs.Objects.{Port, Ports, is_full, is_sampling, port_at, sampling, queuing}
+use Rattle.kernel_meaning.specs.Objects.{Port, Ports, is_full, is_sampling, port_at}
 use Rattle.kernel_meaning.specs.Processes.{row_of, numbered}
 use Rattle.kernel_meaning.specs.SemaphoreServices as semaphores
 use Rattle.kernel_meaning.specs.Sharing.{Sharing, of_processes, on, create, get_id, get_status}
