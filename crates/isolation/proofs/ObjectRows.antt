@@ -38,17 +38,6 @@ module _ (rows : List PortRow) where
     on_sound None b step h k = h
     on_sound (Some f) b step h k = k f.0 f.1
 
-    -- the services that all kinds have, where creating changes no process
-    create_sound : {X : Type 0} (m : Mode) (b : Sharing O) (p : Runner) (v : Service) (name : ℤ) (o : Option (ℕ × X)) (test : X → Bool) (creates : ℕ → X → Step (Sharing O))
-        → IsSoundProcesses rows b.processes → ((place : ℕ) (x : X) → Sound (creates place x)) → Sound (create m b p v name o test creates)
-    create_sound m b p v name o test creates h k = search (either, on_sound)
-
-    get_id_sound : {X : Type 0} (b : Sharing O) (p : Runner) (v : Service) (name : ℤ) (o : Option (ℕ × X)) (test : X → Bool) → IsSoundProcesses rows b.processes → Sound (get_id b p v name o test)
-    get_id_sound b p v name o test h = search (either)
-
-    get_status_sound : {X : Type 0} (b : Sharing O) (p : Runner) (v : Service) (o : Option (ℕ × X)) (test : X → Bool) (values : ℕ → X → List ℤ) → IsSoundProcesses rows b.processes → Sound (get_status b p v o test values)
-    get_status_sound b p v o test values h = search (either, on_sound)
-
   -- ---- objects
   module _ (b : Sharing Objects) (h : IsSoundProcesses rows b.processes) (p : Runner) where
     abbrev IsKept : Step (Sharing Objects) → Type 0
@@ -116,9 +105,6 @@ module _ (rows : List PortRow) where
     set_event_sound : (id : ℤ) → IsKept (events.set_event b p id)
     set_event_sound id = search (either, on_sound, raises_sound)
 
-    reset_event_sound : (id : ℤ) → IsKept (events.reset_event b p id)
-    reset_event_sound id = search (either, on_sound)
-
     wait_event_sound : (at : At) (id limit : ℤ) → IsKept (events.wait_event at b p id limit)
     wait_event_sound at id limit = search (either, on_sound, awaits_sound)
 
@@ -131,13 +117,10 @@ module _ (rows : List PortRow) where
     display_blackboard_sound : (id : ℤ) (array : ArrayPlace) (size : ℤ) (words : List ℤ) → IsKept (blackboards.display_blackboard b p id array size words)
     display_blackboard_sound id array size words = search (either, on_sound, displays_sound)
 
-    clear_blackboard_sound : (id : ℤ) → IsKept (blackboards.clear_blackboard b p id)
-    clear_blackboard_sound id = search (either, on_sound)
-
     read_blackboard_sound : (at : At) (id : ℤ) (array : ArrayPlace) (limit : ℤ) → IsKept (blackboards.read_blackboard at b p id array limit)
     read_blackboard_sound at id array limit = search (either, on_sound, reads_shown_sound)
 
-    -- Each service on objects.
+    -- Each service on objects. The last clause is for those that change no process.
     pub objects_sound : (m : Mode) (at : At) (c : Call) (words : List ℤ) → IsKept (serves_objects m at b p c words)
     objects_sound m at (call.SendBuffer id array size limit) words = send_buffer_sound at id array size limit words
     objects_sound m at (call.ReceiveBuffer id array limit) words = receive_buffer_sound at id array limit
