@@ -14,7 +14,6 @@ use Rattle.apex_types.specs.declared.process.Waiting.{Waiting}
 use Rattle.apex_types.specs.declared.service.ArrayPlace.{ArrayPlace}
 use Rattle.apex_types.specs.declared.service.Call.{Call}
 use Rattle.apex_types.specs.declared.service.Call.TheVariants as call
-use Rattle.apex_types.specs.declared.service.Service.{Service}
 use Rattle.kernel_meaning.specs.BlackboardServices as blackboards
 use Rattle.kernel_meaning.specs.BufferServices as buffers
 use Rattle.kernel_meaning.specs.EventServices as events
@@ -24,7 +23,7 @@ use Rattle.kernel_meaning.specs.PortServices as ports
 use Rattle.kernel_meaning.specs.Objects.{Port, Ports, is_full, is_sampling, port_at}
 use Rattle.kernel_meaning.specs.Processes.{row_of, numbered}
 use Rattle.kernel_meaning.specs.SemaphoreServices as semaphores
-use Rattle.kernel_meaning.specs.Sharing.{Sharing, of_processes, on, create, get_id, get_status}
+use Rattle.kernel_meaning.specs.Sharing.{Sharing, of_processes, on}
 use Rattle.kernel_meaning.specs.Step.{Step, message}
 use Rattle.kernel_meaning.specs.Sharing.{blocks, first_waiting, waiting}
 use Rattle.order.specs.Agreement.{RecordsAgree}
