@@ -38,17 +38,6 @@ module _ (rows : List PortRow) where
     on_sound None b step h k = h
     on_sound (Some f) b step h k = k f.0 f.1
 
-    -- the services that all kinds have, where creating changes no process
-    create_sound : {X : Type 0} (m : Mode) (b : Sharing O) (p : Runner) (v : Service) (name : ℤ) (o : Option (ℕ × X)) (test : X → Bool) (creates : ℕ → X → Step (Sharing O))
-        → IsSoundProcesses rows b.processes → ((place : ℕ) (x : X) → Sound (creates place x)) → Sound (create m b p v name o test creates)
-    create_sound m b p v name o test creates h k = search (either, on_sound)
-
-    get_id_sound : {X : Type 0} (b : Sharing O) (p : Runner) (v : Service) (name : ℤ) (o : Option (ℕ × X)) (test : X → Bool) → IsSoundProcesses rows b.processes → Sound (get_id b p v name o test)
-    get_id_sound b p v name o test h = search (either)
-
-    get_status_sound : {X : Type 0} (b : Sharing O) (p : Runner) (v : Service) (o : Option (ℕ × X)) (test : X → Bool) (values : ℕ → X → List ℤ) → IsSoundProcesses rows b.processes → Sound (get_status b p v o test values)
-    get_status_sound b p v o test values h = search (either, on_sound)
-
   -- ---- objects
   module _ (b : Sharing Objects) (h : IsSoundProcesses rows b.processes) (p : Runner) where
     abbrev IsKept : Step (Sharing Objects) → Type 0
@@ -116,9 +105,6 @@ module _ (rows : List PortRow) where
     set_event_sound : (id : ℤ) → IsKept (events.set_event b p id)
     set_event_sound id = search (either, on_sound, raises_sound)
 
-    reset_event_sound : (id : ℤ) → IsKept (events.reset_event b p id)
-    reset_event_sound id = search (either, on_sound)
-
     wait_event_sound : (at : At) (id limit : ℤ) → IsKept (events.wait_event at b p id limit)
     wait_event_sound at id limit = search (either, on_sound, awaits_sound)
 
@@ -131,34 +117,17 @@ module _ (rows : List PortRow) where
     display_blackboard_sound : (id : ℤ) (array : ArrayPlace) (size : ℤ) (words : List ℤ) → IsKept (blackboards.display_blackboard b p id array size words)
     display_blackboard_sound id array size words = search (either, on_sound, displays_sound)
 
-    clear_blackboard_sound : (id : ℤ) → IsKept (blackboards.clear_blackboard b p id)
-    clear_blackboard_sound id = search (either, on_sound)
-
     read_blackboard_sound : (at : At) (id : ℤ) (array : ArrayPlace) (limit : ℤ) → IsKept (blackboards.read_blackboard at b p id array limit)
     read_blackboard_sound at id array limit = search (either, on_sound, reads_shown_sound)
 
-    -- Each service on objects.
+    -- Each service on objects. The last clause is for those that change no process.
     pub objects_sound : (m : Mode) (at : At) (c : Call) (words : List ℤ) → IsKept (serves_objects m at b p c words)
-    objects_sound m at (call.CreateBuffer name) words = create_sound m b p _ name (buffer b.shared name) _ _ h (λ place x. h)
     objects_sound m at (call.SendBuffer id array size limit) words = send_buffer_sound at id array size limit words
     objects_sound m at (call.ReceiveBuffer id array limit) words = receive_buffer_sound at id array limit
-    objects_sound m at (call.GetBufferId name) words = get_id_sound b p _ name (buffer b.shared name) _ h
-    objects_sound m at (call.GetBufferStatus id) words = get_status_sound b p _ (buffer b.shared id) _ _ h
-    objects_sound m at (call.CreateBlackboard name) words = create_sound m b p _ name (blackboard b.shared name) _ _ h (λ place x. h)
     objects_sound m at (call.DisplayBlackboard id array size) words = display_blackboard_sound id array size words
     objects_sound m at (call.ReadBlackboard id array limit) words = read_blackboard_sound at id array limit
-    objects_sound m at (call.ClearBlackboard id) words = clear_blackboard_sound id
-    objects_sound m at (call.GetBlackboardId name) words = get_id_sound b p _ name (blackboard b.shared name) _ h
-    objects_sound m at (call.GetBlackboardStatus id) words = get_status_sound b p _ (blackboard b.shared id) _ _ h
-    objects_sound m at (call.CreateSemaphore name) words = create_sound m b p _ name (semaphore b.shared name) _ _ h (λ place x. h)
     objects_sound m at (call.WaitSemaphore id limit) words = wait_semaphore_sound at id limit
     objects_sound m at (call.SignalSemaphore id) words = signal_semaphore_sound id
-    objects_sound m at (call.GetSemaphoreId name) words = get_id_sound b p _ name (semaphore b.shared name) _ h
-    objects_sound m at (call.GetSemaphoreStatus id) words = get_status_sound b p _ (semaphore b.shared id) _ _ h
-    objects_sound m at (call.CreateEvent name) words = create_sound m b p _ name (event b.shared name) _ _ h (λ place x. h)
     objects_sound m at (call.SetEvent id) words = set_event_sound id
-    objects_sound m at (call.ResetEvent id) words = reset_event_sound id
     objects_sound m at (call.WaitEvent id limit) words = wait_event_sound at id limit
-    objects_sound m at (call.GetEventId name) words = get_id_sound b p _ name (event b.shared name) _ h
-    objects_sound m at (call.GetEventStatus id) words = get_status_sound b p _ (event b.shared id) _ _ h
-    objects_sound m at c words = h
+    objects_sound m at c words = search (either, on_sound)

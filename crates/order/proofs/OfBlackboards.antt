@@ -11,14 +11,14 @@ use Rattle.apex_types.specs.declared.identity.ListKey.{ListKey}
 use Rattle.apex_types.specs.declared.identity.Runner.{Runner}
 use Rattle.apex_types.specs.declared.service.ArrayPlace.{ArrayPlace}
 use Rattle.apex_types.specs.declared.service.Service.TheVariants as service
-use Rattle.kernel_meaning.specs.BlackboardServices.{clear_blackboard, create_blackboard, creates, display_blackboard, displays, get_blackboard_id, get_blackboard_status, is_created, list, read_blackboard, reader, reads, shows, status}
+use Rattle.kernel_meaning.specs.BlackboardServices.{clear_blackboard, create_blackboard, creates, display_blackboard, displays, is_created, list, read_blackboard, reader, reads, shows}
 use Rattle.kernel_meaning.specs.Times.{is_duration}
 use Rattle.kernel_meaning.specs.Objects.{Objects, Blackboard, blackboard, put_blackboard}
 use Rattle.kernel_meaning.specs.Sharing.{Sharing, becomes, is_large_enough, is_length, has, refuses}
 use Rattle.kernel_meaning.specs.Step.{Step, first_words, message}
 use Rattle.kernel_meaning.specs.Sharing.{waiting}
 use Rattle.order.specs.Numbers.{HaveDisciplines, May, itself}
-use Rattle.order.proofs.Shares.{Shares, IsSet, of_shares, becomes_shares, fills_shares, answers_shares, refuses_shares, row_shares, after_shares, on_shares, create_shares, get_id_shares, get_status_shares, each_put, numbered_is}
+use Rattle.order.proofs.Shares.{Shares, IsSet, of_shares, becomes_shares, fills_shares, answers_shares, refuses_shares, row_shares, after_shares, on_shares, create_shares, each_put, numbered_is}
 use Rattle.order.proofs.Steps.{blocks_goes, give_all_goes}
 
 module _ (d : ListKey → Discipline) (names : ℕ → List ℕ) where
@@ -46,9 +46,6 @@ module _ (d : ListKey → Discipline) (names : ℕ → List ℕ) where
   create_blackboard_shares may m b p name h =
       create_shares d names Objects (HaveDisciplines d) may m b p service.CreateBlackboard name (blackboard b.shared name) is_created (creates b) h
       (λ f e. puts may b f.0 (record f.1 { created = true }) h (found_fits b name f h e))
-
-  pub get_blackboard_id_shares : (may : May) (b : Sharing Objects) (p : Runner) (name : ℤ) → Set b → To may b (get_blackboard_id b p name)
-  get_blackboard_id_shares may b p name h = get_id_shares d names Objects (HaveDisciplines d) may b p service.GetBlackboardId name (blackboard b.shared name) is_created h
 
   displays_shares : (may : May) (b : Sharing Objects) (m : ArrayVec ℤ) (place : ℕ) (x : Blackboard) → Set b → discipline.Fifo ≡ d (list place) → To may b (displays b m place x)
   displays_shares may b m place x h e =
@@ -88,6 +85,3 @@ module _ (d : ListKey → Discipline) (names : ℕ → List ℕ) where
       (not (is_duration limit), code.InvalidParam) ∷ []) _ (refuses_shares d names Objects (HaveDisciplines d) may b p service.ReadBlackboard h)
       (on_shares d names Objects (HaveDisciplines d) may b (blackboard b.shared id) (λ place x. reads at b p array limit place x.shown) h
       (λ f e. reads_shares may at b p array limit f.0 f.1.shown h own (found_fits b id f h e)))
-
-  pub get_blackboard_status_shares : (may : May) (b : Sharing Objects) (p : Runner) (id : ℤ) → Set b → To may b (get_blackboard_status b p id)
-  get_blackboard_status_shares may b p id h = get_status_shares d names Objects (HaveDisciplines d) may b p service.GetBlackboardStatus (blackboard b.shared id) is_created (status b) h

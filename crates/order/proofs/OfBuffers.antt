@@ -11,14 +11,14 @@ use Rattle.apex_types.specs.declared.identity.Runner.{Runner}
 use Rattle.apex_types.specs.declared.process.ProcessStatus.{ProcessStatus}
 use Rattle.apex_types.specs.declared.service.ArrayPlace.{ArrayPlace}
 use Rattle.apex_types.specs.declared.service.Service.TheVariants as service
-use Rattle.kernel_meaning.specs.BufferServices.{admits, create_buffer, creates, get_buffer_id, get_buffer_status, is_created, is_full, list, receive_buffer, receiver, receives, send_buffer, sender, sends, status, takes_message, with_message}
+use Rattle.kernel_meaning.specs.BufferServices.{admits, create_buffer, creates, is_created, is_full, list, receive_buffer, receiver, receives, send_buffer, sender, sends, takes_message, with_message}
 use Rattle.kernel_meaning.specs.Times.{is_duration}
 use Rattle.kernel_meaning.specs.Objects.{Objects, Buffer, buffer, put_buffer}
 use Rattle.kernel_meaning.specs.Sharing.{Sharing, becomes, is_large_enough, is_length, has, refuses}
 use Rattle.kernel_meaning.specs.Step.{Step, first_words, message}
 use Rattle.kernel_meaning.specs.Sharing.{first_waiting, handed_by}
 use Rattle.order.specs.Numbers.{HaveDisciplines, May, itself}
-use Rattle.order.proofs.Shares.{Shares, IsSet, of_shares, becomes_shares, fills_shares, answers_shares, refuses_shares, either_shares, row_shares, after_shares, on_shares, create_shares, get_id_shares, get_status_shares, each_put, numbered_is}
+use Rattle.order.proofs.Shares.{Shares, IsSet, of_shares, becomes_shares, fills_shares, answers_shares, refuses_shares, either_shares, row_shares, after_shares, on_shares, create_shares, each_put, numbered_is}
 use Rattle.order.proofs.Steps.{release_goes, gives_goes, blocks_goes, first_is_of}
 
 module _ (d : ListKey → Discipline) (names : ℕ → List ℕ) where
@@ -46,9 +46,6 @@ module _ (d : ListKey → Discipline) (names : ℕ → List ℕ) where
   create_buffer_shares may m b p name h =
       create_shares d names Objects (HaveDisciplines d) may m b p service.CreateBuffer name (buffer b.shared name) is_created (creates b) h
       (λ f e. puts may b f.0 (record f.1 { created = true }) h (found_fits b name f h e))
-
-  pub get_buffer_id_shares : (may : May) (b : Sharing Objects) (p : Runner) (name : ℤ) → Set b → To may b (get_buffer_id b p name)
-  get_buffer_id_shares may b p name h = get_id_shares d names Objects (HaveDisciplines d) may b p service.GetBufferId name (buffer b.shared name) is_created h
 
   message_shares : (may : May) (b : Sharing Objects) (place : ℕ) (x : Buffer) (m : ArrayVec ℤ) → Set b → x.row.discipline ≡ d (list place) → (o : Option (Runner × ProcessStatus))
       → first_waiting b.processes (list place) ≡ o → To may b (takes_message b place x m o)
@@ -98,6 +95,3 @@ module _ (d : ListKey → Discipline) (names : ℕ → List ℕ) where
       (not (is_duration limit), code.InvalidParam) ∷ []) _ (refuses_shares d names Objects (HaveDisciplines d) may b p service.ReceiveBuffer h)
       (on_shares d names Objects (HaveDisciplines d) may b (buffer b.shared id) (λ place x. receives at b p array limit place x x.messages) h
       (λ f e. receives_shares may at b p array limit f.0 f.1 f.1.messages h own (found_fits b id f h e)))
-
-  pub get_buffer_status_shares : (may : May) (b : Sharing Objects) (p : Runner) (id : ℤ) → Set b → To may b (get_buffer_status b p id)
-  get_buffer_status_shares may b p id h = get_status_shares d names Objects (HaveDisciplines d) may b p service.GetBufferStatus (buffer b.shared id) is_created (status b) h

@@ -10,13 +10,13 @@ use Rattle.apex_types.specs.declared.identity.ListKey.{ListKey}
 use Rattle.apex_types.specs.declared.identity.Runner.{Runner}
 use Rattle.apex_types.specs.declared.service.Service.TheVariants as service
 use Rattle.kernel_meaning.specs.Times.{is_duration}
-use Rattle.kernel_meaning.specs.EventServices.{awaits, create_event, creates, get_event_id, get_event_status, is_created, list, raises, reset_event, set_event, sets, status, wait_event, waiting_for}
+use Rattle.kernel_meaning.specs.EventServices.{awaits, create_event, creates, is_created, list, raises, reset_event, set_event, sets, wait_event, waiting_for}
 use Rattle.kernel_meaning.specs.Objects.{Objects, Event, event, put_event}
 use Rattle.kernel_meaning.specs.Sharing.{Sharing, becomes, has, refuses}
 use Rattle.kernel_meaning.specs.Step.{Step, message}
 use Rattle.kernel_meaning.specs.Sharing.{waiting}
 use Rattle.order.specs.Numbers.{HaveDisciplines, May, itself}
-use Rattle.order.proofs.Shares.{Shares, IsSet, of_shares, becomes_shares, answers_shares, refuses_shares, either_shares, row_shares, after_shares, on_shares, create_shares, get_id_shares, get_status_shares, each_put, numbered_is}
+use Rattle.order.proofs.Shares.{Shares, IsSet, of_shares, becomes_shares, answers_shares, refuses_shares, either_shares, row_shares, after_shares, on_shares, create_shares, each_put, numbered_is}
 use Rattle.order.proofs.Steps.{blocks_goes, releases_goes}
 
 module _ (d : ListKey → Discipline) (names : ℕ → List ℕ) where
@@ -44,9 +44,6 @@ module _ (d : ListKey → Discipline) (names : ℕ → List ℕ) where
   create_event_shares may m b p name h =
       create_shares d names Objects (HaveDisciplines d) may m b p service.CreateEvent name (event b.shared name) is_created (creates b) h
       (λ f e. puts may b f.0 (record f.1 { created = true }) h (found_fits b name f h e))
-
-  pub get_event_id_shares : (may : May) (b : Sharing Objects) (p : Runner) (name : ℤ) → Set b → To may b (get_event_id b p name)
-  get_event_id_shares may b p name h = get_id_shares d names Objects (HaveDisciplines d) may b p service.GetEventId name (event b.shared name) is_created h
 
   raises_shares : (may : May) (b : Sharing Objects) (place : ℕ) (x : Event) → Set b → discipline.Fifo ≡ d (list place) → To may b (raises b place x)
   raises_shares may b place x h e =
@@ -79,6 +76,3 @@ module _ (d : ListKey → Discipline) (names : ℕ → List ℕ) where
       ((not (has (event b.shared id) is_created), code.InvalidParam) ∷ (not (is_duration limit), code.InvalidParam) ∷ []) _
       (refuses_shares d names Objects (HaveDisciplines d) may b p service.WaitEvent h)
       (on_shares d names Objects (HaveDisciplines d) may b (event b.shared id) (awaits at b p limit) h (λ f e. awaits_shares may at b p limit f.0 f.1 h own (found_fits b id f h e)))
-
-  pub get_event_status_shares : (may : May) (b : Sharing Objects) (p : Runner) (id : ℤ) → Set b → To may b (get_event_status b p id)
-  get_event_status_shares may b p id h = get_status_shares d names Objects (HaveDisciplines d) may b p service.GetEventStatus (event b.shared id) is_created (status b) h

@@ -11,35 +11,28 @@ use Rattle.kernel_meaning.specs.ObjectServices.{serves_objects}
 use Rattle.kernel_meaning.specs.Objects.{Objects}
 use Rattle.kernel_meaning.specs.Sharing.{Sharing}
 use Rattle.order.specs.Numbers.{HaveDisciplines, may_by}
-use Rattle.order.proofs.OfBlackboards.{create_blackboard_shares, get_blackboard_id_shares, display_blackboard_shares, clear_blackboard_shares, read_blackboard_shares, get_blackboard_status_shares}
-use Rattle.order.proofs.OfBuffers.{create_buffer_shares, get_buffer_id_shares, send_buffer_shares, receive_buffer_shares, get_buffer_status_shares}
-use Rattle.order.proofs.OfEvents.{create_event_shares, get_event_id_shares, set_event_shares, reset_event_shares, wait_event_shares, get_event_status_shares}
-use Rattle.order.proofs.OfSemaphores.{create_semaphore_shares, get_semaphore_id_shares, wait_semaphore_shares, signal_semaphore_shares, get_semaphore_status_shares}
-use Rattle.order.proofs.Shares.{Shares, IsSet, nothing_shares}
+use Rattle.order.proofs.OfBlackboards.{create_blackboard_shares, display_blackboard_shares, clear_blackboard_shares, read_blackboard_shares}
+use Rattle.order.proofs.OfBuffers.{create_buffer_shares, send_buffer_shares, receive_buffer_shares}
+use Rattle.order.proofs.OfEvents.{create_event_shares, set_event_shares, reset_event_shares, wait_event_shares}
+use Rattle.order.proofs.OfSemaphores.{create_semaphore_shares, wait_semaphore_shares, signal_semaphore_shares}
+use Rattle.order.proofs.Shares.{Shares, IsSet, get_id_shares, get_status_shares, nothing_shares}
 
 module _ (d : ListKey → Discipline) (names : ℕ → List ℕ) where
+  -- The last clause is for services that only tell.
   pub serves_objects_shares : (m : Mode) (at : At) (b : Sharing Objects) (p : Runner) (c : Call) (words : List ℤ) → IsSet d names Objects (HaveDisciplines d) b
       → Shares d names Objects (HaveDisciplines d) (may_by p c) b (serves_objects m at b p c words)
   serves_objects_shares m at b p (call.CreateBuffer name) words h = create_buffer_shares d names (may_by p (call.CreateBuffer name)) m b p name h
   serves_objects_shares m at b p (call.SendBuffer id array length limit) words h = send_buffer_shares d names (may_by p (call.SendBuffer id array length limit)) at b p id array length limit words h refl
   serves_objects_shares m at b p (call.ReceiveBuffer id array limit) words h = receive_buffer_shares d names (may_by p (call.ReceiveBuffer id array limit)) at b p id array limit h refl
-  serves_objects_shares m at b p (call.GetBufferId name) words h = get_buffer_id_shares d names (may_by p (call.GetBufferId name)) b p name h
-  serves_objects_shares m at b p (call.GetBufferStatus id) words h = get_buffer_status_shares d names (may_by p (call.GetBufferStatus id)) b p id h
   serves_objects_shares m at b p (call.CreateBlackboard name) words h = create_blackboard_shares d names (may_by p (call.CreateBlackboard name)) m b p name h
   serves_objects_shares m at b p (call.DisplayBlackboard id array length) words h = display_blackboard_shares d names (may_by p (call.DisplayBlackboard id array length)) b p id array length words h
   serves_objects_shares m at b p (call.ReadBlackboard id array limit) words h = read_blackboard_shares d names (may_by p (call.ReadBlackboard id array limit)) at b p id array limit h refl
   serves_objects_shares m at b p (call.ClearBlackboard id) words h = clear_blackboard_shares d names (may_by p (call.ClearBlackboard id)) b p id h
-  serves_objects_shares m at b p (call.GetBlackboardId name) words h = get_blackboard_id_shares d names (may_by p (call.GetBlackboardId name)) b p name h
-  serves_objects_shares m at b p (call.GetBlackboardStatus id) words h = get_blackboard_status_shares d names (may_by p (call.GetBlackboardStatus id)) b p id h
   serves_objects_shares m at b p (call.CreateSemaphore name) words h = create_semaphore_shares d names (may_by p (call.CreateSemaphore name)) m b p name h
   serves_objects_shares m at b p (call.WaitSemaphore id limit) words h = wait_semaphore_shares d names (may_by p (call.WaitSemaphore id limit)) at b p id limit h refl
   serves_objects_shares m at b p (call.SignalSemaphore id) words h = signal_semaphore_shares d names (may_by p (call.SignalSemaphore id)) b p id h
-  serves_objects_shares m at b p (call.GetSemaphoreId name) words h = get_semaphore_id_shares d names (may_by p (call.GetSemaphoreId name)) b p name h
-  serves_objects_shares m at b p (call.GetSemaphoreStatus id) words h = get_semaphore_status_shares d names (may_by p (call.GetSemaphoreStatus id)) b p id h
   serves_objects_shares m at b p (call.CreateEvent name) words h = create_event_shares d names (may_by p (call.CreateEvent name)) m b p name h
   serves_objects_shares m at b p (call.SetEvent id) words h = set_event_shares d names (may_by p (call.SetEvent id)) b p id h
   serves_objects_shares m at b p (call.ResetEvent id) words h = reset_event_shares d names (may_by p (call.ResetEvent id)) b p id h
   serves_objects_shares m at b p (call.WaitEvent id limit) words h = wait_event_shares d names (may_by p (call.WaitEvent id limit)) at b p id limit h refl
-  serves_objects_shares m at b p (call.GetEventId name) words h = get_event_id_shares d names (may_by p (call.GetEventId name)) b p name h
-  serves_objects_shares m at b p (call.GetEventStatus id) words h = get_event_status_shares d names (may_by p (call.GetEventStatus id)) b p id h
-  serves_objects_shares m at b p c words h = nothing_shares d names Objects (HaveDisciplines d) (may_by p c) b h
+  serves_objects_shares m at b p c words h = search (get_id_shares, get_status_shares, nothing_shares)

@@ -19,7 +19,7 @@ use Rattle.apex_types.specs.declared.service.Service.TheVariants as service
 use Rattle.kernel_meaning.specs.PortServices.{admits, all_enter, arrived, arrives, arrives_at, arrives_queuing, enters_found, enters_port, is_lost}
 use Rattle.kernel_meaning.specs.Times.{is_duration}
 use Rattle.kernel_meaning.specs.Objects.{numbered_in}
-use Rattle.kernel_meaning.specs.PortServices.{becomes_port, clear_queuing_port, clears_port, code_of_receive, create_queuing_port, create_sampling_port, creates, get_queuing_port_id, get_queuing_port_status, get_sampling_port_id, get_sampling_port_status, is_created, is_valid, list, queuing_status, read_sampling_message, reads_sample, receive_queuing_message, receiver, receives, sampling_status, send_queuing_message, sender, sends, serves_ports, validity_number, write_sampling_message, writes_sample}
+use Rattle.kernel_meaning.specs.PortServices.{becomes_port, clear_queuing_port, clears_port, code_of_receive, create_queuing_port, create_sampling_port, creates, is_created, is_valid, list, read_sampling_message, reads_sample, receive_queuing_message, receiver, receives, send_queuing_message, sender, sends, serves_ports, validity_number, write_sampling_message, writes_sample}
 use Rattle.kernel_meaning.specs.Objects.{Ports, discipline_of, Port, if_sampling, is_full, is_sampling, is_source, port_at, put_port, queuing, sampling, those_queuing, those_sampling, unless_sampling, with_message, with_sample}
 use Rattle.kernel_meaning.specs.Processes.{numbered, row_of}
 use Rattle.kernel_meaning.specs.Sharing.{Sharing, is_large_enough, is_length, has, refuses}
@@ -68,24 +68,10 @@ module _ (d : ListKey → Discipline) (names : ℕ → List ℕ) where
       create_shares d names Ports (PortsHaveDisciplines d) may m b p service.CreateSamplingPort name (sampling b.shared name) is_created (creates b) h
       (λ f e. puts may b f.0 (record f.1 { created = true }) h (sampling_fits b name f h e))
 
-  pub get_sampling_port_id_shares : (may : May) (b : Sharing Ports) (p : Runner) (name : ℤ) → Set b → To may b (get_sampling_port_id b p name)
-  get_sampling_port_id_shares may b p name h = get_id_shares d names Ports (PortsHaveDisciplines d) may b p service.GetSamplingPortId name (sampling b.shared name) is_created h
-
   pub create_queuing_port_shares : (may : May) (m : Mode) (b : Sharing Ports) (p : Runner) (name : ℤ) → Set b → To may b (create_queuing_port m b p name)
   create_queuing_port_shares may m b p name h =
       create_shares d names Ports (PortsHaveDisciplines d) may m b p service.CreateQueuingPort name (queuing b.shared name) is_created (creates b) h
       (λ f e. puts may b f.0 (record f.1 { created = true }) h (queuing_fits b name f h e))
-
-  pub get_queuing_port_id_shares : (may : May) (b : Sharing Ports) (p : Runner) (name : ℤ) → Set b → To may b (get_queuing_port_id b p name)
-  get_queuing_port_id_shares may b p name h = get_id_shares d names Ports (PortsHaveDisciplines d) may b p service.GetQueuingPortId name (queuing b.shared name) is_created h
-
-  pub get_sampling_port_status_shares : (may : May) (b : Sharing Ports) (p : Runner) (id : ℤ) → Set b → To may b (get_sampling_port_status b p id)
-  get_sampling_port_status_shares may b p id h =
-      get_status_shares d names Ports (PortsHaveDisciplines d) may b p service.GetSamplingPortStatus (sampling b.shared id) is_created sampling_status h
-
-  pub get_queuing_port_status_shares : (may : May) (b : Sharing Ports) (p : Runner) (id : ℤ) → Set b → To may b (get_queuing_port_status b p id)
-  get_queuing_port_status_shares may b p id h =
-      get_status_shares d names Ports (PortsHaveDisciplines d) may b p service.GetQueuingPortStatus (queuing b.shared id) is_created (queuing_status b) h
 
   pub write_sampling_message_shares : (may : May) (b : Sharing Ports) (p : Runner) (id : ℤ) (array : ArrayPlace) (length : ℤ) (words : List ℤ) → Set b
       → To may b (write_sampling_message b p id array length words)
@@ -161,19 +147,16 @@ module _ (d : ListKey → Discipline) (names : ℕ → List ℕ) where
       (λ f e. after_shares d names Ports (PortsHaveDisciplines d) may b _ _ (answers_shares d names Ports (PortsHaveDisciplines d) may b p service.ClearQueuingPort code.NoError [] h)
       (λ k. puts may b f.0 (record f.1 { messages = []; overflowed = false }) k (queuing_fits b id f k e))))
 
+  -- The last clause is for services that only tell.
   pub serves_ports_shares : (m : Mode) (at : At) (b : Sharing Ports) (p : Runner) (c : Call) (words : List ℤ) → Set b → To (may_by p c) b (serves_ports m at b p c words)
   serves_ports_shares m at b p (call.CreateSamplingPort name) words h = create_sampling_port_shares (may_by p (call.CreateSamplingPort name)) m b p name h
   serves_ports_shares m at b p (call.WriteSamplingMessage id array length) words h = write_sampling_message_shares (may_by p (call.WriteSamplingMessage id array length)) b p id array length words h
   serves_ports_shares m at b p (call.ReadSamplingMessage id array) words h = read_sampling_message_shares (may_by p (call.ReadSamplingMessage id array)) at b p id array h
-  serves_ports_shares m at b p (call.GetSamplingPortId name) words h = get_sampling_port_id_shares (may_by p (call.GetSamplingPortId name)) b p name h
-  serves_ports_shares m at b p (call.GetSamplingPortStatus id) words h = get_sampling_port_status_shares (may_by p (call.GetSamplingPortStatus id)) b p id h
   serves_ports_shares m at b p (call.CreateQueuingPort name) words h = create_queuing_port_shares (may_by p (call.CreateQueuingPort name)) m b p name h
   serves_ports_shares m at b p (call.SendQueuingMessage id array length limit) words h = send_queuing_message_shares (may_by p (call.SendQueuingMessage id array length limit)) at b p id array length limit words h refl
   serves_ports_shares m at b p (call.ReceiveQueuingMessage id array limit) words h = receive_queuing_message_shares (may_by p (call.ReceiveQueuingMessage id array limit)) at b p id array limit h refl
-  serves_ports_shares m at b p (call.GetQueuingPortId name) words h = get_queuing_port_id_shares (may_by p (call.GetQueuingPortId name)) b p name h
-  serves_ports_shares m at b p (call.GetQueuingPortStatus id) words h = get_queuing_port_status_shares (may_by p (call.GetQueuingPortStatus id)) b p id h
   serves_ports_shares m at b p (call.ClearQueuingPort id) words h = clear_queuing_port_shares (may_by p (call.ClearQueuingPort id)) b p id h
-  serves_ports_shares m at b p c words h = nothing_shares d names Ports (PortsHaveDisciplines d) (may_by p c) b h
+  serves_ports_shares m at b p c words h = search (get_id_shares, get_status_shares, nothing_shares)
 
   -- ---- arrival
 

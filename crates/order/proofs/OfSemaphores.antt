@@ -11,12 +11,12 @@ use Rattle.apex_types.specs.declared.process.ProcessStatus.{ProcessStatus}
 use Rattle.apex_types.specs.declared.service.Service.TheVariants as service
 use Rattle.kernel_meaning.specs.Times.{is_duration}
 use Rattle.kernel_meaning.specs.Objects.{Objects, Semaphore, put_semaphore, semaphore}
-use Rattle.kernel_meaning.specs.SemaphoreServices.{create_semaphore, creates, get_semaphore_id, get_semaphore_status, is_at_maximum, is_created, list, signal_semaphore, signals, status, takes, wait_semaphore, waiting_for}
+use Rattle.kernel_meaning.specs.SemaphoreServices.{create_semaphore, creates, is_at_maximum, is_created, list, signal_semaphore, signals, takes, wait_semaphore, waiting_for}
 use Rattle.kernel_meaning.specs.Sharing.{Sharing, becomes, has, refuses}
 use Rattle.kernel_meaning.specs.Step.{Step, message}
 use Rattle.kernel_meaning.specs.Sharing.{first_waiting}
 use Rattle.order.specs.Numbers.{HaveDisciplines, May, itself}
-use Rattle.order.proofs.Shares.{Shares, IsSet, of_shares, becomes_shares, answers_shares, refuses_shares, either_shares, row_shares, after_shares, on_shares, create_shares, get_id_shares, get_status_shares, each_put, numbered_is}
+use Rattle.order.proofs.Shares.{Shares, IsSet, of_shares, becomes_shares, answers_shares, refuses_shares, either_shares, row_shares, after_shares, on_shares, create_shares, each_put, numbered_is}
 use Rattle.order.proofs.Steps.{release_goes, blocks_goes, first_is_of}
 
 module _ (d : ListKey → Discipline) (names : ℕ → List ℕ) where
@@ -44,9 +44,6 @@ module _ (d : ListKey → Discipline) (names : ℕ → List ℕ) where
   create_semaphore_shares may m b p name h =
       create_shares d names Objects (HaveDisciplines d) may m b p service.CreateSemaphore name (semaphore b.shared name) is_created (creates b) h
       (λ f e. puts may b f.0 (record f.1 { created = true }) h (found_fits b name f h e))
-
-  pub get_semaphore_id_shares : (may : May) (b : Sharing Objects) (p : Runner) (name : ℤ) → Set b → To may b (get_semaphore_id b p name)
-  get_semaphore_id_shares may b p name h = get_id_shares d names Objects (HaveDisciplines d) may b p service.GetSemaphoreId name (semaphore b.shared name) is_created h
 
   takes_shares : (may : May) (at : At) (b : Sharing Objects) (p : Runner) (limit : ℤ) (place : ℕ) (x : Semaphore) → Set b → may.begin_to_wait ≡ itself p → x.row.discipline ≡ d (list place)
       → To may b (takes at b p limit place x)
@@ -76,6 +73,3 @@ module _ (d : ListKey → Discipline) (names : ℕ → List ℕ) where
       (after_shares d names Objects (HaveDisciplines d) may b _ _ (answers_shares d names Objects (HaveDisciplines d) may b p service.SignalSemaphore code.NoError [] h)
       (λ k. on_shares d names Objects (HaveDisciplines d) may b (semaphore b.shared id) (λ place x. signals b place x (first_waiting b.processes (list place))) k
       (λ f e. signals_shares may b f.0 f.1 k (found_fits b id f k e) (first_waiting b.processes (list f.0)) refl)))
-
-  pub get_semaphore_status_shares : (may : May) (b : Sharing Objects) (p : Runner) (id : ℤ) → Set b → To may b (get_semaphore_status b p id)
-  get_semaphore_status_shares may b p id h = get_status_shares d names Objects (HaveDisciplines d) may b p service.GetSemaphoreStatus (semaphore b.shared id) is_created (status b) h

@@ -31,7 +31,6 @@ use Rattle.kernel_meaning.specs.Times.{Treated, timed_out, ends_wait, treats_due
 use Rattle.kernel_meaning.specs.Kernel.{Errors}
 use Rattle.kernel_meaning.specs.HealthServices.{action_of, acts_on_error, begins_if_dormant, breaks, create_error_handler, creates_found, enters_mode as enters_mode_of_action, faults, get_error_status, goes_on, is_fault, is_waiting, raise_application_error, raises, raises_application_error, starts_handler, takes_error, then_clears}
 use Rattle.kernel_meaning.specs.Kernel.{Kernel, of_processes, with_errors}
-use Rattle.kernel_meaning.specs.Partition.{runs}
 use Rattle.kernel_meaning.specs.PartitionServices.{clears, cleared_processes, ends_body, enters_mode, forgotten, is_cold, is_warm, mode_of, next_release_of, ready_init, set_partition_mode, started_rows, starts_normally, wants}
 use Rattle.kernel_meaning.specs.ProcessServices.{is_ready_state}
 use Rattle.kernel_meaning.specs.Processes.{Processes, row_of, index, is_dormant, is_normal, rests_found}

@@ -14,17 +14,16 @@ use Rattle.apex_types.specs.declared.process.Waiting.{Waiting}
 use Rattle.apex_types.specs.declared.service.ArrayPlace.{ArrayPlace}
 use Rattle.apex_types.specs.declared.service.Call.{Call}
 use Rattle.apex_types.specs.declared.service.Call.TheVariants as call
-use Rattle.apex_types.specs.declared.service.Service.{Service}
 use Rattle.kernel_meaning.specs.BlackboardServices as blackboards
 use Rattle.kernel_meaning.specs.BufferServices as buffers
 use Rattle.kernel_meaning.specs.EventServices as events
 use Rattle.kernel_meaning.specs.ObjectServices.{serves_objects}
-use Rattle.kernel_meaning.specs.Objects.{Objects, Blackboard, Buffer, Semaphore, Event, semaphore, event, buffer, blackboard}
+use Rattle.kernel_meaning.specs.Objects.{Objects, Blackboard, Buffer, Semaphore, Event}
 use Rattle.kernel_meaning.specs.PortServices as ports
-use Rattle.kernel_meaning.specs.Objects.{Port, Ports, is_full, is_sampling, port_at, sampling, queuing}
+use Rattle.kernel_meaning.specs.Objects.{Port, Ports, is_full, is_sampling, port_at}
 use Rattle.kernel_meaning.specs.Processes.{row_of, numbered}
 use Rattle.kernel_meaning.specs.SemaphoreServices as semaphores
-use Rattle.kernel_meaning.specs.Sharing.{Sharing, of_processes, on, create, get_id, get_status}
+use Rattle.kernel_meaning.specs.Sharing.{Sharing, of_processes, on}
 use Rattle.kernel_meaning.specs.Step.{Step, message}
 use Rattle.kernel_meaning.specs.Sharing.{blocks, first_waiting, waiting}
 use Rattle.order.specs.Agreement.{RecordsAgree}
@@ -44,17 +43,6 @@ module _ {O : Type 0} where
   on_agrees : {X : Type 0} (o : Option (ℕ × X)) (b : Sharing O) (step : ℕ → X → Step (Sharing O)) → RecordsAgree b.processes → ((place : ℕ) (x : X) → Agrees (step place x)) → Agrees (on o b step)
   on_agrees None b step h k = h
   on_agrees (Some f) b step h k = k f.0 f.1
-
-  -- the services that all kinds have, where creating changes no process
-  create_agrees : {X : Type 0} (m : Mode) (b : Sharing O) (p : Runner) (v : Service) (name : ℤ) (o : Option (ℕ × X)) (test : X → Bool) (creates : ℕ → X → Step (Sharing O)) → RecordsAgree b.processes
-      → ((place : ℕ) (x : X) → Agrees (creates place x)) → Agrees (create m b p v name o test creates)
-  create_agrees m b p v name o test creates h k = search (either, on_agrees)
-
-  get_id_agrees : {X : Type 0} (b : Sharing O) (p : Runner) (v : Service) (name : ℤ) (o : Option (ℕ × X)) (test : X → Bool) → RecordsAgree b.processes → Agrees (get_id b p v name o test)
-  get_id_agrees b p v name o test h = search (either)
-
-  get_status_agrees : {X : Type 0} (b : Sharing O) (p : Runner) (v : Service) (o : Option (ℕ × X)) (test : X → Bool) (values : ℕ → X → List ℤ) → RecordsAgree b.processes → Agrees (get_status b p v o test values)
-  get_status_agrees b p v o test values h = search (either, on_agrees)
 
 -- ---- objects
 
@@ -130,9 +118,6 @@ module _ (b : Sharing Objects) (h : RecordsAgree b.processes) (p : Runner) where
   set_event_agrees : (id : ℤ) → IsKept (events.set_event b p id)
   set_event_agrees id = search (either, on_agrees, raises_agrees)
 
-  reset_event_agrees : (id : ℤ) → IsKept (events.reset_event b p id)
-  reset_event_agrees id = search (either, on_agrees)
-
   wait_event_agrees : (at : At) (id limit : ℤ) → IsKept (events.wait_event at b p id limit)
   wait_event_agrees at id limit = search (either, on_agrees, awaits_agrees)
 
@@ -145,37 +130,20 @@ module _ (b : Sharing Objects) (h : RecordsAgree b.processes) (p : Runner) where
   display_blackboard_agrees : (id : ℤ) (array : ArrayPlace) (size : ℤ) (words : List ℤ) → IsKept (blackboards.display_blackboard b p id array size words)
   display_blackboard_agrees id array size words = search (either, on_agrees, displays_agrees)
 
-  clear_blackboard_agrees : (id : ℤ) → IsKept (blackboards.clear_blackboard b p id)
-  clear_blackboard_agrees id = search (either, on_agrees)
-
   read_blackboard_agrees : (at : At) (id : ℤ) (array : ArrayPlace) (limit : ℤ) → IsKept (blackboards.read_blackboard at b p id array limit)
   read_blackboard_agrees at id array limit = search (either, on_agrees, reads_shown_agrees)
 
-  -- Each service on objects.
+  -- Each service on objects. The last clause is for those that change no process.
   pub objects_agree : (m : Mode) (at : At) (c : Call) (words : List ℤ) → IsKept (serves_objects m at b p c words)
-  objects_agree m at (call.CreateBuffer name) words = create_agrees m b p _ name (buffer b.shared name) _ _ h (λ place x. h)
   objects_agree m at (call.SendBuffer id array size limit) words = send_buffer_agrees at id array size limit words
   objects_agree m at (call.ReceiveBuffer id array limit) words = receive_buffer_agrees at id array limit
-  objects_agree m at (call.GetBufferId name) words = get_id_agrees b p _ name (buffer b.shared name) _ h
-  objects_agree m at (call.GetBufferStatus id) words = get_status_agrees b p _ (buffer b.shared id) _ _ h
-  objects_agree m at (call.CreateBlackboard name) words = create_agrees m b p _ name (blackboard b.shared name) _ _ h (λ place x. h)
   objects_agree m at (call.DisplayBlackboard id array size) words = display_blackboard_agrees id array size words
   objects_agree m at (call.ReadBlackboard id array limit) words = read_blackboard_agrees at id array limit
-  objects_agree m at (call.ClearBlackboard id) words = clear_blackboard_agrees id
-  objects_agree m at (call.GetBlackboardId name) words = get_id_agrees b p _ name (blackboard b.shared name) _ h
-  objects_agree m at (call.GetBlackboardStatus id) words = get_status_agrees b p _ (blackboard b.shared id) _ _ h
-  objects_agree m at (call.CreateSemaphore name) words = create_agrees m b p _ name (semaphore b.shared name) _ _ h (λ place x. h)
   objects_agree m at (call.WaitSemaphore id limit) words = wait_semaphore_agrees at id limit
   objects_agree m at (call.SignalSemaphore id) words = signal_semaphore_agrees id
-  objects_agree m at (call.GetSemaphoreId name) words = get_id_agrees b p _ name (semaphore b.shared name) _ h
-  objects_agree m at (call.GetSemaphoreStatus id) words = get_status_agrees b p _ (semaphore b.shared id) _ _ h
-  objects_agree m at (call.CreateEvent name) words = create_agrees m b p _ name (event b.shared name) _ _ h (λ place x. h)
   objects_agree m at (call.SetEvent id) words = set_event_agrees id
-  objects_agree m at (call.ResetEvent id) words = reset_event_agrees id
   objects_agree m at (call.WaitEvent id limit) words = wait_event_agrees at id limit
-  objects_agree m at (call.GetEventId name) words = get_id_agrees b p _ name (event b.shared name) _ h
-  objects_agree m at (call.GetEventStatus id) words = get_status_agrees b p _ (event b.shared id) _ _ h
-  objects_agree m at c words = h
+  objects_agree m at c words = search (either, on_agrees)
 
 -- ---- ports
 
@@ -203,9 +171,6 @@ module _ (b : Sharing Ports) (h : RecordsAgree b.processes) (p : Runner) where
   receives_own_at_port_agrees : (at : At) (array : ArrayPlace) (limit : ℤ) (place : ℕ) (x : Port) → IsPortKept (ports.receives at b p array limit place x x.messages)
   receives_own_at_port_agrees at array limit place x = receives_at_port_agrees at array limit place x x.messages
 
-  write_sampling_agrees : (id : ℤ) (array : ArrayPlace) (size : ℤ) (words : List ℤ) → IsPortKept (ports.write_sampling_message b p id array size words)
-  write_sampling_agrees id array size words = search (either, on_agrees)
-
   read_sampling_agrees : (at : At) (id : ℤ) (array : ArrayPlace) → IsPortKept (ports.read_sampling_message at b p id array)
   read_sampling_agrees at id array = search (either, on_agrees, reads_own_sample_agrees)
 
@@ -215,23 +180,12 @@ module _ (b : Sharing Ports) (h : RecordsAgree b.processes) (p : Runner) where
   receive_queuing_agrees : (at : At) (id : ℤ) (array : ArrayPlace) (limit : ℤ) → IsPortKept (ports.receive_queuing_message at b p id array limit)
   receive_queuing_agrees at id array limit = search (either, on_agrees, receives_own_at_port_agrees) depth 8
 
-  clear_queuing_agrees : (id : ℤ) → IsPortKept (ports.clear_queuing_port b p id)
-  clear_queuing_agrees id = search (either, on_agrees)
-
-  -- Each service on ports.
+  -- Each service on ports. The last clause is for those that change no process.
   pub ports_agree : (m : Mode) (at : At) (c : Call) (words : List ℤ) → IsPortKept (ports.serves_ports m at b p c words)
-  ports_agree m at (call.CreateSamplingPort name) words = create_agrees m b p _ name (sampling b.shared name) _ _ h (λ place x. h)
-  ports_agree m at (call.WriteSamplingMessage id array size) words = write_sampling_agrees id array size words
   ports_agree m at (call.ReadSamplingMessage id array) words = read_sampling_agrees at id array
-  ports_agree m at (call.GetSamplingPortId name) words = get_id_agrees b p _ name (sampling b.shared name) _ h
-  ports_agree m at (call.GetSamplingPortStatus id) words = get_status_agrees b p _ (sampling b.shared id) _ _ h
-  ports_agree m at (call.CreateQueuingPort name) words = create_agrees m b p _ name (queuing b.shared name) _ _ h (λ place x. h)
   ports_agree m at (call.SendQueuingMessage id array size limit) words = send_queuing_agrees at id array size limit words
   ports_agree m at (call.ReceiveQueuingMessage id array limit) words = receive_queuing_agrees at id array limit
-  ports_agree m at (call.GetQueuingPortId name) words = get_id_agrees b p _ name (queuing b.shared name) _ h
-  ports_agree m at (call.GetQueuingPortStatus id) words = get_status_agrees b p _ (queuing b.shared id) _ _ h
-  ports_agree m at (call.ClearQueuingPort id) words = clear_queuing_agrees id
-  ports_agree m at c words = h
+  ports_agree m at c words = search (either, on_agrees)
 
 -- ---- messages that come, and senders that enter
 

@@ -9,12 +9,18 @@ ghost use Rattle.partition.specs.declared.rooms.TheConstants.{ACTIONS_TO_SERVE, 
 
 use apex_types::{Call, Out, Words};
 use process_table_base::{Handed, ProcessTable, Request};
-use sync_objects::{
-    clear_blackboard, create_blackboard, create_buffer, create_event, create_semaphore,
-    display_blackboard, get_blackboard_id, get_blackboard_status, get_buffer_id, get_buffer_status,
-    get_event_id, get_event_status, get_semaphore_id, get_semaphore_status, read_blackboard,
-    receive_buffer, reset_event, send_buffer, set_event, signal_semaphore, wait_event,
-    wait_semaphore,
+use sync_objects::blackboards::{
+    clear_blackboard, create_blackboard, display_blackboard, get_blackboard_id,
+    get_blackboard_status, read_blackboard,
+};
+use sync_objects::buffers::{
+    create_buffer, get_buffer_id, get_buffer_status, receive_buffer, send_buffer,
+};
+use sync_objects::events::{
+    create_event, get_event_id, get_event_status, reset_event, set_event, wait_event,
+};
+use sync_objects::semaphores::{
+    create_semaphore, get_semaphore_id, get_semaphore_status, signal_semaphore, wait_semaphore,
 };
 use sync_objects_base::Objects;
 

@@ -4,7 +4,7 @@ ghost use Rattle.std.specs.Prelude.{◌≡◌, ◌≤◌, ◌^◌, Some};
 
 use apex_types::{
     ErrorKind, Event, EventKind, Mode, ModuleAction, Name, PartitionAction, ProcessState, Response,
-    ReturnCode, Service, Sink, SinkFault, Subject, Ticks, Words, write_event,
+    ReturnCode, SERVICES, Service, Sink, SinkFault, Subject, Ticks, Words, write_event,
 };
 use arrayvec::ArrayVec;
 use std::process::Abort;
@@ -226,9 +226,10 @@ fn texts_that_are_names(rt: HostRuntime) {
 
 #[test]
 fn numbers_and_words_of_services(rt: HostRuntime) {
-    let last = Service::from_number(57);
-    assert_eq!(rt; last, Some(Service::RaiseApplicationError));
-    assert_eq!(rt; Service::from_number(58), None);
+    let raise = Service::from_number(57);
+    assert_eq!(rt; raise, Some(Service::RaiseApplicationError));
+    let count = SERVICES.len() as u32;
+    assert_eq!(rt; Service::from_number(count + 1), None);
     assert_eq!(rt; Service::TimedWait.word(), "TIMED_WAIT");
     assert_eq!(rt; Service::SendBuffer.argument_words(), 5);
     assert_eq!(rt; Service::GetPartitionStatus.answer_words(), 7);
