@@ -1,16 +1,18 @@
--- Decimals: a plain number is the decimal of its value, and a word that of its own.
-use Rattle.std.proofs.Common.{◌≡◌, ℕ, zero, suc, ℤ, pos, negsuc, ◌+◌, ◌-◌, ◌*◌, ◌^◌, ◌<◌, ◌≤◌, Bool, true, false, cond, List, [], ◌∷◌, length, get_or, Option, Some, None, refl, sym, ap, subst, ◌∙◌, arith, rules, lit<}
+-- Decimals: a plain number is the decimal of its value, a word that of its own, and words are found again in their pieces.
+use Rattle.std.proofs.Common.{◌≡◌, ℕ, zero, suc, ℤ, pos, negsuc, ◌+◌, ◌-◌, ◌*◌, ◌^◌, ◌<◌, ◌≤◌, Bool, true, false, cond, List, [], ◌∷◌, length, map, get_or, Option, Some, None, refl, sym, ap, subst, ◌∙◌, arith, rules, lit<}
 use Rattle.std.specs.Prelude.{fold, not, nat_le, ◌&&◌, ◌==◌, FitsSigned}
 use Rattle.std.specs.Fmt.{decimal, signed_decimal}
 use Rattle.std.specs.Int.{w64}
 use Rattle.std.specs.List.{list_all}
 use Rattle.std.proofs.lemmas.Bool.{and_parts, and_from, leb-true, le-leb, lt-ltb, eqb-true, eqb-false, ne_eqb, not-true, not_from_false, cond-true, cond-false}
+use Rattle.std.proofs.lemmas.Option.{same_Some}
 use Rattle.std.proofs.lemmas.Fmt.{digits_decimal, digits_value-decimal, decimal-digits_value, decimal_nonempty, first_decimal, decimal_digit}
 use Rattle.std.proofs.lemmas.Str.Parse.{IsNumeralModel, numerals_by_fold}
-use Rattle.module_meaning.specs.DeviceText.{is_plain, if_at_most, plain_number, positive, negative, word}
+use Rattle.module_meaning.specs.DeviceText.{is_plain, if_at_most, plain_number, positive, negative, word, words, put_word, piece, pieces_behind_marks}
 use Rattle.engine_meaning.specs.Digits.{is_digit, decimal_value}
-use Rattle.trace_text.proofs.Pieces.{is_ink}
-use Rattle.trace_text.proofs.Spells.{Spells, same_some}
+use Rattle.text_lines.specs.Pieces.{pieces_of}
+use Rattle.text_lines.specs.Words.{AreWords}
+use Rattle.text_lines.proofs.Pieces.{is_ink, AreInk}
 
 abbrev AreDigits : List ℕ → Type 0
 AreDigits ds = list_all is_digit ds ≡ true
@@ -38,7 +40,7 @@ plain_digits (d ∷ e ∷ ds) h =
     (and_from (is_digit d) (list_all is_digit (e ∷ ds)) q.0 p.1, omega arith, λ (z : d ≡ 48). absurd (eqb-false d 48 (not-true (d == 48) q.1) z))
 
 at_most_is : (t : Bool) (n m : ℕ) → cond t (Some n) None ≡ Some m → (t ≡ true) × (n ≡ m)
-at_most_is true n m e = (refl, same_some n m e)
+at_most_is true n m e = (refl, same_Some n m e)
 at_most_is false n m e = cc
 
 plain_is : (t : Bool) (most : ℕ) (ds : List ℕ) (n : ℕ) → cond t (if_at_most most (decimal_value ds)) None ≡ Some n → (t ≡ true) × (decimal_value ds ≤ most) × (decimal_value ds ≡ n)
@@ -93,7 +95,7 @@ positive_is : (ds : List ℕ) (o : Option ℕ) (z : ℤ) → plain_number (2 ^ 6
 positive_is ds None z p e = cc
 positive_is ds (Some n) z p e =
     let b = plain_back (2 ^ 63 - 1) ds n (lit< tt) p in
-    let is : pos n ≡ z = same_some (pos n) z e in
+    let is : pos n ≡ z = same_Some (pos n) z e in
     subst (λ (y : ℤ). (signed_decimal y ≡ ds) × FitsSigned w64 y) is (b.0, fits_positive n b.1)
 
 negative_is : (ds : List ℕ) (o : Option ℕ) (z : ℤ) → plain_number (2 ^ 63) ds ≡ o → negative o ≡ Some z → (signed_decimal z ≡ 45 ∷ ds) × FitsSigned w64 z
@@ -101,7 +103,7 @@ negative_is ds None z p e = cc
 negative_is ds (Some zero) z p e = cc
 negative_is ds (Some (suc n)) z p e =
     let b = plain_back (2 ^ 63) ds (suc n) (lit< tt) p in
-    let is : negsuc n ≡ z = same_some (negsuc n) z e in
+    let is : negsuc n ≡ z = same_Some (negsuc n) z e in
     subst (λ (y : ℤ). (signed_decimal y ≡ 45 ∷ ds) × FitsSigned w64 y) is (ap (λ (xs : List ℕ). 45 ∷ xs) b.0, fits_negative n b.1)
 
 word_is : (t : Bool) (b : ℕ) (bs : List ℕ) (z : ℤ) → (t ≡ true → b ≡ 45) → cond t (negative (plain_number (2 ^ 63) bs)) (positive (plain_number (2 ^ 63 - 1) (b ∷ bs))) ≡ Some z → (signed_decimal z ≡ b ∷ bs) × FitsSigned w64 z
@@ -109,7 +111,7 @@ word_is true b bs z is e =
     subst (λ (x : ℕ). (signed_decimal z ≡ x ∷ bs) × FitsSigned w64 z) (sym (is refl)) (negative_is bs (plain_number (2 ^ 63) bs) z refl e)
 word_is false b bs z is e = positive_is (b ∷ bs) (plain_number (2 ^ 63 - 1) (b ∷ bs)) z refl e
 
-word_back : (bs : List ℕ) (z : ℤ) → word bs ≡ Some z → (signed_decimal z ≡ bs) × FitsSigned w64 z
+pub word_back : (bs : List ℕ) (z : ℤ) → word bs ≡ Some z → (signed_decimal z ≡ bs) × FitsSigned w64 z
 word_back [] z e = cc
 word_back (b ∷ bs) z e = word_is (b == 45) b bs z (λ (h : (b == 45) ≡ true). eqb-true b 45 h) e
 
@@ -120,7 +122,7 @@ word_of_digits (d ∷ ds) h some =
     let other : (d == 45) ≡ false = ne_eqb d 45 (λ (z : d ≡ 45). omega (arith, z, digit_low d p.0)) in
     cond-false (d == 45) (negative (plain_number (2 ^ 63) ds)) (positive (plain_number (2 ^ 63 - 1) (d ∷ ds))) other
 
-word_again : (z : ℤ) → FitsSigned w64 z → word (signed_decimal z) ≡ Some z
+pub word_again : (z : ℤ) → FitsSigned w64 z → word (signed_decimal z) ≡ Some z
 word_again (pos n) fits =
     let low = low_positive n fits in
     let small : n < 2 ^ 64 = omega (arith, low) in
@@ -128,9 +130,25 @@ word_again (pos n) fits =
     ∙ ap positive (plain_again (2 ^ 63 - 1) n (lit< tt) low)
 word_again (negsuc n) fits = ap negative (plain_again (2 ^ 63) (suc n) (lit< tt) (low_negative n fits))
 
-word_ink : (z : ℤ) → FitsSigned w64 z → list_all is_ink (signed_decimal z) ≡ true
+pub word_ink : (z : ℤ) → FitsSigned w64 z → list_all is_ink (signed_decimal z) ≡ true
 word_ink (pos n) fits = let low = low_positive n fits in decimal_ink n (omega (arith, low))
 word_ink (negsuc n) fits = let low = low_negative n fits in decimal_ink (suc n) (omega (arith, low))
 
-pub word_spells : Spells word signed_decimal (FitsSigned w64)
-word_spells = record { takes = word_back; again = word_again; ink = word_ink }
+pub words_again : (ws : List ℤ) → AreWords ws → words (map signed_decimal ws) ≡ Some ws
+unfolding words
+words_again [] good = refl
+words_again (w ∷ ws) good =
+    ap (λ (o : Option ℤ). put_word o (words (map signed_decimal ws))) (word_again w good.0)
+    ∙ ap (put_word (Some w)) (words_again ws good.1)
+
+pub words_ink : (ws : List ℤ) → AreWords ws → AreInk (map signed_decimal ws)
+words_ink [] good = refl
+words_ink (w ∷ ws) good = and_from (list_all is_ink (signed_decimal w)) (list_all (list_all is_ink) (map signed_decimal ws)) (word_ink w good.0) (words_ink ws good.1)
+
+-- the words from here are the next one and those behind it
+pub next_word : (text front : List ℕ) (more : Option (List ℕ)) (w : Option ℤ) → front ≡ piece 32 text → pieces_behind_marks 32 text ≡ pieces_of 32 more → w ≡ word front → words (pieces_of 32 (Some text)) ≡ put_word w (words (pieces_of 32 more))
+unfolding words
+next_word text front more w f b e =
+    ap (λ (p : List ℕ). put_word (word p) (words (pieces_behind_marks 32 text))) (sym f)
+    ∙ ap (λ (o : Option ℤ). put_word o (words (pieces_behind_marks 32 text))) (sym e)
+    ∙ ap (λ (ps : List (List ℕ)). put_word w (words ps)) b

@@ -14,7 +14,8 @@ fn is_digit(byte: u8) -> bool
     b'0' <= byte && byte <= b'9'
 }
 
-fn are_digits(bytes: &[u8]) -> bool
+/// Whether there is nothing else than digits.
+pub fn are_digits(bytes: &[u8]) -> bool
     ensures { result ≡ list_all is_digit bytes.now }
 {
     bytes.iter().all(|byte| is_digit(*byte))
@@ -45,7 +46,7 @@ fn with_digit(most: u64, value: u64, digit: u8) -> Option<u64>
 
 /// The number of these digits, if it is not too great.
 #[tactic(auto, using(crate::proofs::Decimals::stays_above), unfolding(engine_meaning::specs::Digits::decimal_value))]
-fn at_most(most: u64, digits: &[u8]) -> Option<u64>
+pub fn number_at_most(most: u64, digits: &[u8]) -> Option<u64>
     requires { most ≤ 2 ^ 63 }
     ensures { result ≡ if_at_most most (decimal_value digits.now) }
 {
@@ -65,7 +66,7 @@ pub fn plain_number(most: u64, digits: &[u8]) -> Option<u64>
     ensures { result ≡ plain_number most digits.now }
 {
     if is_plain(digits) {
-        at_most(most, digits)
+        number_at_most(most, digits)
     } else {
         None
     }

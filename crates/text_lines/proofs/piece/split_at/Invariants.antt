@@ -2,7 +2,7 @@ use Rattle.std.proofs.Common.{◌≡◌, ◌+◌, length}
 use Rattle.std.specs.Prelude.{not, ◌==◌}
 use Rattle.std.specs.List.{prefix_len}
 use Rattle.module_meaning.specs.DeviceText.{pieces_behind_marks}
-use Rattle.trace_text.proofs.piece.split_at.Given as goal
+use Rattle.text_lines.proofs.piece.split_at.Given as goal
 
 abbrev pub invariant-loop-byte : goal.invariant-loop-byte
 invariant-loop-byte l = record {

@@ -3,8 +3,8 @@ use Rattle.std.specs.Prelude.{fold}
 use Rattle.std.proofs.lemmas.List.{drop_more}
 use Rattle.engine_meaning.specs.Digits.{decimal_value}
 use Rattle.module_meaning.specs.DeviceText.{if_at_most}
-use Rattle.trace_text.proofs.Decimals.{stays_above}
-use Rattle.trace_text.proofs.number.at_most.Goals as goal
+use Rattle.text_lines.proofs.Decimals.{stays_above}
+use Rattle.text_lines.proofs.number.number_at_most.Goals as goal
 
 pub returns-in-None : goal.returns-in-None
 unfolding decimal_value

@@ -1,8 +1,8 @@
 //! The pieces of a text between marks.
 
-ghost use Rattle.std.specs.Prelude.{◌≡◌, ◌<◌, length, option_map, option_copied, IfSome};
+ghost use Rattle.std.specs.Prelude.{◌≡◌, ◌<◌, length, option_copied, IfSome};
 ghost use Rattle.module_meaning.specs.DeviceText.{piece, pieces_behind_marks};
-ghost use Rattle.module_base.specs.Seen.{pieces_of};
+ghost use Rattle.text_lines.specs.Pieces.{pieces_of};
 
 /// What stands before the first such byte, and what stands behind it; the whole text where there is
 /// none.
