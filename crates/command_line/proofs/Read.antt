@@ -3,7 +3,7 @@ use Rattle.std.proofs.Common.{◌≡◌, ℕ, List, [], ◌∷◌, ◌++◌, len
 use Rattle.module.specs.Building.{IsImageOf}
 use Rattle.module.specs.Costs.{AreCosts}
 use Rattle.module.specs.declared.costing.PartitionCosts.{PartitionCosts}
-use Rattle.command_line.specs.Contents.{Contents, Holds, HoldAll}
+use Rattle.streams.specs.Contents.{Contents, Holds, HoldAll}
 use Rattle.command_line.specs.Done.{AreCosted, IsBuilt}
 use Rattle.command_line.specs.Reading.{IsRefusedText, IsUncostedText}
 use Rattle.command_line.specs.Refusals.{IsNotBuilt, IsNotCosted}

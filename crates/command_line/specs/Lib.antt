@@ -1,9 +1,7 @@
 pub mod Answers
-pub mod Contents
 pub mod Done
 pub mod Explained
 pub mod Lines
-pub mod Noted
 pub mod Orders
 pub mod Reading
 pub mod Refusals

@@ -2,14 +2,14 @@
 use Rattle.std.specs.Prelude.{◌≡◌, ℕ, List, [], ◌∷◌, ◌++◌, string_bytes}
 use Rattle.std.specs.declared.alloc.Global.{Global}
 use Rattle.std.specs.declared.string.String.{String}
-use Rattle.command_line.specs.declared.files.FileFault.{FileFault}
-use Rattle.command_line.specs.declared.files.FileFault.TheVariants as fault
+use Rattle.streams.specs.declared.names.NameFault.{NameFault}
+use Rattle.streams.specs.declared.names.NameFault.TheVariants as fault
 use Rattle.command_line.specs.declared.refusal.Failure.{Failure}
 use Rattle.command_line.specs.declared.refusal.Failure.TheVariants.{Refused, Usage}
 use Rattle.command_line.specs.declared.refusal.Refusal.{Refusal}
 use Rattle.command_line.specs.declared.refusal.Refusal.TheVariants.{Build, Run, Replay, Inputs, File, Memory, Write}
 
-abbrev pub of_file : String Global → FileFault → Refusal
+abbrev pub of_file : String Global → NameFault → Refusal
 of_file name fault.Unavailable = File name
 of_file name fault.Memory = Memory
 

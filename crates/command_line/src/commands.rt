@@ -14,7 +14,6 @@ ghost use Rattle.streams.specs.States.{IsFlushed, seen};
 ghost use Rattle.command_line.specs.Words.{mb_app};
 
 use crate::explaining::Note;
-use crate::files::Files;
 use crate::grammar::grammar;
 use crate::reading::build_named;
 use crate::refusal::{Failure, Refusal};
@@ -24,7 +23,7 @@ use crate::showing::{cost, dis};
 use clap::ArgMatches;
 use std::alloc::Global;
 use std::convert::AsStr;
-use streams::{Stream, write_line};
+use streams::{Files, Stream, write_line};
 
 /// Does what the words say. `asked` becomes true if they ask for an explanation of a refusal; `note`
 /// gets what is to be told of a refused source then.

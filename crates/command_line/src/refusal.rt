@@ -9,12 +9,12 @@ ghost use Rattle.command_line.specs.Told.{of_file};
 ghost use Rattle.command_line.specs.declared.refusal.Refusal.TheVariants as refusal;
 ghost use Rattle.command_line.specs.declared.refusal.Failure.TheVariants as failure;
 
-use crate::files::FileFault;
 use apex_types::SinkFault;
 use clap::error::ErrorKind;
 use module::{BuildAndRunFault, BuildFault, InputsFault, RunFault};
 use std::alloc::{AllocError, AllocFailed};
 use std::fmt;
+use streams::NameFault;
 
 /// A refused command. What it shows is its line on standard error.
 #[derive(Drop)]
@@ -33,12 +33,12 @@ pub enum Refusal {
 
 impl Refusal {
     /// The refusal where the file of that name was not read or not written.
-    pub fn of_file(name: String, fault: FileFault) -> Refusal
+    pub fn of_file(name: String, fault: NameFault) -> Refusal
         ensures { result ≡ of_file name fault }
     {
         match fault {
-            FileFault::Unavailable => Refusal::File(name),
-            FileFault::Memory => Refusal::Memory,
+            NameFault::Unavailable => Refusal::File(name),
+            NameFault::Memory => Refusal::Memory,
         }
     }
 }

@@ -11,13 +11,12 @@ ghost use Rattle.command_line.specs.States.{state};
 ghost use Rattle.command_line.specs.Told.{IsOfFailed, IsOfFailedFile};
 ghost use Rattle.streams.specs.States.{IsFlushed, seen};
 
-use crate::files::Files;
 use crate::grammar::{bad_ticks, ticks_of};
 use crate::reading::read;
 use crate::refusal::{Failure, Refusal};
 use module::{InputsFault, RunFault};
 use std::alloc::Global;
-use streams::Stream;
+use streams::{Files, Stream};
 
 /// Replays a partition of an image for the ticks of a word.
 pub fn replay<F: Files, O: Stream>(

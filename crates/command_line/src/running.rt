@@ -10,14 +10,13 @@ ghost use Rattle.command_line.specs.States.{state};
 ghost use Rattle.command_line.specs.Told.{IsOfFailed, IsOfFailedFile};
 ghost use Rattle.streams.specs.States.{IsFlushed, seen};
 
-use crate::files::Files;
 use crate::first_run::{SOURCE, TABLE, TICKS};
 use crate::grammar::{bad_ticks, ticks_of};
 use crate::reading::read;
 use crate::refusal::{Failure, Refusal};
 use module::{BuildAndRunFault, RunFault};
 use std::alloc::Global;
-use streams::Stream;
+use streams::{Files, Stream};
 
 /// Runs an image for the ticks of a word.
 pub fn run<F: Files, O: Stream>(

@@ -10,9 +10,10 @@ use Rattle.clap.specs.declared.error.kind.ErrorKind.TheVariants as kind
 use Rattle.view_command.specs.Answers.{AreNoCommand, AskForHelp, IsAnswer, IsFailure, IsHelp, IsMistake, IsRefused, IsRefusedFor, IsTold, IsUsageTold, CanTakeHelp}
 use Rattle.view_command.specs.Lines.{line_of}
 use Rattle.view_command.specs.Orders.{AsksForNothing, Entered, trace_of}
+use Rattle.streams.specs.Contents.{Contents}
 use Rattle.streams.specs.States.{HasFailed, IsFlushed, Seen, TakesLine}
 use Rattle.view_command.specs.States.{IsUntouched, State, state}
-use Rattle.view_command.specs.Texts.{Texts, IsTraceIn}
+use Rattle.view_command.specs.Texts.{IsTraceIn}
 use Rattle.view_command.specs.Words.{view_app}
 use Rattle.view_command.specs.declared.refusal.Failure.{Failure}
 use Rattle.view_command.specs.declared.refusal.Failure.TheVariants.{Refused, Usage}
@@ -40,7 +41,7 @@ help_or kind.Io = inr ((λ e. cc), (λ e. cc))
 help_or kind.Format = inr ((λ e. cc), (λ e. cc))
 help_or kind.OutOfMemory = inr ((λ e. cc), (λ e. cc))
 
-of_usage : (kinds : Kinds) (entered : Entered) (texts : Option Texts) (before mid : State) (new_out old_err new_err : Seen) (status : ℕ) (e : Error) → IsFailure kinds entered texts before mid (Usage e) → IsUsageTold e mid.out new_out old_err new_err status
+of_usage : (kinds : Kinds) (entered : Entered) (texts : Option Contents) (before mid : State) (new_out old_err new_err : Seen) (status : ℕ) (e : Error) → IsFailure kinds entered texts before mid (Usage e) → IsUsageTold e mid.out new_out old_err new_err status
     → IsHelp (kind_of e) ⊎ IsMistake (kind_of e) → IsAnswer kinds entered texts before (state mid.unopened new_out) old_err new_err status
 of_usage kinds entered texts before mid new_out old_err new_err status e (same, why) told (inr mistake) =
     let it = told.mistake mistake in
@@ -78,7 +79,7 @@ of_usage kinds entered texts before mid new_out old_err new_err status e (same, 
       usage = λ two. absurd (omega (arith, one, two));
     }
 
-pub answered : (kinds : Kinds) (entered : Entered) (texts : Option Texts) (before mid : State) (new_out old_err new_err : Seen) (status : ℕ) (outcome : Result (Unit {0}) Failure)
+pub answered : (kinds : Kinds) (entered : Entered) (texts : Option Contents) (before mid : State) (new_out old_err new_err : Seen) (status : ℕ) (outcome : Result (Unit {0}) Failure)
     → OnOk outcome (kinds ≡ []) → OnOk outcome (IsTraceIn texts (trace_of entered)) → OnOk outcome (mid.unopened ≡ before.unopened) → OnOk outcome (IsFlushed before.out mid.out) → IfErr outcome (λ f. IsFailure kinds entered texts before mid f)
     → IsTold outcome mid.out new_out old_err new_err status → IsAnswer kinds entered texts before (state mid.unopened new_out) old_err new_err status
 answered kinds entered texts before mid new_out old_err new_err status (Ok x) none trace opened flushed failed (zero, same, quiet) = record {
@@ -101,7 +102,7 @@ answered kinds entered texts before mid new_out old_err new_err status (Err (Usa
     of_usage kinds entered texts before mid new_out old_err new_err status e failed told (help_or (kind_of e))
 
 -- the help that is told was not yet written
-pub can_take_help : (kinds : Kinds) (entered : Entered) (texts : Option Texts) (before mid : State) (outcome : Result (Unit {0}) Failure)
+pub can_take_help : (kinds : Kinds) (entered : Entered) (texts : Option Contents) (before mid : State) (outcome : Result (Unit {0}) Failure)
     → IfErr outcome (λ f. IsFailure kinds entered texts before mid f) → before.out.failures < 2 ^ 64 - 1 → CanTakeHelp outcome mid.out.failures
 can_take_help kinds entered texts before mid (Ok x) failed low = tt
 can_take_help kinds entered texts before mid (Err (Refused r)) failed low = tt

@@ -5,12 +5,13 @@ use Rattle.clap.specs.Values.{kind_of}
 use Rattle.clap.specs.declared.error.Error.{Error}
 use Rattle.clap.specs.declared.error.kind.ErrorKind.{ErrorKind}
 use Rattle.clap.specs.declared.error.kind.ErrorKind.TheVariants.{DisplayHelp, DisplayVersion}
+use Rattle.streams.specs.Contents.{Contents}
 use Rattle.streams.specs.States.{HasFailed, IsFlushed, IsWritten, Seen, TakesLine}
 use Rattle.view_command.specs.Lines.{called, line_of}
 use Rattle.clap.specs.Walk.{Row}
 use Rattle.view_command.specs.Orders.{Entered, AreWrongTicks, AsksForNothing, IsNoTick, trace_of}
 use Rattle.view_command.specs.States.{IsUntouched, State}
-use Rattle.view_command.specs.Texts.{Texts, IsRefusedIn, IsRefusedLine, IsTraceIn}
+use Rattle.view_command.specs.Texts.{IsRefusedIn, IsRefusedLine, IsTraceIn}
 use Rattle.view_command.specs.declared.refusal.Failure.{Failure}
 use Rattle.view_command.specs.declared.refusal.Failure.TheVariants.{Refused, Usage}
 use Rattle.view_command.specs.declared.refusal.Refusal.{Refusal}
@@ -28,7 +29,7 @@ IsUnread text name _ = ⊥
 
 -- The trace of this name is not shown. Of a text that is not opened, that is noted; a line is refused if it is
 -- the first that is no line of a trace there. Only of a whole trace something was written, which failed.
-abbrev pub IsRefused : Option Texts → List ℕ → State → State → Refusal → Type 0
+abbrev pub IsRefused : Option Contents → List ℕ → State → State → Refusal → Type 0
 IsRefused texts name before after Write = HasFailed before.out after.out × (after.unopened ≡ before.unopened) × IsTraceIn texts name
 IsRefused texts name before after (Open shown) = (after.out ≡ before.out) × (string_bytes shown ≡ called name) × (after.unopened ≡ before.unopened ++ name ∷ [])
 IsRefused texts name before after (Read shown) = IsUntouched before after × (string_bytes shown ≡ called name)
@@ -77,19 +78,19 @@ IsFailureOfWords kinds entered (Refused _) = ⊥
 IsFailureOfWords kinds entered (Usage error) = IsAmong (kind_of error) kinds ⊎ ((kinds ≡ []) × AsksForNothing entered × IsMistake (kind_of error))
 
 -- why words are not done
-abbrev pub IsFailure : Kinds → Entered → Option Texts → State → State → Failure → Type 0
+abbrev pub IsFailure : Kinds → Entered → Option Contents → State → State → Failure → Type 0
 IsFailure kinds entered texts before after (Refused r) = ((kinds ≡ []) × IsRefused texts (trace_of entered) before after r) ⊎ ((r ≡ Memory) × IsUntouched before after)
 IsFailure kinds entered texts before after (Usage error) = IsUntouched before after × IsFailureOfWords kinds entered (Usage error)
 
 -- ---- the statuses
 
 -- the trace was read to its end and its view is written and flushed, or help is, and nothing failed
-abbrev pub IsShownOrHelp : Kinds → Entered → Option Texts → State → State → Type 0
+abbrev pub IsShownOrHelp : Kinds → Entered → Option Contents → State → State → Type 0
 IsShownOrHelp kinds entered texts before after =
     (after.unopened ≡ before.unopened) × IsFlushed before.out after.out × (((kinds ≡ []) × IsTraceIn texts (trace_of entered)) ⊎ AskForHelp kinds)
 
 -- the trace is refused, or memory ran out at the words, or help is not written
-abbrev pub IsRefusedFor : Kinds → Entered → Option Texts → State → State → Refusal → Type 0
+abbrev pub IsRefusedFor : Kinds → Entered → Option Contents → State → State → Refusal → Type 0
 IsRefusedFor kinds entered texts before after r =
     ((kinds ≡ []) × IsRefused texts (trace_of entered) before after r) ⊎ ((r ≡ Memory) × IsUntouched before after)
     ⊎ ((r ≡ Write) × AskForHelp kinds × HasFailed before.out after.out × (after.unopened ≡ before.unopened))
@@ -97,7 +98,7 @@ IsRefusedFor kinds entered texts before after r =
 -- With 0 the trace was read to its end and shown, or help is, and standard error is as it was; with 1 the trace
 -- is refused, and standard error has the line of the refusal, if it did not fail; with 2 the words are no command,
 -- standard output is as it was, and what standard error took is flushed, if it did not fail.
-pub record IsAnswer (kinds : Kinds) (entered : Entered) (texts : Option Texts) (before after : State) (old_err new_err : Seen) (status : ℕ) : Type 0 where
+pub record IsAnswer (kinds : Kinds) (entered : Entered) (texts : Option Contents) (before after : State) (old_err new_err : Seen) (status : ℕ) : Type 0 where
   pub range : status ≤ 2
   pub done : status ≡ 0 → IsShownOrHelp kinds entered texts before after × (new_err ≡ old_err)
   pub refused : status ≡ 1 → (r : Refusal) × IsRefusedFor kinds entered texts before after r × TakesLine old_err new_err (line_of r)

@@ -15,7 +15,6 @@ mod grammar;
 mod refusal;
 mod request;
 mod showing;
-mod sources;
 mod telling;
 mod views;
 
@@ -23,10 +22,9 @@ use refusal::Failure;
 pub use refusal::Refusal;
 use request::request_of;
 use showing::show;
-pub use sources::{SourceFault, Sources};
 use std::alloc::Global;
 use std::convert::AsStr;
-use streams::Stream;
+use streams::{Sources, Stream};
 use telling::tell;
 
 /// Shows the trace that the words of a command line name, the program's name first, and answers the

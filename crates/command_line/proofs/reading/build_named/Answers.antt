@@ -1,5 +1,5 @@
 use Rattle.std.proofs.Common.{rules, map, sym, subst, ◌∙◌}
-use Rattle.command_line.specs.Contents.{Holds}
+use Rattle.streams.specs.Contents.{Holds}
 use Rattle.command_line.specs.Reading.{texts_of}
 use Rattle.command_line.proofs.Read.{on_ok, built_named, refused_named, unnamed_text}
 use Rattle.command_line.proofs.reading.build_named.Goals as goal

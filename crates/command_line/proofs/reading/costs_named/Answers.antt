@@ -1,5 +1,5 @@
 use Rattle.std.proofs.Common.{rules, map, sym, subst, ◌∙◌}
-use Rattle.command_line.specs.Contents.{Holds}
+use Rattle.streams.specs.Contents.{Holds}
 use Rattle.command_line.specs.Reading.{texts_of}
 use Rattle.command_line.proofs.Read.{on_ok, costed_named, uncosted_named, unnamed_costs}
 use Rattle.command_line.proofs.reading.costs_named.Goals as goal

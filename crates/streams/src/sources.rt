@@ -1,17 +1,11 @@
-//! The texts that are shown, by name.
+//! Texts by name, which are read from their front.
 
 ghost use Rattle.std.specs.Prelude.{◌≡◌, ℕ, List, Option, None, IfOk};
-ghost use Rattle.view_command.specs.Opening.{IsNoted};
-ghost use Rattle.view_command.specs.Texts.{Opens};
+ghost use Rattle.streams.specs.Contents.{Opens};
+ghost use Rattle.streams.specs.Noted.{IsNoted};
 
+use crate::names::NameFault;
 use std::io::Read;
-
-/// Why a text is not opened.
-#[derive(Clone, Copy, Debug, PartialEq, Eq)]
-pub enum SourceFault {
-    Unavailable,
-    Memory,
-}
 
 /// The texts that can be opened by their names.
 pub trait Sources {
@@ -26,7 +20,7 @@ pub trait Sources {
 
     /// A reader at the front of the text of that name; `-` is the standard input. Want of memory is
     /// no failure of the text.
-    fn open(&mut self, name: &str) -> Result<Self::Reader, SourceFault>
+    fn open(&mut self, name: &str) -> Result<Self::Reader, NameFault>
         ensures opened { IfOk result (λ reader. Opens (texts self.old) name.now (Self.Reader.remaining reader)) }
         ensures noted { IsNoted name.now (unopened self.old) (unopened self.new) result };
 }

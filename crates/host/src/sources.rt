@@ -1,13 +1,11 @@
 //! The texts of the host: its files by name, and its standard input.
 
 ghost use Rattle.streams.specs.Names.{names_of};
-ghost use Rattle.view_command.specs.Opening.{IsNotedFault};
 
-use std::alloc::{AllocGlobal, Global};
+use std::alloc::AllocGlobal;
 use std::fs::{self, File};
-use std::io::{self, Error, ErrorKind, Read, Stdin};
-use streams::FailedNames;
-use view_command::{SourceFault, Sources};
+use std::io::{self, Read, Stdin};
+use streams::{FailedNames, NameFault, Sources};
 
 /// The texts of the host.
 #[derive(Drop)]
@@ -47,27 +45,16 @@ impl<'a> Sources for HostSources<'a> {
 
     ghost unopened = { λ sources. names_of sources.unopened };
 
-    fn open(&mut self, name: &str) -> Result<HostText, SourceFault> {
+    fn open(&mut self, name: &str) -> Result<HostText, NameFault> {
         if name == "-" {
             return Ok(HostText::Standard(self.runtime.stdin()));
         }
         match fs::open(self.runtime, name) {
             Ok(file) => Ok(HostText::Named(file)),
-            Err(error) => Err(note(&mut self.unopened, self.runtime.alloc(), name, &error)),
+            Err(error) => Err(
+                self.unopened
+                    .fault_of(self.runtime.alloc(), name, error.kind()),
+            ),
         }
-    }
-}
-
-/// The fault that an error is. The text that was not opened is noted; where there is no memory to note
-/// it, want of memory is the fault.
-fn note(unopened: &mut FailedNames, alloc: Global, name: &str, error: &Error) -> SourceFault
-    ensures { IsNotedFault name.now (names_of unopened.old) (names_of unopened.new) result }
-{
-    match error.kind() {
-        ErrorKind::OutOfMemory => SourceFault::Memory,
-        _ => match unopened.note(alloc, name) {
-            Ok(()) => SourceFault::Unavailable,
-            Err(_) => SourceFault::Memory,
-        },
     }
 }

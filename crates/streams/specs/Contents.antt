@@ -20,3 +20,9 @@ abbrev pub Spares : List ℕ → Option Contents → Option Contents → Type 0
 Spares name None new = Unit {0}
 Spares name (Some old) None = ⊥
 Spares name (Some old) (Some new) = (other : List ℕ) → other ≢ name → new other ≡ old other
+
+-- a reader has the bytes of this name
+abbrev pub Opens : Option Contents → List ℕ → Option (List ℕ) → Type 0
+Opens None name left = Unit {0}
+Opens (Some files) name None = ⊥
+Opens (Some files) name (Some bytes) = files name ≡ Some bytes
