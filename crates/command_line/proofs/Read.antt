@@ -67,10 +67,6 @@ uncosted_named files now table sources table_text texts (Err Write) same in_tabl
 
 -- ---- no file is named where texts are refused
 
-pub on_ok : {A E P : Type 0} (answer : Result A E) → P → OnOk answer P
-on_ok (Ok x) p = p
-on_ok (Err e) p = tt
-
 pub unnamed_text : {A : Type 0} (old new : List (List ℕ)) (table_text : List ℕ) (texts : List (List ℕ)) (answer : Result A Refusal)
     → new ≡ old → IfErr answer (λ r. IsRefusedText table_text texts r) → IfErr answer (λ r. IsOfFailed old new r)
 unnamed_text old new table_text texts (Ok x) same h = tt

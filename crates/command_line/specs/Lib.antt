@@ -6,6 +6,5 @@ pub mod Orders
 pub mod Reading
 pub mod Refusals
 pub mod States
-pub mod Ticks
 pub mod Told
 pub mod Words

@@ -1,19 +1,19 @@
 -- What each status means.
-use Rattle.std.specs.Prelude.{◌≡◌, ◌≢◌, ◌⊎◌, ◌≤◌, ◌<◌, ◌-◌, ◌^◌, ℕ, List, [], ◌∷◌, ◌++◌, Option, Result, Ok, Err, string_bytes}
+use Rattle.std.specs.Prelude.{◌≡◌, ◌⊎◌, ◌≤◌, ℕ, List, [], ◌∷◌, ◌++◌, Option, Some, Result, Ok, Err, string_bytes}
 use Rattle.clap.specs.Kinds.{Kinds, IsAmong}
 use Rattle.clap.specs.Values.{kind_of}
-use Rattle.clap.specs.declared.error.Error.{Error}
-use Rattle.clap.specs.declared.error.kind.ErrorKind.{ErrorKind}
-use Rattle.clap.specs.declared.error.kind.ErrorKind.TheVariants.{DisplayHelp, DisplayVersion}
+use Rattle.command_words.specs.Found.{Entered}
+use Rattle.command_words.specs.Kinds.{AreMistaken, AskForHelp, IsMistake}
+use Rattle.command_words.specs.Told.{IsUsageTold}
 use Rattle.streams.specs.Contents.{Contents}
 use Rattle.streams.specs.States.{HasFailed, IsFlushed, IsWritten, Seen, TakesLine}
 use Rattle.view_command.specs.Lines.{called, line_of}
 use Rattle.clap.specs.Walk.{Row}
-use Rattle.view_command.specs.Orders.{Entered, AreWrongTicks, AsksForNothing, IsNoTick, trace_of}
+use Rattle.view_command.specs.Orders.{AreWrongTicks, AsksForNothing, IsNoTick, trace_of}
 use Rattle.view_command.specs.States.{IsUntouched, State}
 use Rattle.view_command.specs.Texts.{IsRefusedIn, IsRefusedLine, IsTraceIn}
-use Rattle.view_command.specs.declared.refusal.Failure.{Failure}
-use Rattle.view_command.specs.declared.refusal.Failure.TheVariants.{Refused, Usage}
+use Rattle.command_words.specs.declared.failure.Failure.{Failure}
+use Rattle.command_words.specs.declared.failure.Failure.TheVariants.{Refused, Usage}
 use Rattle.view_command.specs.declared.refusal.Refusal.{Refusal}
 use Rattle.view_command.specs.declared.refusal.Refusal.TheVariants.{Open, Read, Line, TooMany, Memory, Write}
 
@@ -39,46 +39,36 @@ IsRefused texts name before after Memory = IsUntouched before after
 
 -- ---- the words, of which the library of command lines has these errors to tell
 
-abbrev pub IsHelp : ErrorKind → Type 0
-IsHelp k = (k ≡ DisplayHelp) ⊎ (k ≡ DisplayVersion)
-
-abbrev pub IsMistake : ErrorKind → Type 0
-IsMistake k = (k ≢ DisplayHelp) × (k ≢ DisplayVersion)
-
--- they ask for help
-abbrev pub AskForHelp : Kinds → Type 0
-AskForHelp kinds = (k : ErrorKind) × IsAmong k kinds × IsHelp k
-
 -- they are no command
 abbrev pub AreNoCommand : Kinds → Entered → Type 0
-AreNoCommand kinds entered = ((k : ErrorKind) × IsAmong k kinds × IsMistake k) ⊎ ((kinds ≡ []) × AsksForNothing entered)
+AreNoCommand kinds entered = AreMistaken kinds ⊎ ((kinds ≡ []) × AsksForNothing entered)
 
 -- the word for a tick is no tick, or memory ran out
-abbrev pub IsTickFailure : Option (List ℕ) → Failure → Type 0
+abbrev pub IsTickFailure : Option (List ℕ) → Failure Refusal → Type 0
 IsTickFailure word (Refused Memory) = Unit {0}
 IsTickFailure word (Refused _) = ⊥
 IsTickFailure word (Usage error) = IsNoTick word × IsMistake (kind_of error)
 
 -- the words for ticks are wrong, or memory ran out
-abbrev pub IsTicksFailure : List Row → Failure → Type 0
+abbrev pub IsTicksFailure : List Row → Failure Refusal → Type 0
 IsTicksFailure rows (Refused Memory) = Unit {0}
 IsTicksFailure rows (Refused _) = ⊥
 IsTicksFailure rows (Usage error) = AreWrongTicks rows × IsMistake (kind_of error)
 
 -- what was found asks for nothing, or memory ran out
-abbrev pub IsNothingAsked : Entered → Failure → Type 0
+abbrev pub IsNothingAsked : Entered → Failure Refusal → Type 0
 IsNothingAsked entered (Refused Memory) = Unit {0}
 IsNothingAsked entered (Refused _) = ⊥
 IsNothingAsked entered (Usage error) = AsksForNothing entered × IsMistake (kind_of error)
 
 -- why nothing is asked for
-abbrev pub IsFailureOfWords : Kinds → Entered → Failure → Type 0
+abbrev pub IsFailureOfWords : Kinds → Entered → Failure Refusal → Type 0
 IsFailureOfWords kinds entered (Refused Memory) = Unit {0}
 IsFailureOfWords kinds entered (Refused _) = ⊥
 IsFailureOfWords kinds entered (Usage error) = IsAmong (kind_of error) kinds ⊎ ((kinds ≡ []) × AsksForNothing entered × IsMistake (kind_of error))
 
 -- why words are not done
-abbrev pub IsFailure : Kinds → Entered → Option Contents → State → State → Failure → Type 0
+abbrev pub IsFailure : Kinds → Entered → Option Contents → State → State → Failure Refusal → Type 0
 IsFailure kinds entered texts before after (Refused r) = ((kinds ≡ []) × IsRefused texts (trace_of entered) before after r) ⊎ ((r ≡ Memory) × IsUntouched before after)
 IsFailure kinds entered texts before after (Usage error) = IsUntouched before after × IsFailureOfWords kinds entered (Usage error)
 
@@ -106,17 +96,7 @@ pub record IsAnswer (kinds : Kinds) (entered : Entered) (texts : Option Contents
 
 -- ---- what was told of an outcome
 
--- of words that are no command, or that ask for help
-pub record IsUsageTold (error : Error) (old_out new_out old_err new_err : Seen) (status : ℕ) : Type 0 where
-  pub mistake : IsMistake (kind_of error) → (status ≡ 2) × (new_out ≡ old_out) × IsWritten old_err new_err
-  pub help : IsHelp (kind_of error) → ((status ≡ 0) × IsFlushed old_out new_out × (new_err ≡ old_err)) ⊎ ((status ≡ 1) × HasFailed old_out new_out × TakesLine old_err new_err (line_of Write))
-
-abbrev pub IsTold : Result (Unit {0}) Failure → Seen → Seen → Seen → Seen → ℕ → Type 0
+abbrev pub IsTold : Result (Unit {0}) (Failure Refusal) → Seen → Seen → Seen → Seen → ℕ → Type 0
 IsTold (Ok done) old_out new_out old_err new_err status = (status ≡ 0) × (new_out ≡ old_out) × (new_err ≡ old_err)
 IsTold (Err (Refused r)) old_out new_out old_err new_err status = (status ≡ 1) × (new_out ≡ old_out) × TakesLine old_err new_err (line_of r)
-IsTold (Err (Usage error)) old_out new_out old_err new_err status = IsUsageTold error old_out new_out old_err new_err status
-
--- a stream that has failed so often can count the failure of a help that it is to take
-abbrev pub CanTakeHelp : Result (Unit {0}) Failure → ℕ → Type 0
-CanTakeHelp (Err (Usage error)) failures = failures < 2 ^ 64 - 1
-CanTakeHelp _ failures = Unit {0}
+IsTold (Err (Usage error)) old_out new_out old_err new_err status = IsUsageTold error (Some (line_of Write)) old_out new_out old_err new_err status

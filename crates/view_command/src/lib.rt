@@ -18,7 +18,7 @@ mod showing;
 mod telling;
 mod views;
 
-use refusal::Failure;
+use command_words::Failure;
 pub use refusal::Refusal;
 use request::request_of;
 use showing::show;
@@ -56,7 +56,7 @@ fn perform<S: AsStr, F: Sources, O: Stream>(
     words: &[S],
     sources: &mut F,
     out: &mut O,
-) -> Result<(), Failure>
+) -> Result<(), Failure<Refusal>>
     requires { O.failures out.old < 2 ^ 64 - 1 }
     ensures command { OnOk result (fault_of view_app (map S.text words.now) ≡ []) }
     ensures trace { OnOk result (IsTraceIn (F.texts sources.old) (trace_of (subcommand_of view_app (map S.text words.now)))) }

@@ -4,7 +4,7 @@ use Rattle.clap.specs.Built.{AddsSubcommand}
 use Rattle.clap.specs.Simple.{App, shape_of, with_subcommand}
 use Rattle.clap.specs.declared.builder.command.Command.{Command}
 use Rattle.clap.specs.declared.builder.command.Command.TheViews.{out-Command}
-use Rattle.view_command.specs.Words.{IsCommand}
+use Rattle.command_words.specs.Grammar.{IsCommand}
 
 -- a command, and one of its own behind the others
 pub one_more : (old sub new : Command) (app own : App) → IsCommand old app → IsCommand sub own → AddsSubcommand old sub new → IsCommand new (with_subcommand app own.top)

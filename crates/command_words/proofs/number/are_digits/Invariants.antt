@@ -1,6 +1,6 @@
 use Rattle.std.proofs.Common.{◌↔◌, length}
 use Rattle.std.specs.Str.Parse.{AllDigits}
-use Rattle.view_command.proofs.grammar.are_digits.Given as goal
+use Rattle.command_words.proofs.number.are_digits.Given as goal
 
 abbrev pub invariant-loop-byte : goal.invariant-loop-byte
 invariant-loop-byte l = AllDigits 10 l.bytes ↔ AllDigits 10 l.rest
