@@ -1,14 +1,17 @@
 -- From what a command came to, to its status.
-use Rattle.std.proofs.Common.{◌≡◌, ◌≢◌, ◌⊎◌, inl, inr, ℕ, ◌+◌, ◌-◌, ◌^◌, ◌<◌, Bool, true, false, List, [], Result, Ok, Err, refl, sym, ap, subst, ◌∙◌, arith}
-use Rattle.std.specs.Prelude.{IsErr, IsErrAnd, IfErr, OnOk}
+use Rattle.std.proofs.Common.{◌≡◌, ◌⊎◌, inl, inr, ℕ, ◌+◌, ◌-◌, ◌^◌, ◌<◌, Bool, true, false, List, [], Some, Result, Ok, Err, refl, sym, ap, subst, ◌∙◌, arith}
+use Rattle.std.specs.Prelude.{IfErr, OnOk}
 use Rattle.clap.specs.Faults.{is_simple_and_free}
-use Rattle.clap.specs.Kinds.{Kinds, HasKind, IsAmong}
+use Rattle.clap.specs.Kinds.{Kinds, IsAmong}
 use Rattle.clap.specs.Values.{kind_of}
 use Rattle.clap.specs.declared.error.Error.{Error}
 use Rattle.clap.specs.declared.error.kind.ErrorKind.{ErrorKind}
 use Rattle.clap.specs.declared.error.kind.ErrorKind.TheVariants as kind
 use Rattle.streams.specs.States.{HasFailed, IsFlushed, Seen, TakesLine}
-use Rattle.command_line.specs.Answers.{AskForHelp, AreNoCommand, CanTakeHelp, IsAnswer, IsHelp, IsMistake, IsTold, IsUsageTold}
+use Rattle.command_words.specs.Kinds.{AskForHelp, IsHelp, IsMistake}
+use Rattle.command_words.specs.Told.{CanTakeHelp, IsUsageTold}
+use Rattle.command_words.proofs.ErrorKinds.{help_or}
+use Rattle.command_line.specs.Answers.{AreNoCommand, IsAnswer, IsTold}
 use Rattle.command_line.specs.Done.{IsDone}
 use Rattle.command_line.specs.Lines.{line_of}
 use Rattle.command_line.specs.Orders.{Order, First, Check, Build, Run, Replay, Inputs, Cost, Dis}
@@ -18,57 +21,18 @@ use Rattle.command_line.specs.Told.{IsOfFailedFile}
 use Rattle.command_line.specs.Words.{mb_app}
 use Rattle.command_line.specs.declared.explaining.Note.{Note}
 use Rattle.command_line.specs.declared.explaining.Note.TheVariants.{Unwanted}
-use Rattle.command_line.specs.declared.refusal.Failure.{Failure}
-use Rattle.command_line.specs.declared.refusal.Failure.TheVariants.{Refused, Usage}
+use Rattle.command_words.specs.declared.failure.Failure.{Failure}
+use Rattle.command_words.specs.declared.failure.Failure.TheVariants.{Refused, Usage}
+use Rattle.command_line.specs.declared.refusal.Refusal.{Refusal}
 use Rattle.command_line.specs.declared.refusal.Refusal.TheVariants as refusal
 
 pub mb_is_free : is_simple_and_free mb_app ≡ true
 mb_is_free = refl
 
--- ---- kinds of errors
-
-memory_or : (k : ErrorKind) → (k ≡ kind.OutOfMemory) ⊎ (k ≢ kind.OutOfMemory)
-memory_or kind.InvalidValue = inr (λ e. cc)
-memory_or kind.UnknownArgument = inr (λ e. cc)
-memory_or kind.InvalidSubcommand = inr (λ e. cc)
-memory_or kind.NoEquals = inr (λ e. cc)
-memory_or kind.ValueValidation = inr (λ e. cc)
-memory_or kind.TooManyValues = inr (λ e. cc)
-memory_or kind.TooFewValues = inr (λ e. cc)
-memory_or kind.WrongNumberOfValues = inr (λ e. cc)
-memory_or kind.ArgumentConflict = inr (λ e. cc)
-memory_or kind.MissingRequiredArgument = inr (λ e. cc)
-memory_or kind.MissingSubcommand = inr (λ e. cc)
-memory_or kind.DisplayHelp = inr (λ e. cc)
-memory_or kind.DisplayHelpOnMissingArgumentOrSubcommand = inr (λ e. cc)
-memory_or kind.DisplayVersion = inr (λ e. cc)
-memory_or kind.Io = inr (λ e. cc)
-memory_or kind.Format = inr (λ e. cc)
-memory_or kind.OutOfMemory = inl refl
-
-help_or : (k : ErrorKind) → IsHelp k ⊎ IsMistake k
-help_or kind.InvalidValue = inr ((λ e. cc), (λ e. cc))
-help_or kind.UnknownArgument = inr ((λ e. cc), (λ e. cc))
-help_or kind.InvalidSubcommand = inr ((λ e. cc), (λ e. cc))
-help_or kind.NoEquals = inr ((λ e. cc), (λ e. cc))
-help_or kind.ValueValidation = inr ((λ e. cc), (λ e. cc))
-help_or kind.TooManyValues = inr ((λ e. cc), (λ e. cc))
-help_or kind.TooFewValues = inr ((λ e. cc), (λ e. cc))
-help_or kind.WrongNumberOfValues = inr ((λ e. cc), (λ e. cc))
-help_or kind.ArgumentConflict = inr ((λ e. cc), (λ e. cc))
-help_or kind.MissingRequiredArgument = inr ((λ e. cc), (λ e. cc))
-help_or kind.MissingSubcommand = inr ((λ e. cc), (λ e. cc))
-help_or kind.DisplayHelp = inl (inl refl)
-help_or kind.DisplayHelpOnMissingArgumentOrSubcommand = inr ((λ e. cc), (λ e. cc))
-help_or kind.DisplayVersion = inl (inr refl)
-help_or kind.Io = inr ((λ e. cc), (λ e. cc))
-help_or kind.Format = inr ((λ e. cc), (λ e. cc))
-help_or kind.OutOfMemory = inr ((λ e. cc), (λ e. cc))
-
 -- ---- the words
 
 -- want of memory may come before anything is done
-memory_refused : (order : Order) (s : State) → IsRefused order s s refusal.Memory
+pub memory_refused : (order : Order) (s : State) → IsRefused order s s refusal.Memory
 memory_refused First s = (refl, (refl, refl))
 memory_refused (Check table sources) s = ((refl, (refl, refl)), tt)
 memory_refused (Build table image sources) s = ((refl, refl), inl (refl, tt))
@@ -78,27 +42,12 @@ memory_refused (Inputs image partition devices ticks) s = (inr refl, (refl, (ref
 memory_refused (Cost table sources) s = ((refl, (refl, refl)), tt)
 memory_refused (Dis image) s = ((refl, (refl, refl)), tt)
 
--- words that the library of command lines does not take
-pub words_failed : (kinds own : Kinds) (order : Order) (s : State) (e : Error) (answer : Result (Unit {0}) Failure) → own ≡ kinds → HasKind own e
-    → IsErr answer × IsErrAnd answer (λ f. (kind_of e ≡ kind.OutOfMemory → f ≡ Refused refusal.Memory) × (kind_of e ≢ kind.OutOfMemory → f ≡ Usage e))
-    → IfErr answer (λ f. IsFailureOfWords kinds order s s f)
-words_failed kinds own order s e (Ok x) same among h = tt
-words_failed kinds own order s e (Err f) same among h = go (memory_or (kind_of e)) among
-  where
-    short : kind_of e ≡ kind.OutOfMemory → IsFailureOfWords kinds order s s f
-    short m = subst (IsFailureOfWords kinds order s s) (sym (h.1.0 m)) (memory_refused order s)
-
-    go : (kind_of e ≡ kind.OutOfMemory) ⊎ (kind_of e ≢ kind.OutOfMemory) → HasKind own e → IsFailureOfWords kinds order s s f
-    go (inl m) k = short m
-    go (inr n) (inl m) = short m
-    go (inr n) (inr a) = subst (IsFailureOfWords kinds order s s) (sym (h.1.1 n)) ((refl, (refl, refl)), inl (subst (IsAmong (kind_of e)) same a))
-
 -- words that it takes, whose order is not done
-pub order_failed : (kinds : Kinds) (own order : Order) (before after : State) (answer : Result (Unit {0}) Failure) → kinds ≡ [] → own ≡ order
+pub order_failed : (kinds : Kinds) (own order : Order) (before after : State) (answer : Result (Unit {0}) (Failure Refusal)) → kinds ≡ [] → own ≡ order
     → IfErr answer (λ f. IsFailure own before after f) → IfErr answer (λ f. IsFailureOfWords kinds order before after f)
 order_failed kinds own order before after answer none same h = go answer (subst (λ o. IfErr answer (λ f. IsFailure o before after f)) same h)
   where
-    go : (answer : Result (Unit {0}) Failure) → IfErr answer (λ f. IsFailure order before after f) → IfErr answer (λ f. IsFailureOfWords kinds order before after f)
+    go : (answer : Result (Unit {0}) (Failure Refusal)) → IfErr answer (λ f. IsFailure order before after f) → IfErr answer (λ f. IsFailureOfWords kinds order before after f)
     go (Ok x) h = tt
     go (Err (Refused (refusal.Build fault))) h = (none, h)
     go (Err (Refused (refusal.Run fault))) h = (none, h)
@@ -109,24 +58,9 @@ order_failed kinds own order before after answer none same h = go answer (subst 
     go (Err (Refused refusal.Write)) h = (none, h)
     go (Err (Usage e)) h = (h.0, inr (none, h.1, h.2))
 
-pub on_ok : {A E P : Type 0} (answer : Result A E) → P → OnOk answer P
-on_ok (Ok x) p = p
-on_ok (Err e) p = tt
-
--- words that the library of command lines does not take name no file
-pub words_named : (failed : List (List ℕ)) (e : Error) (answer : Result (Unit {0}) Failure)
-    → IsErr answer × IsErrAnd answer (λ f. (kind_of e ≡ kind.OutOfMemory → f ≡ Refused refusal.Memory) × (kind_of e ≢ kind.OutOfMemory → f ≡ Usage e))
-    → IfErr answer (λ f. IsOfFailedFile failed failed f)
-words_named failed e (Ok x) h = tt
-words_named failed e (Err f) h = go (memory_or (kind_of e))
-  where
-    go : (kind_of e ≡ kind.OutOfMemory) ⊎ (kind_of e ≢ kind.OutOfMemory) → IsOfFailedFile failed failed f
-    go (inl m) = subst (IsOfFailedFile failed failed) (sym (h.1.0 m)) refl
-    go (inr n) = subst (IsOfFailedFile failed failed) (sym (h.1.1 n)) refl
-
 -- ---- the status
 
-of_usage : (kinds : Kinds) (order : Order) (asked : Bool) (before mid : State) (old_failed new_failed : List (List ℕ)) (new_out old_err new_err : Seen) (status : ℕ) (e : Error) → IsFailureOfWords kinds order before mid (Usage e) → new_failed ≡ old_failed → IsUsageTold e mid.out new_out old_err new_err status
+of_usage : (kinds : Kinds) (order : Order) (asked : Bool) (before mid : State) (old_failed new_failed : List (List ℕ)) (new_out old_err new_err : Seen) (status : ℕ) (e : Error) → IsFailureOfWords kinds order before mid (Usage e) → new_failed ≡ old_failed → IsUsageTold e (Some (line_of refusal.Write)) mid.out new_out old_err new_err status
     → IsHelp (kind_of e) ⊎ IsMistake (kind_of e) → IsAnswer kinds order asked before (state mid.files new_out) old_failed new_failed old_err new_err status
 of_usage kinds order asked before mid old_failed new_failed new_out old_err new_err status e (untouched, why) unfailed told (inr mistake) =
     let it = told.mistake mistake in
@@ -164,7 +98,7 @@ of_usage kinds order asked before mid old_failed new_failed new_out old_err new_
       usage = λ two. absurd (omega (arith, one, two));
     }
 
-pub answered : (kinds : Kinds) (order : Order) (asked explained : Bool) (note : Note) (before mid : State) (old_failed new_failed : List (List ℕ)) (new_out old_err new_err : Seen) (status : ℕ) (outcome : Result (Unit {0}) Failure)
+pub answered : (kinds : Kinds) (order : Order) (asked explained : Bool) (note : Note) (before mid : State) (old_failed new_failed : List (List ℕ)) (new_out old_err new_err : Seen) (status : ℕ) (outcome : Result (Unit {0}) (Failure Refusal))
     → (asked ≡ false → explained ≡ false)
     → OnOk outcome (kinds ≡ []) → OnOk outcome (IsDone order before mid) → OnOk outcome (IsFlushed before.out mid.out) → IfErr outcome (λ f. IsFailureOfWords kinds order before mid f)
     → OnOk outcome (new_failed ≡ old_failed) → IfErr outcome (λ f. IsOfFailedFile old_failed new_failed f)
@@ -189,7 +123,7 @@ answered kinds order asked explained note before mid old_failed new_failed new_o
     of_usage kinds order asked before mid old_failed new_failed new_out old_err new_err status e failed named told (help_or (kind_of e))
 
 -- the help that is told was not yet written
-pub can_take_help : (kinds : Kinds) (order : Order) (before mid : State) (outcome : Result (Unit {0}) Failure) → IfErr outcome (λ f. IsFailureOfWords kinds order before mid f) → before.out.failures < 2 ^ 64 - 1 → CanTakeHelp outcome mid.out.failures
+pub can_take_help : (kinds : Kinds) (order : Order) (before mid : State) (outcome : Result (Unit {0}) (Failure Refusal)) → IfErr outcome (λ f. IsFailureOfWords kinds order before mid f) → before.out.failures < 2 ^ 64 - 1 → CanTakeHelp outcome mid.out.failures
 can_take_help kinds order before mid (Ok x) failed low = tt
 can_take_help kinds order before mid (Err (Refused r)) failed low = tt
 can_take_help kinds order before mid (Err (Usage e)) failed low = subst (λ n. n < 2 ^ 64 - 1) (sym failed.0.1.1) low

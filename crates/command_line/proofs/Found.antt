@@ -1,43 +1,19 @@
 -- What was found in the words.
-use Rattle.std.proofs.Common.{◌≡◌, ◌≢◌, ℕ, Bool, false, List, [], map, Option, None, Some, sym, ap, refl, ◌∙◌, Bor}
-use Rattle.std.specs.Prelude.{option_map, unwrap_or, codes, if◌then◌else◌, true, Box}
+use Rattle.std.proofs.Common.{◌≡◌, ◌≢◌, ℕ, Bool, false, List, Option, None, Some, sym, ap, refl, ◌∙◌}
+use Rattle.std.specs.Prelude.{option_map, codes, if◌then◌else◌, true, Box}
 use Rattle.std.specs.Str.{bytes_eq}
 use Rattle.std.specs.Box.{box_value}
 use Rattle.std.proofs.lemmas.Option.{same_Some}
 use Rattle.std.proofs.lemmas.Slice.Eq.{bytes_eq-Decides}
-use Rattle.clap.specs.Matches.{first_value, matched_of, raw_values, subcommand_name_of}
-use Rattle.clap.specs.Simple.{App, HasMatchesOf, app_of, is_simple, subcommand_of, subcommand_rows, subcommand_rows_of}
-use Rattle.clap.specs.Walk.{Row, rows_of}
-use Rattle.clap.specs.declared.builder.command.Command.{Command}
+use Rattle.clap.specs.Matches.{subcommand_name_of}
+use Rattle.clap.specs.Simple.{is_simple, subcommand_rows, subcommand_rows_of}
+use Rattle.clap.specs.Walk.{Row}
 use Rattle.clap.specs.declared.parser.matches.ArgMatches.{ArgMatches}
 use Rattle.clap.specs.declared.parser.matches.ArgMatches.TheViews.{out-ArgMatches, out-SubCommand}
-use Rattle.clap.specs.declared.parser.matches.Found.{Found}
 use Rattle.clap.specs.declared.parser.matches.SubCommand.{SubCommand}
-use Rattle.clap.proofs.WalkLemmas.{first_value-rows, raw_values-rows}
-use Rattle.command_line.specs.Orders.{First, Check, Build, Run, Replay, Inputs, Cost, Dis, check_of, build_of, run_of, replay_of, inputs_of, cost_of, dis_of, order_named, order_of, word_at, words_at}
+use Rattle.command_words.specs.Found.{word_at, words_at}
+use Rattle.command_line.specs.Orders.{First, Check, Build, Run, Replay, Inputs, Cost, Dis, check_of, build_of, run_of, replay_of, inputs_of, cost_of, dis_of, order_named, order_of}
 use Rattle.command_line.specs.Words.{mb_app}
-
-pub word_is : (f : Found) (name : List ℕ) (given : Option (Bor (List ℕ))) (none word : Bor (List ℕ))
-    → option_map (λ s. s.now) given ≡ first_value f name → none.now ≡ [] → word ≡ unwrap_or given none → word.now ≡ word_at name (rows_of f)
-word_is f name given none word found empty is = ap (λ (s : Bor (List ℕ)). s.now) is ∙ go given ∙ ap (λ o. unwrap_or o []) (found ∙ first_value-rows f name)
-  where
-    go : (given : Option (Bor (List ℕ))) → (unwrap_or given none).now ≡ unwrap_or (option_map (λ s. s.now) given) []
-    go None = empty
-    go (Some s) = refl
-
-pub words_are : (f : Found) (name : List ℕ) (given : Option (Bor (List (Bor (List ℕ))))) (none words : Bor (List (Bor (List ℕ))))
-    → option_map (λ s. map (λ v. v.now) s.now) given ≡ option_map raw_values (matched_of f name) → none.now ≡ [] → words ≡ unwrap_or given none → map (λ s. s.now) words.now ≡ words_at name (rows_of f)
-words_are f name given none words found empty is =
-    ap (λ (s : Bor (List (Bor (List ℕ)))). map (λ (v : Bor (List ℕ)). v.now) s.now) is ∙ go given ∙ ap (λ o. unwrap_or o []) (found ∙ raw_values-rows f name)
-  where
-    go : (given : Option (Bor (List (Bor (List ℕ))))) → map (λ (v : Bor (List ℕ)). v.now) (unwrap_or given none).now ≡ unwrap_or (option_map (λ s. map (λ v. v.now) s.now) given) []
-    go None = ap (map (λ (v : Bor (List ℕ)). v.now)) empty
-    go (Some s) = refl
-
--- what a parse entered is what the words name
-pub entered_is : (app : App) (words : List (List ℕ)) (command : Command) (m : ArgMatches)
-    → app_of command ≡ app → is_simple app ≡ true → HasMatchesOf (app_of command) words m → subcommand_rows_of m ≡ subcommand_of app words
-entered_is app words command m same simple h = (h (ap is_simple same ∙ simple)).1 ∙ ap (λ a. subcommand_of a words) same
 
 pub mb_is_simple : is_simple mb_app ≡ true
 mb_is_simple = refl

@@ -5,4 +5,3 @@ pub mod Ran
 pub mod Read
 pub mod Replayed
 pub mod Shown
-pub mod Subcommands

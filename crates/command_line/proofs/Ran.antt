@@ -14,7 +14,7 @@ use Rattle.module.specs.declared.fault.RunFault.{RunFault}
 use Rattle.module.specs.declared.fault.RunFault.TheVariants.{Ticks, Image as NoImage, Partition, Device, Memory, Write, Failed}
 use Rattle.std.specs.Prelude.{IsErr, IsErrAnd, IsErrOf, IfErr}
 use Rattle.machine_meaning.specs.ImageReading.{image_at}
-use Rattle.command_line.specs.Contents.{Contents, Holds}
+use Rattle.streams.specs.Contents.{Contents, Holds}
 use Rattle.command_line.specs.Done.{ImageAndText, IsRunDone, IsFirstRun, is_ok}
 use Rattle.streams.specs.States.{Seen}
 use Rattle.module.specs.declared.fault.BuildAndRunFault.{BuildAndRunFault}

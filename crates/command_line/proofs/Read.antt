@@ -3,7 +3,7 @@ use Rattle.std.proofs.Common.{◌≡◌, ℕ, List, [], ◌∷◌, ◌++◌, len
 use Rattle.module.specs.Building.{IsImageOf}
 use Rattle.module.specs.Costs.{AreCosts}
 use Rattle.module.specs.declared.costing.PartitionCosts.{PartitionCosts}
-use Rattle.command_line.specs.Contents.{Contents, Holds, HoldAll}
+use Rattle.streams.specs.Contents.{Contents, Holds, HoldAll}
 use Rattle.command_line.specs.Done.{AreCosted, IsBuilt}
 use Rattle.command_line.specs.Reading.{IsRefusedText, IsUncostedText}
 use Rattle.command_line.specs.Refusals.{IsNotBuilt, IsNotCosted}
@@ -66,10 +66,6 @@ uncosted_named files now table sources table_text texts (Err Memory) same in_tab
 uncosted_named files now table sources table_text texts (Err Write) same in_table in_sources h = absurd h
 
 -- ---- no file is named where texts are refused
-
-pub on_ok : {A E P : Type 0} (answer : Result A E) → P → OnOk answer P
-on_ok (Ok x) p = p
-on_ok (Err e) p = tt
 
 pub unnamed_text : {A : Type 0} (old new : List (List ℕ)) (table_text : List ℕ) (texts : List (List ℕ)) (answer : Result A Refusal)
     → new ≡ old → IfErr answer (λ r. IsRefusedText table_text texts r) → IfErr answer (λ r. IsOfFailed old new r)

@@ -1,11 +1,9 @@
 -- What each status of a command means.
-use Rattle.std.specs.Prelude.{◌≡◌, ◌≢◌, ◌⊎◌, ◌≤◌, ◌<◌, ◌-◌, ◌^◌, ℕ, Bool, false, List, [], Result, Ok, Err}
-use Rattle.clap.specs.Kinds.{Kinds, IsAmong}
-use Rattle.clap.specs.Values.{kind_of}
-use Rattle.clap.specs.declared.error.Error.{Error}
-use Rattle.clap.specs.declared.error.kind.ErrorKind.{ErrorKind}
-use Rattle.clap.specs.declared.error.kind.ErrorKind.TheVariants.{DisplayHelp, DisplayVersion}
-use Rattle.streams.specs.States.{HasFailed, IsFlushed, IsWritten, Seen, TakesLine, TakesText}
+use Rattle.std.specs.Prelude.{◌≡◌, ◌⊎◌, ◌≤◌, ℕ, Bool, false, List, [], Some, Result, Ok, Err}
+use Rattle.clap.specs.Kinds.{Kinds}
+use Rattle.command_words.specs.Kinds.{AreMistaken, AskForHelp}
+use Rattle.command_words.specs.Told.{IsUsageTold}
+use Rattle.streams.specs.States.{HasFailed, IsFlushed, IsWritten, Seen, TakesText}
 use Rattle.command_line.specs.Done.{IsDone}
 use Rattle.command_line.specs.Explained.{told_text}
 use Rattle.command_line.specs.Lines.{line_of}
@@ -14,26 +12,14 @@ use Rattle.command_line.specs.Refusals.{IsFailureOfWords, IsWrongTicks}
 use Rattle.command_line.specs.States.{IsUntouched, State}
 use Rattle.command_line.specs.Told.{IsOfFailed}
 use Rattle.command_line.specs.declared.explaining.Note.{Note}
-use Rattle.command_line.specs.declared.refusal.Failure.{Failure}
-use Rattle.command_line.specs.declared.refusal.Failure.TheVariants.{Refused, Usage}
+use Rattle.command_words.specs.declared.failure.Failure.{Failure}
+use Rattle.command_words.specs.declared.failure.Failure.TheVariants.{Refused, Usage}
 use Rattle.command_line.specs.declared.refusal.Refusal.{Refusal}
 use Rattle.command_line.specs.declared.refusal.Refusal.TheVariants.{Write}
 
-abbrev pub IsHelp : ErrorKind → Type 0
-IsHelp k = (k ≡ DisplayHelp) ⊎ (k ≡ DisplayVersion)
-
-abbrev pub IsMistake : ErrorKind → Type 0
-IsMistake k = (k ≢ DisplayHelp) × (k ≢ DisplayVersion)
-
--- ---- of the errors that the library of command lines has to tell of the words
-
--- they ask for help
-abbrev pub AskForHelp : Kinds → Type 0
-AskForHelp kinds = (k : ErrorKind) × IsAmong k kinds × IsHelp k
-
--- they are no command, or the word for its ticks is no row of digits
+-- the words are no command, or the word for its ticks is no row of digits
 abbrev pub AreNoCommand : Kinds → Order → Type 0
-AreNoCommand kinds order = ((k : ErrorKind) × IsAmong k kinds × IsMistake k) ⊎ ((kinds ≡ []) × IsWrongTicks order)
+AreNoCommand kinds order = AreMistaken kinds ⊎ ((kinds ≡ []) × IsWrongTicks order)
 
 -- ---- the statuses
 
@@ -62,17 +48,7 @@ pub record IsAnswer (kinds : Kinds) (order : Order) (asked : Bool) (before after
 
 -- ---- what was told of an outcome
 
--- of words that are no command, or that ask for help
-pub record IsUsageTold (error : Error) (old_out new_out old_err new_err : Seen) (status : ℕ) : Type 0 where
-  pub mistake : IsMistake (kind_of error) → (status ≡ 2) × (new_out ≡ old_out) × IsWritten old_err new_err
-  pub help : IsHelp (kind_of error) → ((status ≡ 0) × IsFlushed old_out new_out × (new_err ≡ old_err)) ⊎ ((status ≡ 1) × HasFailed old_out new_out × TakesLine old_err new_err (line_of Write))
-
-abbrev pub IsTold : Result (Unit {0}) Failure → Bool → Note → Seen → Seen → Seen → Seen → ℕ → Type 0
+abbrev pub IsTold : Result (Unit {0}) (Failure Refusal) → Bool → Note → Seen → Seen → Seen → Seen → ℕ → Type 0
 IsTold (Ok done) asked note old_out new_out old_err new_err status = (status ≡ 0) × (new_out ≡ old_out) × (new_err ≡ old_err)
 IsTold (Err (Refused r)) asked note old_out new_out old_err new_err status = (status ≡ 1) × (new_out ≡ old_out) × TakesText old_err new_err (told_text asked r note)
-IsTold (Err (Usage error)) asked note old_out new_out old_err new_err status = IsUsageTold error old_out new_out old_err new_err status
-
--- a stream that has failed so often can count the failure of a help that it is to take
-abbrev pub CanTakeHelp : Result (Unit {0}) Failure → ℕ → Type 0
-CanTakeHelp (Err (Usage error)) failures = failures < 2 ^ 64 - 1
-CanTakeHelp _ failures = Unit {0}
+IsTold (Err (Usage error)) asked note old_out new_out old_err new_err status = IsUsageTold error (Some (line_of Write)) old_out new_out old_err new_err status

@@ -17,7 +17,7 @@ use Rattle.module.specs.declared.costing.PartitionCosts.{PartitionCosts}
 use Rattle.module.specs.declared.fault.BuildAndRunFault.{BuildAndRunFault}
 use Rattle.module.specs.declared.inputs_fault.InputsFault.{InputsFault}
 use Rattle.module.specs.declared.fault.RunFault.{RunFault}
-use Rattle.command_line.specs.Contents.{Contents, Holds, HoldAll, Spares}
+use Rattle.streams.specs.Contents.{Contents, Holds, HoldAll, Spares}
 use Rattle.command_line.specs.Orders.{Order, First, Check, Build, Run, Replay, Inputs, Cost, Dis}
 use Rattle.command_line.specs.States.{State}
 use Rattle.command_line.specs.declared.first_run.TheConstants.{SOURCE, TABLE, TICKS}

@@ -1,13 +1,10 @@
 pub mod Answers
-pub mod Contents
 pub mod Done
 pub mod Explained
 pub mod Lines
-pub mod Noted
 pub mod Orders
 pub mod Reading
 pub mod Refusals
 pub mod States
-pub mod Ticks
 pub mod Told
 pub mod Words

@@ -1,7 +1,8 @@
 -- What the words of a command line order.
-use Rattle.std.specs.Prelude.{ℕ, Bool, false, List, [], Option, Some, None, unwrap_or, if◌then◌else◌, codes}
+use Rattle.std.specs.Prelude.{ℕ, Bool, false, List, Some, None, if◌then◌else◌, codes}
 use Rattle.std.specs.Str.{bytes_eq}
-use Rattle.clap.specs.Walk.{Row, first_of, all_of}
+use Rattle.clap.specs.Walk.{Row}
+use Rattle.command_words.specs.Found.{Entered, word_at, words_at}
 
 -- files and partitions are named; ticks are a word
 pub data Order : Type 0 where
@@ -13,13 +14,6 @@ pub data Order : Type 0 where
   Inputs : (image : List ℕ) (partition : List ℕ) (devices : List ℕ) (ticks : List ℕ) → Order
   Cost : (table : List ℕ) (sources : List (List ℕ)) → Order
   Dis : (image : List ℕ) → Order
-
--- the word, and the words, that were found for an argument
-abbrev pub word_at : List ℕ → List Row → List ℕ
-word_at name rows = unwrap_or (first_of name rows) []
-
-abbrev pub words_at : List ℕ → List Row → List (List ℕ)
-words_at name rows = unwrap_or (all_of name rows) []
 
 abbrev pub check_of : List Row → Order
 check_of rows = Check (word_at (codes "TABLE") rows) (words_at (codes "SOURCE") rows)
@@ -55,11 +49,11 @@ order_named name rows =
     else First
 
 -- without a command the stored module
-abbrev pub order_of : Option (List ℕ × List Row) → Order
+abbrev pub order_of : Entered → Order
 order_of None = First
 order_of (Some entered) = order_named entered.0 entered.1
 
 -- whether the words ask for an explanation of a refusal
-abbrev pub asks : Option (List ℕ × List Row) → Bool
+abbrev pub asks : Entered → Bool
 asks None = false
 asks (Some entered) = bytes_eq (word_at (codes "explain") entered.1) (codes "true")

@@ -20,14 +20,14 @@ use Rattle.module.specs.declared.inputs_fault.InputsFault.{InputsFault}
 use Rattle.module.specs.declared.inputs_fault.InputsFault.TheVariants as input_faults
 use Rattle.module.specs.declared.fault.RunFault.{RunFault}
 use Rattle.module.specs.declared.fault.RunFault.TheVariants as faults
-use Rattle.command_line.specs.Contents.{Contents, Holds, Spares}
+use Rattle.streams.specs.Contents.{Contents, Holds, Spares}
 use Rattle.command_line.specs.Done.{Texts, IsBuilt, AreCosted, IsImageIn, ImageAndText, IsRunOf, IsRunDone, IsReplayOf, IsReplayDone, AreInputsOf, AreInputsDone, IsFirstRun, is_ok}
 use Rattle.command_line.specs.Orders.{Order, First as first, Check as check, Build as build, Run as run, Replay as replay, Inputs as inputs, Cost as cost, Dis as dis}
 use Rattle.command_line.specs.States.{IsSilent, IsUntouched, State}
 use Rattle.command_line.specs.declared.refusal.Refusal.{Refusal}
 use Rattle.command_line.specs.declared.refusal.Refusal.TheVariants.{Build, Run, Replay, Inputs, File, Memory, Write}
-use Rattle.command_line.specs.declared.refusal.Failure.{Failure}
-use Rattle.command_line.specs.declared.refusal.Failure.TheVariants.{Refused, Usage}
+use Rattle.command_words.specs.declared.failure.Failure.{Failure}
+use Rattle.command_words.specs.declared.failure.Failure.TheVariants.{Refused, Usage}
 
 abbrev pub refusal_of_both : BuildAndRunFault → Refusal
 refusal_of_both (both.Build fault) = Build fault
@@ -173,13 +173,13 @@ IsWrongTicks (inputs image partition devices ticks) = IsNumeral 10 ticks → ⊥
 IsWrongTicks _ = ⊥
 
 -- why an order is not done
-abbrev pub IsFailure : Order → State → State → Failure → Type 0
+abbrev pub IsFailure : Order → State → State → Failure Refusal → Type 0
 IsFailure order before after (Refused r) = IsRefused order before after r
 IsFailure order before after (Usage error) = IsUntouched before after × IsWrongTicks order × (kind_of error ≡ ValueValidation)
 
 -- Why words are not done, of which the library of command lines has these errors to tell: want of memory; or
 -- one of those errors; or, where there is none, why their order is not done.
-abbrev pub IsFailureOfWords : Kinds → Order → State → State → Failure → Type 0
+abbrev pub IsFailureOfWords : Kinds → Order → State → State → Failure Refusal → Type 0
 IsFailureOfWords kinds order before after (Refused Memory) = IsRefused order before after Memory
 IsFailureOfWords kinds order before after (Refused r) = (kinds ≡ []) × IsRefused order before after r
 IsFailureOfWords kinds order before after (Usage error) =

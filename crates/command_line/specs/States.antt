@@ -1,7 +1,7 @@
 -- What a command can change, as it is seen at one time.
 use Rattle.std.specs.Prelude.{◌≡◌, Option}
 use Rattle.streams.specs.States.{Seen}
-use Rattle.command_line.specs.Contents.{Contents}
+use Rattle.streams.specs.Contents.{Contents}
 
 -- The files and standard output.
 pub record State : Type 0 where

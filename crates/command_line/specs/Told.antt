@@ -2,14 +2,14 @@
 use Rattle.std.specs.Prelude.{◌≡◌, ℕ, List, [], ◌∷◌, ◌++◌, string_bytes}
 use Rattle.std.specs.declared.alloc.Global.{Global}
 use Rattle.std.specs.declared.string.String.{String}
-use Rattle.command_line.specs.declared.files.FileFault.{FileFault}
-use Rattle.command_line.specs.declared.files.FileFault.TheVariants as fault
-use Rattle.command_line.specs.declared.refusal.Failure.{Failure}
-use Rattle.command_line.specs.declared.refusal.Failure.TheVariants.{Refused, Usage}
+use Rattle.streams.specs.declared.names.NameFault.{NameFault}
+use Rattle.streams.specs.declared.names.NameFault.TheVariants as fault
+use Rattle.command_words.specs.declared.failure.Failure.{Failure}
+use Rattle.command_words.specs.declared.failure.Failure.TheVariants.{Refused, Usage}
 use Rattle.command_line.specs.declared.refusal.Refusal.{Refusal}
 use Rattle.command_line.specs.declared.refusal.Refusal.TheVariants.{Build, Run, Replay, Inputs, File, Memory, Write}
 
-abbrev pub of_file : String Global → FileFault → Refusal
+abbrev pub of_file : String Global → NameFault → Refusal
 of_file name fault.Unavailable = File name
 of_file name fault.Memory = Memory
 
@@ -24,6 +24,6 @@ IsOfFailed old new Memory = new ≡ old
 IsOfFailed old new Write = new ≡ old
 
 -- the same of a command that is not done
-abbrev pub IsOfFailedFile : List (List ℕ) → List (List ℕ) → Failure → Type 0
+abbrev pub IsOfFailedFile : List (List ℕ) → List (List ℕ) → Failure Refusal → Type 0
 IsOfFailedFile old new (Refused r) = IsOfFailed old new r
 IsOfFailedFile old new (Usage error) = new ≡ old

@@ -1,15 +1,10 @@
 -- The commands and their arguments, as the library of command lines reads them.
-use Rattle.std.specs.Prelude.{◌≡◌, ℕ, List, Some, true, false, codes}
+use Rattle.std.specs.Prelude.{ℕ, List, Some, true, codes}
 use Rattle.clap.specs.Lexer.{usize_max}
-use Rattle.clap.specs.Simple.{App, app_of, new_app, new_rule, with_rule, with_subcommand}
+use Rattle.clap.specs.Simple.{App, new_app, new_rule, with_rule, with_subcommand}
 use Rattle.clap.specs.Walk.{Rule}
-use Rattle.clap.specs.declared.builder.action.ArgAction.TheVariants.{Set, SetTrue, Append}
-use Rattle.clap.specs.declared.builder.command.Command.{Command}
-use Rattle.clap.specs.declared.builder.command.Command.TheViews.{out-Command}
-
--- one word that has to be there
-abbrev pub word_rule : List ℕ → Rule
-word_rule name = record (new_rule name) { required = true; action = Some Set }
+use Rattle.clap.specs.declared.builder.action.ArgAction.TheVariants.{Append}
+use Rattle.command_words.specs.Grammar.{flag_rule, word_rule}
 
 -- one word or more
 abbrev pub sources_rule : Rule
@@ -17,7 +12,7 @@ sources_rule = record (new_rule (codes "SOURCE")) { required = true; range = Som
 
 -- the flag that asks for an explanation of a refusal
 abbrev pub explain_rule : Rule
-explain_rule = record (new_rule (codes "explain")) { long = Some (codes "explain"); action = Some SetTrue }
+explain_rule = flag_rule (codes "explain")
 
 -- a command that takes the flag
 abbrev pub explained_app : List ℕ → App
@@ -52,8 +47,3 @@ abbrev pub mb_app : App
 mb_app =
     with_subcommand (with_subcommand (with_subcommand (with_subcommand (with_subcommand (with_subcommand (with_subcommand
     (new_app (codes "mb")) check_app.top) build_app.top) run_app.top) replay_app.top) inputs_app.top) cost_app.top) dis_app.top
-
--- a command with these arguments and no other, none of them for its own commands
-pub record IsCommand (command : Command) (app : App) : Type 0 where
-  pub reads : app_of command ≡ app
-  pub local : (out-Command command).has_globals ≡ false

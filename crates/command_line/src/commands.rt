@@ -2,11 +2,9 @@
 
 ghost use Rattle.std.specs.Prelude.{◌≡◌, ◌-◌, ◌^◌, ◌<◌, [], map, false, IfErr, OnOk};
 ghost use Rattle.clap.specs.Faults.{fault_of};
-ghost use Rattle.clap.specs.Matches.{found_of};
 ghost use Rattle.clap.specs.Simple.{subcommand_of, subcommand_rows_of};
-ghost use Rattle.clap.specs.Walk.{rows_of};
 ghost use Rattle.command_line.specs.Done.{IsDone};
-ghost use Rattle.command_line.specs.Orders.{Build, Check, asks, order_of, word_at};
+ghost use Rattle.command_line.specs.Orders.{Build, Check, asks, order_of};
 ghost use Rattle.command_line.specs.Refusals.{IsBuildRefused, IsCheckRefused, IsFailure, IsFailureOfWords};
 ghost use Rattle.command_line.specs.States.{state};
 ghost use Rattle.command_line.specs.Told.{IsOfFailed, IsOfFailedFile};
@@ -14,17 +12,17 @@ ghost use Rattle.streams.specs.States.{IsFlushed, seen};
 ghost use Rattle.command_line.specs.Words.{mb_app};
 
 use crate::explaining::Note;
-use crate::files::Files;
 use crate::grammar::grammar;
 use crate::reading::build_named;
-use crate::refusal::{Failure, Refusal};
+use crate::refusal::Refusal;
 use crate::replaying::{inputs, replay};
 use crate::running::{run, run_stored};
 use crate::showing::{cost, dis};
 use clap::ArgMatches;
+use command_words::{Failure, word};
 use std::alloc::Global;
 use std::convert::AsStr;
-use streams::{Stream, write_line};
+use streams::{Files, Stream, write_line};
 
 /// Does what the words say. `asked` becomes true if they ask for an explanation of a refusal; `note`
 /// gets what is to be told of a refused source then.
@@ -35,7 +33,7 @@ pub fn perform<S: AsStr, F: Files, O: Stream>(
     out: &mut O,
     asked: &mut bool,
     note: &mut Note,
-) -> Result<(), Failure>
+) -> Result<(), Failure<Refusal>>
     requires { O.failures out.old < 2 ^ 64 - 1 }
     ensures asked { asked.old ≡ false → asks (subcommand_of mb_app (map S.text words.now)) ≡ false → asked.new ≡ false }
     ensures command { OnOk result (fault_of mb_app (map S.text words.now) ≡ []) }
@@ -70,7 +68,7 @@ fn obey<F: Files, O: Stream>(
     files: &mut F,
     out: &mut O,
     note: &mut Note,
-) -> Result<(), Failure>
+) -> Result<(), Failure<Refusal>>
     requires { O.failures out.old < 2 ^ 64 - 1 }
     ensures done { OnOk result (IsDone (order_of (subcommand_rows_of matches.now))
         (state (F.contents files.old) (seen O.taken O.failures O.is_flushed out.old)) (state (F.contents files.new) (seen O.taken O.failures O.is_flushed out.new))) }
@@ -113,13 +111,6 @@ fn obey<F: Files, O: Stream>(
         Some(("dis", found)) => Ok(dis(alloc, word(found, "IMAGE"), files, out)?),
         _ => Ok(run_stored(alloc, out)?),
     }
-}
-
-/// A required argument. The parse has found it.
-fn word<'a>(found: &ArgMatches<'a>, name: &str) -> &'a str
-    ensures { result.now ≡ word_at name.now (rows_of (found_of found.now)) }
-{
-    found.get_str(name).unwrap_or("")
 }
 
 /// Builds, and drops the image.

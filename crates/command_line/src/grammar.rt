@@ -1,16 +1,16 @@
 //! The words that the program takes.
 
-ghost use Rattle.std.specs.Prelude.{◌≡◌, ◌↔◌, IfOk, IsTrue, codes, false};
-ghost use Rattle.std.specs.Str.Parse.{AllDigits, IsNumeral};
+ghost use Rattle.std.specs.Prelude.{◌≡◌, IfOk, codes, false};
 ghost use Rattle.clap.specs.Simple.{new_app};
 ghost use Rattle.clap.specs.Values.{kind_of};
 ghost use Rattle.clap.specs.Walk.{rule_of};
 ghost use Rattle.clap.specs.declared.error.kind.ErrorKind.TheVariants.{ValueValidation};
-ghost use Rattle.command_line.specs.Ticks.{ReadsTicks};
-ghost use Rattle.command_line.specs.Words.{IsCommand, word_rule, sources_rule, explain_rule, explained_app, check_app, build_app, run_app, partition_app, replay_app, inputs_app, cost_app, dis_app, mb_app};
+ghost use Rattle.command_words.specs.Grammar.{IsCommand};
+ghost use Rattle.command_line.specs.Words.{sources_rule, explained_app, check_app, build_app, run_app, partition_app, replay_app, inputs_app, cost_app, dis_app, mb_app};
 
 use clap::error::ErrorKind;
 use clap::{Arg, ArgAction, Command, Error};
+use command_words::{flag, required_word};
 use std::alloc::{AllocError, Global};
 
 /// The commands and their arguments.
@@ -44,7 +44,7 @@ fn check<'a>(alloc: Global) -> Result<Command<'a>, AllocError>
     explained(alloc, "check")?
         .about("Builds a module table and one source a partition, and writes no image")
         .after_help("Example: mb check table.toml a.pal b.pal")
-        .arg(required(alloc, "TABLE", "The file of the module table"))?
+        .arg(required_word(alloc, "TABLE", "The file of the module table"))?
         .arg(sources(alloc))
 }
 
@@ -54,8 +54,8 @@ fn build<'a>(alloc: Global) -> Result<Command<'a>, AllocError>
     explained(alloc, "build")?
         .about("Builds an image of a module table and one source a partition, in their order")
         .after_help("Example: mb build table.toml module.image a.pal b.pal")
-        .arg(required(alloc, "TABLE", "The file of the module table"))?
-        .arg(required(alloc, "IMAGE", "The file that the image is written to"))?
+        .arg(required_word(alloc, "TABLE", "The file of the module table"))?
+        .arg(required_word(alloc, "IMAGE", "The file that the image is written to"))?
         .arg(sources(alloc))
 }
 
@@ -65,13 +65,13 @@ fn run<'a>(alloc: Global) -> Result<Command<'a>, AllocError>
     explained(alloc, "run")?
         .about("Runs an image for so many ticks and writes its trace")
         .after_help("Example: mb run module.image devices.txt 1000")
-        .arg(required(alloc, "IMAGE", "The file of an image"))?
-        .arg(required(
+        .arg(required_word(alloc, "IMAGE", "The file of an image"))?
+        .arg(required_word(
             alloc,
             "DEVICES",
             "The file of the device text, which may be empty",
         ))?
-        .arg(required(
+        .arg(required_word(
             alloc,
             "TICKS",
             "How many ticks the image runs, at most 1099511627776",
@@ -84,12 +84,12 @@ fn replay<'a>(alloc: Global) -> Result<Command<'a>, AllocError>
     of_partition(alloc, "replay")?
         .about("Runs one partition of an image alone, with its inputs, and writes its trace")
         .after_help("Example: mb replay module.image b inputs.txt 1000")
-        .arg(required(
+        .arg(required_word(
             alloc,
             "INPUTS",
             "The file of the replay text, which may be empty",
         ))?
-        .arg(required(
+        .arg(required_word(
             alloc,
             "TICKS",
             "How many ticks the partition runs, at most 1099511627776",
@@ -102,12 +102,12 @@ fn inputs<'a>(alloc: Global) -> Result<Command<'a>, AllocError>
     of_partition(alloc, "inputs")?
         .about("Runs an image and writes what comes to one partition, as a replay text")
         .after_help("Example: mb inputs module.image b devices.txt 1000")
-        .arg(required(
+        .arg(required_word(
             alloc,
             "DEVICES",
             "The file of the device text, which may be empty",
         ))?
-        .arg(required(
+        .arg(required_word(
             alloc,
             "TICKS",
             "How many ticks the image runs, at most 1099511627776",
@@ -120,7 +120,7 @@ fn cost<'a>(alloc: Global) -> Result<Command<'a>, AllocError>
     explained(alloc, "cost")?
         .about("Writes the instructions, the frame and the cost of each body of the sources")
         .after_help("Example: mb cost table.toml a.pal b.pal")
-        .arg(required(alloc, "TABLE", "The file of the module table"))?
+        .arg(required_word(alloc, "TABLE", "The file of the module table"))?
         .arg(sources(alloc))
 }
 
@@ -130,7 +130,7 @@ fn dis<'a>(alloc: Global) -> Result<Command<'a>, AllocError>
     explained(alloc, "dis")?
         .about("Writes the instructions of an image")
         .after_help("Example: mb dis module.image")
-        .arg(required(alloc, "IMAGE", "The file of an image"))
+        .arg(required_word(alloc, "IMAGE", "The file of an image"))
 }
 
 /// A command on one partition of an image.
@@ -138,36 +138,15 @@ fn of_partition<'a>(alloc: Global, name: &'a str) -> Result<Command<'a>, AllocEr
     ensures { IfOk result (λ command. IsCommand command (partition_app name.entry.now)) }
 {
     explained(alloc, name)?
-        .arg(required(alloc, "IMAGE", "The file of an image"))?
-        .arg(required(alloc, "PARTITION", "The name of the partition"))
+        .arg(required_word(alloc, "IMAGE", "The file of an image"))?
+        .arg(required_word(alloc, "PARTITION", "The name of the partition"))
 }
 
 /// A command that takes the flag for explanations.
 fn explained<'a>(alloc: Global, name: &'a str) -> Result<Command<'a>, AllocError>
     ensures { IfOk result (λ command. IsCommand command (explained_app name.entry.now)) }
 {
-    Command::new(alloc, name).arg(explain(alloc))
-}
-
-fn explain<'a>(alloc: Global) -> Arg<'a>
-    ensures rule { rule_of result ≡ explain_rule }
-    ensures local { result.global ≡ false }
-{
-    Arg::new(alloc, "explain")
-        .long("explain")
-        .action(ArgAction::SetTrue)
-        .help("Explains a refusal in plain words")
-}
-
-/// A word that has to be there.
-fn required<'a>(alloc: Global, name: &'a str, help: &'a str) -> Arg<'a>
-    ensures rule { rule_of result ≡ word_rule name.entry.now }
-    ensures local { result.global ≡ false }
-{
-    Arg::new(alloc, name)
-        .required(true)
-        .action(ArgAction::Set)
-        .help(help)
+    Command::new(alloc, name).arg(flag(alloc, "explain", "Explains a refusal in plain words"))
 }
 
 fn sources<'a>(alloc: Global) -> Arg<'a>
@@ -179,37 +158,6 @@ fn sources<'a>(alloc: Global) -> Arg<'a>
         .num_args(1..)
         .action(ArgAction::Append)
         .help("The file of each partition's source, in the order of the table")
-}
-
-/// The number that a word of one or more digits writes. One that 64 bits do not hold is taken
-/// as the greatest, which is far above every limit.
-pub fn ticks_of(word: &str) -> Option<u64>
-    ensures { ReadsTicks word.now result }
-{
-    if !is_numeral(word.as_bytes()) {
-        return None;
-    }
-    Some(word.parse().unwrap_or(u64::MAX))
-}
-
-/// Whether there are digits, and nothing else.
-fn is_numeral(bytes: &[u8]) -> bool
-    ensures { IsTrue result ↔ IsNumeral 10 bytes.now }
-{
-    !bytes.is_empty() && are_digits(bytes)
-}
-
-fn are_digits(bytes: &[u8]) -> bool
-    ensures { IsTrue result ↔ AllDigits 10 bytes.now }
-{
-    let mut rest = bytes;
-    while let Some((byte, others)) = rest.split_first() {
-        if !byte.is_ascii_digit() {
-            return false;
-        }
-        rest = others;
-    }
-    true
 }
 
 /// The usage error of a word that is no number of ticks.

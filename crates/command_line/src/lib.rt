@@ -15,7 +15,6 @@ ghost use Rattle.command_line.specs.Words.{mb_app};
 
 mod commands;
 mod explaining;
-mod files;
 mod first_run;
 mod grammar;
 mod reading;
@@ -27,11 +26,10 @@ mod telling;
 
 use commands::perform;
 use explaining::Note;
-pub use files::{FileFault, Files};
 pub use refusal::Refusal;
 use std::alloc::Global;
 use std::convert::AsStr;
-use streams::Stream;
+use streams::{Files, Stream};
 use telling::tell;
 
 /// Does what the words of a command line say, the program's name first, and answers the exit

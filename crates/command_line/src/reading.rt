@@ -3,7 +3,7 @@
 ghost use Rattle.std.specs.Prelude.{◌≡◌, map, Ok, IfOk, IfErr, OnOk};
 ghost use Rattle.machine_meaning.specs.ImageReading.{image_at};
 ghost use Rattle.image.specs.Views.{image_of};
-ghost use Rattle.command_line.specs.Contents.{HoldAll, Holds};
+ghost use Rattle.streams.specs.Contents.{HoldAll, Holds};
 ghost use Rattle.command_line.specs.Done.{AreCosted, IsBuilt, IsImageIn};
 ghost use Rattle.command_line.specs.Reading.{IsRefusedText, IsUncostedText, IsUnread, IsUnreadAmong, texts_of};
 ghost use Rattle.module.specs.Building.{IsImageOf};
@@ -13,11 +13,11 @@ ghost use Rattle.command_line.specs.Refusals.{IsNotBuilt, IsNotCosted, IsNotLoad
 ghost use Rattle.command_line.specs.Told.{IsOfFailed};
 
 use crate::explaining::Note;
-use crate::files::Files;
 use crate::refusal::Refusal;
 use image::{Image, load_image};
 use module::{PartitionCosts, RunFault};
 use std::alloc::{AllocError, Global};
+use streams::Files;
 
 /// The bytes of the file of that name.
 pub fn read<F: Files>(alloc: Global, name: &str, files: &mut F) -> Result<Vec<u8>, Refusal>

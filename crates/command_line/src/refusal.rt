@@ -1,20 +1,17 @@
 //! Why a command was refused.
 
-ghost use Rattle.std.specs.Prelude.{◌≡◌, ◌≢◌, Some};
-ghost use Rattle.clap.specs.Values.{kind_of};
-ghost use Rattle.clap.specs.declared.error.kind.ErrorKind.TheVariants.{OutOfMemory};
+ghost use Rattle.std.specs.Prelude.{◌≡◌, Some};
 ghost use Rattle.command_line.specs.Lines.{line_of};
 ghost use Rattle.command_line.specs.Refusals.{refusal_of_both};
 ghost use Rattle.command_line.specs.Told.{of_file};
 ghost use Rattle.command_line.specs.declared.refusal.Refusal.TheVariants as refusal;
-ghost use Rattle.command_line.specs.declared.refusal.Failure.TheVariants as failure;
 
-use crate::files::FileFault;
 use apex_types::SinkFault;
-use clap::error::ErrorKind;
+use command_words::WantOfMemory;
 use module::{BuildAndRunFault, BuildFault, InputsFault, RunFault};
 use std::alloc::{AllocError, AllocFailed};
 use std::fmt;
+use streams::NameFault;
 
 /// A refused command. What it shows is its line on standard error.
 #[derive(Drop)]
@@ -33,12 +30,12 @@ pub enum Refusal {
 
 impl Refusal {
     /// The refusal where the file of that name was not read or not written.
-    pub fn of_file(name: String, fault: FileFault) -> Refusal
+    pub fn of_file(name: String, fault: NameFault) -> Refusal
         ensures { result ≡ of_file name fault }
     {
         match fault {
-            FileFault::Unavailable => Refusal::File(name),
-            FileFault::Memory => Refusal::Memory,
+            NameFault::Unavailable => Refusal::File(name),
+            NameFault::Memory => Refusal::Memory,
         }
     }
 }
@@ -117,38 +114,10 @@ impl From<SinkFault> for Refusal {
     }
 }
 
-/// Why a command was not done.
-#[derive(Drop)]
-pub enum Failure {
-    Refused(Refusal),
-    /// The words are no command, or ask for help.
-    Usage(clap::Error),
-}
+impl WantOfMemory for Refusal {
+    ghost memory = { refusal.Memory };
 
-impl From<Refusal> for Failure {
-    ghost from_gives = { λ r f. f ≡ failure.Refused r };
-
-    fn from(refusal: Refusal) -> Self {
-        Failure::Refused(refusal)
-    }
-}
-
-impl From<AllocError> for Failure {
-    ghost from_gives = { λ _ f. f ≡ failure.Refused refusal.Memory };
-
-    fn from(_: AllocError) -> Self {
-        Failure::Refused(Refusal::Memory)
-    }
-}
-
-impl From<clap::Error> for Failure {
-    ghost from_gives = { λ error f. (kind_of error ≡ OutOfMemory → f ≡ failure.Refused refusal.Memory)
-        × (kind_of error ≢ OutOfMemory → f ≡ failure.Usage error) };
-
-    fn from(error: clap::Error) -> Self {
-        match error.kind() {
-            ErrorKind::OutOfMemory => Failure::Refused(Refusal::Memory),
-            _ => Failure::Usage(error),
-        }
+    fn want_of_memory() -> Self {
+        Refusal::Memory
     }
 }

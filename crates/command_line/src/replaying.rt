@@ -11,13 +11,13 @@ ghost use Rattle.command_line.specs.States.{state};
 ghost use Rattle.command_line.specs.Told.{IsOfFailed, IsOfFailedFile};
 ghost use Rattle.streams.specs.States.{IsFlushed, seen};
 
-use crate::files::Files;
-use crate::grammar::{bad_ticks, ticks_of};
+use crate::grammar::bad_ticks;
 use crate::reading::read;
-use crate::refusal::{Failure, Refusal};
+use crate::refusal::Refusal;
+use command_words::{Failure, number_of};
 use module::{InputsFault, RunFault};
 use std::alloc::Global;
-use streams::Stream;
+use streams::{Files, Stream};
 
 /// Replays a partition of an image for the ticks of a word.
 pub fn replay<F: Files, O: Stream>(
@@ -28,7 +28,7 @@ pub fn replay<F: Files, O: Stream>(
     ticks: &str,
     files: &mut F,
     out: &mut O,
-) -> Result<(), Failure>
+) -> Result<(), Failure<Refusal>>
     requires { O.failures out.old < 2 ^ 64 - 1 }
     ensures done { OnOk result (IsDone (Replay image.now partition.now inputs.now ticks.now)
         (state (F.contents files.old) (seen O.taken O.failures O.is_flushed out.old)) (state (F.contents files.new) (seen O.taken O.failures O.is_flushed out.new))) }
@@ -38,7 +38,7 @@ pub fn replay<F: Files, O: Stream>(
     ensures noted { OnOk result (F.failed files.new ≡ F.failed files.old) }
     ensures named { IfErr result (λ f. IsOfFailedFile (F.failed files.old) (F.failed files.new) f) }
 {
-    let Some(number) = ticks_of(ticks) else {
+    let Some(number) = number_of(ticks) else {
         return Err(Failure::Usage(bad_ticks(alloc, ticks)?));
     };
     Ok(replay_named(alloc, image, partition, inputs, number, files, out)?)
@@ -104,7 +104,7 @@ pub fn inputs<F: Files, O: Stream>(
     ticks: &str,
     files: &mut F,
     out: &mut O,
-) -> Result<(), Failure>
+) -> Result<(), Failure<Refusal>>
     requires { O.failures out.old < 2 ^ 64 - 1 }
     ensures done { OnOk result (IsDone (Inputs image.now partition.now devices.now ticks.now)
         (state (F.contents files.old) (seen O.taken O.failures O.is_flushed out.old)) (state (F.contents files.new) (seen O.taken O.failures O.is_flushed out.new))) }
@@ -114,7 +114,7 @@ pub fn inputs<F: Files, O: Stream>(
     ensures noted { OnOk result (F.failed files.new ≡ F.failed files.old) }
     ensures named { IfErr result (λ f. IsOfFailedFile (F.failed files.old) (F.failed files.new) f) }
 {
-    let Some(number) = ticks_of(ticks) else {
+    let Some(number) = number_of(ticks) else {
         return Err(Failure::Usage(bad_ticks(alloc, ticks)?));
     };
     Ok(inputs_named(alloc, image, partition, devices, number, files, out)?)

@@ -10,14 +10,14 @@ ghost use Rattle.command_line.specs.States.{state};
 ghost use Rattle.command_line.specs.Told.{IsOfFailed, IsOfFailedFile};
 ghost use Rattle.streams.specs.States.{IsFlushed, seen};
 
-use crate::files::Files;
 use crate::first_run::{SOURCE, TABLE, TICKS};
-use crate::grammar::{bad_ticks, ticks_of};
+use crate::grammar::bad_ticks;
 use crate::reading::read;
-use crate::refusal::{Failure, Refusal};
+use crate::refusal::Refusal;
+use command_words::{Failure, number_of};
 use module::{BuildAndRunFault, RunFault};
 use std::alloc::Global;
-use streams::Stream;
+use streams::{Files, Stream};
 
 /// Runs an image for the ticks of a word.
 pub fn run<F: Files, O: Stream>(
@@ -27,7 +27,7 @@ pub fn run<F: Files, O: Stream>(
     ticks: &str,
     files: &mut F,
     out: &mut O,
-) -> Result<(), Failure>
+) -> Result<(), Failure<Refusal>>
     requires { O.failures out.old < 2 ^ 64 - 1 }
     ensures done { OnOk result (IsDone (Run image.now devices.now ticks.now)
         (state (F.contents files.old) (seen O.taken O.failures O.is_flushed out.old)) (state (F.contents files.new) (seen O.taken O.failures O.is_flushed out.new))) }
@@ -37,7 +37,7 @@ pub fn run<F: Files, O: Stream>(
     ensures noted { OnOk result (F.failed files.new ≡ F.failed files.old) }
     ensures named { IfErr result (λ f. IsOfFailedFile (F.failed files.old) (F.failed files.new) f) }
 {
-    let Some(number) = ticks_of(ticks) else {
+    let Some(number) = number_of(ticks) else {
         return Err(Failure::Usage(bad_ticks(alloc, ticks)?));
     };
     Ok(run_named(alloc, image, devices, number, files, out)?)

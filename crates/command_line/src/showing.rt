@@ -14,7 +14,6 @@ ghost use Rattle.command_line.specs.Told.{IsOfFailed};
 ghost use Rattle.streams.specs.States.{HasFailed, IsFlushed, seen};
 
 use crate::explaining::Note;
-use crate::files::Files;
 use crate::reading::{costs_named, load_named};
 use crate::refusal::Refusal;
 use apex_types::SinkFault;
@@ -22,7 +21,7 @@ use image::Image;
 use listing::{write_code, write_costs};
 use module::PartitionCosts;
 use std::alloc::Global;
-use streams::Stream;
+use streams::{Files, Stream};
 
 /// Writes the costs of the sources.
 pub fn cost<F: Files, O: Stream>(

@@ -1,69 +1,28 @@
 -- The text of inputs is a replay text, and it is read as these inputs.
-use Rattle.std.proofs.Common.{◌≡◌, ℕ, zero, suc, ◌+◌, ◌^◌, ◌<◌, ◌≤◌, ℤ, Bool, true, false, List, [], ◌∷◌, ◌++◌, length, map, Option, Some, None, Result, Ok, Err, refl, sym, ap, subst, ◌∙◌, arith, lit<, append_assoc}
-use Rattle.std.specs.Prelude.{not, ◌==◌, ◌&&◌, nat_le, nat_lt, if◌then◌else◌, slice_get}
+use Rattle.std.proofs.Common.{◌≡◌, ℕ, zero, suc, ◌+◌, ◌<◌, ◌≤◌, ℤ, Bool, true, false, List, [], ◌∷◌, ◌++◌, length, map, Option, Some, None, Result, Ok, Err, refl, sym, ap, subst, ◌∙◌, arith, lit<, append_assoc}
+use Rattle.std.specs.Prelude.{◌==◌, ◌&&◌, nat_le, nat_lt, if◌then◌else◌, slice_get}
 use Rattle.std.specs.Fmt.{decimal, signed_decimal}
-use Rattle.std.specs.List.{list_all, join_with_byte}
-use Rattle.std.proofs.lemmas.Bool.{and_parts, and_from, eq-eqb, lt-ltb, le-ltb, le-leb, cond-true, cond-false}
-use Rattle.std.proofs.lemmas.Bool.Decides.{nat_tests}
-use Rattle.std.proofs.lemmas.List.Folds.{list_all-append}
-use Rattle.apex_types.specs.declared.limits.TheConstants.{MOST_DEVICE_LINES, MOST_NAME_BYTES, MOST_TICKS}
-use Rattle.apex_types.specs.NameText.{is_name, is_name_byte, is_lower_case}
+use Rattle.std.specs.List.{list_all}
+use Rattle.std.proofs.lemmas.Bool.{and_from, eq-eqb, lt-ltb, le-ltb, le-leb, cond-true, cond-false}
+use Rattle.apex_types.specs.declared.limits.TheConstants.{MOST_DEVICE_LINES, MOST_TICKS}
+use Rattle.apex_types.specs.NameText.{is_name}
 use Rattle.apex_types.specs.declared.device.DeviceFault.{DeviceFault}
 use Rattle.apex_types.specs.declared.device.DeviceFault.TheVariants as fault
 use Rattle.apex_types.specs.declared.row.PortDirection.{PortDirection}
 use Rattle.apex_types.specs.declared.row.PortRow.{PortRow}
-use Rattle.module_meaning.specs.DeviceText.{Written, Message, ModuleFault as DeviceModuleFault, PartitionFault as DevicePartitionFault, message_of, message_with, line_with, pieces, pieces_behind_marks, first_from, is_room, words, put_word}
+use Rattle.module_meaning.specs.DeviceText.{Written, Message, ModuleFault as DeviceModuleFault, PartitionFault as DevicePartitionFault, message_of, message_with, line_with, pieces, pieces_behind_marks, first_from, is_room, words}
 use Rattle.engine_meaning.specs.Digits.{same}
 use Rattle.module_meaning.specs.Table.{Partition, at_number}
 use Rattle.machine_meaning.specs.ImageLimits.{EachBeside, IsPort}
+use Rattle.text_lines.specs.Words.{AreWords}
+use Rattle.text_lines.proofs.Names.{name_ink}
+use Rattle.text_lines.proofs.Pieces.{is_ink, AreInk, ink_is_free, all_free, join_free, first_piece, pieces_join}
+use Rattle.text_lines.proofs.Words.{plain_again, decimal_ink, words_again, words_ink}
 use Rattle.isolation.specs.Alone.{Input, InputLine, Arrive, ModuleFault, PartitionFault}
-use Rattle.isolation.specs.InputText.{name_of_port, input_parts, input_body, replay_text, AreWords, IsInput, AreInputs, HasNames}
+use Rattle.isolation.specs.InputText.{name_of_port, input_parts, input_body, replay_text, IsInput, AreInputs, HasNames}
 use Rattle.isolation.specs.ReplayText.{written_of, line_of_pieces, line_of, is_destination, within, taken_message, named, taken, put_line, and_then, lines_from, replay_verdict}
-use Rattle.isolation.proofs.Decimals.{plain_again, decimal_ink, word_again, word_ink}
 use Rattle.isolation.proofs.OfImage.{any_at, get_front, get_last}
-use Rattle.isolation.proofs.Pieces.{is_free, is_ink, ink_is_free, first_piece, pieces_join}
 use Rattle.isolation.proofs.Steps.{same_some}
-
--- ---- no space and no line feed
-name_bytes_ink : (cs : List ℕ) → list_all is_name_byte cs ≡ true → list_all is_ink cs ≡ true
-name_bytes_ink [] h = refl
-name_bytes_ink (c ∷ cs) h =
-    let p = and_parts (is_name_byte c) (list_all is_name_byte cs) h in
-    and_from (is_ink c) (list_all is_ink cs) (one c p.0) (name_bytes_ink cs p.1)
-  where
-    one : (c : ℕ) → is_name_byte c ≡ true → is_ink c ≡ true
-    one c h = grind (arith, nat_tests)
-
-name_ink : (name : List ℕ) → is_name name ≡ true → list_all is_ink name ≡ true
-name_ink [] h = cc
-name_ink (c ∷ cs) h =
-    let p = and_parts (is_lower_case c && list_all is_name_byte cs) (nat_le (length cs + 1) MOST_NAME_BYTES) h in
-    let q = and_parts (is_lower_case c) (list_all is_name_byte cs) p.0 in
-    and_from (is_ink c) (list_all is_ink cs) (one c q.0) (name_bytes_ink cs q.1)
-  where
-    one : (c : ℕ) → is_lower_case c ≡ true → is_ink c ≡ true
-    one c h = grind (arith, nat_tests)
-
-abbrev AreInk : List (List ℕ) → Type 0
-AreInk ps = list_all (list_all is_ink) ps ≡ true
-
-words_ink : (ws : List ℤ) → AreWords ws → AreInk (map signed_decimal ws)
-words_ink [] h = refl
-words_ink (w ∷ ws) h = and_from (list_all is_ink (signed_decimal w)) (list_all (list_all is_ink) (map signed_decimal ws)) (word_ink w h.0) (words_ink ws h.1)
-
-all_free : (mark : ℕ) (ps : List (List ℕ)) → mark ≤ 32 → AreInk ps → list_all (is_free mark) ps ≡ true
-all_free mark [] low h = refl
-all_free mark (p ∷ ps) low h =
-    let g = and_parts (list_all is_ink p) (list_all (list_all is_ink) ps) h in
-    and_from (is_free mark p) (list_all (is_free mark) ps) (ink_is_free mark p low g.0) (all_free mark ps low g.1)
-
-join_free : (ps : List (List ℕ)) → AreInk ps → is_free 10 (join_with_byte 32 ps) ≡ true
-join_free [] h = refl
-join_free (p ∷ []) h = ink_is_free 10 p (omega arith) (and_parts (list_all is_ink p) true h).0
-join_free (p ∷ q ∷ ps) h =
-    let g = and_parts (list_all is_ink p) (list_all (list_all is_ink) (q ∷ ps)) h in
-    list_all-append (λ b. not (b == 10)) p (32 ∷ join_with_byte 32 (q ∷ ps))
-    ∙ and_from (is_free 10 p) (is_free 10 (32 ∷ join_with_byte 32 (q ∷ ps))) (ink_is_free 10 p (omega arith) g.0) (join_free (q ∷ ps) g.1)
 
 -- ---- ports by their names
 port_named : (before rows : List PortRow) → EachBeside IsPort before rows → (k : ℕ) (x : PortRow) → slice_get rows k ≡ Some x → is_name x.name ≡ true
@@ -116,13 +75,6 @@ abbrev said : Partition → Input → Written
 said row (Arrive port m) = Message (name_of_port (at_number row.ports port.0)) m.items
 said row ModuleFault = DeviceModuleFault
 said row PartitionFault = DevicePartitionFault row.name
-
-words_again : (ws : List ℤ) → AreWords ws → words (map signed_decimal ws) ≡ Some ws
-unfolding words
-words_again [] h = refl
-words_again (w ∷ ws) h =
-    ap (λ (o : Option ℤ). put_word o (words (map signed_decimal ws))) (word_again w h.0)
-    ∙ ap (λ (o : Option (List ℤ)). put_word (Some w) o) (words_again ws h.1)
 
 message_again : (name : List ℕ) (ws : List ℤ) → is_name name ≡ true → 1 ≤ length ws → AreWords ws → message_of (name ∷ map signed_decimal ws) ≡ Some (Message name ws)
 message_again name [] n some h = absurd (omega (arith, some))

@@ -11,8 +11,6 @@ pub mod Tick
 pub mod Isolated
 pub mod OfImage
 pub mod Ways
-pub mod Pieces
-pub mod Decimals
 pub mod InputTexts
 pub mod TakenLines
 pub mod Law

@@ -1,7 +1,6 @@
 -- The text of what comes to one partition, and which lists of inputs have one.
-use Rattle.std.specs.Prelude.{◌≡◌, ℕ, ◌^◌, ◌≤◌, ℤ, true, List, [], ◌∷◌, ◌++◌, length, map, flat_map, codes, Option, Some, None, FitsSigned}
+use Rattle.std.specs.Prelude.{◌≡◌, ℕ, ◌≤◌, ℤ, true, List, [], ◌∷◌, ◌++◌, length, map, flat_map, codes, Option, Some, None}
 use Rattle.std.specs.Fmt.{decimal, signed_decimal}
-use Rattle.std.specs.Int.{w64}
 use Rattle.std.specs.List.{join_with_byte}
 use Rattle.arrayvec.specs.ArrayVec.{ArrayVec}
 use Rattle.apex_types.specs.declared.limits.TheConstants.{MOST_TICKS}
@@ -10,6 +9,7 @@ use Rattle.apex_types.specs.declared.row.PortDirection.TheVariants as direction
 use Rattle.apex_types.specs.declared.row.PortRow.{PortRow}
 use Rattle.module_meaning.specs.Table.{Partition, at_number}
 use Rattle.machine_meaning.specs.ImageLimits.{EachBeside, IsPort}
+use Rattle.text_lines.specs.Words.{AreWords}
 use Rattle.isolation.specs.Alone.{Input, InputLine, Arrive, ModuleFault, PartitionFault}
 
 -- ---- the text
@@ -35,11 +35,6 @@ abbrev pub replay_text : Partition → List InputLine → List ℕ
 replay_text row lines = flat_map (input_text row) lines
 
 -- ---- what can come
--- all are words of 64 bits
-abbrev pub AreWords : List ℤ → Type 0
-AreWords [] = Unit {0}
-AreWords (w ∷ ws) = FitsSigned w64 w × AreWords ws
-
 -- 1 to so many words
 pub record IsMessage (most : ℕ) (words : List ℤ) : Type 0 where
   pub some : 1 ≤ length words

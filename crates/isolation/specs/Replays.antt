@@ -1,5 +1,5 @@
 -- What a replay of one partition of an image is of.
-use Rattle.std.specs.Prelude.{◌≡◌, ℕ, ◌^◌, ◌≤◌, List, Option, Some, Result, Ok}
+use Rattle.std.specs.Prelude.{◌≡◌, ℕ, ◌≤◌, List, Option, Some, Result, Ok}
 use Rattle.apex_types.specs.declared.limits.TheConstants.{MOST_TICKS}
 use Rattle.module_meaning.specs.DeviceText.{first_from}
 use Rattle.engine_meaning.specs.Digits.{same}

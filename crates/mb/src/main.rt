@@ -1,8 +1,25 @@
 //! Builds ARINC 653 modules and runs them.
 #![tactic(auto)]
 
+ghost use Rattle.std.specs.Prelude.{◌≤◌};
+
+use command_line::command;
+use host::{HostFiles, Program, run};
+use std::alloc::AllocGlobal;
 use std::process::ExitCode;
+use streams::Stream;
+
+/// The commands, over the files of the host.
+#[derive(Drop)]
+struct Commands<'a>(&'a HostRuntime);
+
+impl<'a> Program for Commands<'a> {
+    fn obey<O: Stream, E: Stream>(&mut self, words: &[String], out: &mut O, err: &mut E) -> u8 {
+        let mut files = HostFiles::new(self.0);
+        command(self.0.alloc(), words, &mut files, out, err)
+    }
+}
 
 fn main(rt: HostRuntime) -> ExitCode {
-    host::run(&rt)
+    run(&rt, &mut Commands(&rt), "mb: memory")
 }

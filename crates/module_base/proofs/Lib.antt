@@ -1,5 +1,4 @@
 pub mod Alike
-pub mod Decimals
 pub mod InOrder
 pub mod Lawful
 pub mod LineTexts

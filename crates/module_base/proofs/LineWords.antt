@@ -1,11 +1,13 @@
 -- Words that are read one by one, of which the first ones are kept.
-use Rattle.std.proofs.Common.{◌≡◌, ℕ, ℤ, ◌≤◌, ◌+◌, Bool, true, false, cond, List, [], ◌∷◌, ◌++◌, length, Option, Some, None, refl, sym, ap, ◌∙◌, arith, append_assoc, append-nil, length-append}
+use Rattle.std.proofs.Common.{◌≡◌, ℕ, ℤ, ◌≤◌, Bool, true, false, cond, List, [], ◌∷◌, ◌++◌, length, Option, Some, None, refl, sym, ap, ◌∙◌, arith, append_assoc, append-nil, length-append}
 use Rattle.std.proofs.lemmas.Bool.{lt-leb, le-leb}
 use Rattle.apex_types.specs.declared.limits.TheConstants.{MOST_WORDS}
 use Rattle.arrayvec.specs.ArrayVec.{ArrayVec}
 use Rattle.module_meaning.specs.DeviceText.{piece, pieces_behind_marks, word, words, put_word}
 use Rattle.kernel_meaning.specs.Step.{message}
-use Rattle.module_base.specs.Seen.{pieces_of, fitting}
+use Rattle.text_lines.specs.Pieces.{pieces_of}
+use Rattle.text_lines.proofs.Words.{next_word}
+use Rattle.module_base.specs.Seen.{fitting}
 use Rattle.module_base.specs.declared.line.MessageWords.{MessageWords}
 use Rattle.module_base.specs.declared.line.MessageWords.TheVariants as held
 
@@ -33,11 +35,6 @@ read_on_long kept true w (Some ws) full = refl
 read_on_long kept false w (Some ws) full =
     ap (λ (m : MessageWords). Some m) (too_long _ (message (kept ++ w ∷ ws)) (lt-leb (length (kept ++ w ∷ ws)) 16 (omega (arith, full, length-append kept (w ∷ ws)))))
 
--- the bytes that are still to come, with one more for a text that is there
-abbrev pub rest_length : Option (List ℕ) → ℕ
-rest_length None = 0
-rest_length (Some text) = length text + 1
-
 in_time : (b : Bool) (m : ArrayVec ℤ) → b ≡ true → cond b (held.Few m) held.TooMany ≡ held.Few m
 in_time true m e = refl
 in_time false m e = cc
@@ -46,25 +43,17 @@ pub read_on_done : (kept : List ℤ) → length kept ≤ MOST_WORDS → read_on 
 read_on_done kept short =
     rw (append-nil kept) (ap (λ (m : MessageWords). Some m) (in_time _ (message kept) (le-leb (length kept) 16 short)))
 
--- the words from here are the next one and those behind it
-next_word : (text front : List ℕ) (more : Option (List ℕ)) (w : ℤ) → front ≡ piece 32 text → pieces_behind_marks 32 text ≡ pieces_of 32 more → Some w ≡ word front → words (pieces_of 32 (Some text)) ≡ put_word (Some w) (words (pieces_of 32 more))
-unfolding words
-next_word text front more w f b e =
-    ap (λ (p : List ℕ). put_word (word p) (words (pieces_behind_marks 32 text))) (sym f)
-    ∙ ap (λ (o : Option ℤ). put_word o (words (pieces_behind_marks 32 text))) (sym e)
-    ∙ ap (λ (ps : List (List ℕ)). put_word (Some w) (words ps)) b
-
 pub keeps_one : (kept new : List ℤ) (is_long : Bool) (rest : Option (List ℕ)) (text front : List ℕ) (more : Option (List ℕ)) (w : ℤ) → new ≡ kept ++ w ∷ [] → rest ≡ Some text → front ≡ piece 32 text → pieces_behind_marks 32 text ≡ pieces_of 32 more → Some w ≡ word front → read_on kept is_long (words (pieces_of 32 rest)) ≡ read_on new is_long (words (pieces_of 32 more))
 keeps_one kept new is_long rest text front more w n r f b e =
     ap (λ (o : Option (List ℕ)). read_on kept is_long (words (pieces_of 32 o))) r
-    ∙ ap (read_on kept is_long) (next_word text front more w f b e)
+    ∙ ap (read_on kept is_long) (next_word text front more (Some w) f b e)
     ∙ read_on_kept kept is_long w (words (pieces_of 32 more))
     ∙ ap (λ (ws : List ℤ). read_on ws is_long (words (pieces_of 32 more))) (sym n)
 
 pub drops_one : (kept : List ℤ) (is_long : Bool) (rest : Option (List ℕ)) (text front : List ℕ) (more : Option (List ℕ)) (w : ℤ) → length kept ≡ 16 → rest ≡ Some text → front ≡ piece 32 text → pieces_behind_marks 32 text ≡ pieces_of 32 more → Some w ≡ word front → read_on kept is_long (words (pieces_of 32 rest)) ≡ read_on kept true (words (pieces_of 32 more))
 drops_one kept is_long rest text front more w full r f b e =
     ap (λ (o : Option (List ℕ)). read_on kept is_long (words (pieces_of 32 o))) r
-    ∙ ap (read_on kept is_long) (next_word text front more w f b e)
+    ∙ ap (read_on kept is_long) (next_word text front more (Some w) f b e)
     ∙ read_on_long kept is_long w (words (pieces_of 32 more)) full
 
 pub all_read : (kept : List ℤ) (is_long : Bool) (rest : Option (List ℕ)) → length kept ≤ MOST_WORDS → is_long ≡ false → rest ≡ None → read_on kept is_long (words (pieces_of 32 rest)) ≡ Some (held.Few (message kept))

@@ -1,6 +1,6 @@
 -- What is taken of a line as the code holds it is what is taken of the line.
 use Rattle.std.proofs.Common.{◌≡◌, ℕ, ℤ, Bool, true, false, cond, List, Option, Some, None, Err, Result, refl, sym, ap, ◌∙◌}
-use Rattle.std.specs.Prelude.{option_map, nat_lt, ◌^◌, if◌then◌else◌}
+use Rattle.std.specs.Prelude.{option_map, nat_lt, if◌then◌else◌}
 use Rattle.apex_types.specs.declared.limits.TheConstants.{MOST_TICKS}
 use Rattle.apex_types.specs.declared.device.DeviceFault.{DeviceFault}
 use Rattle.apex_types.specs.declared.device.DeviceFault.TheVariants as fault
@@ -13,7 +13,8 @@ use Rattle.module_meaning.specs.Table.{Partition, Channel}
 use Rattle.isolation.specs.declared.input.Input.TheVariants.{PartitionFault}
 use Rattle.isolation.specs.declared.input.InputLine.{InputLine}
 use Rattle.isolation.specs.ReplayText as replay
-use Rattle.module_base.specs.Seen.{fitting, pieces_of, seen, seen_line}
+use Rattle.text_lines.specs.Pieces.{pieces_of}
+use Rattle.module_base.specs.Seen.{fitting, seen, seen_line}
 use Rattle.module_base.specs.TextLines.{Taking, line_by, taken_by, written_by}
 use Rattle.module_base.specs.declared.line.MessageWords.{MessageWords}
 use Rattle.module_base.specs.declared.line.Written.{Written}

@@ -1,19 +1,13 @@
 -- What the code holds of the lines of a device text.
-use Rattle.std.specs.Prelude.{ℕ, ℤ, List, [], length, nat_le, if◌then◌else◌, Option, Some, None}
+use Rattle.std.specs.Prelude.{ℤ, List, length, nat_le, if◌then◌else◌}
 use Rattle.apex_types.specs.declared.limits.TheConstants.{MOST_WORDS}
 use Rattle.module_meaning.specs.DeviceText as meant
-use Rattle.module_meaning.specs.DeviceText.{pieces}
 use Rattle.kernel_meaning.specs.Step.{message}
 use Rattle.module_base.specs.declared.line.MessageWords.{MessageWords}
 use Rattle.module_base.specs.declared.line.MessageWords.TheVariants as words
 use Rattle.module_base.specs.declared.line.Written.{Written}
 use Rattle.module_base.specs.declared.line.Written.TheVariants as written
 use Rattle.module_base.specs.declared.line.WrittenLine.{WrittenLine}
-
--- the pieces of a text, none where there is no text
-abbrev pub pieces_of : ℕ → Option (List ℕ) → List (List ℕ)
-pieces_of mark None = []
-pieces_of mark (Some text) = pieces mark text
 
 -- the words, unless they are more than a message has
 abbrev pub fitting : List ℤ → MessageWords

@@ -8,8 +8,6 @@ mod devices;
 mod fault;
 mod inputs;
 mod line;
-mod number;
-mod piece;
 mod read;
 mod writing;
 

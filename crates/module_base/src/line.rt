@@ -3,13 +3,13 @@
 ghost use Rattle.std.specs.Prelude.{◌≡◌, option_map, option_copied};
 ghost use Rattle.module_meaning.specs.DeviceText as meant;
 ghost use Rattle.module_meaning.specs.DeviceText.{pieces};
-ghost use Rattle.module_base.specs.Seen.{pieces_of, fitting, seen, seen_line};
+ghost use Rattle.text_lines.specs.Pieces.{pieces_of};
+ghost use Rattle.module_base.specs.Seen.{fitting, seen, seen_line};
 ghost use Rattle.module_base.specs.TextLines.{line_by, written_by};
 
-use crate::number::{plain_number, word};
-use crate::piece::split_at;
 use apex_types::limits::MOST_TICKS;
 use apex_types::{Name, Ticks, Words};
+use text_lines::{plain_number, split_at, word};
 
 /// The last tick that a line may have.
 const LAST_TICK: u64 = MOST_TICKS;

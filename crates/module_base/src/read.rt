@@ -9,10 +9,10 @@ ghost use Rattle.module_base.specs.TextLines.{Taking, line_by, taken_by, verdict
 
 use crate::fault::DeviceTextFault;
 use crate::line::{Written, WrittenLine, line_of};
-use crate::piece::split_at;
 use apex_types::limits::MOST_DEVICE_LINES;
 use apex_types::{DeviceFault, Ticks};
 use std::alloc::Global;
+use text_lines::split_at;
 
 /// The most lines of a text.
 const MOST_LINES: usize = MOST_DEVICE_LINES as usize;

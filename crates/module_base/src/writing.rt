@@ -10,7 +10,8 @@ ghost use Rattle.apex_types.specs.Line.{words_text};
 ghost use Rattle.apex_types.specs.Line.{TakesBeginning};
 ghost use Rattle.module_meaning.specs.Table.{at_number};
 ghost use Rattle.image.specs.Items.{partition_of};
-ghost use Rattle.isolation.specs.InputText.{AreWords, AreWritable, IsWritable, input_text, name_of_port, replay_text};
+ghost use Rattle.text_lines.specs.Words.{AreWords};
+ghost use Rattle.isolation.specs.InputText.{AreWritable, IsWritable, input_text, name_of_port, replay_text};
 ghost use Rattle.module_base.specs.LineText.{behind_tick};
 
 use apex_types::limits::MOST_LINE_BYTES;

@@ -1,2 +1,4 @@
+pub mod Contents
 pub mod Names
+pub mod Noted
 pub mod States

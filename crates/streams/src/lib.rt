@@ -1,13 +1,17 @@
-//! Where the programs write: streams that count their failures and keep bytes back until they are
-//! flushed.
+//! What the programs read and write by name, and where they write: streams that count their
+//! failures and keep bytes back until they are flushed.
 #![tactic(auto)]
 
+mod files;
 mod names;
+mod sources;
 mod stream;
 mod writer;
 mod writing;
 
-pub use names::FailedNames;
+pub use files::Files;
+pub use names::{FailedNames, NameFault};
+pub use sources::Sources;
 pub use stream::Stream;
 pub use writer::WriterStream;
 pub use writing::{tell_line, tell_text, write_bytes, write_line, write_text};

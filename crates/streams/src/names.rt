@@ -1,9 +1,19 @@
-//! The names of what failed.
+//! The names of what failed, and why it did.
 
 ghost use Rattle.std.specs.Prelude.{◌≡◌, ◌++◌, ◌∷◌, [], OnOk, OnErr};
 ghost use Rattle.streams.specs.Names.{names_of};
+ghost use Rattle.streams.specs.Noted.{IsNotedFault};
 
 use std::alloc::{AllocError, Global};
+use std::io::ErrorKind;
+
+/// Why what has a name is not to be had.
+#[derive(Clone, Copy, Debug, PartialEq, Eq)]
+pub enum NameFault {
+    /// It cannot be opened, read or written.
+    Unavailable,
+    Memory,
+}
 
 /// The names of the files that could not be opened, read or written, one for each call that failed.
 #[derive(Drop)]
@@ -31,6 +41,28 @@ impl FailedNames {
         match self.names.push(name) {
             Ok(()) => Ok(()),
             Err(_) => Err(AllocError),
+        }
+    }
+
+    /// The fault of a call on what has this name and is not there. The name is noted; where there is
+    /// no memory to note it, want of memory is the fault.
+    pub fn unavailable(&mut self, alloc: Global, name: &str) -> NameFault
+        ensures { IsNotedFault name.now (names_of self.old) (names_of self.new) result }
+    {
+        match self.note(alloc, name) {
+            Ok(()) => NameFault::Unavailable,
+            Err(_) => NameFault::Memory,
+        }
+    }
+
+    /// The fault where a call on what has this name failed by an error of this kind.
+    pub fn fault_of(&mut self, alloc: Global, name: &str, kind: ErrorKind) -> NameFault
+        ensures memory { kind ≡ ErrorKind.OutOfMemory → result ≡ NameFault.Memory }
+        ensures noted { IsNotedFault name.now (names_of self.old) (names_of self.new) result }
+    {
+        match kind {
+            ErrorKind::OutOfMemory => NameFault::Memory,
+            _ => self.unavailable(alloc, name),
         }
     }
 }

@@ -4,8 +4,7 @@ use Rattle.std.specs.Prelude.{nat_le, ◌&&◌, nat_eq, slice_get, IsTrue}
 use Rattle.std.specs.Cmp.Lexicographic.{same_text}
 use Rattle.std.specs.Fmt.{decimal}
 use Rattle.std.specs.List.{list_all}
-use Rattle.std.proofs.lemmas.Bool.{and_parts, and_from, and_left, leb-true, ne_eqb, cond-true, cond-false}
-use Rattle.std.proofs.lemmas.Bool.Decides.{nat_tests}
+use Rattle.std.proofs.lemmas.Bool.{and_parts, and_left, leb-true, ne_eqb, cond-true, cond-false}
 use Rattle.apex_types.specs.declared.limits.TheConstants.{MOST_NAME_BYTES}
 use Rattle.apex_types.specs.CodeWords.{return_code_number, level_word, level_of_response, action_word}
 use Rattle.apex_types.specs.Line.{partition_text, subject_text, culprit_text}
@@ -20,32 +19,14 @@ use Rattle.apex_types.specs.declared.event.Subject.{Subject}
 use Rattle.apex_types.specs.declared.event.Subject.TheVariants as subject
 use Rattle.module_meaning.specs.DeviceText.{plain_number}
 use Rattle.engine_meaning.specs.Digits.{same}
+use Rattle.text_lines.proofs.Names.{name_ink}
+use Rattle.text_lines.proofs.Pieces.{is_ink}
+use Rattle.text_lines.proofs.Words.{plain_back, plain_again, decimal_ink}
 use Rattle.trace_text.specs.Reading.{name_of, partition_of, subject_of, culprit_of, return_codes, code_at, code_of, responses, response_of}
 use Rattle.trace_text.specs.Trace.{IsSubject, IsCulprit, IsPartition}
-use Rattle.trace_text.proofs.Pieces.{is_ink}
 use Rattle.trace_text.proofs.Spells.{Spells, same_some, found}
-use Rattle.trace_text.proofs.Words.{plain_back, plain_again, decimal_ink}
 
 -- ---- names
-
-lower_case_ink : (c : ℕ) → is_lower_case c ≡ true → is_ink c ≡ true
-lower_case_ink c h = grind (arith, nat_tests)
-
-name_byte_ink : (c : ℕ) → is_name_byte c ≡ true → is_ink c ≡ true
-name_byte_ink c h = grind (arith, nat_tests)
-
-name_bytes_ink : (cs : List ℕ) → list_all is_name_byte cs ≡ true → list_all is_ink cs ≡ true
-name_bytes_ink [] h = refl
-name_bytes_ink (c ∷ cs) h =
-    let p = and_parts (is_name_byte c) (list_all is_name_byte cs) h in
-    and_from (is_ink c) (list_all is_ink cs) (name_byte_ink c p.0) (name_bytes_ink cs p.1)
-
-name_ink : (name : List ℕ) → is_name name ≡ true → list_all is_ink name ≡ true
-name_ink [] h = cc
-name_ink (c ∷ cs) h =
-    let p = and_parts (is_lower_case c && list_all is_name_byte cs) (nat_le (length cs + 1) MOST_NAME_BYTES) h in
-    let q = and_parts (is_lower_case c) (list_all is_name_byte cs) p.0 in
-    and_from (is_ink c) (list_all is_ink cs) (lower_case_ink c q.0) (name_bytes_ink cs q.1)
 
 -- no name begins with a byte below the lower-case letters
 name_differs : (name : List ℕ) (b : ℕ) (bs : List ℕ) → is_name name ≡ true → b < 97 → same name (b ∷ bs) ≡ false

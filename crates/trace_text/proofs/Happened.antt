@@ -18,15 +18,16 @@ use Rattle.apex_types.specs.declared.event.Subject.{Subject}
 use Rattle.apex_types.specs.declared.service.Service.{Service}
 use Rattle.module_meaning.specs.DeviceText.{word, words, put_word}
 use Rattle.kernel_meaning.specs.Step.{message}
+use Rattle.text_lines.specs.Words.{AreWords}
+use Rattle.text_lines.proofs.Pieces.{is_ink}
+use Rattle.text_lines.proofs.Words.{word_back, words_again, words_ink}
 use Rattle.trace_text.specs.declared.keyword.Keyword.{Keyword}
 use Rattle.trace_text.specs.declared.keyword.Keyword.TheVariants as keyword
 use Rattle.trace_text.specs.Reading.{both, few, words_of, keyword_text, keyword_of, state_of, service_of, code_of, error_of, response_of, subject_of, culprit_of, mode_of, name_of, state_line, return_with, return_line, mode_line, error_with, error_line, report_line, message_of, message_line, kind_by, kind_of}
-use Rattle.trace_text.specs.Trace.{AreWords, IsMessage, HasParts}
+use Rattle.trace_text.specs.Trace.{IsMessage, HasParts}
 use Rattle.trace_text.proofs.Fields.{name_spells, subject_spells, culprit_spells, code_text, code_spells, response_back, response_again, level_ink, action_ink}
-use Rattle.trace_text.proofs.Pieces.{is_ink}
 use Rattle.trace_text.proofs.Spells.{same_some}
 use Rattle.trace_text.proofs.Tables.{mode_spells, state_spells, error_spells, service_spells, keyword_spells}
-use Rattle.trace_text.proofs.Words.{word_spells}
 
 -- ---- messages
 
@@ -43,20 +44,9 @@ unfolding words
 words_back [] ws e = subst (λ (xs : List ℤ). (map signed_decimal xs ≡ []) × AreWords xs) (same_some [] ws e) (refl, tt)
 words_back (t ∷ ts) ws e =
     let p = put_is (word t) (words ts) ws e in
-    let one = word_spells.takes t p.0 p.2 in
+    let one = word_back t p.0 p.2 in
     let rest = words_back ts p.1 p.3 in
     subst (λ (xs : List ℤ). (map signed_decimal xs ≡ t ∷ ts) × AreWords xs) p.4 (two_more (signed_decimal p.0) t (map signed_decimal p.1) ts one.0 rest.0, (one.1, rest.1))
-
-words_again : (ws : List ℤ) → AreWords ws → words (map signed_decimal ws) ≡ Some ws
-unfolding words
-words_again [] good = refl
-words_again (w ∷ ws) good =
-    ap (λ (o : Option ℤ). put_word o (words (map signed_decimal ws))) (word_spells.again w good.0)
-    ∙ ap (put_word (Some w)) (words_again ws good.1)
-
-words_ink : (ws : List ℤ) → AreWords ws → list_all (list_all is_ink) (map signed_decimal ws) ≡ true
-words_ink [] good = refl
-words_ink (w ∷ ws) good = and_from (list_all is_ink (signed_decimal w)) (list_all (list_all is_ink) (map signed_decimal ws)) (word_spells.ink w good.0) (words_ink ws good.1)
 
 few_is : (t : Bool) (ws : List ℤ) (m : ArrayVec ℤ) → cond t (Some (message ws)) None ≡ Some m → (t ≡ true) × (message ws ≡ m)
 few_is true ws m e = (refl, same_some (message ws) m e)

@@ -30,7 +30,8 @@ use Rattle.apex_types.specs.declared.event.Subject.{Subject}
 use Rattle.apex_types.specs.declared.event.Subject.TheVariants as subject
 use Rattle.apex_types.specs.declared.service.Service.{Service}
 use Rattle.apex_types.specs.declared.service.Service.TheVariants as service
-use Rattle.trace_text.specs.Trace.{AreWords, IsMessage, IsSubject, IsCulprit, IsPartition, HasParts, CanBeWritten}
+use Rattle.text_lines.specs.Words.{AreWords}
+use Rattle.trace_text.specs.Trace.{IsMessage, IsSubject, IsCulprit, IsPartition, HasParts, CanBeWritten}
 
 -- ---- fields
 

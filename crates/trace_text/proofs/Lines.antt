@@ -1,10 +1,9 @@
 -- A line and its event: what is read from a line has this line, and the line of an event that can be
 -- written is read as it, whatever follows.
-use Rattle.std.proofs.Common.{◌≡◌, ℕ, ◌<◌, ◌≤◌, Bool, true, false, cond, List, [], ◌∷◌, ◌++◌, length, Option, Some, None, refl, sym, ap, subst, ◌∙◌, arith, append_assoc, append-nil}
-use Rattle.std.specs.Prelude.{not, ◌==◌, IsTrue}
+use Rattle.std.proofs.Common.{◌≡◌, ℕ, ◌<◌, Bool, true, false, cond, List, [], ◌∷◌, ◌++◌, length, Option, Some, None, refl, sym, ap, subst, ◌∙◌, arith, append_assoc, append-nil}
+use Rattle.std.specs.Prelude.{IsTrue}
 use Rattle.std.specs.List.{list_all, join_with_byte}
-use Rattle.std.proofs.lemmas.Bool.{and_from, and_parts, cond-true}
-use Rattle.std.proofs.lemmas.List.Folds.{list_all-append}
+use Rattle.std.proofs.lemmas.Bool.{and_from, cond-true}
 use Rattle.apex_types.specs.Line.{thirteen_digits, partition_text, kind_text, line_of}
 use Rattle.apex_types.specs.declared.event.Event.{Event}
 use Rattle.apex_types.specs.declared.event.EventKind.{EventKind}
@@ -15,7 +14,7 @@ use Rattle.trace_text.specs.Reading.{tick_of, partition_of, kind_of, event_with,
 use Rattle.trace_text.specs.Trace.{happens_in, CanBeWritten}
 use Rattle.trace_text.proofs.Fields.{partition_spells}
 use Rattle.trace_text.proofs.Happened.{parts_of, kind_joined, kind_back, kind_again, kind_ink}
-use Rattle.trace_text.proofs.Pieces.{is_free, is_ink, ink_is_free, join_pieces, first_piece, pieces_join}
+use Rattle.text_lines.proofs.Pieces.{is_free, is_ink, ink_is_free, all_free, join_free, join_pieces, first_piece, pieces_join}
 use Rattle.trace_text.proofs.Spells.{same_some}
 use Rattle.trace_text.proofs.Ticks.{tick_spells}
 
@@ -88,21 +87,6 @@ tick_ink e can = tick_spells.ink e.tick can.tick
 
 behind_ink : (e : Event) → CanBeWritten e → list_all (list_all is_ink) (behind_tick e) ≡ true
 behind_ink e can = and_from (list_all is_ink (partition_text e.partition)) (list_all (list_all is_ink) (parts_of e.kind)) (partition_spells.ink e.partition can.partition) (kind_ink e.kind can.parts)
-
-all_free : (mark : ℕ) (ps : List (List ℕ)) → mark ≤ 32 → list_all (list_all is_ink) ps ≡ true → list_all (is_free mark) ps ≡ true
-all_free mark [] low h = refl
-all_free mark (p ∷ ps) low h =
-    let g = and_parts (list_all is_ink p) (list_all (list_all is_ink) ps) h in
-    and_from (is_free mark p) (list_all (is_free mark) ps) (ink_is_free mark p low g.0) (all_free mark ps low g.1)
-
--- parts with a space between them have no line feed
-join_free : (ps : List (List ℕ)) → list_all (list_all is_ink) ps ≡ true → is_free 10 (join_with_byte 32 ps) ≡ true
-join_free [] h = refl
-join_free (p ∷ []) h = ink_is_free 10 p (omega arith) (and_parts (list_all is_ink p) true h).0
-join_free (p ∷ q ∷ ps) h =
-    let g = and_parts (list_all is_ink p) (list_all (list_all is_ink) (q ∷ ps)) h in
-    list_all-append (λ b. not (b == 10)) p (32 ∷ join_with_byte 32 (q ∷ ps))
-    ∙ and_from (is_free 10 p) (is_free 10 (32 ∷ join_with_byte 32 (q ∷ ps))) (ink_is_free 10 p (omega arith) g.0) (join_free (q ∷ ps) g.1)
 
 pub body_free : (e : Event) → CanBeWritten e → is_free 10 (body_of e) ≡ true
 body_free e can =

@@ -1,10 +1,12 @@
 -- Words that are read one by one and kept, and those that are still to come.
-use Rattle.std.proofs.Common.{◌≡◌, ℕ, ℤ, ◌≤◌, ◌+◌, Bool, true, false, cond, List, [], ◌∷◌, ◌++◌, length, Option, Some, None, refl, sym, ap, ◌∙◌, arith, append_assoc, append-nil, length-append}
+use Rattle.std.proofs.Common.{◌≡◌, ℕ, ℤ, ◌≤◌, Bool, true, false, cond, List, [], ◌∷◌, ◌++◌, length, Option, Some, None, refl, sym, ap, ◌∙◌, arith, append_assoc, append-nil, length-append}
 use Rattle.std.proofs.lemmas.Bool.{lt-leb, le-leb}
 use Rattle.arrayvec.specs.ArrayVec.{ArrayVec}
 use Rattle.module_meaning.specs.DeviceText.{piece, pieces_behind_marks, word, words, put_word}
 use Rattle.kernel_meaning.specs.Step.{message}
-use Rattle.trace_text.specs.Reading.{pieces_of, few}
+use Rattle.text_lines.specs.Pieces.{pieces_of}
+use Rattle.text_lines.proofs.Words.{next_word}
+use Rattle.trace_text.specs.Reading.{few}
 
 -- what all words come to, where these were kept, and these are still to come
 abbrev pub few_behind : List ℤ → Option (List ℤ) → Option (ArrayVec ℤ)
@@ -23,25 +25,12 @@ few_behind_full : (kept : List ℤ) (w : ℤ) (rest : Option (List ℤ)) → len
 few_behind_full kept w None full = refl
 few_behind_full kept w (Some ws) full = too_long _ (message (kept ++ w ∷ ws)) (lt-leb (length (kept ++ w ∷ ws)) 16 (omega (arith, full, length-append kept (w ∷ ws))))
 
--- the bytes that are still to come, with one more for a text that is there
-abbrev pub rest_length : Option (List ℕ) → ℕ
-rest_length None = 0
-rest_length (Some text) = length text + 1
-
 in_time : (b : Bool) (m : ArrayVec ℤ) → b ≡ true → cond b (Some m) None ≡ Some m
 in_time true m e = refl
 in_time false m e = cc
 
 pub all_kept : (kept : List ℤ) → length kept ≤ 16 → few_behind kept (Some []) ≡ Some (message kept)
 all_kept kept short = rw (append-nil kept) (in_time _ (message kept) (le-leb (length kept) 16 short))
-
--- the words from here are the next one and those behind it
-next_word : (text front : List ℕ) (more : Option (List ℕ)) (w : Option ℤ) → front ≡ piece 32 text → pieces_behind_marks 32 text ≡ pieces_of 32 more → w ≡ word front → words (pieces_of 32 (Some text)) ≡ put_word w (words (pieces_of 32 more))
-unfolding words
-next_word text front more w f b e =
-    ap (λ (p : List ℕ). put_word (word p) (words (pieces_behind_marks 32 text))) (sym f)
-    ∙ ap (λ (o : Option ℤ). put_word o (words (pieces_behind_marks 32 text))) (sym e)
-    ∙ ap (λ (ps : List (List ℕ)). put_word w (words ps)) b
 
 pub keeps_one : (kept new : List ℤ) (rest : Option (List ℕ)) (text front : List ℕ) (more : Option (List ℕ)) (w : ℤ) → new ≡ kept ++ w ∷ [] → rest ≡ Some text → front ≡ piece 32 text → pieces_behind_marks 32 text ≡ pieces_of 32 more → Some w ≡ word front → few_behind kept (words (pieces_of 32 rest)) ≡ few_behind new (words (pieces_of 32 more))
 keeps_one kept new rest text front more w n r f b e =

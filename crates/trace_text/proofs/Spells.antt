@@ -5,7 +5,7 @@ use Rattle.std.specs.Cmp.Lexicographic.{same_text}
 use Rattle.std.specs.List.{list_all}
 use Rattle.engine_meaning.specs.Digits.{same}
 use Rattle.trace_text.specs.Reading.{with_word}
-use Rattle.trace_text.proofs.Pieces.{is_ink}
+use Rattle.text_lines.proofs.Pieces.{is_ink}
 
 pub record Spells {A : Type 0} (read : List ℕ → Option A) (text : A → List ℕ) (IsGood : A → Type 0) : Type 0 where
   pub takes : (bs : List ℕ) (a : A) → read bs ≡ Some a → (text a ≡ bs) × IsGood a

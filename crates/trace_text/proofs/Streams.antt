@@ -13,7 +13,7 @@ use Rattle.trace_text.specs.Stream.{NextIn, NoneIn, SeesLine}
 use Rattle.trace_text.specs.Trace.{CanBeWritten, IsNext}
 use Rattle.trace_text.proofs.Lengths.{line_short}
 use Rattle.trace_text.proofs.Lines.{body_of, body_is, body_free}
-use Rattle.trace_text.proofs.Pieces.{is_free, sole_piece}
+use Rattle.text_lines.proofs.Pieces.{is_free, sole_piece}
 
 -- ---- the line lies within the bytes that were read
 

@@ -15,7 +15,7 @@ use Rattle.apex_types.specs.declared.service.Service.TheVariants as service
 use Rattle.trace_text.specs.declared.keyword.Keyword.{Keyword}
 use Rattle.trace_text.specs.declared.keyword.Keyword.TheVariants as keyword
 use Rattle.trace_text.specs.Reading.{modes, mode_of, states, state_of, service_of, errors, error_of, keyword_text, keywords, keyword_of}
-use Rattle.trace_text.proofs.Pieces.{is_ink}
+use Rattle.text_lines.proofs.Pieces.{is_ink}
 use Rattle.trace_text.proofs.Spells.{Spells, words_spell}
 
 mode_again : (m : Mode) → mode_of (mode_word m) ≡ Some m

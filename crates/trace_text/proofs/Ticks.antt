@@ -9,7 +9,7 @@ use Rattle.apex_types.specs.declared.identity.Ticks.{Ticks}
 use Rattle.module_meaning.specs.DeviceText.{if_at_most}
 use Rattle.engine_meaning.specs.Digits.{is_digit, decimal_value}
 use Rattle.trace_text.specs.Reading.{tick_of, tick_with}
-use Rattle.trace_text.proofs.Pieces.{is_ink}
+use Rattle.text_lines.proofs.Pieces.{is_ink}
 use Rattle.trace_text.proofs.Spells.{Spells, same_some}
 
 -- the number of these digits behind that number

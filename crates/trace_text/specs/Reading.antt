@@ -33,11 +33,6 @@ use Rattle.trace_text.specs.Trace.{happens_in}
 use Rattle.trace_text.specs.declared.keyword.Keyword.{Keyword}
 use Rattle.trace_text.specs.declared.keyword.Keyword.TheVariants as keyword
 
--- the pieces of a text, none where there is no text
-abbrev pub pieces_of : ℕ → Option (List ℕ) → List (List ℕ)
-pieces_of mark None = []
-pieces_of mark (Some text) = pieces mark text
-
 -- both values, put together
 abbrev pub both : {A B C : Type 0} → (A → B → C) → Option A → Option B → Option C
 both f (Some a) (Some b) = Some (f a b)

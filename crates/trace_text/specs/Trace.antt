@@ -1,6 +1,5 @@
 -- Which events a run can write, and which lists of events are a trace.
-use Rattle.std.specs.Prelude.{◌≡◌, ℕ, ◌+◌, ◌^◌, ◌<◌, ◌≤◌, ℤ, Bool, false, true, ◌&&◌, List, [], ◌∷◌, ◌++◌, length, Option, Some, None, is_some, is_none, IsTrue, FitsSigned}
-use Rattle.std.specs.Int.{w64}
+use Rattle.std.specs.Prelude.{◌≡◌, ℕ, ◌+◌, ◌^◌, ◌<◌, ◌≤◌, ℤ, Bool, false, true, ◌&&◌, List, [], ◌∷◌, ◌++◌, length, Option, Some, None, is_some, is_none, IsTrue}
 use Rattle.apex_types.specs.Line.{line_of, text_of}
 use Rattle.apex_types.specs.NameText.{is_name}
 use Rattle.apex_types.specs.declared.codes.Response.{Response}
@@ -12,13 +11,9 @@ use Rattle.apex_types.specs.declared.event.Subject.{Subject}
 use Rattle.apex_types.specs.declared.event.Subject.TheVariants as subject
 use Rattle.apex_types.specs.declared.service.Service.{Service}
 use Rattle.apex_types.specs.declared.service.Service.TheVariants as service
+use Rattle.text_lines.specs.Words.{AreWords}
 
 -- ---- the parts of an event
-
--- all are words of 64 bits
-abbrev pub AreWords : List ℤ → Type 0
-AreWords [] = Unit {0}
-AreWords (w ∷ ws) = FitsSigned w64 w × AreWords ws
 
 -- 1 to 16 words
 pub record IsMessage (words : List ℤ) : Type 0 where

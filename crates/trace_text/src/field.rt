@@ -3,11 +3,11 @@
 ghost use Rattle.std.specs.Prelude.{◌≡◌};
 ghost use Rattle.trace_text.specs.Reading as meant;
 
-use crate::number::{are_digits, at_most, plain_number};
 use apex_types::{
     ErrorKind, Mode, ModuleAction, Name, PartitionAction, ProcessState, Response, ReturnCode,
     SERVICES, Service, Subject, Ticks,
 };
+use text_lines::{are_digits, number_at_most, plain_number};
 
 /// The digits of a tick.
 const TICK_DIGITS: usize = 13;
@@ -60,7 +60,7 @@ pub fn tick_of(text: &[u8]) -> Option<Ticks>
     ensures { result ≡ meant.tick_of text.now }
 {
     if text.len() == TICK_DIGITS && are_digits(text) {
-        Some(Ticks(at_most(LAST_TICK, text)?))
+        Some(Ticks(number_at_most(LAST_TICK, text)?))
     } else {
         None
     }

@@ -1,16 +1,15 @@
 //! What happened, by its word and its fields.
 
 ghost use Rattle.std.specs.Prelude.{◌≡◌, option_copied};
+ghost use Rattle.text_lines.specs.Pieces.{pieces_of};
 ghost use Rattle.trace_text.specs.Reading as meant;
-ghost use Rattle.trace_text.specs.Reading.{pieces_of};
 
 use crate::field::{
     code_of, culprit_of, error_of, mode_of, name_of, response_of, service_of, state_of, subject_of,
 };
 use crate::keyword::{Keyword, keyword_of};
-use crate::number::word;
-use crate::piece::split_at;
 use apex_types::{EventKind, Name, Words};
+use text_lines::{split_at, word};
 
 /// What happened, as it stands behind the partition.
 pub fn kind_of(text: Option<&[u8]>) -> Option<EventKind>

@@ -16,8 +16,6 @@ mod keyword;
 mod kind;
 pub mod laws;
 mod line;
-mod number;
-mod piece;
 mod reader;
 mod stream;
 mod whole;

@@ -8,8 +8,8 @@ ghost use Rattle.trace_text.specs.Trace.{CanBeWritten, ends, happens_in, is_hand
 
 use crate::field::{partition_of, tick_of};
 use crate::kind::kind_of;
-use crate::piece::split_at;
 use apex_types::{Event, EventKind, Name, Response, Service, Subject};
+use text_lines::split_at;
 
 /// The bytes are no line of a trace.
 #[derive(Clone, Copy, Debug, PartialEq, Eq)]

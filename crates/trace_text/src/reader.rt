@@ -3,8 +3,8 @@
 ghost use Rattle.std.specs.Prelude.{◌≡◌, ℕ, ◌+◌, ◌^◌, ◌<◌, List, [], length, IfOk, IfErr, IfSome, Ok, Some, None};
 
 use crate::line::event_of;
-use crate::piece::split_at;
 use apex_types::{Event, Ticks};
+use text_lines::split_at;
 
 /// The first line of a text that is no line of a trace there: it has none of the forms, its tick is
 /// below that of the line before, or it has no line feed.

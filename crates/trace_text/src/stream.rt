@@ -9,12 +9,12 @@ ghost use Rattle.trace_text.specs.Stream.{IsStreamFault, NextIn, SeesLine, ahead
 ghost use Rattle.trace_text.specs.declared.stream.StreamFault.TheVariants as faults;
 
 use crate::ahead::Ahead;
-use crate::piece::split_at;
 use crate::reader::{TraceFault, TraceReader};
 use apex_types::limits::MOST_LINE_BYTES;
 use apex_types::{Event, Ticks};
 use std::alloc::{AllocError, Global};
 use std::io::{self, Read};
+use text_lines::split_at;
 
 /// Why a stream gives no event.
 #[derive(Debug, Drop)]

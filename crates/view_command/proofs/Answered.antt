@@ -1,46 +1,31 @@
 -- From what a command came to, to its status.
-use Rattle.std.proofs.Common.{◌≡◌, ◌⊎◌, inl, inr, ℕ, ◌<◌, ◌-◌, ◌^◌, true, [], Option, Result, Ok, Err, refl, sym, ap, subst, ◌∙◌, arith}
+use Rattle.std.proofs.Common.{◌≡◌, ◌⊎◌, inl, inr, ℕ, ◌<◌, ◌-◌, ◌^◌, true, [], Option, Some, Result, Ok, Err, refl, sym, ap, subst, ◌∙◌, arith}
 use Rattle.std.specs.Prelude.{IfErr, OnOk}
 use Rattle.clap.specs.Faults.{is_simple_and_free}
 use Rattle.clap.specs.Kinds.{Kinds, IsAmong}
 use Rattle.clap.specs.Values.{kind_of}
 use Rattle.clap.specs.declared.error.Error.{Error}
-use Rattle.clap.specs.declared.error.kind.ErrorKind.{ErrorKind}
-use Rattle.clap.specs.declared.error.kind.ErrorKind.TheVariants as kind
-use Rattle.view_command.specs.Answers.{AreNoCommand, AskForHelp, IsAnswer, IsFailure, IsHelp, IsMistake, IsRefused, IsRefusedFor, IsTold, IsUsageTold, CanTakeHelp}
+use Rattle.command_words.specs.Found.{Entered}
+use Rattle.command_words.specs.Kinds.{AskForHelp, IsHelp, IsMistake}
+use Rattle.command_words.specs.Told.{CanTakeHelp, IsUsageTold}
+use Rattle.command_words.proofs.ErrorKinds.{help_or, no_help}
+use Rattle.view_command.specs.Answers.{AreNoCommand, IsAnswer, IsFailure, IsRefused, IsRefusedFor, IsTold}
 use Rattle.view_command.specs.Lines.{line_of}
-use Rattle.view_command.specs.Orders.{AsksForNothing, Entered, trace_of}
+use Rattle.view_command.specs.Orders.{AsksForNothing, trace_of}
+use Rattle.streams.specs.Contents.{Contents}
 use Rattle.streams.specs.States.{HasFailed, IsFlushed, Seen, TakesLine}
 use Rattle.view_command.specs.States.{IsUntouched, State, state}
-use Rattle.view_command.specs.Texts.{Texts, IsTraceIn}
+use Rattle.view_command.specs.Texts.{IsTraceIn}
 use Rattle.view_command.specs.Words.{view_app}
-use Rattle.view_command.specs.declared.refusal.Failure.{Failure}
-use Rattle.view_command.specs.declared.refusal.Failure.TheVariants.{Refused, Usage}
+use Rattle.command_words.specs.declared.failure.Failure.{Failure}
+use Rattle.command_words.specs.declared.failure.Failure.TheVariants.{Refused, Usage}
+use Rattle.view_command.specs.declared.refusal.Refusal.{Refusal}
 use Rattle.view_command.specs.declared.refusal.Refusal.TheVariants as refusal
 
 pub view_is_free : is_simple_and_free view_app ≡ true
 view_is_free = refl
 
-help_or : (k : ErrorKind) → IsHelp k ⊎ IsMistake k
-help_or kind.InvalidValue = inr ((λ e. cc), (λ e. cc))
-help_or kind.UnknownArgument = inr ((λ e. cc), (λ e. cc))
-help_or kind.InvalidSubcommand = inr ((λ e. cc), (λ e. cc))
-help_or kind.NoEquals = inr ((λ e. cc), (λ e. cc))
-help_or kind.ValueValidation = inr ((λ e. cc), (λ e. cc))
-help_or kind.TooManyValues = inr ((λ e. cc), (λ e. cc))
-help_or kind.TooFewValues = inr ((λ e. cc), (λ e. cc))
-help_or kind.WrongNumberOfValues = inr ((λ e. cc), (λ e. cc))
-help_or kind.ArgumentConflict = inr ((λ e. cc), (λ e. cc))
-help_or kind.MissingRequiredArgument = inr ((λ e. cc), (λ e. cc))
-help_or kind.MissingSubcommand = inr ((λ e. cc), (λ e. cc))
-help_or kind.DisplayHelp = inl (inl refl)
-help_or kind.DisplayHelpOnMissingArgumentOrSubcommand = inr ((λ e. cc), (λ e. cc))
-help_or kind.DisplayVersion = inl (inr refl)
-help_or kind.Io = inr ((λ e. cc), (λ e. cc))
-help_or kind.Format = inr ((λ e. cc), (λ e. cc))
-help_or kind.OutOfMemory = inr ((λ e. cc), (λ e. cc))
-
-of_usage : (kinds : Kinds) (entered : Entered) (texts : Option Texts) (before mid : State) (new_out old_err new_err : Seen) (status : ℕ) (e : Error) → IsFailure kinds entered texts before mid (Usage e) → IsUsageTold e mid.out new_out old_err new_err status
+of_usage : (kinds : Kinds) (entered : Entered) (texts : Option Contents) (before mid : State) (new_out old_err new_err : Seen) (status : ℕ) (e : Error) → IsFailure kinds entered texts before mid (Usage e) → IsUsageTold e (Some (line_of refusal.Write)) mid.out new_out old_err new_err status
     → IsHelp (kind_of e) ⊎ IsMistake (kind_of e) → IsAnswer kinds entered texts before (state mid.unopened new_out) old_err new_err status
 of_usage kinds entered texts before mid new_out old_err new_err status e (same, why) told (inr mistake) =
     let it = told.mistake mistake in
@@ -56,10 +41,6 @@ of_usage kinds entered texts before mid new_out old_err new_err status e (same, 
     no_command (inr (none, nothing, is)) = inr (none, nothing)
 of_usage kinds entered texts before mid new_out old_err new_err status e (same, why) told (inl help) = by (told.help help)
   where
-    no_help : (k : ErrorKind) → IsMistake k → IsHelp k → ⊥
-    no_help k mistake (inl h) = mistake.0 h
-    no_help k mistake (inr h) = mistake.1 h
-
     wants : IsAmong (kind_of e) kinds ⊎ ((kinds ≡ []) × AsksForNothing entered × IsMistake (kind_of e)) → AskForHelp kinds
     wants (inl a) = (kind_of e, a, help)
     wants (inr (none, nothing, mistake)) = absurd (no_help (kind_of e) mistake help)
@@ -78,7 +59,7 @@ of_usage kinds entered texts before mid new_out old_err new_err status e (same, 
       usage = λ two. absurd (omega (arith, one, two));
     }
 
-pub answered : (kinds : Kinds) (entered : Entered) (texts : Option Texts) (before mid : State) (new_out old_err new_err : Seen) (status : ℕ) (outcome : Result (Unit {0}) Failure)
+pub answered : (kinds : Kinds) (entered : Entered) (texts : Option Contents) (before mid : State) (new_out old_err new_err : Seen) (status : ℕ) (outcome : Result (Unit {0}) (Failure Refusal))
     → OnOk outcome (kinds ≡ []) → OnOk outcome (IsTraceIn texts (trace_of entered)) → OnOk outcome (mid.unopened ≡ before.unopened) → OnOk outcome (IsFlushed before.out mid.out) → IfErr outcome (λ f. IsFailure kinds entered texts before mid f)
     → IsTold outcome mid.out new_out old_err new_err status → IsAnswer kinds entered texts before (state mid.unopened new_out) old_err new_err status
 answered kinds entered texts before mid new_out old_err new_err status (Ok x) none trace opened flushed failed (zero, same, quiet) = record {
@@ -101,7 +82,7 @@ answered kinds entered texts before mid new_out old_err new_err status (Err (Usa
     of_usage kinds entered texts before mid new_out old_err new_err status e failed told (help_or (kind_of e))
 
 -- the help that is told was not yet written
-pub can_take_help : (kinds : Kinds) (entered : Entered) (texts : Option Texts) (before mid : State) (outcome : Result (Unit {0}) Failure)
+pub can_take_help : (kinds : Kinds) (entered : Entered) (texts : Option Contents) (before mid : State) (outcome : Result (Unit {0}) (Failure Refusal))
     → IfErr outcome (λ f. IsFailure kinds entered texts before mid f) → before.out.failures < 2 ^ 64 - 1 → CanTakeHelp outcome mid.out.failures
 can_take_help kinds entered texts before mid (Ok x) failed low = tt
 can_take_help kinds entered texts before mid (Err (Refused r)) failed low = tt

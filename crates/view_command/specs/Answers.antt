@@ -1,18 +1,19 @@
 -- What each status means.
-use Rattle.std.specs.Prelude.{◌≡◌, ◌≢◌, ◌⊎◌, ◌≤◌, ◌<◌, ◌-◌, ◌^◌, ℕ, List, [], ◌∷◌, ◌++◌, Option, Result, Ok, Err, string_bytes}
+use Rattle.std.specs.Prelude.{◌≡◌, ◌⊎◌, ◌≤◌, ℕ, List, [], ◌∷◌, ◌++◌, Option, Some, Result, Ok, Err, string_bytes}
 use Rattle.clap.specs.Kinds.{Kinds, IsAmong}
 use Rattle.clap.specs.Values.{kind_of}
-use Rattle.clap.specs.declared.error.Error.{Error}
-use Rattle.clap.specs.declared.error.kind.ErrorKind.{ErrorKind}
-use Rattle.clap.specs.declared.error.kind.ErrorKind.TheVariants.{DisplayHelp, DisplayVersion}
+use Rattle.command_words.specs.Found.{Entered}
+use Rattle.command_words.specs.Kinds.{AreMistaken, AskForHelp, IsMistake}
+use Rattle.command_words.specs.Told.{IsUsageTold}
+use Rattle.streams.specs.Contents.{Contents}
 use Rattle.streams.specs.States.{HasFailed, IsFlushed, IsWritten, Seen, TakesLine}
 use Rattle.view_command.specs.Lines.{called, line_of}
 use Rattle.clap.specs.Walk.{Row}
-use Rattle.view_command.specs.Orders.{Entered, AreWrongTicks, AsksForNothing, IsNoTick, trace_of}
+use Rattle.view_command.specs.Orders.{AreWrongTicks, AsksForNothing, IsNoTick, trace_of}
 use Rattle.view_command.specs.States.{IsUntouched, State}
-use Rattle.view_command.specs.Texts.{Texts, IsRefusedIn, IsRefusedLine, IsTraceIn}
-use Rattle.view_command.specs.declared.refusal.Failure.{Failure}
-use Rattle.view_command.specs.declared.refusal.Failure.TheVariants.{Refused, Usage}
+use Rattle.view_command.specs.Texts.{IsRefusedIn, IsRefusedLine, IsTraceIn}
+use Rattle.command_words.specs.declared.failure.Failure.{Failure}
+use Rattle.command_words.specs.declared.failure.Failure.TheVariants.{Refused, Usage}
 use Rattle.view_command.specs.declared.refusal.Refusal.{Refusal}
 use Rattle.view_command.specs.declared.refusal.Refusal.TheVariants.{Open, Read, Line, TooMany, Memory, Write}
 
@@ -28,7 +29,7 @@ IsUnread text name _ = ⊥
 
 -- The trace of this name is not shown. Of a text that is not opened, that is noted; a line is refused if it is
 -- the first that is no line of a trace there. Only of a whole trace something was written, which failed.
-abbrev pub IsRefused : Option Texts → List ℕ → State → State → Refusal → Type 0
+abbrev pub IsRefused : Option Contents → List ℕ → State → State → Refusal → Type 0
 IsRefused texts name before after Write = HasFailed before.out after.out × (after.unopened ≡ before.unopened) × IsTraceIn texts name
 IsRefused texts name before after (Open shown) = (after.out ≡ before.out) × (string_bytes shown ≡ called name) × (after.unopened ≡ before.unopened ++ name ∷ [])
 IsRefused texts name before after (Read shown) = IsUntouched before after × (string_bytes shown ≡ called name)
@@ -38,58 +39,48 @@ IsRefused texts name before after Memory = IsUntouched before after
 
 -- ---- the words, of which the library of command lines has these errors to tell
 
-abbrev pub IsHelp : ErrorKind → Type 0
-IsHelp k = (k ≡ DisplayHelp) ⊎ (k ≡ DisplayVersion)
-
-abbrev pub IsMistake : ErrorKind → Type 0
-IsMistake k = (k ≢ DisplayHelp) × (k ≢ DisplayVersion)
-
--- they ask for help
-abbrev pub AskForHelp : Kinds → Type 0
-AskForHelp kinds = (k : ErrorKind) × IsAmong k kinds × IsHelp k
-
 -- they are no command
 abbrev pub AreNoCommand : Kinds → Entered → Type 0
-AreNoCommand kinds entered = ((k : ErrorKind) × IsAmong k kinds × IsMistake k) ⊎ ((kinds ≡ []) × AsksForNothing entered)
+AreNoCommand kinds entered = AreMistaken kinds ⊎ ((kinds ≡ []) × AsksForNothing entered)
 
 -- the word for a tick is no tick, or memory ran out
-abbrev pub IsTickFailure : Option (List ℕ) → Failure → Type 0
+abbrev pub IsTickFailure : Option (List ℕ) → Failure Refusal → Type 0
 IsTickFailure word (Refused Memory) = Unit {0}
 IsTickFailure word (Refused _) = ⊥
 IsTickFailure word (Usage error) = IsNoTick word × IsMistake (kind_of error)
 
 -- the words for ticks are wrong, or memory ran out
-abbrev pub IsTicksFailure : List Row → Failure → Type 0
+abbrev pub IsTicksFailure : List Row → Failure Refusal → Type 0
 IsTicksFailure rows (Refused Memory) = Unit {0}
 IsTicksFailure rows (Refused _) = ⊥
 IsTicksFailure rows (Usage error) = AreWrongTicks rows × IsMistake (kind_of error)
 
 -- what was found asks for nothing, or memory ran out
-abbrev pub IsNothingAsked : Entered → Failure → Type 0
+abbrev pub IsNothingAsked : Entered → Failure Refusal → Type 0
 IsNothingAsked entered (Refused Memory) = Unit {0}
 IsNothingAsked entered (Refused _) = ⊥
 IsNothingAsked entered (Usage error) = AsksForNothing entered × IsMistake (kind_of error)
 
 -- why nothing is asked for
-abbrev pub IsFailureOfWords : Kinds → Entered → Failure → Type 0
+abbrev pub IsFailureOfWords : Kinds → Entered → Failure Refusal → Type 0
 IsFailureOfWords kinds entered (Refused Memory) = Unit {0}
 IsFailureOfWords kinds entered (Refused _) = ⊥
 IsFailureOfWords kinds entered (Usage error) = IsAmong (kind_of error) kinds ⊎ ((kinds ≡ []) × AsksForNothing entered × IsMistake (kind_of error))
 
 -- why words are not done
-abbrev pub IsFailure : Kinds → Entered → Option Texts → State → State → Failure → Type 0
+abbrev pub IsFailure : Kinds → Entered → Option Contents → State → State → Failure Refusal → Type 0
 IsFailure kinds entered texts before after (Refused r) = ((kinds ≡ []) × IsRefused texts (trace_of entered) before after r) ⊎ ((r ≡ Memory) × IsUntouched before after)
 IsFailure kinds entered texts before after (Usage error) = IsUntouched before after × IsFailureOfWords kinds entered (Usage error)
 
 -- ---- the statuses
 
 -- the trace was read to its end and its view is written and flushed, or help is, and nothing failed
-abbrev pub IsShownOrHelp : Kinds → Entered → Option Texts → State → State → Type 0
+abbrev pub IsShownOrHelp : Kinds → Entered → Option Contents → State → State → Type 0
 IsShownOrHelp kinds entered texts before after =
     (after.unopened ≡ before.unopened) × IsFlushed before.out after.out × (((kinds ≡ []) × IsTraceIn texts (trace_of entered)) ⊎ AskForHelp kinds)
 
 -- the trace is refused, or memory ran out at the words, or help is not written
-abbrev pub IsRefusedFor : Kinds → Entered → Option Texts → State → State → Refusal → Type 0
+abbrev pub IsRefusedFor : Kinds → Entered → Option Contents → State → State → Refusal → Type 0
 IsRefusedFor kinds entered texts before after r =
     ((kinds ≡ []) × IsRefused texts (trace_of entered) before after r) ⊎ ((r ≡ Memory) × IsUntouched before after)
     ⊎ ((r ≡ Write) × AskForHelp kinds × HasFailed before.out after.out × (after.unopened ≡ before.unopened))
@@ -97,7 +88,7 @@ IsRefusedFor kinds entered texts before after r =
 -- With 0 the trace was read to its end and shown, or help is, and standard error is as it was; with 1 the trace
 -- is refused, and standard error has the line of the refusal, if it did not fail; with 2 the words are no command,
 -- standard output is as it was, and what standard error took is flushed, if it did not fail.
-pub record IsAnswer (kinds : Kinds) (entered : Entered) (texts : Option Texts) (before after : State) (old_err new_err : Seen) (status : ℕ) : Type 0 where
+pub record IsAnswer (kinds : Kinds) (entered : Entered) (texts : Option Contents) (before after : State) (old_err new_err : Seen) (status : ℕ) : Type 0 where
   pub range : status ≤ 2
   pub done : status ≡ 0 → IsShownOrHelp kinds entered texts before after × (new_err ≡ old_err)
   pub refused : status ≡ 1 → (r : Refusal) × IsRefusedFor kinds entered texts before after r × TakesLine old_err new_err (line_of r)
@@ -105,17 +96,7 @@ pub record IsAnswer (kinds : Kinds) (entered : Entered) (texts : Option Texts) (
 
 -- ---- what was told of an outcome
 
--- of words that are no command, or that ask for help
-pub record IsUsageTold (error : Error) (old_out new_out old_err new_err : Seen) (status : ℕ) : Type 0 where
-  pub mistake : IsMistake (kind_of error) → (status ≡ 2) × (new_out ≡ old_out) × IsWritten old_err new_err
-  pub help : IsHelp (kind_of error) → ((status ≡ 0) × IsFlushed old_out new_out × (new_err ≡ old_err)) ⊎ ((status ≡ 1) × HasFailed old_out new_out × TakesLine old_err new_err (line_of Write))
-
-abbrev pub IsTold : Result (Unit {0}) Failure → Seen → Seen → Seen → Seen → ℕ → Type 0
+abbrev pub IsTold : Result (Unit {0}) (Failure Refusal) → Seen → Seen → Seen → Seen → ℕ → Type 0
 IsTold (Ok done) old_out new_out old_err new_err status = (status ≡ 0) × (new_out ≡ old_out) × (new_err ≡ old_err)
 IsTold (Err (Refused r)) old_out new_out old_err new_err status = (status ≡ 1) × (new_out ≡ old_out) × TakesLine old_err new_err (line_of r)
-IsTold (Err (Usage error)) old_out new_out old_err new_err status = IsUsageTold error old_out new_out old_err new_err status
-
--- a stream that has failed so often can count the failure of a help that it is to take
-abbrev pub CanTakeHelp : Result (Unit {0}) Failure → ℕ → Type 0
-CanTakeHelp (Err (Usage error)) failures = failures < 2 ^ 64 - 1
-CanTakeHelp _ failures = Unit {0}
+IsTold (Err (Usage error)) old_out new_out old_err new_err status = IsUsageTold error (Some (line_of Write)) old_out new_out old_err new_err status

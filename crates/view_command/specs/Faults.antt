@@ -5,13 +5,13 @@ use Rattle.trace_text.specs.declared.stream.StreamFault.{StreamFault}
 use Rattle.trace_text.specs.declared.stream.StreamFault.TheVariants as stream
 use Rattle.view_command.specs.declared.refusal.Refusal.{Refusal}
 use Rattle.view_command.specs.declared.refusal.Refusal.TheVariants.{Open, Read, Line, TooMany, Memory}
-use Rattle.view_command.specs.declared.sources.SourceFault.{SourceFault}
-use Rattle.view_command.specs.declared.sources.SourceFault.TheVariants as source
+use Rattle.streams.specs.declared.names.NameFault.{NameFault}
+use Rattle.streams.specs.declared.names.NameFault.TheVariants as source
 use Rattle.view_command.specs.declared.views.ViewFault.{ViewFault}
 use Rattle.view_command.specs.declared.views.ViewFault.TheVariants as view
 
 -- a text that is called so was not opened
-abbrev pub of_source : String Global → SourceFault → Refusal
+abbrev pub of_source : String Global → NameFault → Refusal
 of_source called source.Unavailable = Open called
 of_source called source.Memory = Memory
 

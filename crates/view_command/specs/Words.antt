@@ -1,21 +1,20 @@
 -- The commands and their arguments, as the library of command lines reads them.
-use Rattle.std.specs.Prelude.{◌≡◌, ℕ, List, Some, true, false, codes}
-use Rattle.clap.specs.Simple.{App, app_of, new_app, new_rule, on_top, with_rule, with_subcommand}
+use Rattle.std.specs.Prelude.{ℕ, List, Some, true, codes}
+use Rattle.clap.specs.Simple.{App, new_app, new_rule, on_top, with_rule, with_subcommand}
 use Rattle.clap.specs.Walk.{Rule}
-use Rattle.clap.specs.declared.builder.action.ArgAction.TheVariants.{Set, SetTrue}
-use Rattle.clap.specs.declared.builder.command.Command.{Command}
-use Rattle.clap.specs.declared.builder.command.Command.TheViews.{out-Command}
+use Rattle.clap.specs.declared.builder.action.ArgAction.TheVariants.{Set}
+use Rattle.command_words.specs.Grammar.{flag_rule, word_rule}
 
 -- the name of the trace, which has to be there
 abbrev pub trace_rule : Rule
-trace_rule = record (new_rule (codes "TRACE")) { required = true; action = Some Set }
+trace_rule = word_rule (codes "TRACE")
 
 -- an option with a tick
 abbrev pub tick_rule : List ℕ → Rule
 tick_rule name = record (new_rule name) { long = Some name; value_names = 1; action = Some Set }
 
 abbrev pub csv_rule : Rule
-csv_rule = record (new_rule (codes "csv")) { long = Some (codes "csv"); action = Some SetTrue }
+csv_rule = flag_rule (codes "csv")
 
 -- a command that shows the ticks of a trace
 abbrev pub shown_app : List ℕ → App
@@ -29,8 +28,3 @@ top_app = on_top (λ s. record s { subcommand_required = true }) (new_app (codes
 
 abbrev pub view_app : App
 view_app = with_subcommand (with_subcommand (with_subcommand top_app summary_app.top) (shown_app (codes "svg")).top) (shown_app (codes "vcd")).top
-
--- a command with these arguments and no other, none of them for its own commands
-pub record IsCommand (command : Command) (app : App) : Type 0 where
-  pub reads : app_of command ≡ app
-  pub local : (out-Command command).has_globals ≡ false

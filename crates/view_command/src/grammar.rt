@@ -1,15 +1,15 @@
 //! The words that the program takes.
 
-ghost use Rattle.std.specs.Prelude.{◌≡◌, ◌↔◌, IfOk, IsTrue, codes, false};
-ghost use Rattle.std.specs.Str.Parse.{AllDigits, IsNumeral};
+ghost use Rattle.std.specs.Prelude.{◌≡◌, IfOk, codes, false};
 ghost use Rattle.clap.specs.Values.{kind_of};
 ghost use Rattle.clap.specs.Walk.{rule_of};
 ghost use Rattle.clap.specs.declared.error.kind.ErrorKind.TheVariants.{MissingSubcommand, ValueValidation};
-ghost use Rattle.view_command.specs.Orders.{ReadsTick};
-ghost use Rattle.view_command.specs.Words.{IsCommand, csv_rule, shown_app, summary_app, tick_rule, trace_rule, view_app};
+ghost use Rattle.command_words.specs.Grammar.{IsCommand};
+ghost use Rattle.view_command.specs.Words.{shown_app, summary_app, tick_rule, view_app};
 
 use clap::error::ErrorKind;
 use clap::{Arg, ArgAction, Command, Error};
+use command_words::{flag, required_word};
 use std::alloc::{AllocError, Global};
 
 /// The commands and their arguments.
@@ -31,7 +31,7 @@ fn summary<'a>(alloc: Global) -> Result<Command<'a>, AllocError>
     shown(alloc, "summary")?
         .about("Writes a table of what each partition and each process did")
         .after_help("Example: mbview summary trace.txt --from 1000 --to 2000 --csv")
-        .arg(csv(alloc))
+        .arg(flag(alloc, "csv", "Writes the table as comma-separated values"))
 }
 
 fn svg<'a>(alloc: Global) -> Result<Command<'a>, AllocError>
@@ -59,7 +59,11 @@ fn shown<'a>(alloc: Global, name: &'a str) -> Result<Command<'a>, AllocError>
     ensures { IfOk result (λ command. IsCommand command (shown_app name.entry.now)) }
 {
     Command::new(alloc, name)
-        .arg(trace(alloc))?
+        .arg(required_word(
+            alloc,
+            "TRACE",
+            "The file of a trace, or - for the standard input",
+        ))?
         .arg(tick(
             alloc,
             "from",
@@ -72,16 +76,6 @@ fn shown<'a>(alloc: Global, name: &'a str) -> Result<Command<'a>, AllocError>
         ))
 }
 
-fn trace<'a>(alloc: Global) -> Arg<'a>
-    ensures rule { rule_of result ≡ trace_rule }
-    ensures local { result.global ≡ false }
-{
-    Arg::new(alloc, "TRACE")
-        .required(true)
-        .action(ArgAction::Set)
-        .help("The file of a trace, or - for the standard input")
-}
-
 fn tick<'a>(alloc: Global, name: &'a str, help: &'a str) -> Arg<'a>
     ensures rule { rule_of result ≡ tick_rule name.entry.now }
     ensures local { result.global ≡ false }
@@ -91,16 +85,6 @@ fn tick<'a>(alloc: Global, name: &'a str, help: &'a str) -> Arg<'a>
         .value_name("TICK")
         .action(ArgAction::Set)
         .help(help)
-}
-
-fn csv<'a>(alloc: Global) -> Arg<'a>
-    ensures rule { rule_of result ≡ csv_rule }
-    ensures local { result.global ≡ false }
-{
-    Arg::new(alloc, "csv")
-        .long("csv")
-        .action(ArgAction::SetTrue)
-        .help("Writes the table as comma-separated values")
 }
 
 /// The usage error of a word that is no tick.
@@ -126,35 +110,4 @@ pub fn no_command(alloc: Global) -> Result<Error, AllocError>
     ensures { IfOk result (λ error. kind_of error ≡ MissingSubcommand) }
 {
     grammar(alloc)?.error(ErrorKind::MissingSubcommand, "there is no command")
-}
-
-/// The tick that a word of one or more digits writes. One that 64 bits do not hold is taken as the
-/// greatest, which is far behind every trace.
-pub fn tick_of(word: &str) -> Option<u64>
-    ensures { ReadsTick word.now result }
-{
-    if !is_numeral(word.as_bytes()) {
-        return None;
-    }
-    Some(word.parse().unwrap_or(u64::MAX))
-}
-
-/// Whether there are digits, and nothing else.
-fn is_numeral(bytes: &[u8]) -> bool
-    ensures { IsTrue result ↔ IsNumeral 10 bytes.now }
-{
-    !bytes.is_empty() && are_digits(bytes)
-}
-
-fn are_digits(bytes: &[u8]) -> bool
-    ensures { IsTrue result ↔ AllDigits 10 bytes.now }
-{
-    let mut rest = bytes;
-    while let Some((byte, others)) = rest.split_first() {
-        if !byte.is_ascii_digit() {
-            return false;
-        }
-        rest = others;
-    }
-    true
 }

@@ -15,18 +15,16 @@ mod grammar;
 mod refusal;
 mod request;
 mod showing;
-mod sources;
 mod telling;
 mod views;
 
-use refusal::Failure;
+use command_words::Failure;
 pub use refusal::Refusal;
 use request::request_of;
 use showing::show;
-pub use sources::{SourceFault, Sources};
 use std::alloc::Global;
 use std::convert::AsStr;
-use streams::Stream;
+use streams::{Sources, Stream};
 use telling::tell;
 
 /// Shows the trace that the words of a command line name, the program's name first, and answers the
@@ -58,7 +56,7 @@ fn perform<S: AsStr, F: Sources, O: Stream>(
     words: &[S],
     sources: &mut F,
     out: &mut O,
-) -> Result<(), Failure>
+) -> Result<(), Failure<Refusal>>
     requires { O.failures out.old < 2 ^ 64 - 1 }
     ensures command { OnOk result (fault_of view_app (map S.text words.now) ≡ []) }
     ensures trace { OnOk result (IsTraceIn (F.texts sources.old) (trace_of (subcommand_of view_app (map S.text words.now)))) }

@@ -1,14 +1,11 @@
 //! Why nothing is shown.
 
-ghost use Rattle.std.specs.Prelude.{◌≡◌, ◌≢◌, Some};
-ghost use Rattle.clap.specs.Values.{kind_of};
-ghost use Rattle.clap.specs.declared.error.kind.ErrorKind.TheVariants.{OutOfMemory};
+ghost use Rattle.std.specs.Prelude.{◌≡◌, Some};
 ghost use Rattle.view_command.specs.Lines.{line_of};
 ghost use Rattle.view_command.specs.declared.refusal.Refusal.TheVariants as refusal;
-ghost use Rattle.view_command.specs.declared.refusal.Failure.TheVariants as failure;
 
 use apex_types::SinkFault;
-use clap::error::ErrorKind;
+use command_words::WantOfMemory;
 use std::alloc::{AllocError, AllocFailed};
 use std::fmt;
 
@@ -67,38 +64,10 @@ impl From<SinkFault> for Refusal {
     }
 }
 
-/// Why the words are not done.
-#[derive(Drop)]
-pub enum Failure {
-    Refused(Refusal),
-    /// The words are no command, or ask for help.
-    Usage(clap::Error),
-}
+impl WantOfMemory for Refusal {
+    ghost memory = { refusal.Memory };
 
-impl From<Refusal> for Failure {
-    ghost from_gives = { λ r f. f ≡ failure.Refused r };
-
-    fn from(refusal: Refusal) -> Self {
-        Failure::Refused(refusal)
-    }
-}
-
-impl From<AllocError> for Failure {
-    ghost from_gives = { λ _ f. f ≡ failure.Refused refusal.Memory };
-
-    fn from(_: AllocError) -> Self {
-        Failure::Refused(Refusal::Memory)
-    }
-}
-
-impl From<clap::Error> for Failure {
-    ghost from_gives = { λ error f. (kind_of error ≡ OutOfMemory → f ≡ failure.Refused refusal.Memory)
-        × (kind_of error ≢ OutOfMemory → f ≡ failure.Usage error) };
-
-    fn from(error: clap::Error) -> Self {
-        match error.kind() {
-            ErrorKind::OutOfMemory => Failure::Refused(Refusal::Memory),
-            _ => Failure::Usage(error),
-        }
+    fn want_of_memory() -> Self {
+        Refusal::Memory
     }
 }

@@ -6,14 +6,16 @@ ghost use Rattle.clap.specs.Matches.{found_of};
 ghost use Rattle.clap.specs.Simple.{subcommand_of, subcommand_rows_of};
 ghost use Rattle.clap.specs.Walk.{first_of, rows_of};
 ghost use Rattle.view_command.specs.Answers.{IsFailureOfWords, IsNothingAsked, IsTickFailure, IsTicksFailure};
-ghost use Rattle.view_command.specs.Orders.{IsTickOf, trace_of, word_at};
+ghost use Rattle.command_words.specs.Found.{word_at};
+ghost use Rattle.view_command.specs.Orders.{IsTickOf, trace_of};
 ghost use Rattle.view_command.specs.Words.{view_app};
 
-use crate::grammar::{bad_tick, grammar, no_command, no_ticks, tick_of};
-use crate::refusal::Failure;
+use crate::grammar::{bad_tick, grammar, no_command, no_ticks};
+use crate::refusal::Refusal;
 use crate::views::View;
 use apex_types::Ticks;
 use clap::ArgMatches;
+use command_words::{Failure, number_of, word};
 use std::alloc::Global;
 use std::convert::AsStr;
 
@@ -30,7 +32,7 @@ pub struct Request {
 }
 
 /// What the words ask for.
-pub fn request_of<S: AsStr>(alloc: Global, words: &[S]) -> Result<Request, Failure>
+pub fn request_of<S: AsStr>(alloc: Global, words: &[S]) -> Result<Request, Failure<Refusal>>
     ensures command { OnOk result (fault_of view_app (map S.text words.now) ≡ []) }
     ensures trace { IfOk result (λ r. string_bytes r.trace ≡ trace_of (subcommand_of view_app (map S.text words.now))) }
     ensures failed { IfErr result (λ f. IsFailureOfWords (fault_of view_app (map S.text words.now)) (subcommand_of view_app (map S.text words.now)) f) }
@@ -40,7 +42,7 @@ pub fn request_of<S: AsStr>(alloc: Global, words: &[S]) -> Result<Request, Failu
 }
 
 /// What was found in the words.
-fn requested(alloc: Global, matches: &ArgMatches<'_>) -> Result<Request, Failure>
+fn requested(alloc: Global, matches: &ArgMatches<'_>) -> Result<Request, Failure<Refusal>>
     ensures trace { IfOk result (λ r. string_bytes r.trace ≡ trace_of (subcommand_rows_of matches.now)) }
     ensures failed { IfErr result (λ f. IsNothingAsked (subcommand_rows_of matches.now) f) }
 {
@@ -62,7 +64,7 @@ fn table_or_rows(found: &ArgMatches<'_>) -> View {
 }
 
 /// The trace and the ticks that were found.
-fn shown(alloc: Global, view: View, found: &ArgMatches<'_>) -> Result<Request, Failure>
+fn shown(alloc: Global, view: View, found: &ArgMatches<'_>) -> Result<Request, Failure<Refusal>>
     ensures trace { IfOk result (λ r. string_bytes r.trace ≡ word_at (codes "TRACE") (rows_of (found_of found.now))) }
     ensures failed { IfErr result (λ f. IsTicksFailure (rows_of (found_of found.now)) f) }
 {
@@ -83,22 +85,19 @@ fn shown(alloc: Global, view: View, found: &ArgMatches<'_>) -> Result<Request, F
 }
 
 /// The tick of an option, if it is there.
-fn tick(alloc: Global, found: &ArgMatches<'_>, option: &str) -> Result<Option<u64>, Failure>
+fn tick(
+    alloc: Global,
+    found: &ArgMatches<'_>,
+    option: &str,
+) -> Result<Option<u64>, Failure<Refusal>>
     ensures read { IfOk result (λ t. IsTickOf (first_of option.now (rows_of (found_of found.now))) t) }
     ensures failed { IfErr result (λ f. IsTickFailure (first_of option.now (rows_of (found_of found.now))) f) }
 {
     let Some(word) = found.get_str(option) else {
         return Ok(None);
     };
-    match tick_of(word) {
+    match number_of(word) {
         Some(tick) => Ok(Some(tick)),
         None => Err(Failure::Usage(bad_tick(alloc, option, word)?)),
     }
-}
-
-/// A required argument. The parse has found it.
-fn word<'a>(found: &ArgMatches<'a>, name: &str) -> &'a str
-    ensures { result.now ≡ word_at name.now (rows_of (found_of found.now)) }
-{
-    found.get_str(name).unwrap_or("")
 }

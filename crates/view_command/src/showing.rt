@@ -10,11 +10,10 @@ ghost use Rattle.view_command.specs.Texts.{IsTraceIn, IsTraceOf};
 
 use crate::refusal::Refusal;
 use crate::request::Request;
-use crate::sources::{SourceFault, Sources};
 use crate::views::{Shown, ViewFault};
 use std::alloc::Global;
 use std::io::Read;
-use streams::{Stream, write_bytes};
+use streams::{NameFault, Sources, Stream, write_bytes};
 use trace_text::{StreamFault, TraceStream};
 
 /// Reads the trace to its end, and then writes it as the request wants it.
@@ -75,12 +74,12 @@ fn read_all<R: Read + Drop>(
 }
 
 /// The refusal of a text that was not opened.
-fn of_source(name: String, fault: SourceFault) -> Refusal
+fn of_source(name: String, fault: NameFault) -> Refusal
     ensures { result ≡ faults.of_source name fault }
 {
     match fault {
-        SourceFault::Unavailable => Refusal::Open(name),
-        SourceFault::Memory => Refusal::Memory,
+        NameFault::Unavailable => Refusal::Open(name),
+        NameFault::Memory => Refusal::Memory,
     }
 }
 

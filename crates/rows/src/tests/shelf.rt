@@ -1,15 +1,14 @@
 //! A fake of the files, and commands over it.
 
 ghost use Rattle.std.specs.Prelude.{◌≡◌, IfErr};
-ghost use Rattle.command_line.specs.Noted.{IsNotedFault};
 ghost use Rattle.streams.specs.Names.{names_of};
 
 use super::texts::{SMALLEST_IMAGE, SMALLEST_SOURCES, TABLE};
-use command_line::{FileFault, Files, command};
+use command_line::command;
 use std::alloc::Global;
 use std::io::Write;
 use std::process::Abort;
-use streams::{FailedNames, WriterStream};
+use streams::{FailedNames, Files, NameFault, WriterStream};
 
 /// The files "table", "devices", "source" and "source2", as far as there are sources, and room for
 /// one that is named "image". No other file can be read or written.
@@ -68,7 +67,7 @@ pub fn smallest_shelf(rt: &impl Abort, alloc: Global) -> Shelf<'static> {
 impl<'a> Files for Shelf<'a> {
     ghost failed = { λ shelf. names_of shelf.failed };
 
-    fn read(&mut self, alloc: Global, name: &str) -> Result<Vec<u8>, FileFault> {
+    fn read(&mut self, alloc: Global, name: &str) -> Result<Vec<u8>, NameFault> {
         let found = match name {
             "table" => held(alloc, Some(self.table.as_bytes())),
             "devices" => held(alloc, Some(self.devices.as_bytes())),
@@ -79,33 +78,23 @@ impl<'a> Files for Shelf<'a> {
         };
         match found? {
             Some(bytes) => Ok(bytes),
-            None => Err(unavailable(&mut self.failed, alloc, name)),
+            None => Err(self.failed.unavailable(alloc, name)),
         }
     }
 
-    fn write(&mut self, name: &str, bytes: &[u8]) -> Result<(), FileFault> {
+    fn write(&mut self, name: &str, bytes: &[u8]) -> Result<(), NameFault> {
         self.writes = self.writes.wrapping_add(1);
         if name != "image" {
-            return Err(unavailable(&mut self.failed, self.alloc, name));
+            return Err(self.failed.unavailable(self.alloc, name));
         }
         self.image = Some(copy(self.alloc, bytes)?);
         Ok(())
     }
 }
 
-/// The fault of a call on a file that is not there, which is noted if there is memory for it.
-fn unavailable(failed: &mut FailedNames, alloc: Global, name: &str) -> FileFault
-    ensures { IsNotedFault name.now (names_of failed.old) (names_of failed.new) result }
-{
-    match failed.note(alloc, name) {
-        Ok(()) => FileFault::Unavailable,
-        Err(_) => FileFault::Memory,
-    }
-}
-
 /// A copy of the bytes of a file, if there is one.
-fn held(alloc: Global, bytes: Option<&[u8]>) -> Result<Option<Vec<u8>>, FileFault>
-    ensures { IfErr result (λ fault. fault ≡ FileFault.Memory) }
+fn held(alloc: Global, bytes: Option<&[u8]>) -> Result<Option<Vec<u8>>, NameFault>
+    ensures { IfErr result (λ fault. fault ≡ NameFault.Memory) }
 {
     match bytes {
         Some(bytes) => Ok(Some(copy(alloc, bytes)?)),
@@ -113,12 +102,12 @@ fn held(alloc: Global, bytes: Option<&[u8]>) -> Result<Option<Vec<u8>>, FileFaul
     }
 }
 
-fn copy(alloc: Global, bytes: &[u8]) -> Result<Vec<u8>, FileFault>
-    ensures { IfErr result (λ fault. fault ≡ FileFault.Memory) }
+fn copy(alloc: Global, bytes: &[u8]) -> Result<Vec<u8>, NameFault>
+    ensures { IfErr result (λ fault. fault ≡ NameFault.Memory) }
 {
     match Vec::from_slice(alloc, bytes) {
         Ok(copied) => Ok(copied),
-        Err(_) => Err(FileFault::Memory),
+        Err(_) => Err(NameFault::Memory),
     }
 }
 

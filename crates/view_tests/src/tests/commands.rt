@@ -5,8 +5,8 @@ ghost use Rattle.streams.specs.Names.{names_of};
 use std::alloc::Global;
 use std::io::{self, ErrorKind, Read, Write};
 use std::process::Abort;
-use streams::{FailedNames, WriterStream};
-use view_command::{SourceFault, Sources, view};
+use streams::{FailedNames, NameFault, Sources, WriterStream};
+use view_command::view;
 
 const TRACE: &str = "0000000000000 a MODE COLD_START
 0000000000000 a STATE INIT READY
@@ -44,19 +44,14 @@ impl Sources for Texts {
 
     ghost unopened = { λ texts. names_of texts.unopened };
 
-    fn open(&mut self, name: &str) -> Result<Text, SourceFault> {
+    fn open(&mut self, name: &str) -> Result<Text, NameFault> {
         let (text, fails): (&'static str, bool) = match name {
             "trace.txt" | "-" => (TRACE, false),
             "empty.txt" => ("", false),
             "torn.txt" => (TRACE, true),
             "other.txt" => ("0000000000000 a MODE COLD_START\nx\n", false),
-            "memory.txt" => return Err(SourceFault::Memory),
-            _ => {
-                return match self.unopened.note(self.alloc, name) {
-                    Ok(()) => Err(SourceFault::Unavailable),
-                    Err(_) => Err(SourceFault::Memory),
-                };
-            }
+            "memory.txt" => return Err(NameFault::Memory),
+            _ => return Err(self.unopened.unavailable(self.alloc, name)),
         };
         Ok(Text {
             rest: text.as_bytes(),

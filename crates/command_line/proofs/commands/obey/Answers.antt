@@ -4,12 +4,14 @@ use Rattle.clap.specs.Matches.{found_of}
 use Rattle.clap.specs.Simple.{subcommand_rows_of}
 use Rattle.clap.specs.Walk.{rows_of}
 use Rattle.command_line.specs.Done.{IsDone}
-use Rattle.command_line.specs.Orders.{First, order_of, words_at}
+use Rattle.command_line.specs.Orders.{First, order_of}
 use Rattle.command_line.specs.Refusals.{IsRefused}
 use Rattle.streams.specs.States.{seen}
 use Rattle.command_line.specs.States.{state}
-use Rattle.command_line.specs.declared.refusal.Failure.TheVariants.{Refused}
-use Rattle.command_line.proofs.Found.{words_are, check_is, build_is, run_is, replay_is, inputs_is, cost_is, dis_is, other_is, none_entered}
+use Rattle.command_words.specs.declared.failure.Failure.TheVariants.{Refused}
+use Rattle.command_words.specs.Found.{words_at}
+use Rattle.command_words.proofs.Found.{words_are}
+use Rattle.command_line.proofs.Found.{check_is, build_is, run_is, replay_is, inputs_is, cost_is, dis_is, other_is, none_entered}
 use Rattle.command_line.proofs.Ran.{told_as}
 use Rattle.command_line.proofs.commands.obey.Goals.{in_default-via-in-Some+in_default, in_default-via-in_default}
 use Rattle.command_line.proofs.commands.obey.Goals as goal

@@ -1,7 +1,7 @@
 use Rattle.std.proofs.Common.{codes}
 use Rattle.clap.specs.Simple.{new_app, with_subcommand}
 use Rattle.command_line.specs.Words.{check_app, build_app, run_app, replay_app, inputs_app, cost_app, dis_app}
-use Rattle.command_line.proofs.Subcommands.{one_more, last_one}
+use Rattle.command_words.proofs.Subcommands.{one_more, last_one}
 use Rattle.command_line.proofs.grammar.grammar.Goals as goal
 
 pub returns : goal.returns

@@ -1,7 +1,8 @@
 use Rattle.std.proofs.Common.{rules, map, sym, subst, ◌∙◌}
-use Rattle.command_line.specs.Contents.{Holds}
+use Rattle.streams.specs.Contents.{Holds}
 use Rattle.command_line.specs.Reading.{texts_of}
-use Rattle.command_line.proofs.Read.{on_ok, built_named, refused_named, unnamed_text}
+use Rattle.command_words.proofs.Failed.{on_ok}
+use Rattle.command_line.proofs.Read.{built_named, refused_named, unnamed_text}
 use Rattle.command_line.proofs.reading.build_named.Goals as goal
 
 pub returns-clause-built : goal.returns-clause-built

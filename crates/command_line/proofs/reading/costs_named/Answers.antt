@@ -1,7 +1,8 @@
 use Rattle.std.proofs.Common.{rules, map, sym, subst, ◌∙◌}
-use Rattle.command_line.specs.Contents.{Holds}
+use Rattle.streams.specs.Contents.{Holds}
 use Rattle.command_line.specs.Reading.{texts_of}
-use Rattle.command_line.proofs.Read.{on_ok, costed_named, uncosted_named, unnamed_costs}
+use Rattle.command_words.proofs.Failed.{on_ok}
+use Rattle.command_line.proofs.Read.{costed_named, uncosted_named, unnamed_costs}
 use Rattle.command_line.proofs.reading.costs_named.Goals as goal
 
 pub returns-clause-costed : goal.returns-clause-costed

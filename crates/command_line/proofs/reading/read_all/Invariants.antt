@@ -1,5 +1,5 @@
 use Rattle.std.proofs.Common.{◌≡◌, List, ℕ, ◌++◌, map, drop}
-use Rattle.command_line.specs.Contents.{HoldAll}
+use Rattle.streams.specs.Contents.{HoldAll}
 use Rattle.command_line.specs.Refusals.{IsFirstUnread}
 use Rattle.command_line.specs.Reading.{texts_of}
 use Rattle.command_line.proofs.reading.read_all.Given as goal

@@ -2,7 +2,7 @@ use Rattle.std.proofs.Common.{inl}
 use Rattle.std.specs.Str.Parse.{digits_value}
 use Rattle.streams.specs.States.{seen}
 use Rattle.command_line.specs.States.{state}
-use Rattle.command_line.specs.declared.refusal.Failure.TheVariants.{Refused}
+use Rattle.command_words.specs.declared.failure.Failure.TheVariants.{Refused}
 use Rattle.command_line.proofs.Ran.{told_as}
 use Rattle.command_line.proofs.Replayed.{inputs_done_by, inputs_refused_by}
 use Rattle.command_line.proofs.replaying.inputs.Goals as goal

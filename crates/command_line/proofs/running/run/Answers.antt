@@ -2,7 +2,7 @@ use Rattle.std.proofs.Common.{inl}
 use Rattle.std.specs.Str.Parse.{digits_value}
 use Rattle.streams.specs.States.{seen}
 use Rattle.command_line.specs.States.{state}
-use Rattle.command_line.specs.declared.refusal.Failure.TheVariants.{Refused}
+use Rattle.command_words.specs.declared.failure.Failure.TheVariants.{Refused}
 use Rattle.command_line.proofs.Ran.{run_done_by, run_refused_by, told_as}
 use Rattle.command_line.proofs.running.run.Goals as goal
 

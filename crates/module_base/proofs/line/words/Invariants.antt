@@ -1,8 +1,10 @@
 use Rattle.std.proofs.Common.{◌≡◌, ◌≤◌, option_map, option_copied, length}
 use Rattle.apex_types.specs.declared.limits.TheConstants.{MOST_WORDS}
 use Rattle.module_meaning.specs.DeviceText.{words, pieces}
-use Rattle.module_base.specs.Seen.{pieces_of, fitting}
-use Rattle.module_base.proofs.LineWords.{read_on, rest_length}
+use Rattle.text_lines.specs.Pieces.{pieces_of}
+use Rattle.text_lines.proofs.Pieces.{rest_length}
+use Rattle.module_base.specs.Seen.{fitting}
+use Rattle.module_base.proofs.LineWords.{read_on}
 use Rattle.module_base.proofs.line.words.Given as goal
 
 abbrev pub invariant-loop-rest : goal.invariant-loop-rest

@@ -1,5 +1,5 @@
 use Rattle.std.proofs.Common.{◌≡◌, rules, ap, ◌∙◌, Err, length, option_copied}
-use Rattle.module_base.specs.Seen.{pieces_of}
+use Rattle.text_lines.specs.Pieces.{pieces_of}
 use Rattle.module_base.specs.TextLines.{line_by, taken_by, verdict_by}
 use Rattle.module_base.proofs.Reading.{wrong_line, refused_line}
 use Rattle.module_base.proofs.read.read_lines.Goals as goal

@@ -1,7 +1,7 @@
 use Rattle.std.proofs.Common.{◌≡◌, ◌+◌, ◌*◌, ◌≤◌, ◌++◌, length, take, drop}
 use Rattle.apex_types.specs.declared.limits.TheConstants.{MOST_WORD_BYTES}
 use Rattle.apex_types.specs.Line.{words_text}
-use Rattle.isolation.specs.InputText.{AreWords}
+use Rattle.text_lines.specs.Words.{AreWords}
 use Rattle.module_base.proofs.writing.push_words.Given as goal
 
 abbrev pub invariant-loop-word : goal.invariant-loop-word

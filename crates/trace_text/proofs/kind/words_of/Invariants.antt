@@ -1,7 +1,9 @@
 use Rattle.std.proofs.Common.{◌≡◌, ◌≤◌, option_copied, length}
 use Rattle.module_meaning.specs.DeviceText.{words}
-use Rattle.trace_text.specs.Reading.{pieces_of, words_of}
-use Rattle.trace_text.proofs.MessageWords.{few_behind, rest_length}
+use Rattle.text_lines.specs.Pieces.{pieces_of}
+use Rattle.text_lines.proofs.Pieces.{rest_length}
+use Rattle.trace_text.specs.Reading.{words_of}
+use Rattle.trace_text.proofs.MessageWords.{few_behind}
 use Rattle.trace_text.proofs.kind.words_of.Given as goal
 
 abbrev pub invariant-loop-rest : goal.invariant-loop-rest

@@ -1,5 +1,5 @@
 use Rattle.std.proofs.Common.{◌≡◌, ◌<◌, length, option_copied, arith, rules, sym, ap, ◌∙◌}
-use Rattle.trace_text.specs.Reading.{pieces_of}
+use Rattle.text_lines.specs.Pieces.{pieces_of}
 use Rattle.trace_text.proofs.Lines.{no_feed_alone, nothing_behind, read_alone, written_alone}
 use Rattle.trace_text.proofs.Spells.{same_some}
 use Rattle.trace_text.proofs.line.read_line.Goals as goal

@@ -1,7 +1,8 @@
 use Rattle.std.proofs.Common.{rules, codes}
 use Rattle.clap.specs.Simple.{with_subcommand}
-use Rattle.view_command.specs.Words.{IsCommand, shown_app, summary_app, top_app}
-use Rattle.view_command.proofs.Subcommands.{one_more, last_one}
+use Rattle.command_words.specs.Grammar.{IsCommand}
+use Rattle.view_command.specs.Words.{shown_app, summary_app, top_app}
+use Rattle.command_words.proofs.Subcommands.{one_more, last_one}
 use Rattle.view_command.proofs.grammar.grammar.Goals as goal
 
 pub returns : goal.returns

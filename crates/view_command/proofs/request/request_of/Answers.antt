@@ -1,35 +1,33 @@
-use Rattle.std.proofs.Common.{map, ap, sym, ◌∙◌}
-use Rattle.clap.specs.Faults.{fault_of, is_simple_and_free}
+use Rattle.std.proofs.Common.{◌≡◌, [], inl, map}
+use Rattle.clap.specs.Faults.{fault_of}
+use Rattle.clap.specs.Kinds.{HasKind}
 use Rattle.clap.specs.Simple.{subcommand_of, subcommand_rows_of}
+use Rattle.command_words.proofs.Failed.{on_ok, untaken}
+use Rattle.command_words.proofs.Found.{entered_is, of_kinds}
+use Rattle.view_command.specs.Answers.{IsFailureOfWords}
 use Rattle.view_command.specs.Words.{view_app}
+use Rattle.view_command.specs.declared.refusal.Refusal.TheVariants as refusal
 use Rattle.view_command.proofs.Answered.{view_is_free}
-use Rattle.view_command.proofs.Found.{entered_is, nothing_asked, on_ok, view_is_simple, words_failed}
+use Rattle.view_command.proofs.Found.{nothing_asked, view_is_simple}
 use Rattle.view_command.proofs.request.request_of.Goals as goal
 
 pub returns-in_err-matches-clause-failed : goal.returns-in_err-matches-clause-failed
 returns-in_err-matches-clause-failed g c =
     let words = map g.S.AsStr.text c.args.words.now in
-    let reads = c.in_ok-grammar.ensures.reads in
-    let kinds_are = ap (λ a. fault_of a words) reads in
-    let free = ap is_simple_and_free reads ∙ view_is_free in
-    words_failed (fault_of view_app words) _ (subcommand_of view_app words) c.in_err-matches.field-0.0 c.from_residual-in_err-matches.result
-    kinds_are (c.in_err-matches.ensures.kinds free) c.from_residual-in_err-matches.ensures
+    let error = c.in_err-matches.field-0.0 in
+    let kinds = of_kinds view_app words c.in_ok-grammar.field-0 (λ k. HasKind k error) c.in_ok-grammar.ensures view_is_free c.in_err-matches.ensures.kinds in
+    untaken refusal.Memory (fault_of view_app words) (IsFailureOfWords (fault_of view_app words) (subcommand_of view_app words)) error c.from_residual-in_err-matches.result
+    kinds c.from_residual-in_err-matches.ensures tt (λ among. inl among)
 
 pub returns-clause-command : goal.returns-clause-command
 returns-clause-command g c =
     let words = map g.S.AsStr.text c.args.words.now in
-    let reads = c.in_ok-grammar.ensures.reads in
-    let kinds_are = ap (λ a. fault_of a words) reads in
-    let free = ap is_simple_and_free reads ∙ view_is_free in
-    on_ok c.requested.result (sym kinds_are ∙ c.in_ok-matches.ensures.kinds free)
+    on_ok c.requested.result (of_kinds view_app words c.in_ok-grammar.field-0 (λ k. k ≡ []) c.in_ok-grammar.ensures view_is_free c.in_ok-matches.ensures.kinds)
 
 pub returns-clause-failed : goal.returns-clause-failed
 returns-clause-failed g c =
     let words = map g.S.AsStr.text c.args.words.now in
-    let reads = c.in_ok-grammar.ensures.reads in
-    let kinds_are = ap (λ a. fault_of a words) reads in
-    let free = ap is_simple_and_free reads ∙ view_is_free in
     nothing_asked (fault_of view_app words) (subcommand_rows_of c.in_ok-matches.matches) (subcommand_of view_app words) c.requested.result
-    (sym kinds_are ∙ c.in_ok-matches.ensures.kinds free)
-    (entered_is view_app words c.in_ok-grammar.field-0 c.in_ok-matches.matches reads view_is_simple c.in_ok-matches.ensures.matches)
+    (of_kinds view_app words c.in_ok-grammar.field-0 (λ k. k ≡ []) c.in_ok-grammar.ensures view_is_free c.in_ok-matches.ensures.kinds)
+    (entered_is view_app words c.in_ok-grammar.field-0 c.in_ok-matches.matches c.in_ok-grammar.ensures view_is_simple c.in_ok-matches.ensures.matches)
     c.requested.ensures.failed

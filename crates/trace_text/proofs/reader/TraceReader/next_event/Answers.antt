@@ -1,6 +1,7 @@
 use Rattle.std.proofs.Common.{◌≡◌, ◌≤◌, option_copied, None, arith, rules, sym, ap, ◌∙◌}
 use Rattle.apex_types.specs.declared.event.Event.{Event}
-use Rattle.trace_text.specs.Reading.{pieces_of, event_in}
+use Rattle.text_lines.specs.Pieces.{pieces_of}
+use Rattle.trace_text.specs.Reading.{event_in}
 use Rattle.trace_text.proofs.Lines.{no_feed, read_again, read_front}
 use Rattle.trace_text.proofs.Spells.{same_some}
 use Rattle.trace_text.proofs.reader.TraceReader.next_event.Goals as goal

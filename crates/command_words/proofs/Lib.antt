@@ -1,0 +1,4 @@
+pub mod ErrorKinds
+pub mod Found
+pub mod Subcommands
+pub mod Failed

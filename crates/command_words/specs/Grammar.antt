@@ -1,0 +1,20 @@
+-- Commands and their arguments, as the library of command lines reads them.
+use Rattle.std.specs.Prelude.{◌≡◌, ℕ, List, Some, true, false}
+use Rattle.clap.specs.Simple.{App, app_of, new_rule}
+use Rattle.clap.specs.Walk.{Rule}
+use Rattle.clap.specs.declared.builder.action.ArgAction.TheVariants.{Set, SetTrue}
+use Rattle.clap.specs.declared.builder.command.Command.{Command}
+use Rattle.clap.specs.declared.builder.command.Command.TheViews.{out-Command}
+
+-- one word that has to be there
+abbrev pub word_rule : List ℕ → Rule
+word_rule name = record (new_rule name) { required = true; action = Some Set }
+
+-- a word with two dashes that may be there
+abbrev pub flag_rule : List ℕ → Rule
+flag_rule name = record (new_rule name) { long = Some name; action = Some SetTrue }
+
+-- a command with these arguments and no other, none of them for its own commands
+pub record IsCommand (command : Command) (app : App) : Type 0 where
+  pub reads : app_of command ≡ app
+  pub local : (out-Command command).has_globals ≡ false

@@ -1,0 +1,5 @@
+pub mod Kinds
+pub mod Grammar
+pub mod Found
+pub mod Numbers
+pub mod Told

@@ -1,0 +1,36 @@
+//! The numbers that words write.
+
+ghost use Rattle.std.specs.Prelude.{◌↔◌, IsTrue};
+ghost use Rattle.std.specs.Str.Parse.{AllDigits, IsNumeral};
+ghost use Rattle.command_words.specs.Numbers.{ReadsNumber};
+
+/// The number that a word of one or more digits writes. One that 64 bits do not hold is taken as
+/// the greatest, which is far above every limit and far behind every trace.
+pub fn number_of(word: &str) -> Option<u64>
+    ensures { ReadsNumber word.now result }
+{
+    if !is_numeral(word.as_bytes()) {
+        return None;
+    }
+    Some(word.parse().unwrap_or(u64::MAX))
+}
+
+/// Whether there are digits, and nothing else.
+fn is_numeral(bytes: &[u8]) -> bool
+    ensures { IsTrue result ↔ IsNumeral 10 bytes.now }
+{
+    !bytes.is_empty() && are_digits(bytes)
+}
+
+fn are_digits(bytes: &[u8]) -> bool
+    ensures { IsTrue result ↔ AllDigits 10 bytes.now }
+{
+    let mut rest = bytes;
+    while let Some((byte, others)) = rest.split_first() {
+        if !byte.is_ascii_digit() {
+            return false;
+        }
+        rest = others;
+    }
+    true
+}

@@ -1,0 +1,26 @@
+//! Texts by name, which are read from their front.
+
+ghost use Rattle.std.specs.Prelude.{◌≡◌, ℕ, List, Option, None, IfOk};
+ghost use Rattle.streams.specs.Contents.{Opens};
+ghost use Rattle.streams.specs.Noted.{IsNoted};
+
+use crate::names::NameFault;
+use std::io::Read;
+
+/// The texts that can be opened by their names.
+pub trait Sources {
+    type Reader: Read + Drop;
+
+    /// The text of each name, and none where there is no such text; nothing where the texts are
+    /// not told.
+    ghost texts: { Self → Option (List ℕ → Option (List ℕ)) } = { λ _. None };
+
+    /// The names of the texts that were not opened so far, one for each call that failed.
+    ghost unopened: { Self → List (List ℕ) };
+
+    /// A reader at the front of the text of that name; `-` is the standard input. Want of memory is
+    /// no failure of the text.
+    fn open(&mut self, name: &str) -> Result<Self::Reader, NameFault>
+        ensures opened { IfOk result (λ reader. Opens (texts self.old) name.now (Self.Reader.remaining reader)) }
+        ensures noted { IsNoted name.now (unopened self.old) (unopened self.new) result };
+}

@@ -1,0 +1,8 @@
+//! The pieces of a line of text between marks, and the numbers that its digits are.
+#![tactic(auto)]
+
+mod number;
+mod piece;
+
+pub use number::{are_digits, number_at_most, plain_number, word};
+pub use piece::split_at;
