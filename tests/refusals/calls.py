@@ -24,6 +24,8 @@ REFUSED = {
     "run": ["end memory, 0 bytes"],
     "replay": ["end memory, 0 bytes"],
 }
+# An empty device text is read without a request.
+WITHOUT_REQUEST = [("first", "Machine::devices")]
 # What is called again where the call is refused, if it is not the call alone.
 AGAIN = {"check": "parse", "Machine::load": "load_image", "Machine::devices": "load_image"}
 # A value that is handed over is gone after a refusal, so what is held then is what was held before that value was made.
@@ -52,7 +54,10 @@ def refuse_call(library, refusals, row, call):
     wanted = after_refusal(lines, call)
     before = held[lines.index(f"begin {HANDED_OVER.get(call, call)}")]
     told.count("calls")
-    for refused in range(held[begin].requests + 1, held[begin + 1].requests + 1):
+    requests = range(held[begin].requests + 1, held[begin + 1].requests + 1)
+    if not requests and (row, call) not in WITHOUT_REQUEST:
+        told.wrong.append(f"{row} {call}: there is no request to refuse")
+    for refused in requests:
         answer, found, marks, end = call_on(library, refusals, row, refused)
         told.count("requests")
         name = f"{row} {call}, request {refused}"
@@ -132,6 +137,10 @@ def module_of_example(name, partitions, ticks):
 MODULES = [module_of_rows("smallest", 128), module_of_example("telemetry", ["sensors", "radio"], 2400)]
 
 
+# The two answers that a command may give.
+RIGHT, LACKING = "right answers", "mb: memory"
+
+
 class Command:
     """A command of `mb` on a module, in a folder of its own, with its right answer."""
 
@@ -156,9 +165,9 @@ class Command:
         if watched.end is None or watched.end.blocks != 0:
             told.wrong.append(f"{self.name}, {case}: {answer}, held {watched.end} at the end")
         elif answer == self.right and image == self.image:
-            told.count("right answers")
+            told.count(RIGHT)
         elif answer == Answer(1, answer.out, b"mb: memory\n") and is_beginning and image == self.before:
-            told.count("mb: memory")
+            told.count(LACKING)
         else:
             told.wrong.append(f"{self.name}, {case}: {answer}{'' if image == self.before else ', IMAGE is changed'}")
 
@@ -176,22 +185,30 @@ def refuse_command(library, mb, number, name):
         for refused in range(1, watched.end.requests + 1):
             told.count("requests")
             command.judge(told, f"request {refused}", command.ask(library, refused=refused))
+        expect_both(told, command)
     return told
+
+
+def expect_both(told, command):
+    """A sweep in which memory never lacks, or always does, has tried nothing."""
+    for it in (RIGHT, LACKING):
+        if it not in told.counts:
+            told.wrong.append(f"{command.name}: never '{it}'")
 
 
 STEP = 16 << 10
 # 128 MiB, with which every command is done.
 MOST_STEPS = 1 << 13
-# So many budgets in a row with the right answer are the end of a sweep.
-ENOUGH = 8
+# A sweep begins so many steps above what suffices.
+MARGIN = 16
 
 
-def first_limit(library, command):
-    """A limit of the address space, in steps, with which the program begins, where it does not with a step less."""
+def least(suffices):
+    """A number of steps that suffices, where one step less does not."""
     low, high = 0, MOST_STEPS
     while high - low > 1:
         middle = (low + high) // 2
-        if command.ask(library, limit=middle * STEP).has_begun:
+        if suffices(middle):
             high = middle
         else:
             low = middle
@@ -199,21 +216,18 @@ def first_limit(library, command):
 
 
 def limit_command(library, mb, number, name):
-    """Gives a command on the module of that number ever more address space, from what it cannot begin with to what suffices."""
+    """Gives a command on the module of that number ever less address space, from what suffices down to what it cannot begin with."""
     told = Told()
     with tempfile.TemporaryDirectory() as room:
         command = Command(mb, MODULES[number], name, Path(room))
         told.count("commands")
-        enough = 0
-        for steps in range(first_limit(library, command), MOST_STEPS):
-            had = told.counts.get("right answers", 0)
+        first = least(lambda steps: command.ask(library, limit=steps * STEP).answer == command.right) + MARGIN
+        last = least(lambda steps: command.ask(library, limit=steps * STEP).has_begun)
+        for steps in range(first, last - 1, -1):
             watched = command.ask(library, limit=steps * STEP)
-            # The host does not always place a program alike, so it may not begin here either.
+            # The host does not always place a program alike, so it may not begin with the last ones.
             if watched.has_begun:
                 told.count("budgets")
                 command.judge(told, f"{steps * STEP} bytes", watched)
-            enough = enough + 1 if told.counts.get("right answers", 0) > had else 0
-            if enough == ENOUGH or told.wrong:
-                return told
-    told.wrong.append(f"{command.name}: {MOST_STEPS * STEP} bytes do not suffice")
+        expect_both(told, command)
     return told

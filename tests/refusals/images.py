@@ -288,9 +288,10 @@ def edge_damages(image):
 
 
 def random_damages(image, name, number=2000):
-    """So many random places with random values; the name is the seed."""
+    """So many random places with random other values; the name is the seed."""
     chosen = random.Random(name)
-    return [Damage(len(image), ((chosen.randrange(len(image)), chosen.randrange(256)),)) for _ in range(number)]
+    places = [chosen.randrange(len(image)) for _ in range(number)]
+    return [Damage(len(image), ((place, image[place] ^ chosen.randrange(1, 256)),)) for place in places]
 
 
 def whole_damages(image):

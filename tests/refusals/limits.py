@@ -17,6 +17,8 @@ ROOT = calls.ROOT
 FILE_ROWS = ROOT / "crates/file_rows/data"
 TABLE = (calls.ROWS / "smallest/table").read_text()
 SMALLEST = (calls.ROWS / "smallest/source").read_text()
+SMALLEST_TRACE = (calls.ROWS / "smallest/trace").read_text()
+SMALLEST_BYTES = (calls.ROWS / "smallest/image").stat().st_size
 PORT = 'name = "p"\nkind = "SAMPLING"\ndirection = "DESTINATION"\nwords = 1\nrefresh = 0\n'
 PORT_TABLE = TABLE.replace("[[window]]", f"[[partition.port]]\n{PORT}\n[[window]]")
 PORT_TABLE += '\n[[channel]]\nname = "c"\nsource = "DEVICE"\ndestinations = ["a.p"]\n'
@@ -26,47 +28,60 @@ HANDLER = (FILE_ROWS / "handler/11/source").read_text()
 
 @dataclass(frozen=True)
 class Input:
-    """A module, what comes to it, for how many ticks it is run, and what its trace has to show, and how often."""
+    """A module, what comes to it, for how many ticks it is run, and its trace; or what the trace has to show, and how often."""
 
     name: str
     table: str
     sources: tuple
     devices: str
     ticks: int
+    trace: str | None = None
     shown: tuple = ()
+    image_bytes: int | None = None
     # The refusals, by command, of what is beyond the limit.
     refused: tuple = ()
 
 
 def instructions(number):
+    """INIT does nothing for all of its time but for its last four instructions, of which the service ends in this tick."""
     source = "init stack 16 { local r;\n" + "work 1;\n" * (number - 4) + "SET_PARTITION_MODE(3) -> r; }\n"
-    return TABLE, source, "", number + 1, (f"{number:013} a MODE NORMAL\n", 1)
+    trace = SMALLEST_TRACE.replace(f"{4:013}", f"{number:013}")
+    return {"table": TABLE, "source": source, "ticks": number + 1, "trace": trace}
+
+
+def array_words(number):
+    """The array is not used, and so nothing shows it but the length of the image."""
+    longer = SMALLEST_BYTES + 8 * number
+    return {"table": TABLE, "source": f"array d[{number}];\n{SMALLEST}", "ticks": 128, "trace": SMALLEST_TRACE, "image_bytes": longer}
 
 
 def source_bytes(number):
     source = f"{SMALLEST}\n#"
-    return TABLE, source + "." * (number - len(source)), "", 128, ("a MODE NORMAL\n", 1)
+    return {"table": TABLE, "source": source + "." * (number - len(source)), "ticks": 128, "trace": SMALLEST_TRACE}
 
 
 def device_lines(number):
-    return PORT_TABLE, SMALLEST, "0 MSG c 1\n" * number, 1, ("0000000000000 a ARRIVE p 1\n", number)
+    """The messages come before the first choice."""
+    first, second, third = SMALLEST_TRACE.splitlines(keepends=True)[:3]
+    trace = first + second + "0000000000000 a ARRIVE p 1\n" * number + third
+    return {"table": PORT_TABLE, "source": SMALLEST, "devices": "0 MSG c 1\n" * number, "ticks": 1, "trace": trace}
 
 
 def fault_lines(number):
-    return TABLE, SMALLEST, "0 FAULT\n" * number, 0, ()
+    return {"table": TABLE, "source": SMALLEST, "devices": "0 FAULT\n" * number, "ticks": 0, "trace": ""}
 
 
 def lock_levels(number):
     lock = f"while n < {number} {{ LOCK_PREEMPTION() -> r, k; n := n + 1; }}"
     body = f"{{ local r; local k; local n; {lock} m[0] := k; REPORT_APPLICATION_MESSAGE(m, 1) -> r; }}"
     source = f"array m[1];\n{STARTING}process p priority 5 period -1 capacity -1 stack 64 {body}\n"
-    return TABLE, source, "", 1000, (f"REPORT p {number}\n", 1)
+    return {"table": TABLE, "source": source, "ticks": 1000, "shown": (f"REPORT p {number}\n", 1)}
 
 
 def waiting_errors(number):
     """The error that starts the handler waits, and all but one of the others; one of the last two finds no room at the limit."""
     source = HANDLER.replace("i < 65", f"i < {number - 1}")
-    return TABLE, source, "", 8000, ("HM DEADLINE_MISSED q PARTITION IGNORE\n", int(number == 64))
+    return {"table": TABLE, "source": source, "ticks": 8000, "shown": ("HM DEADLINE_MISSED q PARTITION IGNORE\n", int(number == 64))}
 
 
 @dataclass(frozen=True)
@@ -82,6 +97,7 @@ class Limit:
 
 
 TOO_LONG = (("check", "compile a 1"), ("build", "compile a 1"))
+TOO_MANY_WORDS = tuple((it, "pal a 5 line 1") for it in ("check", "build", "cost"))
 NO_SOURCE = tuple((it, "pal a 1 line 2") for it in ("check", "build", "cost"))
 TOO_MANY_LINES = (("run", "device 4"), ("inputs", "device 4"))
 LIMITS = [
@@ -117,6 +133,7 @@ LIMITS = [
     Limit("procedures", "MOST_PROCEDURES", "procedures"),
     Limit("instructions", "MOST_INSTRUCTIONS", make=instructions, number=65_536, refused=TOO_LONG),
     Limit("words of an array", "MOST_DATA_WORDS", "array"),
+    Limit("words of an array that is not used", "MOST_DATA_WORDS", make=array_words, number=65_536, refused=TOO_MANY_WORDS),
     Limit("words of data", "MOST_DATA_WORDS", "arrays_and_variables"),
     Limit("first values of an array", None, "first_values"),
     Limit("many first values of an array", None, "many_first_values"),
@@ -171,13 +188,19 @@ def input_of_row(limit, which):
     sources = tuple((folder / it).read_text() for it in names)
     devices = folder / "devices"
     trace = folder / "trace"
-    shown = (trace.read_text(), 1) if trace.is_file() else ()
-    return Input(f"{limit.name}, {which}", (folder / "table").read_text(), sources, devices.read_text() if devices.is_file() else "", ticks, shown)
+    return Input(
+        f"{limit.name}, {which}",
+        (folder / "table").read_text(),
+        sources,
+        devices.read_text() if devices.is_file() else "",
+        ticks,
+        trace.read_text() if trace.is_file() else None,
+    )
 
 
 def made_input(limit, which, number, refused=()):
-    table, source, devices, ticks, shown = limit.make(number)
-    return Input(f"{limit.name}, {which}", table, (source,), devices, ticks, shown, refused)
+    made = {"devices": "", **limit.make(number)}
+    return Input(f"{limit.name}, {which}", sources=(made.pop("source"),), refused=refused, **made)
 
 
 def inputs_of(limit):
@@ -211,35 +234,47 @@ def lay(module, folder):
     return sources
 
 
+def ask_all(mb, module, partition, folder):
+    """Gives every command a module, and what its partition is brought to the replay; returns the answers by command, without those that have no image."""
+    answers = {}
+    for name, words in trial.commands(lay(module, folder), partition, module.ticks).items():
+        if name in ("check", "cost", "build") or (folder / "image").is_file():
+            answers[name] = trial.run([mb, *words], folder)
+        if name == "inputs" and name in answers:
+            (folder / "inputs").write_bytes(answers[name].out)
+    return answers
+
+
 def try_input(mb, number):
     """Gives every command a module at a limit. Each is done, or refused because it is beyond the limit and for no other reason."""
     told, module = Told(), INPUTS[number]()
     told.count("inputs")
     partition = re.search(r'name *= *"(\w+)"', module.table).group(1)
-    refused = dict(module.refused)
     with tempfile.TemporaryDirectory() as room:
-        folder = Path(room)
-        trace = ""
-        for name, words in trial.commands(lay(module, folder), partition, module.ticks).items():
-            if name not in ("check", "cost", "build") and not (folder / "image").is_file():
-                break
-            answer = trial.run([mb, *words], folder)
-            told.count("commands")
-            if name in refused:
-                wanted = Answer(1, b"", f"mb: {refused[name]}\n".encode())
-            else:
-                wanted = Answer(0, answer.out, b"")
-            if answer != wanted:
-                told.wrong.append(f"{module.name}, {name}: {answer}")
-            if name == "inputs":
-                (folder / "inputs").write_bytes(answer.out)
-            if name == "run":
-                trace = answer.out.decode()
-            if name == "replay" and answer.out.decode() != part_of(trace, partition) and not refused:
-                told.wrong.append(f"{module.name}: the replay differs")
-    if module.shown and not refused and trace.count(module.shown[0]) != module.shown[1]:
-        told.wrong.append(f"{module.name}: the trace does not show '{module.shown[0][:60].strip()}' {module.shown[1]} times")
+        answers = ask_all(mb, module, partition, Path(room))
+    told.count("commands", len(answers))
+    refused = dict(module.refused)
+    for name, answer in answers.items():
+        done = Answer(0, answer.out, b"")
+        wanted = Answer(1, b"", f"mb: {refused[name]}\n".encode()) if name in refused else done
+        if answer != wanted:
+            told.wrong.append(f"{module.name}, {name}: {answer}")
+    if not refused:
+        judge(told, module, partition, {name: answer.out.decode() for name, answer in answers.items()})
     return told
+
+
+def judge(told, module, partition, outputs):
+    """Expects the trace of a module, or what is to be seen of it, the same of the partition's replay, and the length of the image."""
+    trace = outputs.get("run", "")
+    if module.trace is not None and trace != module.trace:
+        told.wrong.append(f"{module.name}: the trace differs")
+    if module.shown and trace.count(module.shown[0]) != module.shown[1]:
+        told.wrong.append(f"{module.name}: the trace does not show '{module.shown[0].strip()}' {module.shown[1]} times")
+    if outputs.get("replay", "") != part_of(trace, partition):
+        told.wrong.append(f"{module.name}: the replay differs")
+    if module.image_bytes and outputs["build"] != f"built {module.image_bytes} bytes\n":
+        told.wrong.append(f"{module.name}: {outputs['build']}")
 
 
 def part_of(trace, partition):

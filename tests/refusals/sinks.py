@@ -10,7 +10,8 @@ import trial
 from trial import Told
 
 TICKS = 128
-WAYS = ("many bytes a call, an error", "many bytes a call, none of them", "one byte a call, an error", "one byte a call, none of them")
+# How a sink takes bytes, and how it fails when it is full: always or once, by an error or by taking none.
+WAYS = [f"{most}, {end}" for most in ("many bytes a call", "one byte a call") for end in ("then errors", "then one error", "then none", "then none once")]
 
 
 def failed_ticks(trace):
@@ -43,7 +44,7 @@ def broken_output(kind):
 
 
 def break_outputs(mb):
-    """Gives each command an output that takes no byte. Where IMAGE was built it is written all the same."""
+    """Gives each command an output that takes no byte. `build` writes IMAGE all the same."""
     told = Told()
     with tempfile.TemporaryDirectory() as room:
         folder = Path(room)
@@ -52,6 +53,8 @@ def break_outputs(mb):
         image = (folder / "image").read_bytes()
         for name, words in module.commands().items():
             for kind in ("full device", "closed pipe"):
+                if name == "build":
+                    (folder / "image").write_bytes(b"before")
                 output = broken_output(kind)
                 done = subprocess.run([mb, *words], cwd=folder, stdin=subprocess.DEVNULL, stdout=output, stderr=subprocess.PIPE, timeout=60)
                 os.close(output)

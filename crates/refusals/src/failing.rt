@@ -1,39 +1,60 @@
 //! Sinks that fail, each after another number of bytes.
 
 use crate::row::Row;
-use crate::sinks::Narrow;
+use crate::sinks::{Narrow, Way};
 use image::load_image;
 use module::{Machine, RunFault, build, run};
 use std::alloc::{AllocError, Global};
 use std::io;
 
-/// How a sink takes bytes, and how it fails: the most bytes of a call, and whether it stalls.
-struct Way {
-    name: &'static str,
-    most: usize,
-    is_stalling: bool,
-}
-
-static WAYS: [Way; 4] = [
+static WAYS: [Way; 8] = [
     Way {
-        name: "many bytes a call, an error",
+        name: "many bytes a call, then errors",
         most: usize::MAX,
         is_stalling: false,
+        is_recovering: false,
     },
     Way {
-        name: "many bytes a call, none of them",
+        name: "many bytes a call, then one error",
+        most: usize::MAX,
+        is_stalling: false,
+        is_recovering: true,
+    },
+    Way {
+        name: "many bytes a call, then none",
         most: usize::MAX,
         is_stalling: true,
+        is_recovering: false,
     },
     Way {
-        name: "one byte a call, an error",
+        name: "many bytes a call, then none once",
+        most: usize::MAX,
+        is_stalling: true,
+        is_recovering: true,
+    },
+    Way {
+        name: "one byte a call, then errors",
         most: 1,
         is_stalling: false,
+        is_recovering: false,
     },
     Way {
-        name: "one byte a call, none of them",
+        name: "one byte a call, then one error",
+        most: 1,
+        is_stalling: false,
+        is_recovering: true,
+    },
+    Way {
+        name: "one byte a call, then none",
         most: 1,
         is_stalling: true,
+        is_recovering: false,
+    },
+    Way {
+        name: "one byte a call, then none once",
+        most: 1,
+        is_stalling: true,
+        is_recovering: true,
     },
 ];
 
@@ -83,7 +104,7 @@ pub fn tell(rt: &HostRuntime, row: &Row) -> io::Result<()> {
 
 /// Whether a run into a sink with so much room has its first bytes, and answers Write.
 fn breaks_off(alloc: Global, row: &Row, image: &[u8], room: usize, way: &Way) -> bool {
-    let mut sink = Narrow::new(row.trace.as_slice(), room, way.most, way.is_stalling);
+    let mut sink = Narrow::new(row.trace.as_slice(), room, way);
     let answer = run(alloc, image, row.devices.as_slice(), row.ticks, &mut sink);
     answer == Err(RunFault::Write) && sink.failures == 1 && sink.has_beginning(room)
 }
@@ -91,7 +112,7 @@ fn breaks_off(alloc: Global, row: &Row, image: &[u8], room: usize, way: &Way) ->
 /// Whether a run into a sink with room for the whole trace has it.
 fn takes_all(alloc: Global, row: &Row, image: &[u8], way: &Way) -> bool {
     let room = row.trace.len();
-    let mut sink = Narrow::new(row.trace.as_slice(), room, way.most, way.is_stalling);
+    let mut sink = Narrow::new(row.trace.as_slice(), room, way);
     let answer = run(alloc, image, row.devices.as_slice(), row.ticks, &mut sink);
     answer.is_ok() && sink.failures == 0 && sink.has_all()
 }
@@ -111,7 +132,7 @@ fn failed_ticks(
     let Ok(mut machine) = Machine::load(alloc, image) else {
         return Err(AllocError);
     };
-    let mut sink = Narrow::new(row.trace.as_slice(), room, way.most, way.is_stalling);
+    let mut sink = Narrow::new(row.trace.as_slice(), room, way);
     let mut failed = 0usize;
     for _ in 0..row.ticks {
         if sink.failures > 1 {

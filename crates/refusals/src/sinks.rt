@@ -18,14 +18,32 @@ impl Sink for Forgetful {
     }
 }
 
+/// How a sink takes bytes, and how it fails.
+pub struct Way {
+    pub name: &'static str,
+    /// The most bytes that it takes in a call.
+    pub most: usize,
+    /// Whether it fails by taking nothing, and not by an error.
+    pub is_stalling: bool,
+    /// Whether it fails once alone, and takes what comes behind that.
+    pub is_recovering: bool,
+}
+
+/// Takes all that is offered.
+static WIDE: Way = Way {
+    name: "all",
+    most: usize::MAX,
+    is_stalling: false,
+    is_recovering: false,
+};
+
 /// Compares what it takes with the text that is wanted. It takes so many bytes in all, and no more than
-/// so many a call. When it is full it says so by an error or, if it stalls, by a count of 0.
+/// so many a call. Then it fails.
 #[derive(Drop)]
 pub struct Narrow<'a> {
     wanted: &'a [u8],
+    way: &'a Way,
     room: usize,
-    most: usize,
-    is_stalling: bool,
     pub taken: usize,
     differs: bool,
     pub failures: u64,
@@ -33,14 +51,13 @@ pub struct Narrow<'a> {
 
 impl<'a> Narrow<'a> {
     /// A sink that has taken nothing and has not failed.
-    pub fn new(wanted: &'a [u8], room: usize, most: usize, is_stalling: bool) -> Self
+    pub fn new(wanted: &'a [u8], room: usize, way: &'a Way) -> Self
         ensures { result.failures ≡ 0 }
     {
         Narrow {
             wanted,
+            way,
             room,
-            most,
-            is_stalling,
             taken: 0,
             differs: false,
             failures: 0,
@@ -51,7 +68,7 @@ impl<'a> Narrow<'a> {
     pub fn wide(wanted: &'a [u8]) -> Self
         ensures { result.failures ≡ 0 }
     {
-        Narrow::new(wanted, usize::MAX, usize::MAX, false)
+        Narrow::new(wanted, usize::MAX, &WIDE)
     }
 
     /// Whether it has taken so many bytes, and they begin the text.
@@ -75,10 +92,13 @@ impl<'a> Sink for Narrow<'a> {
             return Ok(0);
         }
         let left = self.room.saturating_sub(self.taken);
-        let count = bytes.len().min(self.most).min(left);
+        let count = bytes.len().min(self.way.most).min(left);
         if count == 0 {
             self.failures += 1;
-            return if self.is_stalling {
+            if self.way.is_recovering {
+                self.room = usize::MAX;
+            }
+            return if self.way.is_stalling {
                 Ok(0)
             } else {
                 Err(SinkFault)
