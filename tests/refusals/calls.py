@@ -159,14 +159,13 @@ class Command:
         return trial.watch(library, self.words, self.folder, **how)
 
     def judge(self, told, case, watched):
-        """The answer has to be the right one, or that memory is lacking and nothing is done; and nothing is held at the end."""
+        """The answer has to be the right one, or that memory is lacking, with nothing done; and nothing is held at the end."""
         answer, image = watched.answer, (self.folder / "image").read_bytes()
-        is_beginning = self.right.out.startswith(answer.out)
         if watched.end is None or watched.end.blocks != 0:
             told.wrong.append(f"{self.name}, {case}: {answer}, held {watched.end} at the end")
         elif answer == self.right and image == self.image:
             told.count(RIGHT)
-        elif answer == Answer(1, answer.out, b"mb: memory\n") and is_beginning and image == self.before:
+        elif answer == Answer(1, b"", b"mb: memory\n") and image == self.before:
             told.count(LACKING)
         else:
             told.wrong.append(f"{self.name}, {case}: {answer}{'' if image == self.before else ', IMAGE is changed'}")

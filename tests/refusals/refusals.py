@@ -7,7 +7,7 @@ MB is the program `mb`, REFUSALS that of `crates/refusals`. The parts, all of th
 
     memory   each request for memory of the library's calls and of the commands is refused once; the commands with ever less address space
     sinks    a sink that fails behind each byte of a trace; a full device and a closed pipe
-    images   damaged images, judged against a second reading of docs/IMAGE.md; with --whole every byte with every value
+    images   damaged images, judged against a second reading of docs/IMAGE.md; with --whole each byte of two of them with every value
     limits   an input at half of each limit and one at it, through all commands
 
 Each part prints its counts, what was not as it has to be, and a last line with what was tried. The exit status is 1 if anything was not
@@ -69,10 +69,11 @@ def try_sinks(pool, words):
 
 def try_images(pool, words):
     """Damaged images."""
-    told = gathered(pool, [(sweep.sweep, words.mb, words.refusals, name, words.whole) for name in sweep.NAMES])
+    names = sweep.WHOLE if words.whole else sweep.NAMES
+    told = gathered(pool, [(sweep.sweep, words.mb, words.refusals, name, words.whole) for name in names])
     damaged = told.counts.pop("damaged images")
     print(f"images, answers: {', '.join(f'{told.counts[it]:,} {it}' for it in sorted(told.counts))}")
-    return finish("images", [told], f"{len(sweep.NAMES)} images, {damaged:,} damaged images")
+    return finish("images", [told], f"{len(names)} images, {damaged:,} damaged images")
 
 
 def try_limits(pool, words):

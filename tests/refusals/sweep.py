@@ -11,7 +11,8 @@ from trial import Told
 
 EXAMPLES = calls.ROOT / "examples"
 # The image of the first example is damaged byte by byte, those of the others at random.
-NAMES = ["smallest", "telemetry", "air_data", "fault_contained", "isolation", "modes", "rate_groups", "shared_resource"]
+WHOLE = ["smallest", "telemetry"]
+NAMES = [*WHOLE, "air_data", "fault_contained", "isolation", "modes", "rate_groups", "shared_resource"]
 
 
 def image_of(mb, name, folder):
