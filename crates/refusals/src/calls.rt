@@ -1,0 +1,135 @@
+//! The calls that take memory, each with a line when it begins and one with its answer. Where one is
+//! refused it is made again, so that a single refusal is followed by the right answer.
+
+use crate::row::Row;
+use crate::sinks::Narrow;
+use crate::steps::{begin, drive, end};
+use module::{RunFault, build, replay, run};
+use pal::{Checked, check};
+use pal_base::parse::parse;
+use pal_base::syntax::Program;
+use std::io;
+use window_table::{ModuleTable, PartitionRow, read_table};
+
+/// Makes the calls on a module, one after another.
+pub fn tell(rt: &HostRuntime, row: &Row) -> io::Result<()> {
+    if !tell_table(rt, row) {
+        return println!(rt; "the table is refused");
+    }
+    let Some(image) = built(rt, row) else {
+        return println!(rt; "nothing is built");
+    };
+    let image = image.as_slice();
+    for call in ["Machine::tick", "run", "replay"] {
+        if !writes(rt, row, image, call) && !writes(rt, row, image, call) {
+            return println!(rt; "{call} is refused");
+        }
+    }
+    Ok(())
+}
+
+/// Whether the table is read, and the source is accepted by the row of its one partition.
+fn tell_table(rt: &HostRuntime, row: &Row) -> bool {
+    let Some(table) = table(rt, row) else {
+        return false;
+    };
+    match table.partitions.first() {
+        Some(partition) => {
+            checked(rt, row, partition).is_some() || checked(rt, row, partition).is_some()
+        }
+        None => false,
+    }
+}
+
+/// The table.
+fn table(rt: &HostRuntime, row: &Row) -> Option<ModuleTable> {
+    for _ in 0..2 {
+        begin(rt, "read_table");
+        match read_table(rt.alloc(), row.table.as_slice()) {
+            Ok(table) => {
+                end(rt, "a table");
+                return Some(table);
+            }
+            Err(fault) => end(rt, fault.number()),
+        }
+    }
+    None
+}
+
+/// The program that the source is, if it is accepted.
+fn checked(rt: &HostRuntime, row: &Row, partition: &PartitionRow) -> Option<Checked> {
+    let program = parsed(rt, row)?;
+    begin(rt, "check");
+    match check(rt.alloc(), program, partition) {
+        Ok(checked) => {
+            end(rt, "accepted");
+            Some(checked)
+        }
+        Err(fault) => {
+            end(rt, fault.number());
+            None
+        }
+    }
+}
+
+/// The program that the source is.
+fn parsed(rt: &HostRuntime, row: &Row) -> Option<Program> {
+    for _ in 0..2 {
+        begin(rt, "parse");
+        match parse(rt.alloc(), row.source.as_slice()) {
+            Ok(program) => {
+                end(rt, "a program");
+                return Some(program);
+            }
+            Err(fault) => end(rt, fault.number()),
+        }
+    }
+    None
+}
+
+/// The image.
+fn built(rt: &HostRuntime, row: &Row) -> Option<Vec<u8>> {
+    for _ in 0..2 {
+        begin(rt, "build");
+        match build(rt.alloc(), row.table.as_slice(), &[row.source.as_slice()]) {
+            Ok(image) => {
+                end(rt, "an image");
+                return Some(image);
+            }
+            Err(fault) => end(rt, fault),
+        }
+    }
+    None
+}
+
+/// Runs the image, one tick after another or by one call, or replays its partition, and tells what was
+/// answered. Whether it was not refused.
+fn writes(rt: &HostRuntime, row: &Row, image: &[u8], call: &str) -> bool {
+    let mut sink = Narrow::wide(row.trace.as_slice());
+    let (devices, inputs) = (row.devices.as_slice(), row.inputs.as_slice());
+    let ticks = row.ticks;
+    let answer = match call {
+        "run" => {
+            begin(rt, call);
+            run(rt.alloc(), image, devices, ticks, &mut sink)
+        }
+        "replay" => {
+            begin(rt, call);
+            replay(rt.alloc(), image, "a", inputs, ticks, &mut sink)
+        }
+        _ => drive(rt, image, devices, ticks, &mut sink),
+    };
+    tell_answer(rt, &answer, &sink);
+    answer.is_ok()
+}
+
+/// Tells what was answered, and what the sink has taken.
+fn tell_answer(rt: &HostRuntime, answer: &Result<(), RunFault>, sink: &Narrow<'_>) {
+    match answer {
+        Ok(()) if sink.has_all() => end(rt, "the trace"),
+        Ok(()) => end(rt, "another trace"),
+        Err(fault) => {
+            let _ = println!(rt; "end {fault}, {} bytes", sink.taken);
+        }
+    }
+}

@@ -1,0 +1,57 @@
+//! Damaged images.
+
+use crate::sinks::Forgetful;
+use module::run;
+use std::alloc::{AllocError, Global};
+use std::io;
+use std::str::SplitWhitespace;
+
+/// Tells what a damaged copy of the image is answered: `runs`, or the refusal. The extent is its length and the
+/// ticks of its run; the words say which bytes are changed.
+pub fn tell<'a>(
+    rt: &HostRuntime,
+    base: &[u8],
+    extent: (&str, &str),
+    words: SplitWhitespace<'a>,
+) -> io::Result<()> {
+    let (length, ticks) = extent;
+    let (Ok(length), Ok(ticks)) = (length.parse::<usize>(), ticks.parse::<u64>()) else {
+        return println!(rt; "no such length or ticks");
+    };
+    let mut image = copy(rt.alloc(), base, length)?;
+    for word in words {
+        if !change(image.as_mut_slice(), word) {
+            return println!(rt; "no such change: {word}");
+        }
+    }
+    match run(rt.alloc(), image.as_slice(), &[], ticks, &mut Forgetful) {
+        Ok(()) => println!(rt; "runs"),
+        Err(fault) => println!(rt; "{fault}"),
+    }
+}
+
+/// So many bytes that begin as the image does; behind its end they are 0.
+fn copy(alloc: Global, base: &[u8], length: usize) -> Result<Vec<u8>, AllocError> {
+    let mut image = Vec::from_slice(alloc, base.get(..length).unwrap_or(base))?;
+    for _ in image.len()..length {
+        image.push(0)?;
+    }
+    Ok(image)
+}
+
+/// Changes the byte that a word `PLACE=BYTE` names. Whether there is such a place.
+fn change(image: &mut [u8], word: &str) -> bool {
+    let Some((place, byte)) = word.split_once('=') else {
+        return false;
+    };
+    let (Ok(place), Ok(byte)) = (place.parse::<usize>(), byte.parse::<u8>()) else {
+        return false;
+    };
+    match image.get_mut(place) {
+        Some(found) => {
+            *found = byte;
+            true
+        }
+        None => false,
+    }
+}

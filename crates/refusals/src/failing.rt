@@ -1,0 +1,154 @@
+//! Sinks that fail, each after another number of bytes.
+
+use crate::row::Row;
+use crate::sinks::{Narrow, Way};
+use image::load_image;
+use module::{Machine, RunFault, build, run};
+use std::alloc::{AllocError, Global};
+use std::io;
+
+static WAYS: [Way; 8] = [
+    Way {
+        name: "many bytes a call, then errors",
+        most: usize::MAX,
+        is_stalling: false,
+        is_recovering: false,
+    },
+    Way {
+        name: "many bytes a call, then one error",
+        most: usize::MAX,
+        is_stalling: false,
+        is_recovering: true,
+    },
+    Way {
+        name: "many bytes a call, then none",
+        most: usize::MAX,
+        is_stalling: true,
+        is_recovering: false,
+    },
+    Way {
+        name: "many bytes a call, then none once",
+        most: usize::MAX,
+        is_stalling: true,
+        is_recovering: true,
+    },
+    Way {
+        name: "one byte a call, then errors",
+        most: 1,
+        is_stalling: false,
+        is_recovering: false,
+    },
+    Way {
+        name: "one byte a call, then one error",
+        most: 1,
+        is_stalling: false,
+        is_recovering: true,
+    },
+    Way {
+        name: "one byte a call, then none",
+        most: 1,
+        is_stalling: true,
+        is_recovering: false,
+    },
+    Way {
+        name: "one byte a call, then none once",
+        most: 1,
+        is_stalling: true,
+        is_recovering: true,
+    },
+];
+
+/// What was as it has to be.
+#[derive(Clone, Copy)]
+struct Counts {
+    runs: usize,
+    machines: usize,
+    failed: usize,
+}
+
+/// Runs the module into sinks that fail, and tells for each way how many runs and machines had a beginning
+/// and answered Write, and how many ticks after that were Failed and put nothing.
+pub fn tell(rt: &HostRuntime, row: &Row) -> io::Result<()> {
+    let built = build(rt.alloc(), row.table.as_slice(), &[row.source.as_slice()]);
+    let Ok(image) = built else {
+        return println!(rt; "nothing is built");
+    };
+    for way in &WAYS {
+        let mut counts = Counts {
+            runs: 0,
+            machines: 0,
+            failed: 0,
+        };
+        for room in 0..row.trace.len() {
+            if breaks_off(rt.alloc(), row, image.as_slice(), room, way) {
+                counts.runs = counts.runs.saturating_add(1);
+            }
+            if let Some(failed) = failed_ticks(rt.alloc(), row, image.as_slice(), room, way)? {
+                counts.machines = counts.machines.saturating_add(1);
+                counts.failed = counts.failed.saturating_add(failed);
+            }
+        }
+        let whole = takes_all(rt.alloc(), row, image.as_slice(), way);
+        let Counts {
+            runs,
+            machines,
+            failed,
+        } = counts;
+        let name = way.name;
+        println!(rt;
+            "{name}: {runs} runs, {machines} machines, {failed} ticks failed, whole {whole}"
+        )?;
+    }
+    Ok(())
+}
+
+/// Whether a run into a sink with so much room has its first bytes, and answers Write.
+fn breaks_off(alloc: Global, row: &Row, image: &[u8], room: usize, way: &Way) -> bool {
+    let mut sink = Narrow::new(row.trace.as_slice(), room, way);
+    let answer = run(alloc, image, row.devices.as_slice(), row.ticks, &mut sink);
+    answer == Err(RunFault::Write) && sink.failures == 1 && sink.has_beginning(room)
+}
+
+/// Whether a run into a sink with room for the whole trace has it.
+fn takes_all(alloc: Global, row: &Row, image: &[u8], way: &Way) -> bool {
+    let room = row.trace.len();
+    let mut sink = Narrow::new(row.trace.as_slice(), room, way);
+    let answer = run(alloc, image, row.devices.as_slice(), row.ticks, &mut sink);
+    answer.is_ok() && sink.failures == 0 && sink.has_all()
+}
+
+/// How many ticks of a machine, without device lines, are Failed after the one that answers Write; none where a
+/// tick answers anything else, or more is put.
+fn failed_ticks(
+    alloc: Global,
+    row: &Row,
+    image: &[u8],
+    room: usize,
+    way: &Way,
+) -> Result<Option<usize>, AllocError> {
+    let Ok(image) = load_image(alloc, image) else {
+        return Ok(None);
+    };
+    let Ok(mut machine) = Machine::load(alloc, image) else {
+        return Err(AllocError);
+    };
+    let mut sink = Narrow::new(row.trace.as_slice(), room, way);
+    let mut failed = 0usize;
+    for _ in 0..row.ticks {
+        if sink.failures > 1 {
+            return Ok(None);
+        }
+        let had_failed = sink.failures == 1;
+        match machine.tick(&[], &mut sink) {
+            Ok(()) if !had_failed => {}
+            Err(RunFault::Write) if !had_failed => {}
+            Err(RunFault::Failed) if had_failed => failed = failed.saturating_add(1),
+            _ => return Ok(None),
+        }
+    }
+    if sink.failures == 1 && sink.has_beginning(room) {
+        Ok(Some(failed))
+    } else {
+        Ok(None)
+    }
+}

@@ -1,0 +1,50 @@
+//! Calls the library where it has to give up: with memory that is refused, with sinks that fail, and with
+//! damaged images. It tells what is answered; `tests/refusals` runs it and judges what it tells.
+//!
+//! It answers lines of the standard input:
+//!
+//! - `calls FOLDER TICKS` makes the calls that take memory, one after another, on the module in that
+//!   folder, and runs it for so many ticks. Each call has a line when it begins and one with its answer.
+//!   Where one is refused, it is made again.
+//! - `sinks FOLDER TICKS` runs the module into sinks that fail, each after another number of bytes.
+//! - `base FILE` reads an image.
+//! - `image LENGTH TICKS PLACE=BYTE ..` gives a copy of it so many bytes, changes bytes, and runs it for so
+//!   many ticks.
+//!
+//! In the folder lie a table, the source of its one partition `a`, a device text, what it brings the
+//! partition, and the trace.
+#![tactic(auto)]
+
+mod calls;
+mod damage;
+mod failing;
+mod row;
+mod sinks;
+mod steps;
+
+use row::Row;
+use std::fs;
+use std::io::{self, BufRead, BufReader};
+
+fn main(rt: HostRuntime) -> io::Result<()> {
+    let mut base = Vec::new(rt.alloc());
+    let asked = BufReader::new(rt.alloc(), rt.stdin())?;
+    for line in asked.lines(rt.alloc()) {
+        let line = line?;
+        let mut words = line.split_whitespace();
+        match (words.next(), words.next(), words.next()) {
+            (Some("calls"), Some(folder), Some(ticks)) => {
+                calls::tell(&rt, &Row::read(&rt, folder, ticks)?)?
+            }
+            (Some("sinks"), Some(folder), Some(ticks)) => {
+                failing::tell(&rt, &Row::read(&rt, folder, ticks)?)?
+            }
+            (Some("base"), Some(name), None) => base = fs::read(&rt, name)?,
+            (Some("image"), Some(length), Some(ticks)) => {
+                damage::tell(&rt, base.as_slice(), (length, ticks), words)?
+            }
+            _ => println!(rt; "no such line: {line}")?,
+        }
+    }
+    Ok(())
+}

@@ -1,0 +1,32 @@
+//! The modules that are tried.
+
+use std::{fs, io};
+
+/// The texts of a module with one partition, what comes to this partition, and the trace of so many ticks.
+#[derive(Drop)]
+pub struct Row {
+    pub table: Vec<u8>,
+    pub source: Vec<u8>,
+    pub devices: Vec<u8>,
+    pub inputs: Vec<u8>,
+    pub trace: Vec<u8>,
+    pub ticks: u64,
+}
+
+impl Row {
+    /// The module in a folder.
+    pub fn read(rt: &HostRuntime, folder: &str, ticks: &str) -> io::Result<Self> {
+        Ok(Row {
+            table: text(rt, folder, "table")?,
+            source: text(rt, folder, "source")?,
+            devices: text(rt, folder, "devices")?,
+            inputs: text(rt, folder, "inputs")?,
+            trace: text(rt, folder, "trace")?,
+            ticks: ticks.parse().unwrap_or(0),
+        })
+    }
+}
+
+fn text(rt: &HostRuntime, folder: &str, name: &str) -> io::Result<Vec<u8>> {
+    fs::read(rt, format!(in rt.alloc(); "{folder}/{name}")?.as_str())
+}
