@@ -3,16 +3,18 @@
 ghost use Rattle.std.specs.Prelude.{◌≡◌, pos, true};
 ghost use Rattle.apex_types.specs.Room.{HasRoom, Grows};
 ghost use Rattle.kernel_meaning.specs.HealthServices as meaning;
-ghost use Rattle.kernel_meaning.specs.Processes.{row_of};
+ghost use Rattle.kernel_meaning.specs.Processes.{is_created, row_of};
 ghost use Rattle.kernel_meaning.specs.Sharing.{both};
 ghost use Rattle.kernel_meaning.specs.Made.{IsMade};
 ghost use Rattle.kernel_meaning.specs.Step.{nothing};
+ghost use Rattle.process_table_base.specs.FoundView.{record_of};
 
 use crate::errors::Errors;
-use crate::respond::is_handler_created;
 use apex_types::limits::MOST_REPORT_WORDS;
 use apex_types::{Action, ArrayPlace, ErrorKind, Mode, Out, ReturnCode, Runner, Service};
-use process_table_base::{ProcessTable, Request, fill, is_dormant, is_large_enough, is_same};
+use process_table_base::{
+    Found, ProcessTable, Request, fill, is_dormant, is_large_enough, is_same,
+};
 
 /// CREATE_ERROR_HANDLER (ARINC 653 Part 1, health monitoring): the error handler is created, and is
 /// dormant until an error waits for it. INVALID_MODE: in normal mode; INVALID_CONFIG: the source has no
@@ -35,12 +37,23 @@ pub fn create_error_handler(
     if !errors.has_handler() {
         return table.refuse(caller, service, ReturnCode::InvalidConfig, out);
     }
-    if is_handler_created(table) {
+    let handler = table.found(Runner::Handler);
+    if is_created(&handler) {
         return table.refuse(caller, service, ReturnCode::NoAction, out);
     }
     table.answer(caller, service, ReturnCode::NoError, &[], out);
-    if let Some(handler) = table.found(Runner::Handler) {
+    if let Some(handler) = handler {
         table.create(handler);
+    }
+}
+
+/// Whether someone was found who is created.
+fn is_created(found: &Option<Found>) -> bool
+    ensures { result ≡ meaning.has_row (record_of found.now) is_created }
+{
+    match found {
+        Some(found) => found.row.created,
+        None => false,
     }
 }
 

@@ -15,7 +15,7 @@ use apex_types::{
 use process_table_base::ProcessTable;
 
 /// Whether the error handler was created since the last Clear.
-pub(crate) fn is_handler_created(table: &ProcessTable) -> bool
+fn is_handler_created(table: &ProcessTable) -> bool
     ensures { result ≡ meaning.is_handler_created table.now }
 {
     match table.row(Runner::Handler) {
