@@ -12,14 +12,13 @@ use Rattle.apex_types.specs.declared.row.PortRow.{PortRow}
 use Rattle.apex_types.specs.declared.service.ArrayPlace.{ArrayPlace}
 use Rattle.apex_types.specs.declared.service.Call.{Call}
 use Rattle.apex_types.specs.declared.service.Call.TheVariants as call
-use Rattle.apex_types.specs.declared.service.Service.{Service}
 use Rattle.kernel_meaning.specs.BlackboardServices as blackboards
 use Rattle.kernel_meaning.specs.BufferServices as buffers
 use Rattle.kernel_meaning.specs.EventServices as events
-use Rattle.kernel_meaning.specs.Objects.{Objects, Blackboard, Buffer, Semaphore, Event, semaphore, event, buffer, blackboard}
+use Rattle.kernel_meaning.specs.Objects.{Objects, Blackboard, Buffer, Semaphore, Event}
 use Rattle.kernel_meaning.specs.ObjectServices.{serves_objects}
 use Rattle.kernel_meaning.specs.SemaphoreServices as semaphores
-use Rattle.kernel_meaning.specs.Sharing.{Sharing, of_processes, on, create, get_id, get_status}
+use Rattle.kernel_meaning.specs.Sharing.{Sharing, of_processes, on}
 use Rattle.kernel_meaning.specs.Step.{Step, message}
 use Rattle.kernel_meaning.specs.Sharing.{blocks, first_waiting, waiting}
 use Rattle.isolation.proofs.Handed.{AsksIn, IsSoundProcesses, either_so, released_sound, released_with_sound, all_released_sound, all_given_sound, blocks_sound}
