@@ -22,11 +22,11 @@ pub fn is_message_length(size: i64, length: i64) -> bool
 pub fn report_application_message(
     table: &ProcessTable,
     request: Request,
-    handed: Handed,
+    handed: Handed<'_>,
     out: &mut Out,
 )
     requires { HasRoom 2 1 out.old }
-    ensures step { IsTold (meaning.report table.now request.caller handed.array handed.length handed.words.items) out.old out.new }
+    ensures step { IsTold (meaning.report table.now request.caller handed.entry.array handed.entry.length handed.entry.words.now.items) out.old out.new }
     ensures grows { Grows 2 1 out.old out.new }
 {
     let service = Service::ReportApplicationMessage;

@@ -54,7 +54,7 @@ impl<E: Executor> Partition<E> {
         let name = self.kernel.name();
         let words = self.given(mem, &outcome);
         let out = &mut self.out;
-        self.kernel.treat(moment, runner, outcome, words, out);
+        self.kernel.treat(moment, runner, outcome, &words, out);
         self.finish(mem, name, moment, log);
     }
 

@@ -121,9 +121,15 @@ impl Kernel {
     }
 
     /// REPORT_APPLICATION_MESSAGE (ARINC 653 Part 1, health monitoring).
-    pub(crate) fn report(&mut self, moment: Moment, caller: Runner, handed: Handed, out: &mut Out)
+    pub(crate) fn report(
+        &mut self,
+        moment: Moment,
+        caller: Runner,
+        handed: Handed<'_>,
+        out: &mut Out,
+    )
         requires { HasRoom 2 1 out.old }
-        ensures step { IsMade (of_processes self.old (meaning.report self.old.processes caller handed.array handed.length handed.words.items)) self.new out.old out.new }
+        ensures step { IsMade (of_processes self.old (meaning.report self.old.processes caller handed.entry.array handed.entry.length handed.entry.words.now.items)) self.new out.old out.new }
         ensures grows { Grows 2 1 out.old out.new }
     {
         let request = self.request(moment, caller);
@@ -163,11 +169,11 @@ impl Kernel {
         moment: Moment,
         caller: Runner,
         error: i64,
-        handed: Handed,
+        handed: Handed<'_>,
         out: &mut Out,
     )
         requires room { HasRoom (2 + LINES_TO_CLEAR) (2 + ACTIONS_TO_CLEAR) out.old }
-        ensures step { IsMade (meaning.raises_application_error self.old caller error handed.array handed.length handed.words.items) self.new out.old out.new }
+        ensures step { IsMade (meaning.raises_application_error self.old caller error handed.entry.array handed.entry.length handed.entry.words.now.items) self.new out.old out.new }
         ensures grows { Grows (2 + LINES_TO_CLEAR) (2 + ACTIONS_TO_CLEAR) out.old out.new }
     {
         let health = self.fixed.health;

@@ -39,11 +39,11 @@ impl Kernel {
         moment: Moment,
         runner: Runner,
         outcome: Outcome,
-        words: Words,
+        words: &Words,
         out: &mut Out,
     )
         requires room { HasRoom LINES_TO_SERVE ACTIONS_TO_SERVE out.old }
-        ensures step { IsMade (meaning.treats_asked moment.at self.old runner (asks_of outcome) words.items) self.new out.old out.new }
+        ensures step { IsMade (meaning.treats_asked moment.at self.old runner (asks_of outcome) words.now.items) self.new out.old out.new }
         ensures grows { Grows LINES_TO_SERVE ACTIONS_TO_SERVE out.old out.new }
     {
         match outcome {
@@ -56,9 +56,9 @@ impl Kernel {
 
     /// Serves a call; `words` are those that it hands in. A call on objects or on ports has a dispatch of
     /// its own; all others are here.
-    fn serve(&mut self, moment: Moment, caller: Runner, call: Call, words: Words, out: &mut Out)
+    fn serve(&mut self, moment: Moment, caller: Runner, call: Call, words: &Words, out: &mut Out)
         requires room { HasRoom LINES_TO_SERVE ACTIONS_TO_SERVE out.old }
-        ensures step { IsMade (meaning.serves moment.at self.old caller call words.items) self.new out.old out.new }
+        ensures step { IsMade (meaning.serves moment.at self.old caller call words.now.items) self.new out.old out.new }
         ensures grows { Grows LINES_TO_SERVE ACTIONS_TO_SERVE out.old out.new }
     {
         let request = self.request(moment, caller);

@@ -177,7 +177,7 @@ impl<E: Executor> Partition<E> {
         let outcome = self.executor.tick(mem, runner);
         let words = self.given(mem, &outcome);
         let out = &mut self.out;
-        self.kernel.treat(moment, runner, outcome, words, out);
+        self.kernel.treat(moment, runner, outcome, &words, out);
         self.finish(mem, name, moment, log);
     }
 

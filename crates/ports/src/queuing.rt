@@ -112,12 +112,12 @@ pub fn send_queuing_message(
     ports: &mut Ports,
     request: Request,
     id: i64,
-    handed: Handed,
+    handed: Handed<'_>,
     limit: i64,
     out: &mut Out,
 )
     requires room { HasRoom 1 1 out.old }
-    ensures step { IsMade (meaning.send_queuing_message request.moment.at (both table.old ports.old) request.caller id handed.array handed.length limit handed.words.items) (both table.new ports.new) out.old out.new }
+    ensures step { IsMade (meaning.send_queuing_message request.moment.at (both table.old ports.old) request.caller id handed.entry.array handed.entry.length limit handed.entry.words.now.items) (both table.new ports.new) out.old out.new }
     ensures grows { Grows 1 1 out.old out.new }
 {
     let service = Service::SendQueuingMessage;

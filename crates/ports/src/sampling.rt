@@ -72,11 +72,11 @@ pub fn write_sampling_message(
     ports: &mut Ports,
     request: Request,
     id: i64,
-    handed: Handed,
+    handed: Handed<'_>,
     out: &mut Out,
 )
     requires { HasRoom 1 1 out.old }
-    ensures step { IsMade (meaning.write_sampling_message (both table.now ports.old) request.caller id handed.array handed.length handed.words.items) (both table.now ports.new) out.old out.new }
+    ensures step { IsMade (meaning.write_sampling_message (both table.now ports.old) request.caller id handed.entry.array handed.entry.length handed.entry.words.now.items) (both table.now ports.new) out.old out.new }
     ensures grows { Grows 1 1 out.old out.new }
 {
     let service = Service::WriteSamplingMessage;

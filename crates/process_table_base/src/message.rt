@@ -4,7 +4,7 @@ ghost use Rattle.std.specs.Prelude.{◌≡◌, ◌≤ℤ◌, pos};
 ghost use Rattle.kernel_meaning.specs.Sharing as meaning;
 ghost use Rattle.kernel_meaning.specs.Step.{first_words, message};
 
-use apex_types::{ArrayPlace, Words};
+use apex_types::{ArrayPlace, Words, copied};
 
 /// Whether a message of an array has a good length: 1 word at least, no more than the object takes,
 /// and no more than the array has.
@@ -23,11 +23,11 @@ pub fn is_large_enough(words: u8, array: ArrayPlace) -> bool
 
 /// The first words, as many as a good length says.
 #[tactic(auto, using(kernel_laws::proofs::Numbers::handed_words))]
-pub fn first_words(length: i64, words: Words) -> Words
+pub fn first_words(length: i64, words: &Words) -> Words
     requires { pos 1 ≤ℤ length }
-    ensures { result ≡ message (first_words length words.items) }
+    ensures { result ≡ message (first_words length words.now.items) }
 {
-    let mut message = words;
+    let mut message = copied(words);
     message.truncate(length as usize);
     message
 }

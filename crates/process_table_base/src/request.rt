@@ -12,9 +12,9 @@ pub struct Request {
 
 /// What a call hands in: its array, how many words of it are the message, and the words of the array,
 /// at most those of the longest message.
-#[derive(Drop)]
-pub struct Handed {
+#[derive(Clone, Copy)]
+pub struct Handed<'a> {
     pub array: ArrayPlace,
     pub length: i64,
-    pub words: Words,
+    pub words: &'a Words,
 }

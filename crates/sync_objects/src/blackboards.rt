@@ -101,11 +101,11 @@ pub fn display_blackboard(
     objects: &mut Objects,
     request: Request,
     id: i64,
-    handed: Handed,
+    handed: Handed<'_>,
     out: &mut Out,
 )
     requires { HasRoom (1 + LINES_TO_GIVE_ALL) (1 + ACTIONS_TO_GIVE_ALL) out.old }
-    ensures step { IsMade (meaning.display_blackboard (both table.old objects.old) request.caller id handed.array handed.length handed.words.items) (both table.new objects.new) out.old out.new }
+    ensures step { IsMade (meaning.display_blackboard (both table.old objects.old) request.caller id handed.entry.array handed.entry.length handed.entry.words.now.items) (both table.new objects.new) out.old out.new }
     ensures grows { Grows (1 + LINES_TO_GIVE_ALL) (1 + ACTIONS_TO_GIVE_ALL) out.old out.new }
 {
     let service = Service::DisplayBlackboard;

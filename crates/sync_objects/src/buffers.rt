@@ -101,7 +101,7 @@ fn send(
     }
     table.answer(request.caller, service, ReturnCode::NoError, &[], out);
     match table.first_waiting(list) {
-        Some(receiver) => table.give(receiver, message, out),
+        Some(receiver) => table.give(&receiver, message, out),
         None => objects.push_message(place, message),
     }
 }
@@ -117,12 +117,12 @@ pub fn send_buffer(
     objects: &mut Objects,
     request: Request,
     id: i64,
-    handed: Handed,
+    handed: Handed<'_>,
     limit: i64,
     out: &mut Out,
 )
     requires room { HasRoom 3 3 out.old }
-    ensures step { IsMade (meaning.send_buffer request.moment.at (both table.old objects.old) request.caller id handed.array handed.length limit handed.words.items) (both table.new objects.new) out.old out.new }
+    ensures step { IsMade (meaning.send_buffer request.moment.at (both table.old objects.old) request.caller id handed.entry.array handed.entry.length limit handed.entry.words.now.items) (both table.new objects.new) out.old out.new }
     ensures grows { Grows 3 3 out.old out.new }
 {
     let service = Service::SendBuffer;
@@ -149,7 +149,7 @@ fn admit(table: &mut ProcessTable, objects: &mut Objects, place: u8, out: &mut O
 {
     if let Some(sender) = table.first_waiting(ListKey::Buffer(place)) {
         objects.push_message(place, table.handed_by(sender.runner));
-        table.release(sender, ReturnCode::NoError, out);
+        table.release(&sender, ReturnCode::NoError, out);
     }
 }
 
