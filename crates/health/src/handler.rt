@@ -43,7 +43,7 @@ pub fn create_error_handler(
     }
     table.answer(caller, service, ReturnCode::NoError, &[], out);
     if let Some(handler) = handler {
-        table.create(&handler);
+        table.create(handler);
     }
 }
 
@@ -125,7 +125,7 @@ fn begin_if_dormant(table: &mut ProcessTable, out: &mut Out)
 {
     if let Some(handler) = table.found(Runner::Handler) {
         if handler.row.created && is_dormant(&handler.row) {
-            table.wake(&handler, out);
+            table.wake(handler, out);
             out.actions.push(Action::Begin(Runner::Handler));
         }
     }

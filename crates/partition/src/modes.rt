@@ -48,7 +48,7 @@ impl Kernel {
         ensures grows { Grows 1 1 out.old out.new }
     {
         if let Some(found) = self.processes.found(runner) {
-            self.processes.rest(&found, out);
+            self.processes.rest(found, out);
         }
     }
 

@@ -82,7 +82,7 @@ fn arrive_queuing(
         Some(receiver) => {
             let line = EventKind::Arrive(port.row.name, copied(&message));
             out.lines.push(line);
-            table.give(&receiver, message, out);
+            table.give(receiver, message, out);
         }
         None => store(table, ports, place, port, message, out),
     }
@@ -128,7 +128,7 @@ fn admit_one(table: &mut ProcessTable, ports: &mut Ports, entry: Entry, place: u
     }
     if let Some(sender) = table.numbered(entry.process) {
         ports.push_message(place, table.handed_by(sender.runner));
-        table.release(&sender, ReturnCode::NoError, out);
+        table.release(sender, ReturnCode::NoError, out);
     }
 }
 

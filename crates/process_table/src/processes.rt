@@ -80,7 +80,7 @@ pub fn create_process(table: &mut ProcessTable, request: Request, name: i64, out
         return table.refuse(request.caller, service, ReturnCode::NoAction, out);
     }
     table.answer(request.caller, service, ReturnCode::NoError, &[name], out);
-    table.create(&found);
+    table.create(found);
 }
 
 /// SET_PRIORITY (ARINC 653 Part 1, process management): another current priority of a process. A
@@ -108,7 +108,7 @@ pub fn set_priority(
         return table.refuse(request.caller, service, ReturnCode::InvalidMode, out);
     }
     table.answer(request.caller, service, ReturnCode::NoError, &[], out);
-    table.take_priority(&found, Priority(priority as u8));
+    table.take_priority(found, Priority(priority as u8));
 }
 
 /// STOP (ARINC 653 Part 1, process management): another process becomes dormant. INVALID_PARAM: no
@@ -129,7 +129,7 @@ pub fn stop(table: &mut ProcessTable, request: Request, id: i64, out: &mut Out)
         return table.refuse(request.caller, service, ReturnCode::NoAction, out);
     }
     table.answer(request.caller, service, ReturnCode::NoError, &[], out);
-    table.rest(&found, out);
+    table.rest(found, out);
 }
 
 /// STOP_SELF (ARINC 653 Part 1, process management), and the end of a body: the caller becomes dormant,
@@ -143,7 +143,7 @@ pub fn stop_self(table: &mut ProcessTable, caller: Runner, out: &mut Out)
         return;
     }
     if let Some(caller) = table.found(caller) {
-        table.rest(&caller, out);
+        table.rest(caller, out);
     }
 }
 
@@ -166,7 +166,7 @@ pub fn start(table: &mut ProcessTable, request: Request, points: Points, id: i64
         return table.refuse(request.caller, service, ReturnCode::NoAction, out);
     }
     table.answer(request.caller, service, ReturnCode::NoError, &[], out);
-    table.start(request.mode, points, &found, Ticks(0), out);
+    table.start(request.mode, points, found, Ticks(0), out);
 }
 
 /// Whether a delay is at least a period, where there is one.
@@ -206,5 +206,5 @@ pub fn delayed_start(
         return table.refuse(request.caller, service, ReturnCode::NoAction, out);
     }
     table.answer(request.caller, service, ReturnCode::NoError, &[], out);
-    table.start(request.mode, points, &found, Ticks(delay as u64), out);
+    table.start(request.mode, points, found, Ticks(delay as u64), out);
 }

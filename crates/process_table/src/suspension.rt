@@ -48,7 +48,7 @@ pub fn suspend_self(table: &mut ProcessTable, request: Request, limit: i64, out:
         return answer(caller, who, service, ReturnCode::NoError, &[], out);
     }
     if let Some(found) = found {
-        table.suspend_self(request.moment, &found, limit, out);
+        table.suspend_self(request.moment, found, limit, out);
     }
 }
 
@@ -84,7 +84,7 @@ pub fn suspend(table: &mut ProcessTable, request: Request, id: i64, out: &mut Ou
         return table.refuse(request.caller, service, ReturnCode::NoAction, out);
     }
     table.answer(request.caller, service, ReturnCode::NoError, &[], out);
-    table.suspend(&found, out);
+    table.suspend(found, out);
 }
 
 /// RESUME (ARINC 653 Part 1, process management): another process is suspended no longer. Its
@@ -110,5 +110,5 @@ pub fn resume(table: &mut ProcessTable, request: Request, id: i64, out: &mut Out
         return table.refuse(request.caller, service, ReturnCode::NoAction, out);
     }
     table.answer(request.caller, service, ReturnCode::NoError, &[], out);
-    table.resume(&found, out);
+    table.resume(found, out);
 }

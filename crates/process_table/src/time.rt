@@ -61,11 +61,11 @@ fn wait_for(table: &mut ProcessTable, request: Request, delay: i64, out: &mut Ou
             out,
         );
         if let Some(found) = found {
-            table.go_last(&found);
+            table.go_last(found);
         }
     } else if let Some(found) = found {
         let due = Due::Delay(Ticks(request.moment.at.now.0 + delay as u64));
-        table.wait(&found, service, Some(due), out);
+        table.wait(found, service, Some(due), out);
     }
 }
 
@@ -84,7 +84,7 @@ pub fn periodic_wait(table: &mut ProcessTable, request: Request, out: &mut Out)
     let found = table.found(caller);
     let who = name_of(&found);
     match found {
-        Some(found) if found.row.period.is_some() => table.wait_for_period(&found, out),
+        Some(found) if found.row.period.is_some() => table.wait_for_period(found, out),
         _ => refuse(caller, who, service, ReturnCode::InvalidMode, out),
     }
 }
@@ -142,5 +142,5 @@ pub fn replenish(table: &mut ProcessTable, request: Request, budget: i64, out: &
         return refuse(caller, found.name(), service, ReturnCode::InvalidMode, out);
     }
     answer(caller, found.name(), service, ReturnCode::NoError, &[], out);
-    table.set_deadline(&found, deadline_in(request.moment, budget));
+    table.set_deadline(found, deadline_in(request.moment, budget));
 }

@@ -75,8 +75,8 @@ impl ProcessTable {
     }
 
     /// A process is created in its record.
-    pub fn create(&mut self, found: &Found)
-        ensures { self.new ≡ meaning.put_row self.old found.now.runner (record found.now.row { created = true }) }
+    pub fn create(&mut self, found: Found)
+        ensures { self.new ≡ meaning.put_row self.old found.runner (record found.row { created = true }) }
     {
         let created = ProcessStatus {
             created: true,

@@ -18,11 +18,10 @@ use apex_types::{
 
 impl ProcessTable {
     /// Another current priority. A ready process goes last among those that have it.
-    pub fn take_priority(&mut self, found: &Found, priority: Priority)
-        ensures { self.new ≡ (meaning.takes_priority self.old priority found.now.runner found.now.row).part }
+    pub fn take_priority(&mut self, found: Found, priority: Priority)
+        ensures { self.new ≡ (meaning.takes_priority self.old priority found.runner found.row).part }
     {
-        let runner = found.runner;
-        let row = found.row;
+        let Found { runner, row } = found;
         let raised = ProcessStatus {
             current_priority: priority,
             ..row
@@ -34,9 +33,9 @@ impl ProcessTable {
     }
 
     /// A process waits for what it waited for, and until it is resumed.
-    pub fn suspend(&mut self, found: &Found, out: &mut Out)
+    pub fn suspend(&mut self, found: Found, out: &mut Out)
         requires { HasRoom 1 0 out.old }
-        ensures step { IsMade (meaning.suspends self.old found.now.runner found.now.row) self.new out.old out.new }
+        ensures step { IsMade (meaning.suspends self.old found.runner found.row) self.new out.old out.new }
         ensures grows { Grows 1 0 out.old out.new }
     {
         let row = found.row;
@@ -48,10 +47,10 @@ impl ProcessTable {
     }
 
     /// A process suspends itself: it waits until it is resumed, or for so long.
-    pub fn suspend_self(&mut self, moment: Moment, found: &Found, limit: i64, out: &mut Out)
+    pub fn suspend_self(&mut self, moment: Moment, found: Found, limit: i64, out: &mut Out)
         requires limit { is_duration limit ≡ true }
         requires room { HasRoom 1 0 out.old }
-        ensures step { IsMade (meaning.suspends_self moment.at self.old found.now.runner limit (Some found.now.row)) self.new out.old out.new }
+        ensures step { IsMade (meaning.suspends_self moment.at self.old found.runner limit (Some found.row)) self.new out.old out.new }
         ensures grows { Grows 1 0 out.old out.new }
     {
         let suspended = ProcessStatus {
@@ -65,13 +64,12 @@ impl ProcessTable {
 
     /// A process is suspended no longer: its SUSPEND_SELF ends, and if it waits for nothing else it is
     /// ready.
-    pub fn resume(&mut self, found: &Found, out: &mut Out)
+    pub fn resume(&mut self, found: Found, out: &mut Out)
         requires { HasRoom 2 1 out.old }
-        ensures step { IsMade (meaning.resumes self.old found.now.runner found.now.row) self.new out.old out.new }
+        ensures step { IsMade (meaning.resumes self.old found.runner found.row) self.new out.old out.new }
         ensures grows { Grows 2 1 out.old out.new }
     {
-        let runner = found.runner;
-        let row = found.row;
+        let Found { runner, row } = found;
         let resumed = ProcessStatus {
             suspended: false,
             ..row
@@ -88,9 +86,9 @@ impl ProcessTable {
     /// A periodic process has kept its deadline, and waits for its next release, a period after the
     /// last. One without a period is left as it is.
     #[tactic(auto, using(crate::proofs::Bounds::bounds))]
-    pub fn wait_for_period(&mut self, found: &Found, out: &mut Out)
+    pub fn wait_for_period(&mut self, found: Found, out: &mut Out)
         requires room { HasRoom 1 0 out.old }
-        ensures step { IsMade (meaning.waits_for_period self.old found.now.runner found.now.row found.now.row.period) self.new out.old out.new }
+        ensures step { IsMade (meaning.waits_for_period self.old found.runner found.row found.row.period) self.new out.old out.new }
         ensures grows { Grows 1 0 out.old out.new }
     {
         let row = found.row;
@@ -107,9 +105,9 @@ impl ProcessTable {
 
     /// Another deadline.
     #[tactic(auto, using(crate::proofs::Bounds::bounds))]
-    pub fn set_deadline(&mut self, found: &Found, deadline: Option<Ticks>)
+    pub fn set_deadline(&mut self, found: Found, deadline: Option<Ticks>)
         requires { IsAtMost LATEST_RELEASE_POINT deadline }
-        ensures { self.new ≡ put_row self.old found.now.runner (record found.now.row { deadline = deadline }) }
+        ensures { self.new ≡ put_row self.old found.runner (record found.row { deadline = deadline }) }
     {
         let row = ProcessStatus {
             deadline,

@@ -54,10 +54,10 @@ pub struct Points {
 impl ProcessTable {
     /// A process starts its body with a fresh stack and its base priority. In normal mode it is
     /// released at its release point, before that it waits for the normal start with its delay.
-    pub fn start(&mut self, mode: Mode, points: Points, found: &Found, delay: Ticks, out: &mut Out)
+    pub fn start(&mut self, mode: Mode, points: Points, found: Found, delay: Ticks, out: &mut Out)
         requires delay { delay.0 ≤ MOST_TICKS }
         requires room { HasRoom 1 1 out.old }
-        ensures step { IsMade (meaning.starts mode points.moment.at points.next.0 self.old found.now.runner delay found.now.row) self.new out.old out.new }
+        ensures step { IsMade (meaning.starts mode points.moment.at points.next.0 self.old found.runner delay found.row) self.new out.old out.new }
         ensures grows { Grows 1 1 out.old out.new }
     {
         let process = found.runner;

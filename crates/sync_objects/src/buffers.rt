@@ -101,7 +101,7 @@ fn send(
     }
     table.answer(request.caller, service, ReturnCode::NoError, &[], out);
     match table.first_waiting(list) {
-        Some(receiver) => table.give(&receiver, message, out),
+        Some(receiver) => table.give(receiver, message, out),
         None => objects.push_message(place, message),
     }
 }
@@ -149,7 +149,7 @@ fn admit(table: &mut ProcessTable, objects: &mut Objects, place: u8, out: &mut O
 {
     if let Some(sender) = table.first_waiting(ListKey::Buffer(place)) {
         objects.push_message(place, table.handed_by(sender.runner));
-        table.release(&sender, ReturnCode::NoError, out);
+        table.release(sender, ReturnCode::NoError, out);
     }
 }
 

@@ -125,7 +125,7 @@ pub fn signal_semaphore(
     }
     table.answer(request.caller, service, ReturnCode::NoError, &[], out);
     match table.first_waiting(ListKey::Semaphore(place)) {
-        Some(first) => table.release(&first, ReturnCode::NoError, out),
+        Some(first) => table.release(first, ReturnCode::NoError, out),
         None => objects.put_semaphore(place, semaphore.with_value(value + 1)),
     }
 }

@@ -41,7 +41,7 @@ fn start(table: &mut ProcessTable) {
         next: Ticks(40),
     };
     if let Some(process) = table.found(PROCESS) {
-        table.start(Mode::Normal, points, &process, Ticks(0), &mut Out::new());
+        table.start(Mode::Normal, points, process, Ticks(0), &mut Out::new());
     }
 }
 
