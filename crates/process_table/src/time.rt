@@ -50,10 +50,11 @@ fn wait_for(table: &mut ProcessTable, request: Request, delay: i64, out: &mut Ou
     ensures grows { Grows 1 1 out.old out.new }
 {
     let service = Service::TimedWait;
-    let found = table.found(request.caller);
+    let caller = request.caller;
     if delay == 0 {
+        let found = table.found(caller);
         answer(
-            request.caller,
+            caller,
             name_of(&found),
             service,
             ReturnCode::NoError,
@@ -63,7 +64,7 @@ fn wait_for(table: &mut ProcessTable, request: Request, delay: i64, out: &mut Ou
         if let Some(found) = found {
             table.go_last(found);
         }
-    } else if let Some(found) = found {
+    } else if let Some(found) = table.found(caller) {
         let due = Due::Delay(Ticks(request.moment.at.now.0 + delay as u64));
         table.wait(found, service, Some(due), out);
     }

@@ -122,7 +122,7 @@ impl ProcessTable {
             ..row
         };
         if row.suspended {
-            self.put_unready(runner, awake);
+            self.put_unready(runner, &awake);
             return;
         }
         out.lines
@@ -131,7 +131,7 @@ impl ProcessTable {
             state: ProcessState::Ready,
             ..awake
         };
-        self.put_ready(runner, ready);
+        self.put_ready(runner, &ready);
     }
 
     /// With this record it waits, until its due time if it has one. There is no line where it waited before.
@@ -157,7 +157,7 @@ impl ProcessTable {
             due,
             ..row
         };
-        self.put_unready(runner, waiting);
+        self.put_unready(runner, &waiting);
     }
 
     /// With this record it becomes dormant: it is in no list, has no due time, no deadline and nothing
@@ -179,7 +179,7 @@ impl ProcessTable {
             deadline: None,
             ..row
         };
-        self.put_dormant(runner, dormant);
+        self.put_dormant(runner, &dormant);
         out.actions.push(Action::Stop(runner));
     }
 

@@ -82,7 +82,7 @@ impl ProcessTable {
             created: true,
             ..found.row
         };
-        self.put_row(found.runner, created);
+        self.put_row(found.runner, &created);
     }
 }
 

@@ -67,6 +67,6 @@ impl ProcessTable {
     pub fn go_last(&mut self, found: Found)
         ensures { self.new ≡ meaning.put_ready self.old found.runner found.row }
     {
-        self.put_ready(found.runner, found.row);
+        self.put_ready(found.runner, &found.row);
     }
 }

@@ -27,8 +27,8 @@ impl ProcessTable {
             ..row
         };
         match row.state {
-            ProcessState::Ready | ProcessState::Running => self.put_ready(runner, raised),
-            ProcessState::Dormant | ProcessState::Waiting => self.put_row(runner, raised),
+            ProcessState::Ready | ProcessState::Running => self.put_ready(runner, &raised),
+            ProcessState::Dormant | ProcessState::Waiting => self.put_row(runner, &raised),
         }
     }
 
@@ -79,7 +79,7 @@ impl ProcessTable {
             Wait::Service(Service::SuspendSelf) => {
                 self.release_as(runner, resumed, ReturnCode::NoError, out)
             }
-            _ => self.put_row(runner, resumed),
+            _ => self.put_row(runner, &resumed),
         }
     }
 
@@ -113,6 +113,6 @@ impl ProcessTable {
             deadline,
             ..found.row
         };
-        self.put_row(found.runner, row);
+        self.put_row(found.runner, &row);
     }
 }
