@@ -8,7 +8,6 @@ use Rattle.command_line.specs.Done.{AreCosted, IsBuilt}
 use Rattle.command_line.specs.Reading.{IsRefusedText, IsUncostedText}
 use Rattle.command_line.specs.Refusals.{IsNotBuilt, IsNotCosted}
 use Rattle.command_line.specs.Told.{IsOfFailed}
-use Rattle.std.specs.Prelude.{OnOk}
 use Rattle.command_line.specs.declared.refusal.Refusal.{Refusal}
 use Rattle.command_line.specs.declared.refusal.Refusal.TheVariants.{Build, Run, Replay, Inputs, File, Memory, Write}
 

@@ -1,11 +1,11 @@
 -- What was told of words that are no command, or that ask for help.
-use Rattle.std.specs.Prelude.{◌≡◌, ◌⊎◌, ◌<◌, ◌-◌, ◌^◌, ℕ, List, Option, Result, Ok, Err, IfSome}
+use Rattle.std.specs.Prelude.{◌≡◌, ◌⊎◌, ◌<◌, ◌-◌, ◌^◌, ℕ, List, Option, Result, Err, IfSome}
 use Rattle.clap.specs.Values.{kind_of}
 use Rattle.clap.specs.declared.error.Error.{Error}
 use Rattle.streams.specs.States.{HasFailed, IsFlushed, IsWritten, Seen, TakesLine}
 use Rattle.command_words.specs.Kinds.{IsHelp, IsMistake}
 use Rattle.command_words.specs.declared.failure.Failure.{Failure}
-use Rattle.command_words.specs.declared.failure.Failure.TheVariants.{Refused, Usage}
+use Rattle.command_words.specs.declared.failure.Failure.TheVariants.{Usage}
 
 -- where help is not written, standard error has the line `unwritten`, if it did not fail
 pub record IsUsageTold (error : Error) (unwritten : Option (List ℕ)) (old_out new_out old_err new_err : Seen) (status : ℕ) : Type 0 where
