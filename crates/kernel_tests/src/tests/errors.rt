@@ -251,10 +251,11 @@ fn errors_are_handled(rt: HostRuntime) {
 #[test]
 fn a_message_is_reported(rt: HostRuntime) {
     let table = table(&rt, rt.alloc());
+    let words = words(5, 6);
     let handed = Handed {
         array: ArrayPlace { base: 0, size: 2 },
         length: 1,
-        words: words(5, 6),
+        words: &words,
     };
     let mut out = Out::new();
     report_application_message(&table, request(PROCESS), handed, &mut out);
