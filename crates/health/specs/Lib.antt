@@ -1,2 +1,1 @@
-pub mod Raising
 pub mod View

@@ -47,9 +47,7 @@ impl Kernel {
         ensures step { IsMade (of_processes self.old (rests_found self.old.processes runner (row_of self.old.processes runner))) self.new out.old out.new }
         ensures grows { Grows 1 1 out.old out.new }
     {
-        if let Some(found) = self.processes.found(runner) {
-            self.processes.rest(found, out);
-        }
+        self.processes.rest(runner, out);
     }
 
     fn enter_normal(&mut self, out: &mut Out)

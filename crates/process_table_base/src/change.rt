@@ -34,15 +34,6 @@ pub fn answer(
         .push(Action::Reply(runner, answer_of(code, outputs)));
 }
 
-/// A service of someone is refused: its outputs are 0.
-pub fn refuse(runner: Runner, who: Subject, service: Service, code: ReturnCode, out: &mut Out)
-    requires room { HasRoom 1 1 out.old }
-    ensures lines { out.new.lines.items ≡ out.old.lines.items ++ EventKind.Return who service code ∷ [] }
-    ensures actions { out.new.actions.items ≡ out.old.actions.items ++ Action.Reply runner (message (pos (code_number code) ∷ step.zeros service)) ∷ [] }
-{
-    answer(runner, who, service, code, zeros(service), out);
-}
-
 /// The words of an answer: the code, then the outputs.
 fn answer_of(code: ReturnCode, outputs: &[i64]) -> Words
     requires { length outputs.now ≤ 6 }
@@ -122,7 +113,7 @@ impl ProcessTable {
             ..row
         };
         if row.suspended {
-            self.put_unready(runner, &awake);
+            self.put_unready(runner, awake);
             return;
         }
         out.lines
@@ -131,7 +122,7 @@ impl ProcessTable {
             state: ProcessState::Ready,
             ..awake
         };
-        self.put_ready(runner, &ready);
+        self.put_ready(runner, ready);
     }
 
     /// With this record it waits, until its due time if it has one. There is no line where it waited before.
@@ -157,7 +148,7 @@ impl ProcessTable {
             due,
             ..row
         };
-        self.put_unready(runner, &waiting);
+        self.put_unready(runner, waiting);
     }
 
     /// With this record it becomes dormant: it is in no list, has no due time, no deadline and nothing
@@ -179,7 +170,7 @@ impl ProcessTable {
             deadline: None,
             ..row
         };
-        self.put_dormant(runner, &dormant);
+        self.put_dormant(runner, dormant);
         out.actions.push(Action::Stop(runner));
     }
 
@@ -269,6 +260,6 @@ impl ProcessTable {
         ensures step { IsTold (meaning.refuses self.now runner service code) out.old out.new }
         ensures grows { Grows 1 1 out.old out.new }
     {
-        refuse(runner, self.subject(runner), service, code, out);
+        self.answer(runner, service, code, zeros(service), out);
     }
 }

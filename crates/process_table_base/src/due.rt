@@ -80,7 +80,7 @@ impl ProcessTable {
             deadline: None,
             ..row
         };
-        self.put_row(Runner::Process(process), &row_now);
+        self.put_row(Runner::Process(process), row_now);
         let error = ErrorKind::DeadlineMissed;
         if free > 0 {
             out.lines

@@ -135,9 +135,9 @@ impl Records {
     }
 
     /// Puts a record in its place, where there is one.
-    pub(crate) fn put(&mut self, runner: Runner, row: &ProcessStatus)
-        requires { IsBounded row.now }
-        ensures { self.new ≡ slice_set self.old (place_of runner) row.now }
+    pub(crate) fn put(&mut self, runner: Runner, row: ProcessStatus)
+        requires { IsBounded row }
+        ensures { self.new ≡ slice_set self.old (place_of runner) row }
     {
         put_at(&mut self.rows, &mut self.timers, runner, row);
     }
@@ -233,14 +233,14 @@ fn restart_all(rows: &mut Vec<ProcessStatus>, mode: Mode)
 }
 
 /// Puts a record in its place, where there is one, with its timers.
-fn put_at(rows: &mut Vec<ProcessStatus>, timers: &mut Timers, runner: Runner, row: &ProcessStatus)
+fn put_at(rows: &mut Vec<ProcessStatus>, timers: &mut Timers, runner: Runner, row: ProcessStatus)
     requires few { length rows.old.items ≤ MOST_RUNNERS }
     requires timed { AreTimed rows.old.items timers.old }
-    ensures rows { rows.new.items ≡ slice_set rows.old.items (place_of runner) row.now }
+    ensures rows { rows.new.items ≡ slice_set rows.old.items (place_of runner) row }
     ensures timed { AreTimed rows.new.items timers.new }
 {
     if let Some(place) = rows.get_mut(runner.place()) {
-        timers.renew(runner, place, row);
-        *place = *row;
+        timers.renew(runner, place, &row);
+        *place = row;
     }
 }

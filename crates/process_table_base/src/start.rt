@@ -8,8 +8,8 @@ ghost use Rattle.kernel_meaning.specs.Processes.{row_of};
 ghost use Rattle.kernel_meaning.specs.Times as meaning;
 ghost use Rattle.kernel_meaning.specs.Made.{IsMade};
 ghost use Rattle.process_table_base.specs.Bounds.{IsAtMost, IsBounded};
+ghost use Rattle.process_table_base.specs.Own.{own_step};
 
-use crate::found::Found;
 use crate::table::ProcessTable;
 use apex_types::{
     Action, Due, MOST_PROCESSES, MOST_RUNNERS, Mode, Moment, Out, ProcessIndex, ProcessStatus,
@@ -54,16 +54,25 @@ pub struct Points {
 impl ProcessTable {
     /// A process starts its body with a fresh stack and its base priority. In normal mode it is
     /// released at its release point, before that it waits for the normal start with its delay.
-    pub fn start(&mut self, mode: Mode, points: Points, found: Found, delay: Ticks, out: &mut Out)
+    pub fn start(
+        &mut self,
+        mode: Mode,
+        points: Points,
+        process: Runner,
+        delay: Ticks,
+        out: &mut Out,
+    )
         requires delay { delay.0 ≤ MOST_TICKS }
         requires room { HasRoom 1 1 out.old }
-        ensures step { IsMade (meaning.starts mode points.moment.at points.next.0 self.old found.runner delay found.row) self.new out.old out.new }
+        ensures step { IsMade (own_step self.old process (meaning.starts mode points.moment.at points.next.0 self.old process delay)) self.new out.old out.new }
         ensures grows { Grows 1 1 out.old out.new }
     {
-        let process = found.runner;
+        let Some(row) = self.row(process) else {
+            return;
+        };
         let fresh = ProcessStatus {
-            current_priority: found.row.base_priority,
-            ..found.row
+            current_priority: row.base_priority,
+            ..row
         };
         out.actions.push(Action::Begin(process));
         if mode == Mode::Normal {
