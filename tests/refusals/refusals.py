@@ -67,10 +67,10 @@ def try_sinks(pool, words):
     return finish("sinks", [told], counted(told))
 
 
-def try_images(pool, words):
+def try_images(_, words):
     """Damaged images."""
     names = sweep.WHOLE if words.whole else sweep.NAMES
-    told = gathered(pool, [(sweep.sweep, words.mb, words.refusals, name, words.whole) for name in names])
+    told = sweep.sweep(words.mb, words.refusals, names, words.whole)
     damaged = told.counts.pop("damaged images")
     print(f"images, answers: {', '.join(f'{told.counts[it]:,} {it}' for it in sorted(told.counts))}")
     return finish("images", [told], f"{len(names)} images, {damaged:,} damaged images")

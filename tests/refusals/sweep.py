@@ -1,4 +1,4 @@
-"""Damaged images, all of one image in one process of `refusals`, judged against the second reading of the page."""
+"""Damaged images, all of them in one process of `refusals`, judged against the second reading of the page."""
 
 import tempfile
 import tomllib
@@ -37,27 +37,31 @@ def damages_of(image, name, is_whole):
     return images.edge_damages(image) if name == NAMES[1] else images.random_damages(image, name)
 
 
-def sweep(mb, refusals, name, is_whole):
-    """Damages an image, and compares what the runs of what comes out answer with what the page says."""
+def sweep(mb, refusals, names, is_whole):
+    """Damages these images, and compares what the runs of what comes out answer with what the page says. One process of `refusals` runs
+    them all, with a line for each."""
     told = Told()
-    ticks = 128 if name == "smallest" else 200
+    lines, tried = [], []
     with tempfile.TemporaryDirectory() as room:
         folder = Path(room)
-        image = image_of(mb, name, folder)
-        (folder / "base").write_bytes(image)
-        damages = damages_of(image, name, is_whole)
-        lines = ["base base", *(it.line(ticks) for it in damages)]
+        for name in names:
+            image = image_of(mb, name, folder)
+            (folder / f"{name}.base").write_bytes(image)
+            ticks = 128 if name == "smallest" else 200
+            damages = damages_of(image, name, is_whole)
+            lines += [f"base {name}.base", *(it.line(ticks) for it in damages)]
+            tried += [(name, image, it) for it in damages]
         text = "".join(f"{it}\n" for it in lines).encode()
         answer = trial.run([refusals], folder, text, seconds=3600)
     found = answer.out.decode().splitlines()
-    if answer.status != 0 or answer.err or len(found) != len(damages):
-        told.wrong.append(f"{name}: {answer}, {len(found)} verdicts on {len(damages)} images")
-    for damage, had in zip(damages, found):
+    if answer.status != 0 or answer.err or len(found) != len(tried):
+        told.wrong.append(f"{answer}, {len(found)} verdicts on {len(tried)} images")
+    for (name, image, damage), had in zip(tried, found):
         wanted = images.verdict(damage.of(image))
         if damage.answer not in (None, wanted):
             told.wrong.append(f"{name}, {damage}: the page has '{wanted}'")
         if had != wanted:
-            told.wrong.append(f"{name}, {damage.line(ticks)}: wanted '{wanted}', had '{had}'")
+            told.wrong.append(f"{name}, {damage}: wanted '{wanted}', had '{had}'")
         told.count("damaged images")
         told.count(had)
     return told
