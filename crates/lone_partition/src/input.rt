@@ -8,7 +8,7 @@ ghost use Rattle.lone_partition.specs.Outputs.{next_at, sent_of};
 ghost use Rattle.lone_partition.specs.Written.{IsPathMade};
 
 use crate::output::Output;
-use crate::step::{Step, write_step};
+use crate::step::{PartitionStep, write_step};
 use apex_types::{At, ModuleAction, Moment, Sink, StartCondition, copied};
 use isolation::{Input, InputLine};
 use partition::Partition;
@@ -36,7 +36,7 @@ fn meet_fault<E: Executor, S: Sink>(
             let origin = Moment {
                 at: At { now, origin: now },
             };
-            let step = Step::Start(StartCondition::HmModuleRestart);
+            let step = PartitionStep::Start(StartCondition::HmModuleRestart);
             write_step(partition, mem, origin, &step, output);
             Some(origin)
         }
@@ -58,12 +58,12 @@ fn take<E: Executor, S: Sink>(
 {
     match input {
         Input::Arrive(port, message) => {
-            let step = Step::Arrive(*port, copied(message));
+            let step = PartitionStep::Arrive(*port, copied(message));
             write_step(partition, mem, moment, &step, output);
             Some(moment)
         }
         Input::PartitionFault => {
-            write_step(partition, mem, moment, &Step::BreakDown, output);
+            write_step(partition, mem, moment, &PartitionStep::BreakDown, output);
             Some(moment)
         }
         Input::ModuleFault => meet_fault(fault, partition, mem, moment, output),

@@ -7,7 +7,7 @@ use crate::surroundings::Surroundings;
 use apex_types::PartitionId;
 use image::Image;
 use partition::Partition;
-use partition_base::Machine;
+use partition_base::PartitionProcessor;
 use regions::Memory;
 use std::alloc::{AllocError, Global};
 
@@ -15,7 +15,7 @@ use std::alloc::{AllocError, Global};
 #[derive(Drop)]
 pub struct LonePartition {
     pub(crate) surroundings: Surroundings,
-    pub(crate) partition: Partition<Machine>,
+    pub(crate) partition: Partition<PartitionProcessor>,
     /// The memory of this partition alone.
     pub(crate) memory: Memory,
     ghost alone: { IsAlone partition memory },

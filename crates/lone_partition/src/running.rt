@@ -18,7 +18,7 @@ use crate::lines::split_tick;
 use crate::lone::LonePartition;
 use crate::output::Output;
 use crate::pieces::advance;
-use crate::step::{Step, write_step};
+use crate::step::{PartitionStep, write_step};
 use crate::surroundings::Surroundings;
 use crate::ticking::tick;
 use apex_types::{At, Moment, PartitionId, Sink, SinkFault, StartCondition, Ticks, TraceBuffer};
@@ -114,7 +114,7 @@ fn start_and_run<E: Executor, S: Sink>(
     if ticks == 0 {
         return;
     }
-    let start = Step::Start(StartCondition::NormalStart);
+    let start = PartitionStep::Start(StartCondition::NormalStart);
     write_step(partition, mem, first(), &start, output);
     run_ticks(surroundings, partition, mem, inputs, ticks, output);
 }

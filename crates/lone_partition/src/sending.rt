@@ -10,7 +10,7 @@ ghost use Rattle.lone_partition.specs.Outputs.{sent_of};
 ghost use Rattle.lone_partition.specs.Written.{IsMade};
 
 use crate::output::Output;
-use crate::step::{Step, write_leave, write_step};
+use crate::step::{PartitionStep, write_leave, write_step};
 use crate::surroundings::Surroundings;
 use apex_types::{Moment, Name, PortId, Sink, Words};
 use partition::{Kernel, Partition};
@@ -30,7 +30,7 @@ fn go_out<E: Executor, S: Sink>(
     ensures written { IsMade (goes_by_way moment.at message way (member_of E.Executor partition.old mem.old)) (member_of E.Executor partition.new mem.new) (sent_of S.Sink output.old) (sent_of S.Sink output.new) }
 {
     if let Some(channel) = way {
-        let step = Step::GoOut(channel, message);
+        let step = PartitionStep::GoOut(channel, message);
         write_step(partition, mem, moment, &step, output);
     }
 }
@@ -101,7 +101,7 @@ fn send_port<E: Executor, S: Sink>(
         return;
     };
     send_messages(count, surroundings, partition, mem, moment, port, output);
-    write_step(partition, mem, moment, &Step::Admit(port), output);
+    write_step(partition, mem, moment, &PartitionStep::Admit(port), output);
 }
 
 /// So many ports of the partition, in number order.

@@ -16,7 +16,7 @@ use partition_base::Executor;
 
 /// What happens to a partition in a step.
 #[derive(Drop)]
-pub enum Step {
+pub enum PartitionStep {
     /// It clears to a cold start, for a reason.
     Start(StartCondition),
     /// A message arrives at a port.
@@ -36,7 +36,7 @@ fn step_member<E: Executor>(
     partition: &mut Partition<E>,
     mem: &mut E::Mem,
     moment: Moment,
-    step: &Step,
+    step: &PartitionStep,
     trace: &mut TraceBuffer,
 )
     requires { E.laid mem.old ≡ E.layout partition.old.executor }
@@ -46,14 +46,14 @@ fn step_member<E: Executor>(
 {
     trace.clear();
     match step {
-        Step::Start(condition) => partition.clear(mem, moment, *condition, trace),
-        Step::Arrive(port, message) => partition.arrive(mem, moment, *port, copied(message), trace),
-        Step::Admit(port) => partition.admit(mem, moment, *port, trace),
-        Step::GoOut(channel, message) => {
+        PartitionStep::Start(condition) => partition.clear(mem, moment, *condition, trace),
+        PartitionStep::Arrive(port, message) => partition.arrive(mem, moment, *port, copied(message), trace),
+        PartitionStep::Admit(port) => partition.admit(mem, moment, *port, trace),
+        PartitionStep::GoOut(channel, message) => {
             partition.go_out(mem, moment, *channel, copied(message), trace)
         }
-        Step::BreakDown => partition.fault(mem, moment, trace),
-        Step::Tick => partition.tick(mem, moment, trace),
+        PartitionStep::BreakDown => partition.fault(mem, moment, trace),
+        PartitionStep::Tick => partition.tick(mem, moment, trace),
     }
 }
 
@@ -62,7 +62,7 @@ pub fn write_step<E: Executor, S: Sink>(
     partition: &mut Partition<E>,
     mem: &mut E::Mem,
     moment: Moment,
-    step: &Step,
+    step: &PartitionStep,
     output: &mut Output<'_, S>,
 )
     requires { E.laid mem.old ≡ E.layout partition.old.executor }

@@ -11,7 +11,7 @@ ghost use Rattle.lone_partition.specs.Written.{IsMade, IsPathMade, done_in};
 use crate::input::take_all;
 use crate::output::Output;
 use crate::sending::send_ports;
-use crate::step::{Step, write_step};
+use crate::step::{PartitionStep, write_step};
 use crate::surroundings::Surroundings;
 use apex_types::{Moment, Sink};
 use isolation::InputLine;
@@ -50,7 +50,7 @@ fn tick_own<E: Executor, S: Sink>(
     ensures written { IsMade (ticks_own moment.at (member_of E.Executor partition.old mem.old) owns) (member_of E.Executor partition.new mem.new) (sent_of S.Sink output.old) (sent_of S.Sink output.new) }
 {
     if owns {
-        write_step(partition, mem, moment, &Step::Tick, output);
+        write_step(partition, mem, moment, &PartitionStep::Tick, output);
     }
 }
 

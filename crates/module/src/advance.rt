@@ -10,7 +10,7 @@ ghost use Rattle.module.specs.Written.{done_in, IsCourse, IsMade};
 use crate::member::Members;
 use apex_types::{At, DeviceLine, Moment, PartitionId, Sink, StartCondition, Ticks};
 use image::Image;
-use lone_partition::{Output, Step};
+use lone_partition::{Output, PartitionStep};
 use partition_base::Executor;
 use regions::PartitionMem;
 
@@ -34,7 +34,7 @@ impl<E: Executor<Mem = PartitionMem>> Members<E> {
         ensures { IsMade (meaning.ticks_owner moment.at (members_in E.Executor self.old) (option_map (λ p. p.0) owner)) (members_in E.Executor self.new) (sent_of S.Sink output.old) (sent_of S.Sink output.new) }
     {
         if let Some(partition) = owner {
-            self.step(partition, moment, &Step::Tick, output);
+            self.step(partition, moment, &PartitionStep::Tick, output);
         }
     }
 

@@ -11,7 +11,7 @@ ghost use Rattle.module.specs.Written.{IsMade};
 
 use crate::member::Members;
 use apex_types::{ChannelEnd, Moment, PartitionId, PortId, Sink, Words, copied};
-use lone_partition::{Output, Step, channel_from};
+use lone_partition::{Output, PartitionStep, channel_from};
 use partition::Kernel;
 use partition_base::Executor;
 use regions::PartitionMem;
@@ -32,11 +32,11 @@ impl<E: Executor<Mem = PartitionMem>> Members<E> {
     {
         match (end, channel.source) {
             (ChannelEnd::Port(partition, port), _) => {
-                let step = Step::Arrive(port, copied(message));
+                let step = PartitionStep::Arrive(port, copied(message));
                 self.step(partition, moment, &step, output);
             }
             (ChannelEnd::Device, ChannelEnd::Port(partition, _)) => {
-                let step = Step::GoOut(channel.name, copied(message));
+                let step = PartitionStep::GoOut(channel.name, copied(message));
                 self.step(partition, moment, &step, output);
             }
             (ChannelEnd::Device, ChannelEnd::Device) => {}
@@ -160,7 +160,7 @@ impl<E: Executor<Mem = PartitionMem>> Members<E> {
             return;
         };
         self.move_messages(count, channels, moment, partition, port, output);
-        self.step(partition, moment, &Step::Admit(port), output);
+        self.step(partition, moment, &PartitionStep::Admit(port), output);
     }
 
     /// So many ports of a partition, in number order.

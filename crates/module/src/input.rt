@@ -9,7 +9,7 @@ ghost use Rattle.module.specs.Written.{IsCourse};
 use crate::member::Members;
 use apex_types::{DeviceInput, DeviceLine, Moment, Sink};
 use image::Image;
-use lone_partition::{Output, Step};
+use lone_partition::{Output, PartitionStep};
 use partition_base::Executor;
 use regions::PartitionMem;
 
@@ -32,7 +32,7 @@ impl<E: Executor<Mem = PartitionMem>> Members<E> {
                 Some(moment)
             }
             DeviceInput::PartitionFault(partition) => {
-                self.step(*partition, moment, &Step::BreakDown, output);
+                self.step(*partition, moment, &PartitionStep::BreakDown, output);
                 Some(moment)
             }
             DeviceInput::ModuleFault => self.break_module(moment, plan.fault, output),

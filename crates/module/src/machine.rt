@@ -23,6 +23,7 @@ use apex_types::{DeviceLine, Sink, TraceBuffer};
 use image::Image;
 use lone_partition::Output;
 use module_base::{DeviceTextFault, read_devices};
+use partition_base::PartitionProcessor;
 use std::alloc::Global;
 
 /// An image that runs tick by tick.
@@ -31,7 +32,7 @@ use std::alloc::Global;
 /// lines of that tick. So many ticks write what [`run`](crate::run) writes.
 #[derive(Drop)]
 pub struct Machine {
-    module: Module<partition_base::Machine>,
+    module: Module<PartitionProcessor>,
     /// The lines of a step on their way to the sink.
     trace: TraceBuffer,
     /// The sink failed.

@@ -10,7 +10,7 @@ use crate::member::Members;
 use apex_types::{
     At, ErrorKind, EventKind, EventLog, ModuleAction, Moment, Response, Sink, StartCondition,
 };
-use lone_partition::{Output, Step};
+use lone_partition::{Output, PartitionStep};
 use partition_base::Executor;
 use regions::PartitionMem;
 
@@ -24,7 +24,7 @@ impl<E: Executor<Mem = PartitionMem>> Members<E> {
     )
         ensures { IsMade (meaning.starts_all moment.at condition (members_in E.Executor self.old)) (members_in E.Executor self.new) (sent_of S.Sink output.old) (sent_of S.Sink output.new) }
     {
-        let step = Step::Start(condition);
+        let step = PartitionStep::Start(condition);
         let mut place = 0;
         while place < self.partitions.len() {
             self.step_at(place, moment, &step, output);

@@ -13,7 +13,7 @@ ghost use Rattle.module.specs.Written.{IsMade};
 
 use crate::member::Members;
 use apex_types::{Moment, PartitionId, PortId, Sink, Words};
-use lone_partition::{Output, Step, write_leave, write_step};
+use lone_partition::{Output, PartitionStep, write_leave, write_step};
 use partition_base::Executor;
 use regions::PartitionMem;
 
@@ -34,7 +34,7 @@ impl<E: Executor<Mem = PartitionMem>> Members<E> {
         &mut self,
         place: usize,
         moment: Moment,
-        step: &Step,
+        step: &PartitionStep,
         output: &mut Output<'_, S>,
     )
         ensures written { IsMade (meaning.steps_member (step_of moment.at step.now) (members_in E.Executor self.old) place (slice_get (members_in E.Executor self.old) place)) (members_in E.Executor self.new) (sent_of S.Sink output.old) (sent_of S.Sink output.new) }
@@ -54,7 +54,7 @@ impl<E: Executor<Mem = PartitionMem>> Members<E> {
         &mut self,
         number: PartitionId,
         moment: Moment,
-        step: &Step,
+        step: &PartitionStep,
         output: &mut Output<'_, S>,
     )
         ensures written { IsMade (meaning.steps (step_of moment.at step.now) (members_in E.Executor self.old) number.0) (members_in E.Executor self.new) (sent_of S.Sink output.old) (sent_of S.Sink output.new) }

@@ -6,7 +6,7 @@ ghost use Rattle.machine_meaning.specs.ImageReading.{image_at};
 ghost use Rattle.machine_meaning.specs.MachineMeaning.{machine_module};
 ghost use Rattle.image.specs.Views.{image_of};
 ghost use Rattle.isolation.specs.Slices.{Slice, machine_inputs, slice};
-ghost use Rattle.partition_base.specs.contracts.machine.MachineExecutor.TheImpl.{ghosts as machine};
+ghost use Rattle.partition_base.specs.contracts.machine.PartitionProcessorExecutor.TheImpl.{ghosts as machine};
 ghost use Rattle.module.specs.Collecting.{HasNoRoom};
 ghost use Rattle.module.specs.Standing.{at_first};
 ghost use Rattle.module.specs.Telling.{Tells, TellsSlice};

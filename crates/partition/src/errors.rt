@@ -9,14 +9,14 @@ ghost use Rattle.partition.specs.declared.rooms.TheConstants.{ACTIONS_TO_CLEAR, 
 
 use crate::kernel::Kernel;
 use apex_types::{
-    ArrayPlace, ErrorKind, EventKind, Mode, Out, PartitionAction, Response, Runner, StartCondition,
-    Words,
+    ArrayPlace, ErrorKind, EventKind, Mode, Moment, Out, PartitionAction, Response, Runner,
+    StartCondition, Words,
 };
 use health::{
-    action_of, create_error_handler, get_error_status, raise_application_error, raise_error,
-    report_application_message,
+    Raised, action_of, create_error_handler, get_error_status, raise_application_error,
+    raise_error, report_application_message,
 };
-use process_table_base::mode_of_action;
+use process_table_base::{Handed, mode_of_action};
 
 impl Kernel {
     /// The partition's action for an error.
@@ -76,16 +76,13 @@ impl Kernel {
     {
         let health = self.fixed.health;
         let table = &self.processes;
-        let left = raise_error(
-            health,
-            self.mode,
-            table,
-            &self.errors,
+        let raised = Raised {
             runner,
+            who: table.subject(runner),
             error,
             words,
-            out,
-        );
+        };
+        let left = raise_error(health, self.mode, table, &self.errors, raised, out);
         self.act_on_error(runner, error, left, out);
     }
 
@@ -126,65 +123,69 @@ impl Kernel {
     /// REPORT_APPLICATION_MESSAGE (ARINC 653 Part 1, health monitoring).
     pub(crate) fn report(
         &mut self,
+        moment: Moment,
         caller: Runner,
-        array: ArrayPlace,
-        length: i64,
-        words: Words,
+        handed: Handed<'_>,
         out: &mut Out,
     )
         requires { HasRoom 2 1 out.old }
-        ensures step { IsMade (of_processes self.old (meaning.report self.old.processes caller array length words.items)) self.new out.old out.new }
+        ensures step { IsMade (of_processes self.old (meaning.report self.old.processes caller handed.entry.array handed.entry.length handed.entry.words.now.items)) self.new out.old out.new }
         ensures grows { Grows 2 1 out.old out.new }
     {
-        report_application_message(&self.processes, caller, array, length, words, out);
+        let request = self.request(moment, caller);
+        report_application_message(&self.processes, request, handed, out);
     }
 
     /// CREATE_ERROR_HANDLER (ARINC 653 Part 1, health monitoring).
-    pub(crate) fn create_error_handler(&mut self, caller: Runner, out: &mut Out)
+    pub(crate) fn create_error_handler(&mut self, moment: Moment, caller: Runner, out: &mut Out)
         requires { HasRoom 1 1 out.old }
         ensures step { IsMade (of_errors self.old (meaning.create_error_handler self.old.mode (with_errors self.old) caller)) self.new out.old out.new }
         ensures grows { Grows 1 1 out.old out.new }
     {
-        let mode = self.mode;
-        create_error_handler(&mut self.processes, &self.errors, mode, caller, out);
+        let request = self.request(moment, caller);
+        create_error_handler(&mut self.processes, &self.errors, request, out);
     }
 
     /// GET_ERROR_STATUS (ARINC 653 Part 1, health monitoring).
-    pub(crate) fn get_error_status(&mut self, caller: Runner, array: ArrayPlace, out: &mut Out)
+    pub(crate) fn get_error_status(
+        &mut self,
+        moment: Moment,
+        caller: Runner,
+        array: ArrayPlace,
+        out: &mut Out,
+    )
         requires { HasRoom 1 2 out.old }
         ensures step { IsMade (of_errors self.old (meaning.get_error_status (with_errors self.old) caller array)) self.new out.old out.new }
         ensures grows { Grows 1 2 out.old out.new }
     {
-        get_error_status(&self.processes, &mut self.errors, caller, array, out);
+        let request = self.request(moment, caller);
+        get_error_status(&self.processes, &mut self.errors, request, array, out);
     }
 
     /// RAISE_APPLICATION_ERROR (ARINC 653 Part 1, health monitoring), with the partition's action that it
     /// leaves to be done.
     pub(crate) fn raise_application_error(
         &mut self,
+        moment: Moment,
         caller: Runner,
         error: i64,
-        array: ArrayPlace,
-        length: i64,
-        words: Words,
+        handed: Handed<'_>,
         out: &mut Out,
     )
-        requires { HasRoom (2 + LINES_TO_CLEAR) (2 + ACTIONS_TO_CLEAR) out.old }
-        ensures step { IsMade (meaning.raises_application_error self.old caller error array length words.items) self.new out.old out.new }
+        requires room { HasRoom (2 + LINES_TO_CLEAR) (2 + ACTIONS_TO_CLEAR) out.old }
+        ensures step { IsMade (meaning.raises_application_error self.old caller error handed.entry.array handed.entry.length handed.entry.words.now.items) self.new out.old out.new }
         ensures grows { Grows (2 + LINES_TO_CLEAR) (2 + ACTIONS_TO_CLEAR) out.old out.new }
     {
         let health = self.fixed.health;
+        let request = self.request(moment, caller);
         let table = &self.processes;
         let left = raise_application_error(
             health,
-            self.mode,
             table,
             &self.errors,
-            caller,
+            request,
             error,
-            array,
-            length,
-            words,
+            handed,
             out,
         );
         self.act_on_error(caller, ErrorKind::ApplicationError, left, out);

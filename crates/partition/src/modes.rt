@@ -47,7 +47,9 @@ impl Kernel {
         ensures step { IsMade (of_processes self.old (rests_found self.old.processes runner (row_of self.old.processes runner))) self.new out.old out.new }
         ensures grows { Grows 1 1 out.old out.new }
     {
-        self.processes.rest(runner, out);
+        if let Some(found) = self.processes.found(runner) {
+            self.processes.rest(&found, out);
+        }
     }
 
     fn enter_normal(&mut self, out: &mut Out)

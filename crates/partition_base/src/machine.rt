@@ -22,7 +22,7 @@ use std::alloc::{AllocError, Global};
 /// handler and one for each process, and the initial data. Without a handler its slot has INIT's
 /// body.
 #[derive(Drop)]
-pub struct Machine {
+pub struct PartitionProcessor {
     code: Code,
     init: BodyRow,
     handler: Option<BodyRow>,
@@ -125,14 +125,14 @@ pub struct FittingSection<'a> {
     pub ghost fitting: { IsFittingSection section.now },
 }
 
-impl Machine {
+impl PartitionProcessor {
     ghost use Rattle.std.specs.Prelude.{None};
     ghost use Rattle.engine_meaning.specs.Engine.{body_at};
     ghost use Rattle.partition_base.specs.Machines.{engine_of, controls_of, initial_of, bodies_in, layout_of, laid_of};
     ghost use Rattle.partition_base.specs.Sections.{engine_of_section, fresh_memory};
 
     /// The processor of a partition's section, with nothing begun. An error is one of memory.
-    pub fn new(alloc: Global, fitting: FittingSection<'_>) -> Result<Machine, AllocError>
+    pub fn new(alloc: Global, fitting: FittingSection<'_>) -> Result<PartitionProcessor, AllocError>
         ensures engine { IfOk result (λ machine. engine_of machine ≡ engine_of_section fitting.entry.section.now) }
         ensures controls { IfOk result (λ machine. controls_of machine (fresh_memory fitting.entry.section.now) ≡ replicate (2 + length fitting.entry.section.now.processes.items) None) }
         ensures fits { IfOk result (λ machine. laid_of (fresh_memory fitting.entry.section.now) ≡ layout_of machine) }
@@ -145,7 +145,7 @@ impl Machine {
         };
         let processes = bodies(alloc, &section.processes)?;
         let handler = section.handler.unwrap_or(section.init);
-        Ok(Machine {
+        Ok(PartitionProcessor {
             code: Code::read(alloc, &Costs::written(), rows)?,
             init: section.init,
             handler: section.handler,
@@ -171,7 +171,7 @@ impl Machine {
     }
 }
 
-impl Executor for Machine {
+impl Executor for PartitionProcessor {
     ghost use Rattle.machine_meaning.specs.MachineControl.{MachineControl};
     ghost use Rattle.partition_base.specs.Machines.{engine_of, controls_of, initial_of, layout_of, laid_of};
 

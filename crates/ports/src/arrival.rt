@@ -79,10 +79,10 @@ fn arrive_queuing(
     ensures grows { Grows 3 2 out.old out.new }
 {
     match table.first_waiting(ListKey::Port(place)) {
-        Some((receiver, _)) => {
+        Some(receiver) => {
             let line = EventKind::Arrive(port.row.name, copied(&message));
             out.lines.push(line);
-            table.give(receiver, &message, out);
+            table.give(&receiver, message, out);
         }
         None => store(table, ports, place, port, message, out),
     }
@@ -126,9 +126,9 @@ fn admit_one(table: &mut ProcessTable, ports: &mut Ports, entry: Entry, place: u
     if port.is_full() {
         return;
     }
-    if let Some((sender, _)) = table.numbered(entry.process) {
-        ports.push_message(place, table.handed_by(sender));
-        table.release(sender, ReturnCode::NoError, out);
+    if let Some(sender) = table.numbered(entry.process) {
+        ports.push_message(place, table.handed_by(sender.runner));
+        table.release(&sender, ReturnCode::NoError, out);
     }
 }
 

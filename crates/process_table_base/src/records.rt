@@ -9,10 +9,12 @@ ghost use Rattle.kernel_meaning.specs.Times.{ticks};
 ghost use Rattle.links.specs.Timers.{IsDueMask, IsNextDue, number_of};
 ghost use Rattle.apex_types.specs.declared.limits.TheConstants.{MOST_PROCESSES};
 ghost use Rattle.process_table_base.specs.Bounds.{AreAllBounded, AreShort, IsBounded};
+ghost use Rattle.process_table_base.specs.FoundView.{record_of};
 ghost use Rattle.process_table_base.specs.ShortFact.{shorts_prop};
 ghost use Rattle.process_table_base.specs.States.{put_state};
 ghost use Rattle.process_table_base.specs.Timed.{AreTimed, deadlines, due_times};
 
+use crate::found::Found;
 use crate::timers::Timers;
 use apex_types::{
     MOST_PROCESSES, MOST_RUNNERS, Mode, Priority, ProcessRow, ProcessState, ProcessStatus, Runner,
@@ -134,10 +136,22 @@ impl Records {
         record_at(&self.rows, runner.place())
     }
 
+    /// The same, as someone who was found.
+    #[tactic(auto, using(crate::proofs::Bounds::bounds))]
+    pub(crate) fn find(&self, runner: Runner) -> Option<Found>
+        ensures found { record_of result ≡ slice_get self.now (place_of runner) }
+        ensures own { IfSome result (λ found. found.runner ≡ runner) }
+    {
+        match self.rows.get(runner.place()) {
+            Some(row) => Some(Found { runner, row: *row }),
+            None => None,
+        }
+    }
+
     /// Puts a record in its place, where there is one.
-    pub(crate) fn put(&mut self, runner: Runner, row: ProcessStatus)
-        requires { IsBounded row }
-        ensures { self.new ≡ slice_set self.old (place_of runner) row }
+    pub(crate) fn put(&mut self, runner: Runner, row: &ProcessStatus)
+        requires { IsBounded row.now }
+        ensures { self.new ≡ slice_set self.old (place_of runner) row.now }
     {
         put_at(&mut self.rows, &mut self.timers, runner, row);
     }
@@ -233,14 +247,14 @@ fn restart_all(rows: &mut Vec<ProcessStatus>, mode: Mode)
 }
 
 /// Puts a record in its place, where there is one, with its timers.
-fn put_at(rows: &mut Vec<ProcessStatus>, timers: &mut Timers, runner: Runner, row: ProcessStatus)
+fn put_at(rows: &mut Vec<ProcessStatus>, timers: &mut Timers, runner: Runner, row: &ProcessStatus)
     requires few { length rows.old.items ≤ MOST_RUNNERS }
     requires timed { AreTimed rows.old.items timers.old }
-    ensures rows { rows.new.items ≡ slice_set rows.old.items (place_of runner) row }
+    ensures rows { rows.new.items ≡ slice_set rows.old.items (place_of runner) row.now }
     ensures timed { AreTimed rows.new.items timers.new }
 {
     if let Some(place) = rows.get_mut(runner.place()) {
-        timers.renew(runner, place, &row);
-        *place = row;
+        timers.renew(runner, place, row);
+        *place = *row;
     }
 }

@@ -159,9 +159,9 @@ impl ProcessTable {
         }
     }
 
-    pub(crate) fn put_row(&mut self, runner: Runner, row: ProcessStatus)
-        requires { IsBounded row }
-        ensures { self.new ≡ meaning.put_row self.old runner row }
+    pub(crate) fn put_row(&mut self, runner: Runner, row: &ProcessStatus)
+        requires { IsBounded row.now }
+        ensures { self.new ≡ meaning.put_row self.old runner row.now }
     {
         self.records.put(runner, row);
     }
@@ -173,10 +173,10 @@ impl ProcessTable {
         self.records.set_state(runner, state);
     }
 
-    pub(crate) fn put_ready(&mut self, runner: Runner, row: ProcessStatus)
+    pub(crate) fn put_ready(&mut self, runner: Runner, row: &ProcessStatus)
         requires runner { place_of runner < MOST_RUNNERS }
-        requires bounded { IsBounded row }
-        ensures { self.new ≡ meaning.put_ready self.old runner row }
+        requires bounded { IsBounded row.now }
+        ensures { self.new ≡ meaning.put_ready self.old runner row.now }
     {
         let priority = row.current_priority;
         self.records.put(runner, row);
@@ -185,9 +185,9 @@ impl ProcessTable {
         }
     }
 
-    pub(crate) fn put_unready(&mut self, runner: Runner, row: ProcessStatus)
-        requires { IsBounded row }
-        ensures { self.new ≡ meaning.put_unready self.old runner row }
+    pub(crate) fn put_unready(&mut self, runner: Runner, row: &ProcessStatus)
+        requires { IsBounded row.now }
+        ensures { self.new ≡ meaning.put_unready self.old runner row.now }
     {
         self.records.put(runner, row);
         if let Runner::Process(process) = runner {
@@ -196,9 +196,9 @@ impl ProcessTable {
         self.running = not_running(runner, self.running);
     }
 
-    pub(crate) fn put_dormant(&mut self, runner: Runner, row: ProcessStatus)
-        requires { IsBounded row }
-        ensures { self.new ≡ meaning.put_dormant self.old runner row }
+    pub(crate) fn put_dormant(&mut self, runner: Runner, row: &ProcessStatus)
+        requires { IsBounded row.now }
+        ensures { self.new ≡ meaning.put_dormant self.old runner row.now }
     {
         self.put_unready(runner, row);
         self.lock = without_holder(runner, self.lock);

@@ -2,7 +2,7 @@ use Rattle.std.proofs.Common.{ap, ◌∙◌}
 use Rattle.engine_meaning.specs.Engine.{body_at}
 use Rattle.partition_base.specs.Bursting.{burst_at}
 use Rattle.partition_base.specs.Machines.{controls_of, engine_of}
-use Rattle.partition_base.proofs.machine.MachineExecutor.advance.Goals as goal
+use Rattle.partition_base.proofs.machine.PartitionProcessorExecutor.advance.Goals as goal
 
 pub returns-clause-burst : goal.returns-clause-burst
 returns-clause-burst c =

@@ -8,7 +8,7 @@ use Rattle.partition_base.specs.Sections.{runners_of}
 use Rattle.regions.specs.Space.{zeros}
 use Rattle.partition_base.specs.Slots.{stack_of_body}
 use Rattle.partition_base.proofs.Places.{fresh_controls, fresh_lengths}
-use Rattle.partition_base.proofs.machine.Machine.new.Goals as goal
+use Rattle.partition_base.proofs.machine.PartitionProcessor.new.Goals as goal
 
 pub returns-clause-controls : goal.returns-clause-controls
 returns-clause-controls c =

@@ -2,7 +2,7 @@ use Rattle.std.proofs.Common.{◌∷◌, ap, ◌∙◌}
 use Rattle.partition_base.specs.Machines.{laid_of}
 use Rattle.partition_base.specs.Slots.{stack_lengths}
 use Rattle.partition_base.proofs.Places.{length_put}
-use Rattle.partition_base.proofs.machine.MachineExecutor.write.Goals as goal
+use Rattle.partition_base.proofs.machine.PartitionProcessorExecutor.write.Goals as goal
 
 pub returns-then-place-ge0-clause-fits : goal.returns-then-place-ge0-clause-fits
 returns-then-place-ge0-clause-fits c =
