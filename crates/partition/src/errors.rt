@@ -27,9 +27,9 @@ impl Kernel {
     }
 
     /// An ignored fault of INIT leaves the partition idle.
-    fn go_on(&mut self, runner: Runner, error: ErrorKind, out: &mut Out)
+    fn ignore(&mut self, runner: Runner, error: ErrorKind, out: &mut Out)
         requires { HasRoom LINES_TO_CLEAR ACTIONS_TO_CLEAR out.old }
-        ensures step { IsMade (meaning.goes_on self.old runner error) self.new out.old out.new }
+        ensures step { IsMade (meaning.ignores self.old runner error) self.new out.old out.new }
         ensures grows { Grows LINES_TO_CLEAR ACTIONS_TO_CLEAR out.old out.new }
     {
         if let Runner::Init = runner {
@@ -47,7 +47,7 @@ impl Kernel {
     {
         match mode {
             Some(mode) => self.clear(mode, StartCondition::HmPartitionRestart, out),
-            None => self.go_on(runner, error, out),
+            None => self.ignore(runner, error, out),
         }
     }
 

@@ -7,7 +7,7 @@ ghost use Rattle.sync_objects_base.specs.Status.{buffer_at, buffer_of_status, bu
 
 use crate::blackboard::{Blackboard, BlackboardStatus};
 use crate::buffer::{Buffer, BufferStatus};
-use crate::event::Event;
+use crate::event::ApexEvent;
 use crate::find::place_of;
 use crate::semaphore::Semaphore;
 use apex_types::{BlackboardRow, BufferRow, MOST_OBJECTS, SemaphoreRow, Words};
@@ -19,7 +19,7 @@ use std::marker::Model;
 #[derive(Drop)]
 pub struct Objects {
     semaphores: Vec<Semaphore>,
-    events: Vec<Event>,
+    events: Vec<ApexEvent>,
     buffers: Vec<Buffer>,
     blackboards: Vec<Blackboard>,
 }
@@ -46,12 +46,12 @@ fn fresh_semaphores(alloc: Global, rows: &[SemaphoreRow]) -> Result<Vec<Semaphor
     Ok(all)
 }
 
-fn fresh_events(alloc: Global, count: u8) -> Result<Vec<Event>, AllocError>
+fn fresh_events(alloc: Global, count: u8) -> Result<Vec<ApexEvent>, AllocError>
     ensures { IfOk result (λ all. all.items ≡ replicate count meaning.fresh_event) }
 {
     let mut all = Vec::with_capacity(alloc, usize::from(count))?;
     for _number in 0..count {
-        all.push(Event::fresh())?;
+        all.push(ApexEvent::fresh())?;
     }
     Ok(all)
 }
@@ -84,11 +84,11 @@ fn clear_semaphores(all: &mut Vec<Semaphore>)
     }
 }
 
-fn clear_events(all: &mut Vec<Event>)
+fn clear_events(all: &mut Vec<ApexEvent>)
     ensures { all.new.items ≡ map meaning.cleared_event all.old.items }
 {
     for event in all.iter_mut() {
-        *event = Event::fresh();
+        *event = ApexEvent::fresh();
     }
 }
 
@@ -160,7 +160,7 @@ impl Objects {
     }
 
     /// The event with a number, with its place.
-    pub fn event(&self, id: i64) -> Option<(u8, Event)>
+    pub fn event(&self, id: i64) -> Option<(u8, ApexEvent)>
         ensures found { result ≡ meaning.event self.now id }
         ensures within { IfSome result (λ found. found.0 < MOST_OBJECTS) }
     {
@@ -169,7 +169,7 @@ impl Objects {
     }
 
     /// An event changes.
-    pub fn put_event(&mut self, place: u8, event: Event)
+    pub fn put_event(&mut self, place: u8, event: ApexEvent)
         ensures { self.new ≡ meaning.put_event self.old place event }
     {
         if let Some(old) = self.events.get_mut(usize::from(place)) {

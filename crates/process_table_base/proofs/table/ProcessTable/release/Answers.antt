@@ -6,4 +6,4 @@ use Rattle.process_table_base.proofs.table.ProcessTable.release.Goals as goal
 
 pub returns-clause-order : goal.returns-clause-order
 returns-clause-order c = λ disciplines number next h.
-    subst (λ (s : Processes). AreQueues disciplines number next s.queues) (sym c.release_as.ensures.step.0) (release_keeps disciplines number next c.args.self.now c.args.found.runner c.args.found.row c.args.code h)
+    subst (λ (s : Processes). AreQueues disciplines number next s.queues) (sym c.release_as.ensures.step.0) (release_keeps disciplines number next c.args.self.now c.args.found.now.runner c.args.found.now.row c.args.code h)
