@@ -26,7 +26,9 @@ pub fn create_error_handler(
     out: &mut Out,
 )
     requires { HasRoom 1 1 out.old }
-    ensures step { IsMade (meaning.create_error_handler request.mode (both table.old errors.now) request.caller) (both table.new errors.now) out.old out.new }
+    ensures step { IsMade
+        (meaning.create_error_handler request.mode (both table.old errors.now) request.caller)
+        (both table.new errors.now) out.old out.new }
     ensures grows { Grows 1 1 out.old out.new }
 {
     let service = Service::CreateErrorHandler;
@@ -75,7 +77,9 @@ fn take_error(
     out: &mut Out,
 )
     requires { HasRoom 1 2 out.old }
-    ensures step { IsMade (meaning.takes_error (both table.now errors.old) request.caller array errors.old.waiting) (both table.now errors.new) out.old out.new }
+    ensures step { IsMade
+        (meaning.takes_error (both table.now errors.old) request.caller array errors.old.waiting)
+        (both table.now errors.new) out.old out.new }
     ensures grows { Grows 1 2 out.old out.new }
 {
     let service = Service::GetErrorStatus;
@@ -103,7 +107,9 @@ pub fn get_error_status(
     out: &mut Out,
 )
     requires { HasRoom 1 2 out.old }
-    ensures step { IsMade (meaning.get_error_status (both table.now errors.old) request.caller array) (both table.now errors.new) out.old out.new }
+    ensures step { IsMade
+        (meaning.get_error_status (both table.now errors.old) request.caller array)
+        (both table.now errors.new) out.old out.new }
     ensures grows { Grows 1 2 out.old out.new }
 {
     let service = Service::GetErrorStatus;
@@ -120,7 +126,8 @@ pub fn get_error_status(
 #[tactic(auto, using(crate::proofs::Waking::waking))]
 fn begin_if_dormant(table: &mut ProcessTable, out: &mut Out)
     requires { HasRoom 1 1 out.old }
-    ensures step { IsMade (meaning.begins_if_dormant table.old (row_of table.old Runner.Handler)) table.new out.old out.new }
+    ensures step { IsMade (meaning.begins_if_dormant table.old (row_of table.old Runner.Handler))
+        table.new out.old out.new }
     ensures grows { Grows 1 1 out.old out.new }
 {
     if let Some(handler) = table.found(Runner::Handler) {
@@ -133,7 +140,9 @@ fn begin_if_dormant(table: &mut ProcessTable, out: &mut Out)
 
 /// Whether the handler is not dormant, or was not created.
 fn cannot_begin(table: &ProcessTable) -> bool
-    ensures { result ≡ true → meaning.begins_if_dormant table.now (row_of table.now Runner.Handler) ≡ nothing table.now }
+    ensures { result ≡ true
+        → meaning.begins_if_dormant table.now (row_of table.now Runner.Handler)
+        ≡ nothing table.now }
 {
     match table.row(Runner::Handler) {
         Some(row) => !(row.created && is_dormant(&row)),
@@ -144,7 +153,8 @@ fn cannot_begin(table: &ProcessTable) -> bool
 /// Whether [`start_handler`] would change nothing: the mode is not normal, no error waits, or the
 /// handler is not dormant.
 pub fn handler_stays(table: &ProcessTable, errors: &Errors, mode: Mode) -> bool
-    ensures { result ≡ true → meaning.starts_handler mode (both table.now errors.now) ≡ nothing table.now }
+    ensures { result ≡ true
+        → meaning.starts_handler mode (both table.now errors.now) ≡ nothing table.now }
 {
     mode != Mode::Normal || !errors.is_waiting() || cannot_begin(table)
 }
@@ -152,7 +162,8 @@ pub fn handler_stays(table: &ProcessTable, errors: &Errors, mode: Mode) -> bool
 /// In normal mode a dormant error handler starts if an error waits for it, and is ready.
 pub fn start_handler(table: &mut ProcessTable, errors: &Errors, mode: Mode, out: &mut Out)
     requires { HasRoom 1 1 out.old }
-    ensures step { IsMade (meaning.starts_handler mode (both table.old errors.now)) table.new out.old out.new }
+    ensures step { IsMade (meaning.starts_handler mode (both table.old errors.now))
+        table.new out.old out.new }
     ensures grows { Grows 1 1 out.old out.new }
 {
     if mode == Mode::Normal && errors.is_waiting() {

@@ -26,7 +26,13 @@ fn raise(
     out: &mut Out,
 ) -> Option<PartitionAction>
     requires { HasRoom 2 2 out.old }
-    ensures step { IsMade (after (leaves_none (answers table.now request.caller Service.RaiseApplicationError ReturnCode.NoError [])) (meaning.raises health request.mode (both table.now errors.now) request.caller ErrorKind.ApplicationError message.items)) result out.old out.new }
+    ensures step { IsMade
+        (after
+        (leaves_none
+        (answers table.now request.caller Service.RaiseApplicationError ReturnCode.NoError []))
+        (meaning.raises health request.mode (both table.now errors.now)
+        request.caller ErrorKind.ApplicationError message.items))
+        result out.old out.new }
     ensures grows { Grows 2 2 out.old out.new }
 {
     let caller = request.caller;
@@ -53,7 +59,20 @@ fn raise_message(
     out: &mut Out,
 ) -> Option<PartitionAction>
     requires { HasRoom 2 2 out.old }
-    ensures step { IsMade (row (λ c. leaves_none (refuses table.now request.caller Service.RaiseApplicationError c)) ((not (meaning.is_message_length handed.entry.array.size handed.entry.length), ReturnCode.InvalidParam) ∷ []) (after (leaves_none (answers table.now request.caller Service.RaiseApplicationError ReturnCode.NoError [])) (meaning.raises health request.mode (both table.now errors.now) request.caller ErrorKind.ApplicationError (first_words handed.entry.length handed.entry.words.now.items)))) result out.old out.new }
+    ensures step { IsMade
+        (row (λ c. leaves_none (refuses table.now request.caller Service.RaiseApplicationError c))
+        ((
+          not (meaning.is_message_length handed.entry.array.size handed.entry.length),
+          ReturnCode.InvalidParam,
+        )
+        ∷ [])
+        (after
+        (leaves_none
+        (answers table.now request.caller Service.RaiseApplicationError ReturnCode.NoError []))
+        (meaning.raises health request.mode (both table.now errors.now)
+        request.caller ErrorKind.ApplicationError
+        (first_words handed.entry.length handed.entry.words.now.items))))
+        result out.old out.new }
     ensures grows { Grows 2 2 out.old out.new }
 {
     if !is_message_length(handed.array.size, handed.length) {
@@ -79,7 +98,10 @@ pub fn raise_application_error(
     out: &mut Out,
 ) -> Option<PartitionAction>
     requires { HasRoom 2 2 out.old }
-    ensures step { IsMade (meaning.raise_application_error health request.mode (both table.now errors.now) request.caller error handed.entry.array handed.entry.length handed.entry.words.now.items) result out.old out.new }
+    ensures step { IsMade
+        (meaning.raise_application_error health request.mode (both table.now errors.now)
+        request.caller error handed.entry.array handed.entry.length handed.entry.words.now.items)
+        result out.old out.new }
     ensures grows { Grows 2 2 out.old out.new }
 {
     if !is_application_error(error) {

@@ -98,7 +98,8 @@ fn wait_or_leave(
     out: &mut Out,
 ) -> Option<PartitionAction>
     requires { HasRoom 0 1 out.old }
-    ensures step { IsMade (meaning.waits_or_leaves runner error words.items response) result out.old out.new }
+    ensures step { IsMade (meaning.waits_or_leaves runner error words.items response)
+        result out.old out.new }
     ensures grows { Grows 0 1 out.old out.new }
 {
     match response {
@@ -131,7 +132,10 @@ pub fn raise_error(
     out: &mut Out,
 ) -> Option<PartitionAction>
     requires { HasRoom 1 1 out.old }
-    ensures step { let how = meaning.response_of health mode (both table.now errors.now) raised.runner raised.error in IsMade (raises_of raised.runner raised.who raised.error raised.words.items how) result out.old out.new }
+    ensures step { let how =
+        meaning.response_of health mode (both table.now errors.now) raised.runner raised.error in
+        IsMade (raises_of raised.runner raised.who raised.error raised.words.items how)
+        result out.old out.new }
     ensures grows { Grows 1 1 out.old out.new }
 {
     let Raised {

@@ -26,7 +26,10 @@ pub fn report_application_message(
     out: &mut Out,
 )
     requires { HasRoom 2 1 out.old }
-    ensures step { IsTold (meaning.report table.now request.caller handed.entry.array handed.entry.length handed.entry.words.now.items) out.old out.new }
+    ensures step { IsTold
+        (meaning.report table.now request.caller handed.entry.array handed.entry.length
+        handed.entry.words.now.items)
+        out.old out.new }
     ensures grows { Grows 2 1 out.old out.new }
 {
     let service = Service::ReportApplicationMessage;

@@ -26,7 +26,10 @@ fn meet_fault<E: Executor, S: Sink>(
 ) -> Option<Moment>
     requires { E.laid mem.old ≡ E.layout partition.old.executor }
     ensures fits { E.laid mem.new ≡ E.layout partition.new.executor }
-    ensures written { IsPathMade (meets_fault moment.at action (member_of E.Executor partition.old mem.old)) (next_at result) (member_of E.Executor partition.new mem.new) (sent_of S.Sink output.old) (sent_of S.Sink output.new) }
+    ensures written { IsPathMade
+        (meets_fault moment.at action (member_of E.Executor partition.old mem.old)) (next_at result)
+        (member_of E.Executor partition.new mem.new) (sent_of S.Sink output.old)
+        (sent_of S.Sink output.new) }
 {
     match action {
         ModuleAction::Ignore => Some(moment),
@@ -54,7 +57,10 @@ fn take<E: Executor, S: Sink>(
 ) -> Option<Moment>
     requires { E.laid mem.old ≡ E.layout partition.old.executor }
     ensures fits { E.laid mem.new ≡ E.layout partition.new.executor }
-    ensures written { IsPathMade (takes fault moment.at input.now (member_of E.Executor partition.old mem.old)) (next_at result) (member_of E.Executor partition.new mem.new) (sent_of S.Sink output.old) (sent_of S.Sink output.new) }
+    ensures written { IsPathMade
+        (takes fault moment.at input.now (member_of E.Executor partition.old mem.old))
+        (next_at result) (member_of E.Executor partition.new mem.new) (sent_of S.Sink output.old)
+        (sent_of S.Sink output.new) }
 {
     match input {
         Input::Arrive(port, message) => {
@@ -82,7 +88,11 @@ pub fn take_all<E: Executor, S: Sink>(
 ) -> Option<Moment>
     requires { E.laid mem.old ≡ E.layout partition.old.executor }
     ensures fits { E.laid mem.new ≡ E.layout partition.new.executor }
-    ensures written { IsPathMade (takes_all fault moment.at (inputs_of lines.now) (member_of E.Executor partition.old mem.old)) (next_at result) (member_of E.Executor partition.new mem.new) (sent_of S.Sink output.old) (sent_of S.Sink output.new) }
+    ensures written { IsPathMade
+        (takes_all fault moment.at (inputs_of lines.now)
+        (member_of E.Executor partition.old mem.old))
+        (next_at result) (member_of E.Executor partition.new mem.new) (sent_of S.Sink output.old)
+        (sent_of S.Sink output.new) }
 {
     let mut last = moment;
     for line in lines {

@@ -26,7 +26,9 @@ pub fn fixed(
     number: PartitionId,
     row: &PartitionRow,
 ) -> Result<Fixed, AllocError>
-    ensures { IfOk result (λ fixed. view fixed ≡ fixed_of (schedule_of schedule.now) number.0 (partition_of row.now)) }
+    ensures { IfOk result
+        (λ fixed.
+        view fixed ≡ fixed_of (schedule_of schedule.now) number.0 (partition_of row.now)) }
 {
     Ok(Fixed {
         name: row.name,
@@ -46,8 +48,11 @@ pub fn load_partition(
     item: &PartitionItem,
 ) -> Result<Partition<PartitionProcessor>, AllocError>
     requires { IsFittingItem item.now }
-    ensures member { IfOk result (λ partition. member_of machine partition (fresh_item item.now) ≡ machine_member (view fixed) item.now.row.ports.items (section_of item.now.section)) }
-    ensures fits { IfOk result (λ partition. laid_of (fresh_item item.now) ≡ layout_of partition.executor) }
+    ensures member { IfOk result
+        (λ partition. member_of machine partition (fresh_item item.now)
+        ≡ machine_member (view fixed) item.now.row.ports.items (section_of item.now.section)) }
+    ensures fits { IfOk result
+        (λ partition. laid_of (fresh_item item.now) ≡ layout_of partition.executor) }
 {
     let section = &item.section;
     let executor = PartitionProcessor::new(alloc, FittingSection { section })?;

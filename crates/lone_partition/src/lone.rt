@@ -37,7 +37,9 @@ impl LonePartition {
     ) -> Result<LonePartition, AllocError>
         requires there { 0 < number.0 }
         requires within { number.0 ≤ length image.now.partitions.items }
-        ensures { IfOk result (λ lone. Some (alone_of lone) ≡ option_map machine_alone (slice (image_of image.now) number.0)) }
+        ensures { IfOk result
+            (λ lone. Some (alone_of lone)
+            ≡ option_map machine_alone (slice (image_of image.now) number.0)) }
     {
         let item = &image.partitions[usize::from(number.0) - 1];
         let surroundings = Surroundings::load(alloc, image, number, &item.row.ports)?;

@@ -27,7 +27,10 @@ fn go_out<E: Executor, S: Sink>(
 )
     requires { E.laid mem.old ≡ E.layout partition.old.executor }
     ensures fits { E.laid mem.new ≡ E.layout partition.new.executor }
-    ensures written { IsMade (goes_by_way moment.at message way (member_of E.Executor partition.old mem.old)) (member_of E.Executor partition.new mem.new) (sent_of S.Sink output.old) (sent_of S.Sink output.new) }
+    ensures written { IsMade
+        (goes_by_way moment.at message way (member_of E.Executor partition.old mem.old))
+        (member_of E.Executor partition.new mem.new) (sent_of S.Sink output.old)
+        (sent_of S.Sink output.new) }
 {
     if let Some(channel) = way {
         let step = PartitionStep::GoOut(channel, message);
@@ -46,7 +49,11 @@ fn send_message<E: Executor, S: Sink>(
 )
     requires { E.laid mem.old ≡ E.layout partition.old.executor }
     ensures fits { E.laid mem.new ≡ E.layout partition.new.executor }
-    ensures written { IsMade (sends_message (around surroundings.now) moment.at port (member_of E.Executor partition.old mem.old)) (member_of E.Executor partition.new mem.new) (sent_of S.Sink output.old) (sent_of S.Sink output.new) }
+    ensures written { IsMade
+        (sends_message (around surroundings.now) moment.at port
+        (member_of E.Executor partition.old mem.old))
+        (member_of E.Executor partition.new mem.new) (sent_of S.Sink output.old)
+        (sent_of S.Sink output.new) }
 {
     if let Some(message) = write_leave(partition, mem, moment, port, output) {
         let way = surroundings.way_out(port);
@@ -66,7 +73,11 @@ fn send_messages<E: Executor, S: Sink>(
 )
     requires { E.laid mem.old ≡ E.layout partition.old.executor }
     ensures fits { E.laid mem.new ≡ E.layout partition.new.executor }
-    ensures written { IsMade (sends_messages count (around surroundings.now) moment.at port (member_of E.Executor partition.old mem.old)) (member_of E.Executor partition.new mem.new) (sent_of S.Sink output.old) (sent_of S.Sink output.new) }
+    ensures written { IsMade
+        (sends_messages count (around surroundings.now) moment.at port
+        (member_of E.Executor partition.old mem.old))
+        (member_of E.Executor partition.new mem.new) (sent_of S.Sink output.old)
+        (sent_of S.Sink output.new) }
 {
     for _ in 0..count {
         send_message(surroundings, partition, mem, moment, port, output);
@@ -95,7 +106,11 @@ fn send_port<E: Executor, S: Sink>(
 )
     requires { E.laid mem.old ≡ E.layout partition.old.executor }
     ensures fits { E.laid mem.new ≡ E.layout partition.new.executor }
-    ensures written { IsMade (sends_port (around surroundings.now) moment.at port (member_of E.Executor partition.old mem.old)) (member_of E.Executor partition.new mem.new) (sent_of S.Sink output.old) (sent_of S.Sink output.new) }
+    ensures written { IsMade
+        (sends_port (around surroundings.now) moment.at port
+        (member_of E.Executor partition.old mem.old))
+        (member_of E.Executor partition.new mem.new) (sent_of S.Sink output.old)
+        (sent_of S.Sink output.new) }
 {
     let Some(count) = count_to_send(partition.kernel(), port) else {
         return;
@@ -115,7 +130,11 @@ pub fn send_ports<E: Executor, S: Sink>(
 )
     requires { E.laid mem.old ≡ E.layout partition.old.executor }
     ensures fits { E.laid mem.new ≡ E.layout partition.new.executor }
-    ensures written { IsMade (sends_ports count 1 (around surroundings.now) moment.at (member_of E.Executor partition.old mem.old)) (member_of E.Executor partition.new mem.new) (sent_of S.Sink output.old) (sent_of S.Sink output.new) }
+    ensures written { IsMade
+        (sends_ports count 1 (around surroundings.now) moment.at
+        (member_of E.Executor partition.old mem.old))
+        (member_of E.Executor partition.new mem.new) (sent_of S.Sink output.old)
+        (sent_of S.Sink output.new) }
 {
     for place in 0..count {
         let port = PortId(place + 1);

@@ -41,13 +41,22 @@ fn step_member<E: Executor>(
 )
     requires { E.laid mem.old ≡ E.layout partition.old.executor }
     ensures fits { E.laid mem.new ≡ E.layout partition.new.executor }
-    ensures member { let x = member_of E.Executor partition.old mem.old in member_of E.Executor partition.new mem.new ≡ with_world x (step_of moment.at step.now x).world }
-    ensures lines { trace.new.text.items ≡ text_of (step_of moment.at step.now (member_of E.Executor partition.old mem.old)).lines }
+    ensures member { let x = member_of E.Executor partition.old mem.old in
+        member_of E.Executor partition.new mem.new
+        ≡ with_world x (step_of moment.at step.now x).world }
+    ensures lines { trace.new.text.items
+        ≡ text_of (step_of moment.at step.now (member_of E.Executor partition.old mem.old)).lines }
 {
     trace.clear();
     match step {
         PartitionStep::Start(condition) => partition.clear(mem, moment, *condition, trace),
-        PartitionStep::Arrive(port, message) => partition.arrive(mem, moment, *port, copied(message), trace),
+        PartitionStep::Arrive(port, message) => partition.arrive(
+            mem,
+            moment,
+            *port,
+            copied(message),
+            trace,
+        ),
         PartitionStep::Admit(port) => partition.admit(mem, moment, *port, trace),
         PartitionStep::GoOut(channel, message) => {
             partition.go_out(mem, moment, *channel, copied(message), trace)
@@ -67,7 +76,10 @@ pub fn write_step<E: Executor, S: Sink>(
 )
     requires { E.laid mem.old ≡ E.layout partition.old.executor }
     ensures fits { E.laid mem.new ≡ E.layout partition.new.executor }
-    ensures written { IsMade (goes (step_of moment.at step.now) (member_of E.Executor partition.old mem.old)) (member_of E.Executor partition.new mem.new) (sent_of S.Sink output.old) (sent_of S.Sink output.new) }
+    ensures written { IsMade
+        (goes (step_of moment.at step.now) (member_of E.Executor partition.old mem.old))
+        (member_of E.Executor partition.new mem.new) (sent_of S.Sink output.old)
+        (sent_of S.Sink output.new) }
 {
     step_member(partition, mem, moment, step, output.trace);
     output.write();
@@ -85,7 +97,10 @@ pub fn write_leave<E: Executor, S: Sink>(
     requires { E.laid mem.old ≡ E.layout partition.old.executor }
     ensures fits { E.laid mem.new ≡ E.layout partition.new.executor }
     ensures message { result ≡ leaving port (member_of E.Executor partition.old mem.old) }
-    ensures written { IsMade (goes (leaves moment.at port) (member_of E.Executor partition.old mem.old)) (member_of E.Executor partition.new mem.new) (sent_of S.Sink output.old) (sent_of S.Sink output.new) }
+    ensures written { IsMade
+        (goes (leaves moment.at port) (member_of E.Executor partition.old mem.old))
+        (member_of E.Executor partition.new mem.new) (sent_of S.Sink output.old)
+        (sent_of S.Sink output.new) }
 {
     output.trace.clear();
     let message = partition.move_one(mem, moment, port, output.trace);

@@ -23,7 +23,10 @@ impl<E: Executor<Mem = PartitionMem>> Members<E> {
         input: &DeviceInput,
         output: &mut Output<'_, S>,
     ) -> Option<Moment>
-        ensures { IsCourse (meaning.inputs (plan_of plan.now) moment.at input.now (members_in E.Executor self.old)) (next_at result) (members_in E.Executor self.new) (sent_of S.Sink output.old) (sent_of S.Sink output.new) }
+        ensures { IsCourse
+            (meaning.inputs (plan_of plan.now) moment.at input.now (members_in E.Executor self.old))
+            (next_at result) (members_in E.Executor self.new) (sent_of S.Sink output.old)
+            (sent_of S.Sink output.new) }
     {
         match input {
             DeviceInput::Message(channel, message) => {
@@ -48,7 +51,11 @@ impl<E: Executor<Mem = PartitionMem>> Members<E> {
         lines: &[DeviceLine],
         output: &mut Output<'_, S>,
     ) -> Option<Moment>
-        ensures { IsCourse (meaning.inputs_all (plan_of plan.now) moment.at lines.now (members_in E.Executor self.old)) (next_at result) (members_in E.Executor self.new) (sent_of S.Sink output.old) (sent_of S.Sink output.new) }
+        ensures { IsCourse
+            (meaning.inputs_all (plan_of plan.now) moment.at lines.now
+            (members_in E.Executor self.old))
+            (next_at result) (members_in E.Executor self.new) (sent_of S.Sink output.old)
+            (sent_of S.Sink output.new) }
     {
         let mut last = moment;
         for line in lines {

@@ -26,7 +26,9 @@ impl Module<PartitionProcessor> {
     /// The partitions of an image, idle, with nothing created. An error is one of memory.
     #[tactic(auto, using(lone_partition::proofs::Lawful::fitting_items))]
     pub fn load(alloc: Global, image: Image) -> Result<Module<PartitionProcessor>, AllocError>
-        ensures standing { IfOk result (λ loaded. standing_of machine loaded ≡ at_first (machine_module (image_of image)).members) }
+        ensures standing { IfOk result
+            (λ loaded.
+            standing_of machine loaded ≡ at_first (machine_module (image_of image)).members) }
         ensures image { IfOk result (λ loaded. loaded.image ≡ image) }
     {
         let items = image.partitions.as_slice();
@@ -60,8 +62,11 @@ fn load_partitions(
 ) -> Result<Vec<Partition<PartitionProcessor>>, AllocError>
     requires fit { AreFittingItems items.now }
     requires few { length items.now ≤ MOST_PARTITIONS }
-    ensures members { IfOk result (λ partitions. members_of machine partitions.items (map fresh_item items.now) ≡ machine_members (schedule_of schedule.now) 1 (items_of items.now)) }
-    ensures fit { IfOk result (λ partitions. AreFitting machine partitions.items (map fresh_item items.now)) }
+    ensures members { IfOk result
+        (λ partitions. members_of machine partitions.items (map fresh_item items.now)
+        ≡ machine_members (schedule_of schedule.now) 1 (items_of items.now)) }
+    ensures fit { IfOk result
+        (λ partitions. AreFitting machine partitions.items (map fresh_item items.now)) }
     ensures few { IfOk result (λ partitions. length partitions.items ≤ MOST_PARTITIONS) }
 {
     let mut partitions = Vec::with_capacity(alloc, items.len())?;

@@ -42,7 +42,8 @@ impl Kernel {
     /// The partition enters the mode that its action for the error leads to, if it leads to one.
     fn enter_mode(&mut self, runner: Runner, error: ErrorKind, mode: Option<Mode>, out: &mut Out)
         requires { HasRoom LINES_TO_CLEAR ACTIONS_TO_CLEAR out.old }
-        ensures step { IsMade (meaning.enters_mode self.old runner error mode) self.new out.old out.new }
+        ensures step { IsMade (meaning.enters_mode self.old runner error mode)
+            self.new out.old out.new }
         ensures grows { Grows LINES_TO_CLEAR ACTIONS_TO_CLEAR out.old out.new }
     {
         match mode {
@@ -60,7 +61,8 @@ impl Kernel {
         out: &mut Out,
     )
         requires { HasRoom LINES_TO_CLEAR ACTIONS_TO_CLEAR out.old }
-        ensures step { IsMade (meaning.acts_on_error self.old runner error left) self.new out.old out.new }
+        ensures step { IsMade (meaning.acts_on_error self.old runner error left)
+            self.new out.old out.new }
         ensures grows { Grows LINES_TO_CLEAR ACTIONS_TO_CLEAR out.old out.new }
     {
         if let Some(action) = left {
@@ -71,7 +73,8 @@ impl Kernel {
     /// The line of an error with how it is handled, then what is done. `words` are its message.
     fn handle(&mut self, runner: Runner, error: ErrorKind, words: Words, out: &mut Out)
         requires { HasRoom (1 + LINES_TO_CLEAR) (1 + ACTIONS_TO_CLEAR) out.old }
-        ensures step { IsMade (meaning.handles self.old runner error words.items) self.new out.old out.new }
+        ensures step { IsMade (meaning.handles self.old runner error words.items)
+            self.new out.old out.new }
         ensures grows { Grows (1 + LINES_TO_CLEAR) (1 + ACTIONS_TO_CLEAR) out.old out.new }
     {
         let health = self.fixed.health;
@@ -129,7 +132,11 @@ impl Kernel {
         out: &mut Out,
     )
         requires { HasRoom 2 1 out.old }
-        ensures step { IsMade (of_processes self.old (meaning.report self.old.processes caller handed.entry.array handed.entry.length handed.entry.words.now.items)) self.new out.old out.new }
+        ensures step { IsMade
+            (of_processes self.old
+            (meaning.report self.old.processes caller handed.entry.array
+            handed.entry.length handed.entry.words.now.items))
+            self.new out.old out.new }
         ensures grows { Grows 2 1 out.old out.new }
     {
         let request = self.request(moment, caller);
@@ -139,7 +146,10 @@ impl Kernel {
     /// CREATE_ERROR_HANDLER (ARINC 653 Part 1, health monitoring).
     pub(crate) fn create_error_handler(&mut self, moment: Moment, caller: Runner, out: &mut Out)
         requires { HasRoom 1 1 out.old }
-        ensures step { IsMade (of_errors self.old (meaning.create_error_handler self.old.mode (with_errors self.old) caller)) self.new out.old out.new }
+        ensures step { IsMade
+            (of_errors self.old
+            (meaning.create_error_handler self.old.mode (with_errors self.old) caller))
+            self.new out.old out.new }
         ensures grows { Grows 1 1 out.old out.new }
     {
         let request = self.request(moment, caller);
@@ -155,7 +165,9 @@ impl Kernel {
         out: &mut Out,
     )
         requires { HasRoom 1 2 out.old }
-        ensures step { IsMade (of_errors self.old (meaning.get_error_status (with_errors self.old) caller array)) self.new out.old out.new }
+        ensures step { IsMade
+            (of_errors self.old (meaning.get_error_status (with_errors self.old) caller array))
+            self.new out.old out.new }
         ensures grows { Grows 1 2 out.old out.new }
     {
         let request = self.request(moment, caller);
@@ -173,7 +185,10 @@ impl Kernel {
         out: &mut Out,
     )
         requires room { HasRoom (2 + LINES_TO_CLEAR) (2 + ACTIONS_TO_CLEAR) out.old }
-        ensures step { IsMade (meaning.raises_application_error self.old caller error handed.entry.array handed.entry.length handed.entry.words.now.items) self.new out.old out.new }
+        ensures step { IsMade
+            (meaning.raises_application_error self.old caller error handed.entry.array
+            handed.entry.length handed.entry.words.now.items)
+            self.new out.old out.new }
         ensures grows { Grows (2 + LINES_TO_CLEAR) (2 + ACTIONS_TO_CLEAR) out.old out.new }
     {
         let health = self.fixed.health;

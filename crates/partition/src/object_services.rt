@@ -35,7 +35,10 @@ pub(crate) fn serve_objects(
     out: &mut Out,
 )
     requires room { HasRoom LINES_TO_SERVE ACTIONS_TO_SERVE out.old }
-    ensures step { IsMade (serves_objects request.mode request.moment.at (both table.old objects.old) request.caller call words.now.items) (both table.new objects.new) out.old out.new }
+    ensures step { IsMade
+        (serves_objects request.mode request.moment.at (both table.old objects.old)
+        request.caller call words.now.items)
+        (both table.new objects.new) out.old out.new }
     ensures grows { Grows LINES_TO_SERVE ACTIONS_TO_SERVE out.old out.new }
 {
     match call {

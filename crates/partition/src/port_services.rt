@@ -46,7 +46,10 @@ pub(crate) fn serve_ports(
     out: &mut Out,
 )
     requires room { HasRoom LINES_TO_SERVE ACTIONS_TO_SERVE out.old }
-    ensures step { IsMade (meaning.serves_ports request.mode request.moment.at (both table.old ports.old) request.caller call words.now.items) (both table.new ports.new) out.old out.new }
+    ensures step { IsMade
+        (meaning.serves_ports request.mode request.moment.at (both table.old ports.old)
+        request.caller call words.now.items)
+        (both table.new ports.new) out.old out.new }
     ensures grows { Grows LINES_TO_SERVE ACTIONS_TO_SERVE out.old out.new }
 {
     match call {

@@ -43,7 +43,9 @@ impl Kernel {
         out: &mut Out,
     )
         requires room { HasRoom LINES_TO_SERVE ACTIONS_TO_SERVE out.old }
-        ensures step { IsMade (meaning.treats_asked moment.at self.old runner (asks_of outcome) words.now.items) self.new out.old out.new }
+        ensures step { IsMade
+            (meaning.treats_asked moment.at self.old runner (asks_of outcome) words.now.items)
+            self.new out.old out.new }
         ensures grows { Grows LINES_TO_SERVE ACTIONS_TO_SERVE out.old out.new }
     {
         match outcome {
@@ -58,7 +60,8 @@ impl Kernel {
     /// its own; all others are here.
     fn serve(&mut self, moment: Moment, caller: Runner, call: Call, words: &Words, out: &mut Out)
         requires room { HasRoom LINES_TO_SERVE ACTIONS_TO_SERVE out.old }
-        ensures step { IsMade (meaning.serves moment.at self.old caller call words.now.items) self.new out.old out.new }
+        ensures step { IsMade (meaning.serves moment.at self.old caller call words.now.items)
+            self.new out.old out.new }
         ensures grows { Grows LINES_TO_SERVE ACTIONS_TO_SERVE out.old out.new }
     {
         let request = self.request(moment, caller);

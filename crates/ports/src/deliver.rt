@@ -21,7 +21,8 @@ pub(crate) fn deliver(
 )
     requires outputs { length outputs.now ≤ 6 }
     requires room { HasRoom 1 2 out.old }
-    ensures step { IsTold (delivers table.now request.caller service code outputs.now array message) out.old out.new }
+    ensures step { IsTold (delivers table.now request.caller service code outputs.now array message)
+        out.old out.new }
     ensures grows { Grows 1 2 out.old out.new }
 {
     table.answer(request.caller, service, code, outputs, out);

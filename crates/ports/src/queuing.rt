@@ -29,7 +29,9 @@ pub fn create_queuing_port(
     out: &mut Out,
 )
     requires { HasRoom 1 1 out.old }
-    ensures step { IsMade (meaning.create_queuing_port request.mode (both table.now ports.old) request.caller name) (both table.now ports.new) out.old out.new }
+    ensures step { IsMade
+        (meaning.create_queuing_port request.mode (both table.now ports.old) request.caller name)
+        (both table.now ports.new) out.old out.new }
     ensures grows { Grows 1 1 out.old out.new }
 {
     let service = Service::CreateQueuingPort;
@@ -56,7 +58,9 @@ pub fn get_queuing_port_id(
     out: &mut Out,
 )
     requires { HasRoom 1 1 out.old }
-    ensures step { IsMade (meaning.get_queuing_port_id (both table.now ports.now) request.caller name) (both table.now ports.now) out.old out.new }
+    ensures step { IsMade
+        (meaning.get_queuing_port_id (both table.now ports.now) request.caller name)
+        (both table.now ports.now) out.old out.new }
     ensures grows { Grows 1 1 out.old out.new }
 {
     let service = Service::GetQueuingPortId;
@@ -83,7 +87,10 @@ fn send(
     requires place { place < MOST_OBJECTS }
     requires status { port ≡ port_status (placed_port ports.old place) }
     requires room { HasRoom 1 1 out.old }
-    ensures step { IsMade (meaning.sends request.moment.at (both table.old ports.old) request.caller limit message place (placed_port ports.old place)) (both table.new ports.new) out.old out.new }
+    ensures step { IsMade
+        (meaning.sends request.moment.at (both table.old ports.old)
+        request.caller limit message place (placed_port ports.old place))
+        (both table.new ports.new) out.old out.new }
     ensures grows { Grows 1 1 out.old out.new }
 {
     let service = Service::SendQueuingMessage;
@@ -117,7 +124,11 @@ pub fn send_queuing_message(
     out: &mut Out,
 )
     requires room { HasRoom 1 1 out.old }
-    ensures step { IsMade (meaning.send_queuing_message request.moment.at (both table.old ports.old) request.caller id handed.entry.array handed.entry.length limit handed.entry.words.now.items) (both table.new ports.new) out.old out.new }
+    ensures step { IsMade
+        (meaning.send_queuing_message request.moment.at (both table.old ports.old)
+        request.caller id handed.entry.array handed.entry.length limit
+        handed.entry.words.now.items)
+        (both table.new ports.new) out.old out.new }
     ensures grows { Grows 1 1 out.old out.new }
 {
     let service = Service::SendQueuingMessage;
@@ -163,7 +174,11 @@ fn receive(
     requires place { place < MOST_OBJECTS }
     requires discipline { discipline ≡ discipline_of (placed_port ports.old place).row.kind }
     requires room { HasRoom 1 2 out.old }
-    ensures step { let x = placed_port ports.old place in IsMade (meaning.receives request.moment.at (both table.old ports.old) request.caller array limit place x x.messages) (both table.new ports.new) out.old out.new }
+    ensures step { let x = placed_port ports.old place in
+        IsMade
+        (meaning.receives request.moment.at (both table.old ports.old)
+        request.caller array limit place x x.messages)
+        (both table.new ports.new) out.old out.new }
     ensures grows { Grows 1 2 out.old out.new }
 {
     let service = Service::ReceiveQueuingMessage;
@@ -198,7 +213,10 @@ pub fn receive_queuing_message(
     out: &mut Out,
 )
     requires room { HasRoom 1 2 out.old }
-    ensures step { IsMade (meaning.receive_queuing_message request.moment.at (both table.old ports.old) request.caller id array limit) (both table.new ports.new) out.old out.new }
+    ensures step { IsMade
+        (meaning.receive_queuing_message request.moment.at (both table.old ports.old)
+        request.caller id array limit)
+        (both table.new ports.new) out.old out.new }
     ensures grows { Grows 1 2 out.old out.new }
 {
     let service = Service::ReceiveQueuingMessage;
@@ -231,7 +249,11 @@ fn tell_status(
     requires place { place < MOST_OBJECTS }
     requires status { port ≡ port_status (placed_port ports.now place) }
     requires room { HasRoom 1 1 out.old }
-    ensures step { let b = both table.now ports.now in IsTold (answers b request.caller Service.GetQueuingPortStatus ReturnCode.NoError (meaning.queuing_status b place (placed_port ports.now place))) out.old out.new }
+    ensures step { let b = both table.now ports.now in
+        IsTold
+        (answers b request.caller Service.GetQueuingPortStatus ReturnCode.NoError
+        (meaning.queuing_status b place (placed_port ports.now place)))
+        out.old out.new }
     ensures grows { Grows 1 1 out.old out.new }
 {
     let waiting = table.waiting_count(ListKey::Port(place));
@@ -257,7 +279,9 @@ pub fn get_queuing_port_status(
     out: &mut Out,
 )
     requires { HasRoom 1 1 out.old }
-    ensures step { IsMade (meaning.get_queuing_port_status (both table.now ports.now) request.caller id) (both table.now ports.now) out.old out.new }
+    ensures step { IsMade
+        (meaning.get_queuing_port_status (both table.now ports.now) request.caller id)
+        (both table.now ports.now) out.old out.new }
     ensures grows { Grows 1 1 out.old out.new }
 {
     let service = Service::GetQueuingPortStatus;
@@ -281,7 +305,8 @@ pub fn clear_queuing_port(
     out: &mut Out,
 )
     requires { HasRoom 1 1 out.old }
-    ensures step { IsMade (meaning.clear_queuing_port (both table.now ports.old) request.caller id) (both table.now ports.new) out.old out.new }
+    ensures step { IsMade (meaning.clear_queuing_port (both table.now ports.old) request.caller id)
+        (both table.now ports.new) out.old out.new }
     ensures grows { Grows 1 1 out.old out.new }
 {
     let service = Service::ClearQueuingPort;

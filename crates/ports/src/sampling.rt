@@ -24,7 +24,9 @@ pub fn create_sampling_port(
     out: &mut Out,
 )
     requires { HasRoom 1 1 out.old }
-    ensures step { IsMade (meaning.create_sampling_port request.mode (both table.now ports.old) request.caller name) (both table.now ports.new) out.old out.new }
+    ensures step { IsMade
+        (meaning.create_sampling_port request.mode (both table.now ports.old) request.caller name)
+        (both table.now ports.new) out.old out.new }
     ensures grows { Grows 1 1 out.old out.new }
 {
     let service = Service::CreateSamplingPort;
@@ -51,7 +53,9 @@ pub fn get_sampling_port_id(
     out: &mut Out,
 )
     requires { HasRoom 1 1 out.old }
-    ensures step { IsMade (meaning.get_sampling_port_id (both table.now ports.now) request.caller name) (both table.now ports.now) out.old out.new }
+    ensures step { IsMade
+        (meaning.get_sampling_port_id (both table.now ports.now) request.caller name)
+        (both table.now ports.now) out.old out.new }
     ensures grows { Grows 1 1 out.old out.new }
 {
     let service = Service::GetSamplingPortId;
@@ -76,7 +80,10 @@ pub fn write_sampling_message(
     out: &mut Out,
 )
     requires { HasRoom 1 1 out.old }
-    ensures step { IsMade (meaning.write_sampling_message (both table.now ports.old) request.caller id handed.entry.array handed.entry.length handed.entry.words.now.items) (both table.now ports.new) out.old out.new }
+    ensures step { IsMade
+        (meaning.write_sampling_message (both table.now ports.old)
+        request.caller id handed.entry.array handed.entry.length handed.entry.words.now.items)
+        (both table.now ports.new) out.old out.new }
     ensures grows { Grows 1 1 out.old out.new }
 {
     let service = Service::WriteSamplingMessage;
@@ -107,7 +114,11 @@ fn read(
     out: &mut Out,
 )
     requires { HasRoom 1 2 out.old }
-    ensures step { let x = placed_port ports.old place in IsMade (meaning.reads_sample request.moment.at (both table.now ports.old) request.caller array place x x.messages) (both table.now ports.new) out.old out.new }
+    ensures step { let x = placed_port ports.old place in
+        IsMade
+        (meaning.reads_sample request.moment.at (both table.now ports.old)
+        request.caller array place x x.messages)
+        (both table.now ports.new) out.old out.new }
     ensures grows { Grows 1 2 out.old out.new }
 {
     let service = Service::ReadSamplingMessage;
@@ -143,7 +154,10 @@ pub fn read_sampling_message(
     out: &mut Out,
 )
     requires room { HasRoom 1 2 out.old }
-    ensures step { IsMade (meaning.read_sampling_message request.moment.at (both table.now ports.old) request.caller id array) (both table.now ports.new) out.old out.new }
+    ensures step { IsMade
+        (meaning.read_sampling_message request.moment.at (both table.now ports.old)
+        request.caller id array)
+        (both table.now ports.new) out.old out.new }
     ensures grows { Grows 1 2 out.old out.new }
 {
     let service = Service::ReadSamplingMessage;
@@ -173,7 +187,9 @@ pub fn get_sampling_port_status(
     out: &mut Out,
 )
     requires { HasRoom 1 1 out.old }
-    ensures step { IsMade (meaning.get_sampling_port_status (both table.now ports.now) request.caller id) (both table.now ports.now) out.old out.new }
+    ensures step { IsMade
+        (meaning.get_sampling_port_status (both table.now ports.now) request.caller id)
+        (both table.now ports.now) out.old out.new }
     ensures grows { Grows 1 1 out.old out.new }
 {
     let service = Service::GetSamplingPortStatus;

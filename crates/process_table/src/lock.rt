@@ -64,7 +64,8 @@ fn unlocked(lock: Lock) -> Lock
 /// normal; INVALID_CONFIG: the level is 16.
 pub fn lock_preemption(table: &mut ProcessTable, request: Request, out: &mut Out)
     requires { HasRoom 1 1 out.old }
-    ensures step { IsMade (meaning.lock_preemption request.mode table.old request.caller) table.new out.old out.new }
+    ensures step { IsMade (meaning.lock_preemption request.mode table.old request.caller)
+        table.new out.old out.new }
     ensures grows { Grows 1 1 out.old out.new }
 {
     let service = Service::LockPreemption;
@@ -85,7 +86,8 @@ pub fn lock_preemption(table: &mut ProcessTable, request: Request, out: &mut Out
 /// level is 0.
 pub fn unlock_preemption(table: &mut ProcessTable, request: Request, out: &mut Out)
     requires { HasRoom 1 1 out.old }
-    ensures step { IsMade (meaning.unlock_preemption request.mode table.old request.caller) table.new out.old out.new }
+    ensures step { IsMade (meaning.unlock_preemption request.mode table.old request.caller)
+        table.new out.old out.new }
     ensures grows { Grows 1 1 out.old out.new }
 {
     let service = Service::UnlockPreemption;
@@ -102,7 +104,9 @@ pub fn unlock_preemption(table: &mut ProcessTable, request: Request, out: &mut O
 /// INVALID_MODE: the caller is INIT or the handler.
 pub fn get_my_id(table: &ProcessTable, request: Request, out: &mut Out)
     requires { HasRoom 1 1 out.old }
-    ensures step { IsTold (meaning.get_my_id table.now request.caller (meaning.number_of request.caller)) out.old out.new }
+    ensures step { IsTold
+        (meaning.get_my_id table.now request.caller (meaning.number_of request.caller))
+        out.old out.new }
     ensures grows { Grows 1 1 out.old out.new }
 {
     let service = Service::GetMyId;

@@ -65,7 +65,8 @@ pub fn get_process_status(table: &ProcessTable, request: Request, id: i64, out: 
 /// NO_ACTION: it exists.
 pub fn create_process(table: &mut ProcessTable, request: Request, name: i64, out: &mut Out)
     requires { HasRoom 1 1 out.old }
-    ensures step { IsMade (meaning.create_process request.mode table.old request.caller name) table.new out.old out.new }
+    ensures step { IsMade (meaning.create_process request.mode table.old request.caller name)
+        table.new out.old out.new }
     ensures grows { Grows 1 1 out.old out.new }
 {
     let service = Service::CreateProcess;
@@ -93,7 +94,8 @@ pub fn set_priority(
     out: &mut Out,
 )
     requires { HasRoom 1 1 out.old }
-    ensures step { IsMade (meaning.set_priority table.old request.caller id priority) table.new out.old out.new }
+    ensures step { IsMade (meaning.set_priority table.old request.caller id priority)
+        table.new out.old out.new }
     ensures grows { Grows 1 1 out.old out.new }
 {
     let service = Service::SetPriority;
@@ -151,7 +153,9 @@ pub fn stop_self(table: &mut ProcessTable, caller: Runner, out: &mut Out)
 /// number was created; NO_ACTION: it is not dormant.
 pub fn start(table: &mut ProcessTable, request: Request, points: Points, id: i64, out: &mut Out)
     requires room { HasRoom 2 2 out.old }
-    ensures step { IsMade (meaning.start request.mode points.moment.at points.next.0 table.old request.caller id) table.new out.old out.new }
+    ensures step { IsMade
+        (meaning.start request.mode points.moment.at points.next.0 table.old request.caller id)
+        table.new out.old out.new }
     ensures grows { Grows 2 2 out.old out.new }
 {
     let service = Service::Start;
@@ -191,7 +195,10 @@ pub fn delayed_start(
     out: &mut Out,
 )
     requires room { HasRoom 2 2 out.old }
-    ensures step { IsMade (meaning.delayed_start request.mode points.moment.at points.next.0 table.old request.caller id delay) table.new out.old out.new }
+    ensures step { IsMade
+        (meaning.delayed_start request.mode points.moment.at points.next.0 table.old
+        request.caller id delay)
+        table.new out.old out.new }
     ensures grows { Grows 2 2 out.old out.new }
 {
     let service = Service::DelayedStart;

@@ -28,7 +28,8 @@ fn is_periodic(found: &Option<Found>) -> bool
 /// wait, or is periodic; INVALID_PARAM: a time-out below -1 or above 2^40 ticks.
 pub fn suspend_self(table: &mut ProcessTable, request: Request, limit: i64, out: &mut Out)
     requires room { HasRoom 1 1 out.old }
-    ensures step { IsMade (meaning.suspend_self request.moment.at table.old request.caller limit) table.new out.old out.new }
+    ensures step { IsMade (meaning.suspend_self request.moment.at table.old request.caller limit)
+        table.new out.old out.new }
     ensures grows { Grows 1 1 out.old out.new }
 {
     let service = Service::SuspendSelf;

@@ -17,7 +17,8 @@ use process_table_base::{
 /// GET_TIME (ARINC 653 Part 1, time management): the current tick.
 pub fn get_time(table: &ProcessTable, request: Request, out: &mut Out)
     requires room { HasRoom 1 1 out.old }
-    ensures step { IsTold (meaning.get_time request.moment.at table.now request.caller) out.old out.new }
+    ensures step { IsTold (meaning.get_time request.moment.at table.now request.caller)
+        out.old out.new }
     ensures grows { Grows 1 1 out.old out.new }
 {
     let now = request.moment.at.now.0 as i64;
@@ -30,7 +31,8 @@ pub fn get_time(table: &ProcessTable, request: Request, out: &mut Out)
 /// INVALID_PARAM: a delay below 0 or above 2^40 ticks.
 pub fn timed_wait(table: &mut ProcessTable, request: Request, delay: i64, out: &mut Out)
     requires room { HasRoom 1 1 out.old }
-    ensures step { IsMade (meaning.timed_wait request.moment.at table.old request.caller delay) table.new out.old out.new }
+    ensures step { IsMade (meaning.timed_wait request.moment.at table.old request.caller delay)
+        table.new out.old out.new }
     ensures grows { Grows 1 1 out.old out.new }
 {
     let service = Service::TimedWait;
@@ -46,7 +48,8 @@ pub fn timed_wait(table: &mut ProcessTable, request: Request, delay: i64, out: &
 fn wait_for(table: &mut ProcessTable, request: Request, delay: i64, out: &mut Out)
     requires delay { is_delay delay ≡ true }
     requires room { HasRoom 1 1 out.old }
-    ensures step { IsMade (meaning.delays request.moment.at table.old request.caller delay) table.new out.old out.new }
+    ensures step { IsMade (meaning.delays request.moment.at table.old request.caller delay)
+        table.new out.old out.new }
     ensures grows { Grows 1 1 out.old out.new }
 {
     let service = Service::TimedWait;
@@ -74,7 +77,8 @@ fn wait_for(table: &mut ProcessTable, request: Request, delay: i64, out: &mut Ou
 /// after the last; it has kept its deadline. INVALID_MODE: the caller may not wait, or is aperiodic.
 pub fn periodic_wait(table: &mut ProcessTable, request: Request, out: &mut Out)
     requires { HasRoom 1 1 out.old }
-    ensures step { IsMade (meaning.periodic_wait table.old request.caller) table.new out.old out.new }
+    ensures step { IsMade (meaning.periodic_wait table.old request.caller)
+        table.new out.old out.new }
     ensures grows { Grows 1 1 out.old out.new }
 {
     let service = Service::PeriodicWait;
@@ -121,7 +125,9 @@ fn reaches_past(moment: Moment, budget: i64, found: &Found) -> bool
 /// new deadline of a periodic process is past its next release.
 pub fn replenish(table: &mut ProcessTable, request: Request, budget: i64, out: &mut Out)
     requires room { HasRoom 1 1 out.old }
-    ensures step { IsMade (meaning.replenish request.mode request.moment.at table.old request.caller budget) table.new out.old out.new }
+    ensures step { IsMade
+        (meaning.replenish request.mode request.moment.at table.old request.caller budget)
+        table.new out.old out.new }
     ensures grows { Grows 1 1 out.old out.new }
 {
     let service = Service::Replenish;

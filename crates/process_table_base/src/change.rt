@@ -26,8 +26,12 @@ pub fn answer(
 )
     requires outputs { length outputs.now ≤ 6 }
     requires room { HasRoom 1 1 out.old }
-    ensures lines { out.new.lines.items ≡ out.old.lines.items ++ EventKind.Return who service code ∷ [] }
-    ensures actions { out.new.actions.items ≡ out.old.actions.items ++ Action.Reply runner (message (pos (code_number code) ∷ outputs.now)) ∷ [] }
+    ensures lines { out.new.lines.items
+        ≡ out.old.lines.items ++ EventKind.Return who service code ∷ [] }
+    ensures actions { out.new.actions.items
+        ≡ out.old.actions.items
+        ++ Action.Reply runner (message (pos (code_number code) ∷ outputs.now))
+        ∷ [] }
 {
     out.lines.push(EventKind::Return(who, service, code));
     out.actions
@@ -37,8 +41,12 @@ pub fn answer(
 /// A service of someone is refused: its outputs are 0.
 pub fn refuse(runner: Runner, who: Subject, service: Service, code: ReturnCode, out: &mut Out)
     requires room { HasRoom 1 1 out.old }
-    ensures lines { out.new.lines.items ≡ out.old.lines.items ++ EventKind.Return who service code ∷ [] }
-    ensures actions { out.new.actions.items ≡ out.old.actions.items ++ Action.Reply runner (message (pos (code_number code) ∷ step.zeros service)) ∷ [] }
+    ensures lines { out.new.lines.items
+        ≡ out.old.lines.items ++ EventKind.Return who service code ∷ [] }
+    ensures actions { out.new.actions.items
+        ≡ out.old.actions.items
+        ++ Action.Reply runner (message (pos (code_number code) ∷ step.zeros service))
+        ∷ [] }
 {
     answer(runner, who, service, code, zeros(service), out);
 }
@@ -84,7 +92,8 @@ fn zeros_of_wait(wait: Wait) -> &'static [i64]
 /// The line of one that begins to wait; there is none where it waited before.
 fn tell_waiting(row: &ProcessStatus, out: &mut Out)
     requires { HasRoom 1 0 out.old }
-    ensures lines { out.new.lines.items ≡ out.old.lines.items ++ meaning.waiting_lines row.now.who row.now.state }
+    ensures lines { out.new.lines.items
+        ≡ out.old.lines.items ++ meaning.waiting_lines row.now.who row.now.state }
     ensures actions { out.new.actions.items ≡ out.old.actions.items }
     ensures grows { Grows 1 0 out.old out.new }
 {
@@ -147,7 +156,8 @@ impl ProcessTable {
         requires bounded { IsBounded row.now }
         requires reason { IsDelayed reason }
         requires room { HasRoom 1 0 out.old }
-        ensures step { IsMade (meaning.waits self.old runner row.now reason due) self.new out.old out.new }
+        ensures step { IsMade (meaning.waits self.old runner row.now reason due)
+            self.new out.old out.new }
         ensures grows { Grows 1 0 out.old out.new }
     {
         tell_waiting(row, out);
@@ -195,7 +205,8 @@ impl ProcessTable {
     )
         requires outputs { length outputs.now ≤ 6 }
         requires room { HasRoom 1 1 out.old }
-        ensures step { IsTold (meaning.answers_wait self.now runner row.now code outputs.now wait) out.old out.new }
+        ensures step { IsTold (meaning.answers_wait self.now runner row.now code outputs.now wait)
+            out.old out.new }
         ensures grows { Grows 1 1 out.old out.new }
     {
         match wait {
@@ -220,7 +231,8 @@ impl ProcessTable {
         requires bounded { IsBounded row.now }
         requires outputs { length outputs.now ≤ 6 }
         requires room { HasRoom 2 1 out.old }
-        ensures step { IsMade (meaning.released_with self.old runner row.now code outputs.now) self.new out.old out.new }
+        ensures step { IsMade (meaning.released_with self.old runner row.now code outputs.now)
+            self.new out.old out.new }
         ensures grows { Grows 2 1 out.old out.new }
     {
         self.answer_wait(runner, row, code, outputs, row.wait, out);
@@ -240,7 +252,8 @@ impl ProcessTable {
         requires runner { place_of runner < MOST_RUNNERS }
         requires bounded { IsBounded row.now }
         requires room { HasRoom 2 1 out.old }
-        ensures step { IsMade (meaning.released self.old runner row.now code) self.new out.old out.new }
+        ensures step { IsMade (meaning.released self.old runner row.now code)
+            self.new out.old out.new }
         ensures grows { Grows 2 1 out.old out.new }
     {
         self.release_with(runner, row, code, zeros_of_wait(row.wait), out);
@@ -257,7 +270,8 @@ impl ProcessTable {
     )
         requires outputs { length outputs.now ≤ 6 }
         requires room { HasRoom 1 1 out.old }
-        ensures step { IsTold (meaning.answers self.now runner service code outputs.now) out.old out.new }
+        ensures step { IsTold (meaning.answers self.now runner service code outputs.now)
+            out.old out.new }
         ensures grows { Grows 1 1 out.old out.new }
     {
         answer(runner, self.subject(runner), service, code, outputs, out);

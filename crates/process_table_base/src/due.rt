@@ -35,7 +35,8 @@ impl ProcessTable {
         requires bounded { IsBounded row.now }
         requires past { meaning.tick_of due ≤ MOST_TICKS }
         requires room { HasRoom 2 1 out.old }
-        ensures step { IsMade (meaning.ends_wait self.old runner row.now due) self.new out.old out.new }
+        ensures step { IsMade (meaning.ends_wait self.old runner row.now due)
+            self.new out.old out.new }
         ensures grows { Grows 2 1 out.old out.new }
     {
         match due {
@@ -51,7 +52,8 @@ impl ProcessTable {
         requires runner { place_of runner < MOST_RUNNERS }
         requires bounded { IsBounded row.now }
         requires room { HasRoom 2 1 out.old }
-        ensures step { IsMade (meaning.treats_due moment.at self.old runner row.now row.now.due) self.new out.old out.new }
+        ensures step { IsMade (meaning.treats_due moment.at self.old runner row.now row.now.due)
+            self.new out.old out.new }
         ensures grows { Grows 2 1 out.old out.new }
     {
         if let Some(due) = row.due {
@@ -73,7 +75,8 @@ impl ProcessTable {
     ) -> Treated
         requires bounded { IsBounded row.now }
         requires room { HasRoom 1 1 out.old }
-        ensures treated { IsTreated (meaning.misses free action self.old process row.now) self.new out.old out.new result }
+        ensures treated { IsTreated (meaning.misses free action self.old process row.now)
+            self.new out.old out.new result }
         ensures grows { Grows 1 1 out.old out.new }
     {
         let row_now = ProcessStatus {
@@ -112,7 +115,10 @@ impl ProcessTable {
         out: &mut Out,
     ) -> Treated
         requires { HasRoom 1 1 out.old }
-        ensures treated { IsTreated (meaning.treats_deadline moment.at free action self.old process (row_of self.old (Runner.Process process))) self.new out.old out.new result }
+        ensures treated { IsTreated
+            (meaning.treats_deadline moment.at free action self.old process
+            (row_of self.old (Runner.Process process)))
+            self.new out.old out.new result }
         ensures grows { Grows 1 1 out.old out.new }
     {
         if let Some(row) = self.row(Runner::Process(process)) {
@@ -133,7 +139,10 @@ impl ProcessTable {
         out: &mut Out,
     ) -> Treated
         requires room { HasRoom 3 2 out.old }
-        ensures treated { IsTreated (meaning.treats moment.at free action self.old process (row_of self.old (Runner.Process process))) self.new out.old out.new result }
+        ensures treated { IsTreated
+            (meaning.treats moment.at free action self.old process
+            (row_of self.old (Runner.Process process)))
+            self.new out.old out.new result }
         ensures grows { Grows 3 2 out.old out.new }
     {
         let runner = Runner::Process(process);
@@ -155,7 +164,8 @@ impl ProcessTable {
         out: &mut Out,
     ) -> Treated
         requires room { HasRoom LINES_TO_TREAT_DUE ACTIONS_TO_TREAT_DUE out.old }
-        ensures treated { IsTreated (meaning.due moment.at free action self.old) self.new out.old out.new result }
+        ensures treated { IsTreated (meaning.due moment.at free action self.old)
+            self.new out.old out.new result }
         ensures grows { Grows LINES_TO_TREAT_DUE ACTIONS_TO_TREAT_DUE out.old out.new }
     {
         let mut left = self.due_mask(moment.at.now);

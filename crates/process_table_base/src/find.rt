@@ -49,7 +49,8 @@ impl ProcessTable {
 
     /// The process of an entry of a list, with its record.
     pub fn numbered(&self, process: ProcessIndex) -> Option<Found>
-        ensures found { pair_of result ≡ meaning.numbered process (meaning.row_of self.now (Runner.Process process)) }
+        ensures found { pair_of result
+            ≡ meaning.numbered process (meaning.row_of self.now (Runner.Process process)) }
     {
         self.records.find(Runner::Process(process))
     }
@@ -69,7 +70,8 @@ impl ProcessTable {
 
     /// A process is created in its record.
     pub fn create(&mut self, found: &Found)
-        ensures { self.new ≡ meaning.put_row self.old found.now.runner (record found.now.row { created = true }) }
+        ensures { self.new
+            ≡ meaning.put_row self.old found.now.runner (record found.now.row { created = true }) }
     {
         let created = ProcessStatus {
             created: true,

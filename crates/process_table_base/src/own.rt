@@ -17,7 +17,9 @@ impl ProcessTable {
     /// It waits in a service, until its due time if it has one. There is no line where it waited before.
     pub fn wait(&mut self, found: &Found, service: Service, due: Option<Due>, out: &mut Out)
         requires { HasRoom 1 0 out.old }
-        ensures step { IsMade (meaning.waits self.old found.now.runner found.now.row (Wait.Service service) due) self.new out.old out.new }
+        ensures step { IsMade
+            (meaning.waits self.old found.now.runner found.now.row (Wait.Service service) due)
+            self.new out.old out.new }
         ensures grows { Grows 1 0 out.old out.new }
     {
         self.wait_as(found.runner, &found.row, Wait::Service(service), due, out);
@@ -27,8 +29,11 @@ impl ProcessTable {
     /// Those who wait on keep their order.
     pub fn release(&mut self, found: &Found, code: ReturnCode, out: &mut Out)
         requires { HasRoom 2 1 out.old }
-        ensures order { (disciplines : Key → Discipline) (number : ℕ → ℕ) (next : ℕ) → AreQueues disciplines number next self.old.queues → AreQueues disciplines number next self.new.queues }
-        ensures step { IsMade (meaning.released self.old found.now.runner found.now.row code) self.new out.old out.new }
+        ensures order { (disciplines : Key → Discipline) (number : ℕ → ℕ) (next : ℕ)
+            → AreQueues disciplines number next self.old.queues
+            → AreQueues disciplines number next self.new.queues }
+        ensures step { IsMade (meaning.released self.old found.now.runner found.now.row code)
+            self.new out.old out.new }
         ensures grows { Grows 2 1 out.old out.new }
     {
         self.release_as(found.runner, &found.row, code, out);
@@ -37,7 +42,8 @@ impl ProcessTable {
     /// It becomes ready and goes last. One that is suspended waits on until it is resumed.
     pub fn wake(&mut self, found: &Found, out: &mut Out)
         requires { HasRoom 1 0 out.old }
-        ensures step { IsMade (meaning.wakes self.old found.now.runner found.now.row) self.new out.old out.new }
+        ensures step { IsMade (meaning.wakes self.old found.now.runner found.now.row)
+            self.new out.old out.new }
         ensures grows { Grows 1 0 out.old out.new }
     {
         self.wake_as(found.runner, &found.row, out);
@@ -47,7 +53,8 @@ impl ProcessTable {
     /// the lock is free if it held it.
     pub fn rest(&mut self, found: &Found, out: &mut Out)
         requires { HasRoom 1 1 out.old }
-        ensures step { IsMade (meaning.rests self.old found.now.runner found.now.row) self.new out.old out.new }
+        ensures step { IsMade (meaning.rests self.old found.now.runner found.now.row)
+            self.new out.old out.new }
         ensures grows { Grows 1 1 out.old out.new }
     {
         self.rest_as(found.runner, &found.row, out);
@@ -57,7 +64,8 @@ impl ProcessTable {
     /// it is ready.
     pub fn give(&mut self, found: &Found, message: Words, out: &mut Out)
         requires { HasRoom 2 2 out.old }
-        ensures step { IsMade (gives self.old found.now.runner found.now.row message) self.new out.old out.new }
+        ensures step { IsMade (gives self.old found.now.runner found.now.row message)
+            self.new out.old out.new }
         ensures grows { Grows 2 2 out.old out.new }
     {
         self.give_as(found.runner, &found.row, message, out);

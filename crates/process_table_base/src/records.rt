@@ -81,7 +81,8 @@ fn fresh_row(
 
 /// INIT, the handler and the processes, none of them created.
 fn fresh_rows(alloc: Global, processes: &[ProcessRow]) -> Result<Vec<ProcessStatus>, AllocError>
-    ensures { IfOk result (λ rows. rows.items ≡ init_row ∷ handler_row ∷ map machine_row processes.now) }
+    ensures { IfOk result
+        (λ rows. rows.items ≡ init_row ∷ handler_row ∷ map machine_row processes.now) }
 {
     let mut rows = Vec::with_capacity(alloc, processes.len())?;
     rows.push(fresh_row(Subject::Init, Priority(0), None, None))?;
@@ -106,7 +107,9 @@ impl Records {
     /// No process is created. An error is one of memory.
     #[tactic(auto, using(crate::proofs::Bounds::bounds))]
     pub(crate) fn new(alloc: Global, processes: ProcessRows<'_>) -> Result<Records, AllocError>
-        ensures { IfOk result (λ records. records ≡ init_row ∷ handler_row ∷ map machine_row processes.entry.rows.now) }
+        ensures { IfOk result
+            (λ records.
+            records ≡ init_row ∷ handler_row ∷ map machine_row processes.entry.rows.now) }
     {
         Ok(Records {
             rows: fresh_rows(alloc, processes.rows)?,
@@ -158,7 +161,8 @@ impl Records {
 
     /// Another state in the record of a runner, where there is one.
     pub(crate) fn set_state(&mut self, runner: Runner, state: ProcessState)
-        ensures { self.new ≡ put_state state (place_of runner) (slice_get self.old (place_of runner)) self.old }
+        ensures { self.new
+            ≡ put_state state (place_of runner) (slice_get self.old (place_of runner)) self.old }
     {
         set_state_at(&mut self.rows, runner.place(), state);
     }
@@ -229,7 +233,8 @@ fn record_at(rows: &[ProcessStatus], place: usize) -> Option<ProcessStatus>
 
 /// Another state in the record at a place, where there is one.
 fn set_state_at(rows: &mut Vec<ProcessStatus>, place: usize, state: ProcessState)
-    ensures { rows.new.items ≡ put_state state place (slice_get rows.old.items place) rows.old.items }
+    ensures { rows.new.items
+        ≡ put_state state place (slice_get rows.old.items place) rows.old.items }
 {
     if let Some(row) = rows.get_mut(place) {
         row.state = state;

@@ -19,7 +19,8 @@ use apex_types::{
 impl ProcessTable {
     /// Another current priority. A ready process goes last among those that have it.
     pub fn take_priority(&mut self, found: &Found, priority: Priority)
-        ensures { self.new ≡ (meaning.takes_priority self.old priority found.now.runner found.now.row).part }
+        ensures { self.new
+            ≡ (meaning.takes_priority self.old priority found.now.runner found.now.row).part }
     {
         let raised = ProcessStatus {
             current_priority: priority,
@@ -34,7 +35,8 @@ impl ProcessTable {
     /// A process waits for what it waited for, and until it is resumed.
     pub fn suspend(&mut self, found: &Found, out: &mut Out)
         requires { HasRoom 1 0 out.old }
-        ensures step { IsMade (meaning.suspends self.old found.now.runner found.now.row) self.new out.old out.new }
+        ensures step { IsMade (meaning.suspends self.old found.now.runner found.now.row)
+            self.new out.old out.new }
         ensures grows { Grows 1 0 out.old out.new }
     {
         let suspended = ProcessStatus {
@@ -48,7 +50,9 @@ impl ProcessTable {
     pub fn suspend_self(&mut self, moment: Moment, found: &Found, limit: i64, out: &mut Out)
         requires limit { is_duration limit ≡ true }
         requires room { HasRoom 1 0 out.old }
-        ensures step { IsMade (meaning.suspends_self moment.at self.old found.now.runner limit (Some found.now.row)) self.new out.old out.new }
+        ensures step { IsMade
+            (meaning.suspends_self moment.at self.old found.now.runner limit (Some found.now.row))
+            self.new out.old out.new }
         ensures grows { Grows 1 0 out.old out.new }
     {
         let suspended = ProcessStatus {
@@ -64,7 +68,8 @@ impl ProcessTable {
     /// ready.
     pub fn resume(&mut self, found: &Found, out: &mut Out)
         requires { HasRoom 2 1 out.old }
-        ensures step { IsMade (meaning.resumes self.old found.now.runner found.now.row) self.new out.old out.new }
+        ensures step { IsMade (meaning.resumes self.old found.now.runner found.now.row)
+            self.new out.old out.new }
         ensures grows { Grows 2 1 out.old out.new }
     {
         let runner = found.runner;
@@ -86,7 +91,9 @@ impl ProcessTable {
     #[tactic(auto, using(crate::proofs::Bounds::bounds))]
     pub fn wait_for_period(&mut self, found: &Found, out: &mut Out)
         requires room { HasRoom 1 0 out.old }
-        ensures step { IsMade (meaning.waits_for_period self.old found.now.runner found.now.row found.now.row.period) self.new out.old out.new }
+        ensures step { IsMade
+            (meaning.waits_for_period self.old found.now.runner found.now.row found.now.row.period)
+            self.new out.old out.new }
         ensures grows { Grows 1 0 out.old out.new }
     {
         if let Some(period) = found.row.period {
@@ -104,7 +111,8 @@ impl ProcessTable {
     #[tactic(auto, using(crate::proofs::Bounds::bounds))]
     pub fn set_deadline(&mut self, found: &Found, deadline: Option<Ticks>)
         requires { IsAtMost LATEST_RELEASE_POINT deadline }
-        ensures { self.new ≡ put_row self.old found.now.runner (record found.now.row { deadline = deadline }) }
+        ensures { self.new
+            ≡ put_row self.old found.now.runner (record found.now.row { deadline = deadline }) }
     {
         let row = ProcessStatus {
             deadline,

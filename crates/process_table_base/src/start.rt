@@ -57,7 +57,10 @@ impl ProcessTable {
     pub fn start(&mut self, mode: Mode, points: Points, found: &Found, delay: Ticks, out: &mut Out)
         requires delay { delay.0 ≤ MOST_TICKS }
         requires room { HasRoom 1 1 out.old }
-        ensures step { IsMade (meaning.starts mode points.moment.at points.next.0 self.old found.now.runner delay found.now.row) self.new out.old out.new }
+        ensures step { IsMade
+            (meaning.starts mode points.moment.at points.next.0 self.old found.now.runner
+            delay found.now.row)
+            self.new out.old out.new }
         ensures grows { Grows 1 1 out.old out.new }
     {
         let process = found.runner;
@@ -76,7 +79,8 @@ impl ProcessTable {
     fn wait_for_release(&mut self, process: Runner, row: &ProcessStatus, tick: Ticks, out: &mut Out)
         requires bounded { IsBounded row.now }
         requires room { HasRoom 1 0 out.old }
-        ensures step { IsMade (meaning.waits_for_release self.old process row.now tick.0) self.new out.old out.new }
+        ensures step { IsMade (meaning.waits_for_release self.old process row.now tick.0)
+            self.new out.old out.new }
         ensures grows { Grows 1 0 out.old out.new }
     {
         self.wait_as(
@@ -102,7 +106,9 @@ impl ProcessTable {
         requires process { place_of process < MOST_RUNNERS }
         requires bounded { IsBounded row.now }
         requires room { HasRoom 1 0 out.old }
-        ensures step { IsMade (meaning.starts_in_normal points.moment.at points.next.0 self.old process delay row.now) self.new out.old out.new }
+        ensures step { IsMade
+            (meaning.starts_in_normal points.moment.at points.next.0 self.old process delay row.now)
+            self.new out.old out.new }
         ensures grows { Grows 1 0 out.old out.new }
     {
         let now = points.moment.at.now;
@@ -118,7 +124,10 @@ impl ProcessTable {
     /// A process that was started before normal mode takes the normal case of its start.
     fn start_waiting(&mut self, points: Points, process: Runner, out: &mut Out)
         requires room { HasRoom 1 0 out.old }
-        ensures step { IsMade (meaning.starts_waiting points.moment.at points.next.0 self.old process (row_of self.old process)) self.new out.old out.new }
+        ensures step { IsMade
+            (meaning.starts_waiting points.moment.at points.next.0 self.old process
+            (row_of self.old process))
+            self.new out.old out.new }
         ensures grows { Grows 1 0 out.old out.new }
     {
         if let Some(row) = self.row(process) {
@@ -132,7 +141,8 @@ impl ProcessTable {
     /// number order.
     pub fn start_all_waiting(&mut self, points: Points, out: &mut Out)
         requires room { HasRoom MOST_PROCESSES 0 out.old }
-        ensures step { IsMade (meaning.start_all_waiting points.moment.at points.next.0 self.old) self.new out.old out.new }
+        ensures step { IsMade (meaning.start_all_waiting points.moment.at points.next.0 self.old)
+            self.new out.old out.new }
         ensures grows { Grows MOST_PROCESSES 0 out.old out.new }
     {
         let mut left = self.count().saturating_sub(2);

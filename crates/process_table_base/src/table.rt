@@ -47,7 +47,8 @@ impl Model for ProcessTable {
 
 /// No process has handed in a message.
 fn no_messages(alloc: Global, processes: &[ProcessRow]) -> Result<Vec<Words>, AllocError>
-    ensures { IfOk result (λ handed. handed.items ≡ map no_message (map machine_row processes.now)) }
+    ensures { IfOk result
+        (λ handed. handed.items ≡ map no_message (map machine_row processes.now)) }
 {
     let mut handed = Vec::with_capacity(alloc, processes.len())?;
     for _ in processes {
@@ -59,7 +60,8 @@ fn no_messages(alloc: Global, processes: &[ProcessRow]) -> Result<Vec<Words>, Al
 impl ProcessTable {
     /// No process is created, and none runs or waits. An error is one of memory.
     pub fn new(alloc: Global, processes: ProcessRows<'_>) -> Result<ProcessTable, AllocError>
-        ensures { IfOk result (λ table. table ≡ fresh_processes (map machine_row processes.entry.rows.now)) }
+        ensures { IfOk result
+            (λ table. table ≡ fresh_processes (map machine_row processes.entry.rows.now)) }
     {
         Ok(ProcessTable {
             records: Records::new(alloc, processes)?,
@@ -168,7 +170,11 @@ impl ProcessTable {
 
     /// Another state in the record of a runner, where there is one. Its place in every list stays.
     pub(crate) fn set_state(&mut self, runner: Runner, state: ProcessState)
-        ensures { self.new ≡ record self.old { rows = put_state state (place_of runner) (meaning.row_of self.old runner) self.old.rows } }
+        ensures { self.new
+            ≡ record self.old {
+              rows = put_state state (place_of runner) (meaning.row_of self.old runner)
+                  self.old.rows;
+            } }
     {
         self.records.set_state(runner, state);
     }

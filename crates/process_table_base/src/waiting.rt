@@ -40,7 +40,8 @@ fn put_message(handed: &mut Vec<Words>, process: ProcessIndex, message: Words)
 pub fn fill(array: Option<ArrayPlace>, message: Words, out: &mut Out)
     requires { HasRoom 0 1 out.old }
     ensures lines { out.new.lines.items ≡ out.old.lines.items }
-    ensures actions { out.new.actions.items ≡ out.old.actions.items ++ meaning.writes array message }
+    ensures actions { out.new.actions.items
+        ≡ out.old.actions.items ++ meaning.writes array message }
     ensures grows { Grows 0 1 out.old out.new }
 {
     if let Some(array) = array {
@@ -64,7 +65,10 @@ impl ProcessTable {
     /// with the least number.
     pub fn first_waiting(&self, list: ListKey) -> Option<Found>
         ensures found { pair_of result ≡ meaning.first_waiting self.now list }
-        ensures least { (disciplines : Key → Discipline) (number : ℕ → ℕ) (next : ℕ) → AreQueues disciplines number next self.now.queues → IfSome (pair_of result) (λ found. IsLeast (disciplines list) number (list_at self.now.queues list) found.0) }
+        ensures least { (disciplines : Key → Discipline) (number : ℕ → ℕ) (next : ℕ)
+            → AreQueues disciplines number next self.now.queues
+            → IfSome (pair_of result)
+            (λ found. IsLeast (disciplines list) number (list_at self.now.queues list) found.0) }
     {
         match self.queues.first(list) {
             Some(entry) => self.numbered(entry.process),
@@ -132,7 +136,9 @@ impl ProcessTable {
     )
         requires limit { is_duration limit ≡ true }
         requires room { HasRoom 1 1 out.old }
-        ensures step { IsMade (meaning.blocks request.moment.at self.old request.caller limit waiting message) self.new out.old out.new }
+        ensures step { IsMade
+            (meaning.blocks request.moment.at self.old request.caller limit waiting message)
+            self.new out.old out.new }
         ensures grows { Grows 1 1 out.old out.new }
     {
         let service = waiting.service;
@@ -157,7 +163,10 @@ impl ProcessTable {
     /// Releases one that is found.
     fn release_found(&mut self, process: ProcessIndex, out: &mut Out)
         requires { HasRoom 2 1 out.old }
-        ensures step { IsMade (meaning.releases_found self.old (processes.numbered process (processes.row_of self.old (Runner.Process process)))) self.new out.old out.new }
+        ensures step { IsMade
+            (meaning.releases_found self.old
+            (processes.numbered process (processes.row_of self.old (Runner.Process process))))
+            self.new out.old out.new }
         ensures grows { Grows 2 1 out.old out.new }
     {
         if let Some(found) = self.numbered(process) {
@@ -180,7 +189,8 @@ impl ProcessTable {
     /// Releases all who wait in a list, in its order.
     pub fn release_all(&mut self, list: ListKey, out: &mut Out)
         requires { HasRoom LINES_TO_RELEASE_ALL ACTIONS_TO_RELEASE_ALL out.old }
-        ensures step { IsMade (meaning.releases_all (meaning.waiting self.old list) self.old) self.new out.old out.new }
+        ensures step { IsMade (meaning.releases_all (meaning.waiting self.old list) self.old)
+            self.new out.old out.new }
         ensures grows { Grows LINES_TO_RELEASE_ALL ACTIONS_TO_RELEASE_ALL out.old out.new }
     {
         let entries = self.waiting(list);
@@ -199,7 +209,8 @@ impl ProcessTable {
         requires runner { place_of runner < MOST_RUNNERS }
         requires bounded { IsBounded row.now }
         requires room { HasRoom 2 2 out.old }
-        ensures step { IsMade (meaning.gives self.old runner row.now message) self.new out.old out.new }
+        ensures step { IsMade (meaning.gives self.old runner row.now message)
+            self.new out.old out.new }
         ensures grows { Grows 2 2 out.old out.new }
     {
         let length = message.len() as i64;
@@ -210,7 +221,11 @@ impl ProcessTable {
     /// Gives a message to one that is found.
     fn give_found(&mut self, process: ProcessIndex, message: &Words, out: &mut Out)
         requires { HasRoom 2 2 out.old }
-        ensures step { IsMade (meaning.gives_found self.old (processes.numbered process (processes.row_of self.old (Runner.Process process))) message.now) self.new out.old out.new }
+        ensures step { IsMade
+            (meaning.gives_found self.old
+            (processes.numbered process (processes.row_of self.old (Runner.Process process)))
+            message.now)
+            self.new out.old out.new }
         ensures grows { Grows 2 2 out.old out.new }
     {
         if let Some(found) = self.numbered(process) {
@@ -221,7 +236,8 @@ impl ProcessTable {
     /// Gives a message to each of these in turn.
     fn give_each(&mut self, entries: &[Entry], message: &Words, out: &mut Out)
         requires { HasRoom (2 * length entries.now) (2 * length entries.now) out.old }
-        ensures step { IsMade (meaning.gives_all entries.now message.now self.old) self.new out.old out.new }
+        ensures step { IsMade (meaning.gives_all entries.now message.now self.old)
+            self.new out.old out.new }
         ensures grows { Grows (2 * length entries.now) (2 * length entries.now) out.old out.new }
     {
         if let Some((entry, rest)) = entries.split_first() {
@@ -233,7 +249,9 @@ impl ProcessTable {
     /// Gives a message to all who wait in a list, in its order.
     pub fn give_all(&mut self, list: ListKey, message: &Words, out: &mut Out)
         requires { HasRoom LINES_TO_GIVE_ALL ACTIONS_TO_GIVE_ALL out.old }
-        ensures step { IsMade (meaning.gives_all (meaning.waiting self.old list) message.now self.old) self.new out.old out.new }
+        ensures step { IsMade
+            (meaning.gives_all (meaning.waiting self.old list) message.now self.old)
+            self.new out.old out.new }
         ensures grows { Grows LINES_TO_GIVE_ALL ACTIONS_TO_GIVE_ALL out.old out.new }
     {
         let entries = self.waiting(list);

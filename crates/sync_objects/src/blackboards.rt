@@ -32,7 +32,9 @@ pub fn create_blackboard(
     out: &mut Out,
 )
     requires { HasRoom 1 1 out.old }
-    ensures step { IsMade (meaning.create_blackboard request.mode (both table.now objects.old) request.caller name) (both table.now objects.new) out.old out.new }
+    ensures step { IsMade
+        (meaning.create_blackboard request.mode (both table.now objects.old) request.caller name)
+        (both table.now objects.new) out.old out.new }
     ensures grows { Grows 1 1 out.old out.new }
 {
     let service = Service::CreateBlackboard;
@@ -59,7 +61,9 @@ pub fn get_blackboard_id(
     out: &mut Out,
 )
     requires { HasRoom 1 1 out.old }
-    ensures step { IsMade (meaning.get_blackboard_id (both table.now objects.now) request.caller name) (both table.now objects.now) out.old out.new }
+    ensures step { IsMade
+        (meaning.get_blackboard_id (both table.now objects.now) request.caller name)
+        (both table.now objects.now) out.old out.new }
     ensures grows { Grows 1 1 out.old out.new }
 {
     let service = Service::GetBlackboardId;
@@ -83,7 +87,11 @@ fn display(
 )
     requires place { place < MOST_OBJECTS }
     requires room { HasRoom (1 + LINES_TO_GIVE_ALL) (1 + ACTIONS_TO_GIVE_ALL) out.old }
-    ensures step { let b = both table.old objects.old in IsMade (after (answers b request.caller Service.DisplayBlackboard ReturnCode.NoError []) (meaning.displays b message place (blackboard_at objects.old place))) (both table.new objects.new) out.old out.new }
+    ensures step { let b = both table.old objects.old in
+        IsMade
+        (after (answers b request.caller Service.DisplayBlackboard ReturnCode.NoError [])
+        (meaning.displays b message place (blackboard_at objects.old place)))
+        (both table.new objects.new) out.old out.new }
     ensures grows { Grows (1 + LINES_TO_GIVE_ALL) (1 + ACTIONS_TO_GIVE_ALL) out.old out.new }
 {
     let service = Service::DisplayBlackboard;
@@ -105,7 +113,10 @@ pub fn display_blackboard(
     out: &mut Out,
 )
     requires { HasRoom (1 + LINES_TO_GIVE_ALL) (1 + ACTIONS_TO_GIVE_ALL) out.old }
-    ensures step { IsMade (meaning.display_blackboard (both table.old objects.old) request.caller id handed.entry.array handed.entry.length handed.entry.words.now.items) (both table.new objects.new) out.old out.new }
+    ensures step { IsMade
+        (meaning.display_blackboard (both table.old objects.old)
+        request.caller id handed.entry.array handed.entry.length handed.entry.words.now.items)
+        (both table.new objects.new) out.old out.new }
     ensures grows { Grows (1 + LINES_TO_GIVE_ALL) (1 + ACTIONS_TO_GIVE_ALL) out.old out.new }
 {
     let service = Service::DisplayBlackboard;
@@ -129,7 +140,8 @@ pub fn clear_blackboard(
     out: &mut Out,
 )
     requires { HasRoom 1 1 out.old }
-    ensures step { IsMade (meaning.clear_blackboard (both table.now objects.old) request.caller id) (both table.now objects.new) out.old out.new }
+    ensures step { IsMade (meaning.clear_blackboard (both table.now objects.old) request.caller id)
+        (both table.now objects.new) out.old out.new }
     ensures grows { Grows 1 1 out.old out.new }
 {
     let service = Service::ClearBlackboard;
@@ -155,7 +167,10 @@ fn read(
     requires limit { durations.is_duration limit ≡ true }
     requires place { place < MOST_OBJECTS }
     requires room { HasRoom 1 2 out.old }
-    ensures step { IsMade (meaning.reads request.moment.at (both table.old objects.now) request.caller array limit place (blackboard_at objects.now place).shown) (both table.new objects.now) out.old out.new }
+    ensures step { IsMade
+        (meaning.reads request.moment.at (both table.old objects.now)
+        request.caller array limit place (blackboard_at objects.now place).shown)
+        (both table.new objects.now) out.old out.new }
     ensures grows { Grows 1 2 out.old out.new }
 {
     let service = Service::ReadBlackboard;
@@ -190,7 +205,10 @@ pub fn read_blackboard(
     out: &mut Out,
 )
     requires room { HasRoom 1 2 out.old }
-    ensures step { IsMade (meaning.read_blackboard request.moment.at (both table.old objects.now) request.caller id array limit) (both table.new objects.now) out.old out.new }
+    ensures step { IsMade
+        (meaning.read_blackboard request.moment.at (both table.old objects.now)
+        request.caller id array limit)
+        (both table.new objects.now) out.old out.new }
     ensures grows { Grows 1 2 out.old out.new }
 {
     let service = Service::ReadBlackboard;
@@ -223,7 +241,9 @@ pub fn get_blackboard_status(
     out: &mut Out,
 )
     requires { HasRoom 1 1 out.old }
-    ensures step { IsMade (meaning.get_blackboard_status (both table.now objects.now) request.caller id) (both table.now objects.now) out.old out.new }
+    ensures step { IsMade
+        (meaning.get_blackboard_status (both table.now objects.now) request.caller id)
+        (both table.now objects.now) out.old out.new }
     ensures grows { Grows 1 1 out.old out.new }
 {
     let service = Service::GetBlackboardStatus;

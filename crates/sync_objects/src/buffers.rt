@@ -30,7 +30,9 @@ pub fn create_buffer(
     out: &mut Out,
 )
     requires { HasRoom 1 1 out.old }
-    ensures step { IsMade (meaning.create_buffer request.mode (both table.now objects.old) request.caller name) (both table.now objects.new) out.old out.new }
+    ensures step { IsMade
+        (meaning.create_buffer request.mode (both table.now objects.old) request.caller name)
+        (both table.now objects.new) out.old out.new }
     ensures grows { Grows 1 1 out.old out.new }
 {
     let service = Service::CreateBuffer;
@@ -57,7 +59,8 @@ pub fn get_buffer_id(
     out: &mut Out,
 )
     requires { HasRoom 1 1 out.old }
-    ensures step { IsMade (meaning.get_buffer_id (both table.now objects.now) request.caller name) (both table.now objects.now) out.old out.new }
+    ensures step { IsMade (meaning.get_buffer_id (both table.now objects.now) request.caller name)
+        (both table.now objects.now) out.old out.new }
     ensures grows { Grows 1 1 out.old out.new }
 {
     let service = Service::GetBufferId;
@@ -85,7 +88,10 @@ fn send(
     requires place { place < MOST_OBJECTS }
     requires status { buffer ≡ buffer_status (buffer_at objects.old place) }
     requires room { HasRoom 3 3 out.old }
-    ensures step { IsMade (meaning.sends request.moment.at (both table.old objects.old) request.caller limit message place (buffer_at objects.old place)) (both table.new objects.new) out.old out.new }
+    ensures step { IsMade
+        (meaning.sends request.moment.at (both table.old objects.old)
+        request.caller limit message place (buffer_at objects.old place))
+        (both table.new objects.new) out.old out.new }
     ensures grows { Grows 3 3 out.old out.new }
 {
     let service = Service::SendBuffer;
@@ -122,7 +128,11 @@ pub fn send_buffer(
     out: &mut Out,
 )
     requires room { HasRoom 3 3 out.old }
-    ensures step { IsMade (meaning.send_buffer request.moment.at (both table.old objects.old) request.caller id handed.entry.array handed.entry.length limit handed.entry.words.now.items) (both table.new objects.new) out.old out.new }
+    ensures step { IsMade
+        (meaning.send_buffer request.moment.at (both table.old objects.old)
+        request.caller id handed.entry.array handed.entry.length limit
+        handed.entry.words.now.items)
+        (both table.new objects.new) out.old out.new }
     ensures grows { Grows 3 3 out.old out.new }
 {
     let service = Service::SendBuffer;
@@ -144,7 +154,10 @@ fn admit(table: &mut ProcessTable, objects: &mut Objects, place: u8, out: &mut O
     requires place { place < MOST_OBJECTS }
     requires free { let x = buffer_at objects.old place in length x.messages < x.row.depth }
     requires room { HasRoom 2 1 out.old }
-    ensures step { IsMade (meaning.admits (both table.old objects.old) place (buffer_at objects.old place) (first_waiting table.old (meaning.list place))) (both table.new objects.new) out.old out.new }
+    ensures step { IsMade
+        (meaning.admits (both table.old objects.old) place (buffer_at objects.old place)
+        (first_waiting table.old (meaning.list place)))
+        (both table.new objects.new) out.old out.new }
     ensures grows { Grows 2 1 out.old out.new }
 {
     if let Some(sender) = table.first_waiting(ListKey::Buffer(place)) {
@@ -166,7 +179,10 @@ fn deliver(
     requires place { place < MOST_OBJECTS }
     requires free { let x = buffer_at objects.old place in length x.messages < x.row.depth }
     requires room { HasRoom 3 3 out.old }
-    ensures step { IsMade (delivers (both table.old objects.old) request.caller array place (buffer_at objects.old place) message) (both table.new objects.new) out.old out.new }
+    ensures step { IsMade
+        (delivers (both table.old objects.old) request.caller array place
+        (buffer_at objects.old place) message)
+        (both table.new objects.new) out.old out.new }
     ensures grows { Grows 3 3 out.old out.new }
 {
     let service = Service::ReceiveBuffer;
@@ -192,7 +208,11 @@ fn receive(
     requires place { place < MOST_OBJECTS }
     requires discipline { discipline ≡ (buffer_at objects.old place).row.discipline }
     requires room { HasRoom 3 3 out.old }
-    ensures step { let x = buffer_at objects.old place in IsMade (meaning.receives request.moment.at (both table.old objects.old) request.caller array limit place x x.messages) (both table.new objects.new) out.old out.new }
+    ensures step { let x = buffer_at objects.old place in
+        IsMade
+        (meaning.receives request.moment.at (both table.old objects.old)
+        request.caller array limit place x x.messages)
+        (both table.new objects.new) out.old out.new }
     ensures grows { Grows 3 3 out.old out.new }
 {
     if let Some(message) = objects.pop_message(place) {
@@ -223,7 +243,10 @@ pub fn receive_buffer(
     out: &mut Out,
 )
     requires room { HasRoom 3 3 out.old }
-    ensures step { IsMade (meaning.receive_buffer request.moment.at (both table.old objects.old) request.caller id array limit) (both table.new objects.new) out.old out.new }
+    ensures step { IsMade
+        (meaning.receive_buffer request.moment.at (both table.old objects.old)
+        request.caller id array limit)
+        (both table.new objects.new) out.old out.new }
     ensures grows { Grows 3 3 out.old out.new }
 {
     let service = Service::ReceiveBuffer;
@@ -251,7 +274,8 @@ pub fn get_buffer_status(
     out: &mut Out,
 )
     requires { HasRoom 1 1 out.old }
-    ensures step { IsMade (meaning.get_buffer_status (both table.now objects.now) request.caller id) (both table.now objects.now) out.old out.new }
+    ensures step { IsMade (meaning.get_buffer_status (both table.now objects.now) request.caller id)
+        (both table.now objects.now) out.old out.new }
     ensures grows { Grows 1 1 out.old out.new }
 {
     let service = Service::GetBufferStatus;

@@ -22,7 +22,9 @@ pub fn create_event(
     out: &mut Out,
 )
     requires { HasRoom 1 1 out.old }
-    ensures step { IsMade (meaning.create_event request.mode (both table.now objects.old) request.caller name) (both table.now objects.new) out.old out.new }
+    ensures step { IsMade
+        (meaning.create_event request.mode (both table.now objects.old) request.caller name)
+        (both table.now objects.new) out.old out.new }
     ensures grows { Grows 1 1 out.old out.new }
 {
     let service = Service::CreateEvent;
@@ -49,7 +51,8 @@ pub fn get_event_id(
     out: &mut Out,
 )
     requires { HasRoom 1 1 out.old }
-    ensures step { IsMade (meaning.get_event_id (both table.now objects.now) request.caller name) (both table.now objects.now) out.old out.new }
+    ensures step { IsMade (meaning.get_event_id (both table.now objects.now) request.caller name)
+        (both table.now objects.now) out.old out.new }
     ensures grows { Grows 1 1 out.old out.new }
 {
     let service = Service::GetEventId;
@@ -71,7 +74,8 @@ pub fn set_event(
     out: &mut Out,
 )
     requires { HasRoom (1 + LINES_TO_RELEASE_ALL) (1 + ACTIONS_TO_RELEASE_ALL) out.old }
-    ensures step { IsMade (meaning.set_event (both table.old objects.old) request.caller id) (both table.new objects.new) out.old out.new }
+    ensures step { IsMade (meaning.set_event (both table.old objects.old) request.caller id)
+        (both table.new objects.new) out.old out.new }
     ensures grows { Grows (1 + LINES_TO_RELEASE_ALL) (1 + ACTIONS_TO_RELEASE_ALL) out.old out.new }
 {
     let service = Service::SetEvent;
@@ -95,7 +99,8 @@ pub fn reset_event(
     out: &mut Out,
 )
     requires { HasRoom 1 1 out.old }
-    ensures step { IsMade (meaning.reset_event (both table.now objects.old) request.caller id) (both table.now objects.new) out.old out.new }
+    ensures step { IsMade (meaning.reset_event (both table.now objects.old) request.caller id)
+        (both table.now objects.new) out.old out.new }
     ensures grows { Grows 1 1 out.old out.new }
 {
     let service = Service::ResetEvent;
@@ -121,7 +126,9 @@ pub fn wait_event(
     out: &mut Out,
 )
     requires room { HasRoom 1 1 out.old }
-    ensures step { IsMade (meaning.wait_event request.moment.at (both table.old objects.now) request.caller id limit) (both table.new objects.now) out.old out.new }
+    ensures step { IsMade
+        (meaning.wait_event request.moment.at (both table.old objects.now) request.caller id limit)
+        (both table.new objects.now) out.old out.new }
     ensures grows { Grows 1 1 out.old out.new }
 {
     let service = Service::WaitEvent;
@@ -160,7 +167,8 @@ pub fn get_event_status(
     out: &mut Out,
 )
     requires { HasRoom 1 1 out.old }
-    ensures step { IsMade (meaning.get_event_status (both table.now objects.now) request.caller id) (both table.now objects.now) out.old out.new }
+    ensures step { IsMade (meaning.get_event_status (both table.now objects.now) request.caller id)
+        (both table.now objects.now) out.old out.new }
     ensures grows { Grows 1 1 out.old out.new }
 {
     let service = Service::GetEventStatus;

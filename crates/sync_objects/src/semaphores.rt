@@ -21,7 +21,9 @@ pub fn create_semaphore(
     out: &mut Out,
 )
     requires { HasRoom 1 1 out.old }
-    ensures step { IsMade (meaning.create_semaphore request.mode (both table.now objects.old) request.caller name) (both table.now objects.new) out.old out.new }
+    ensures step { IsMade
+        (meaning.create_semaphore request.mode (both table.now objects.old) request.caller name)
+        (both table.now objects.new) out.old out.new }
     ensures grows { Grows 1 1 out.old out.new }
 {
     let service = Service::CreateSemaphore;
@@ -48,7 +50,9 @@ pub fn get_semaphore_id(
     out: &mut Out,
 )
     requires { HasRoom 1 1 out.old }
-    ensures step { IsMade (meaning.get_semaphore_id (both table.now objects.now) request.caller name) (both table.now objects.now) out.old out.new }
+    ensures step { IsMade
+        (meaning.get_semaphore_id (both table.now objects.now) request.caller name)
+        (both table.now objects.now) out.old out.new }
     ensures grows { Grows 1 1 out.old out.new }
 {
     let service = Service::GetSemaphoreId;
@@ -74,7 +78,10 @@ pub fn wait_semaphore(
     out: &mut Out,
 )
     requires room { HasRoom 1 1 out.old }
-    ensures step { IsMade (meaning.wait_semaphore request.moment.at (both table.old objects.old) request.caller id limit) (both table.new objects.new) out.old out.new }
+    ensures step { IsMade
+        (meaning.wait_semaphore request.moment.at (both table.old objects.old)
+        request.caller id limit)
+        (both table.new objects.new) out.old out.new }
     ensures grows { Grows 1 1 out.old out.new }
 {
     let service = Service::WaitSemaphore;
@@ -109,7 +116,8 @@ pub fn signal_semaphore(
     out: &mut Out,
 )
     requires { HasRoom 3 2 out.old }
-    ensures step { IsMade (meaning.signal_semaphore (both table.old objects.old) request.caller id) (both table.new objects.new) out.old out.new }
+    ensures step { IsMade (meaning.signal_semaphore (both table.old objects.old) request.caller id)
+        (both table.new objects.new) out.old out.new }
     ensures grows { Grows 3 2 out.old out.new }
 {
     let service = Service::SignalSemaphore;
@@ -140,7 +148,9 @@ pub fn get_semaphore_status(
     out: &mut Out,
 )
     requires { HasRoom 1 1 out.old }
-    ensures step { IsMade (meaning.get_semaphore_status (both table.now objects.now) request.caller id) (both table.now objects.now) out.old out.new }
+    ensures step { IsMade
+        (meaning.get_semaphore_status (both table.now objects.now) request.caller id)
+        (both table.now objects.now) out.old out.new }
     ensures grows { Grows 1 1 out.old out.new }
 {
     let service = Service::GetSemaphoreStatus;

@@ -121,7 +121,9 @@ impl Objects {
         requires few_events { events ≤ MOST_OBJECTS }
         requires few_buffers { length buffers.now ≤ MOST_OBJECTS }
         requires few_blackboards { length blackboards.now ≤ MOST_OBJECTS }
-        ensures { IfOk result (λ objects. objects ≡ meaning.fresh_objects semaphores.now events buffers.now blackboards.now) }
+        ensures { IfOk result
+            (λ objects.
+            objects ≡ meaning.fresh_objects semaphores.now events buffers.now blackboards.now) }
     {
         Ok(Objects {
             semaphores: fresh_semaphores(alloc, semaphores)?,
@@ -180,7 +182,8 @@ impl Objects {
     /// How the buffer with a number stands, with its place.
     pub fn buffer(&self, id: i64) -> Option<(u8, BufferStatus)>
         ensures found { meaning.buffer self.now id ≡ buffer_of_status self.now result }
-        ensures status { IfSome result (λ found. found.1 ≡ buffer_status (buffer_at self.now found.0)) }
+        ensures status { IfSome result
+            (λ found. found.1 ≡ buffer_status (buffer_at self.now found.0)) }
         ensures within { IfSome result (λ found. found.0 < MOST_OBJECTS) }
     {
         let place = place_of(&self.buffers, id)?;
@@ -189,7 +192,9 @@ impl Objects {
 
     /// A buffer is created.
     pub fn create_buffer(&mut self, place: u8)
-        ensures { self.new ≡ meaning.put_buffer self.old place (record (buffer_at self.old place) { created = true }) }
+        ensures { self.new
+            ≡ meaning.put_buffer self.old place
+            (record (buffer_at self.old place) { created = true }) }
     {
         if let Some(buffer) = self.buffers.get_mut(usize::from(place)) {
             buffer.create();
@@ -198,8 +203,12 @@ impl Objects {
 
     /// A message goes behind the others of a buffer.
     pub fn push_message(&mut self, place: u8, message: Words)
-        requires { length (buffer_at self.old place).messages < (buffer_at self.old place).row.depth }
-        ensures { let x = buffer_at self.old place in self.new ≡ meaning.put_buffer self.old place (record x { messages = x.messages ++ message ∷ [] }) }
+        requires { length (buffer_at self.old place).messages
+            < (buffer_at self.old place).row.depth }
+        ensures { let x = buffer_at self.old place in
+            self.new
+            ≡ meaning.put_buffer self.old place
+            (record x { messages = x.messages ++ message ∷ [] }) }
     {
         if let Some(buffer) = self.buffers.get_mut(usize::from(place)) {
             buffer.push(message);
@@ -210,9 +219,13 @@ impl Objects {
     pub fn pop_message(&mut self, place: u8) -> Option<Words>
         ensures first { result ≡ slice_get (buffer_at self.old place).messages 0 }
         ensures empty { IsNone result → self.new ≡ self.old }
-        ensures rest { OnSome result (self.new ≡ meaning.put_buffer self.old place (without_first (buffer_at self.old place))) }
-        ensures left { OnSome result (buffer_at self.new place ≡ without_first (buffer_at self.old place)) }
-        ensures room { OnSome result (let x = buffer_at self.new place in length x.messages < x.row.depth) }
+        ensures rest { OnSome result
+            (self.new
+            ≡ meaning.put_buffer self.old place (without_first (buffer_at self.old place))) }
+        ensures left { OnSome result
+            (buffer_at self.new place ≡ without_first (buffer_at self.old place)) }
+        ensures room { OnSome result
+            (let x = buffer_at self.new place in length x.messages < x.row.depth) }
     {
         let buffer = self.buffers.get_mut(usize::from(place))?;
         buffer.pop()
@@ -221,7 +234,8 @@ impl Objects {
     /// How the blackboard with a number stands, with its place.
     pub fn blackboard(&self, id: i64) -> Option<(u8, BlackboardStatus)>
         ensures found { meaning.blackboard self.now id ≡ blackboard_of_status self.now result }
-        ensures status { IfSome result (λ found. found.1 ≡ blackboard_status (blackboard_at self.now found.0)) }
+        ensures status { IfSome result
+            (λ found. found.1 ≡ blackboard_status (blackboard_at self.now found.0)) }
         ensures within { IfSome result (λ found. found.0 < MOST_OBJECTS) }
     {
         let place = place_of(&self.blackboards, id)?;
@@ -230,7 +244,9 @@ impl Objects {
 
     /// A blackboard is created.
     pub fn create_blackboard(&mut self, place: u8)
-        ensures { self.new ≡ meaning.put_blackboard self.old place (record (blackboard_at self.old place) { created = true }) }
+        ensures { self.new
+            ≡ meaning.put_blackboard self.old place
+            (record (blackboard_at self.old place) { created = true }) }
     {
         if let Some(blackboard) = self.blackboards.get_mut(usize::from(place)) {
             blackboard.create();
@@ -239,7 +255,9 @@ impl Objects {
 
     /// A blackboard displays a message, or none.
     pub fn show(&mut self, place: u8, shown: Option<Words>)
-        ensures { self.new ≡ meaning.put_blackboard self.old place (record (blackboard_at self.old place) { shown = shown }) }
+        ensures { self.new
+            ≡ meaning.put_blackboard self.old place
+            (record (blackboard_at self.old place) { shown = shown }) }
     {
         if let Some(blackboard) = self.blackboards.get_mut(usize::from(place)) {
             blackboard.show(shown);
