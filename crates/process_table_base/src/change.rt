@@ -125,20 +125,21 @@ impl ProcessTable {
         ensures step { IsMade (meaning.wakes self.old runner row.now) self.new out.old out.new }
         ensures grows { Grows 1 0 out.old out.new }
     {
-        let awake = ProcessStatus {
-            wait: Wait::Nothing,
-            due: None,
-            ..*row
-        };
         if row.suspended {
-            self.put_unready(runner, &awake);
-            return;
+            let suspended = ProcessStatus {
+                wait: Wait::Nothing,
+                due: None,
+                ..*row
+            };
+            return self.put_unready(runner, &suspended);
         }
         out.lines
             .push(EventKind::State(row.who, ProcessState::Ready));
         let ready = ProcessStatus {
             state: ProcessState::Ready,
-            ..awake
+            wait: Wait::Nothing,
+            due: None,
+            ..*row
         };
         self.put_ready(runner, &ready);
     }
