@@ -28,14 +28,6 @@ pub fn name_of(found: &Option<Found>) -> Subject
 }
 
 impl ProcessTable {
-    /// INIT, the handler or a process with its record, where there is such a process.
-    pub fn found(&self, runner: Runner) -> Option<Found>
-        ensures found { record_of result ≡ meaning.row_of self.now runner }
-        ensures own { IfSome result (λ found. found.runner ≡ runner) }
-    {
-        self.records.find(runner)
-    }
-
     /// The process with a number, with its record.
     #[tactic(auto, using(kernel_laws::proofs::Numbers::numbers))]
     pub fn process_at(&self, id: i64) -> Option<Found>
@@ -52,7 +44,11 @@ impl ProcessTable {
         ensures found { pair_of result
             ≡ meaning.numbered process (meaning.row_of self.now (Runner.Process process)) }
     {
-        self.records.find(Runner::Process(process))
+        let runner = Runner::Process(process);
+        match self.row(runner) {
+            Some(row) => Some(Found { runner, row }),
+            None => None,
+        }
     }
 
     /// The caller may not wait: it is INIT or the handler, or preemption is locked.

@@ -9,12 +9,10 @@ ghost use Rattle.kernel_meaning.specs.Times.{ticks};
 ghost use Rattle.links.specs.Timers.{IsDueMask, IsNextDue, number_of};
 ghost use Rattle.apex_types.specs.declared.limits.TheConstants.{MOST_PROCESSES};
 ghost use Rattle.process_table_base.specs.Bounds.{AreAllBounded, AreShort, IsBounded};
-ghost use Rattle.process_table_base.specs.FoundView.{record_of};
 ghost use Rattle.process_table_base.specs.ShortFact.{shorts_prop};
 ghost use Rattle.process_table_base.specs.States.{put_state};
 ghost use Rattle.process_table_base.specs.Timed.{AreTimed, deadlines, due_times};
 
-use crate::found::Found;
 use crate::timers::Timers;
 use apex_types::{
     MOST_PROCESSES, MOST_RUNNERS, Mode, Priority, ProcessRow, ProcessState, ProcessStatus, Runner,
@@ -137,18 +135,6 @@ impl Records {
     {
         *reads += 1;
         record_at(&self.rows, runner.place())
-    }
-
-    /// The same, as someone who was found.
-    #[tactic(auto, using(crate::proofs::Bounds::bounds))]
-    pub(crate) fn find(&self, runner: Runner) -> Option<Found>
-        ensures found { record_of result ≡ slice_get self.now (place_of runner) }
-        ensures own { IfSome result (λ found. found.runner ≡ runner) }
-    {
-        match self.rows.get(runner.place()) {
-            Some(row) => Some(Found { runner, row: *row }),
-            None => None,
-        }
     }
 
     /// Puts a record in its place, where there is one.

@@ -10,9 +10,11 @@ ghost use Rattle.kernel_meaning.specs.Fresh.{fresh_processes, no_message};
 ghost use Rattle.machine_meaning.specs.MachineMeaning.{machine_row};
 ghost use Rattle.links.specs.Timers.{IsDueMask, IsNextDue, number_of};
 ghost use Rattle.process_table_base.specs.Bounds.{IsBounded};
+ghost use Rattle.process_table_base.specs.FoundView.{record_of};
 ghost use Rattle.process_table_base.specs.States.{put_state};
 ghost use Rattle.process_table_base.specs.Timed.{AreQuiet, deadlines, due_times};
 
+use crate::found::Found;
 use crate::records::{ProcessRows, Records};
 use apex_types::{
     Entry, Lock, MOST_RUNNERS, Mode, ProcessRow, ProcessState, ProcessStatus, Runner, Ticks, Words,
@@ -81,6 +83,17 @@ impl ProcessTable {
     {
         let mut reads = 0;
         self.read(runner, &mut reads)
+    }
+
+    /// INIT, the handler or a process with its record, where there is such a process.
+    pub fn found(&self, runner: Runner) -> Option<Found>
+        ensures found { record_of result ≡ meaning.row_of self.now runner }
+        ensures own { IfSome result (λ found. found.runner ≡ runner) }
+    {
+        match self.row(runner) {
+            Some(row) => Some(Found { runner, row }),
+            None => None,
+        }
     }
 
     /// The same; each reading is counted.
