@@ -24,7 +24,7 @@ use apex_types::{DeviceLine, PartitionId, Sink, TraceBuffer};
 use image::{Image, load_image};
 use lone_partition::Output;
 use module_base::{read_devices, write_inputs};
-use partition_base::Machine;
+use partition_base::PartitionProcessor;
 use std::alloc::Global;
 
 /// Runs the image for so many ticks with what the device text says, and writes what comes to one of its
@@ -99,7 +99,7 @@ fn tell_numbered<S: Sink>(
 /// What so many ticks bring the watched partition, with these lines of the devices.
 pub fn collect(
     alloc: Global,
-    module: &mut Module<Machine>,
+    module: &mut Module<PartitionProcessor>,
     devices: &[DeviceLine],
     ticks: u64,
     watched: PartitionId,
