@@ -7,7 +7,7 @@ ghost use Rattle.kernel_meaning.specs.Sharing.{both};
 ghost use Rattle.kernel_meaning.specs.Made.{IsMade};
 ghost use Rattle.partition.specs.declared.rooms.TheConstants.{ACTIONS_TO_SERVE, LINES_TO_SERVE};
 
-use apex_types::{Call, Out, Words};
+use apex_types::{Call, Out, Words, copied};
 use process_table_base::{Handed, ProcessTable, Request};
 use sync_objects::blackboards::{
     clear_blackboard, create_blackboard, display_blackboard, get_blackboard_id,
@@ -49,10 +49,11 @@ pub(crate) fn serve_objects(
             length,
             timeout,
         } => {
+            let words = copied(words);
             let handed = Handed {
                 array,
                 length,
-                words,
+                words: &words,
             };
             send_buffer(table, objects, request, buffer, handed, timeout, out)
         }
@@ -71,10 +72,11 @@ pub(crate) fn serve_objects(
             array,
             length,
         } => {
+            let words = copied(words);
             let handed = Handed {
                 array,
                 length,
-                words,
+                words: &words,
             };
             display_blackboard(table, objects, request, blackboard, handed, out)
         }

@@ -7,7 +7,7 @@ ghost use Rattle.kernel_meaning.specs.Sharing.{both};
 ghost use Rattle.kernel_meaning.specs.Made.{IsMade};
 ghost use Rattle.partition.specs.declared.rooms.TheConstants.{ACTIONS_TO_SERVE, LINES_TO_SERVE};
 
-use apex_types::{Call, Out, Words};
+use apex_types::{Call, Out, Words, copied};
 use ports::{
     Ports, clear_queuing_port, create_queuing_port, create_sampling_port, get_queuing_port_id,
     get_queuing_port_status, get_sampling_port_id, get_sampling_port_status, read_sampling_message,
@@ -61,10 +61,11 @@ pub(crate) fn serve_ports(
             array,
             length,
         } => {
+            let words = copied(words);
             let handed = Handed {
                 array,
                 length,
-                words,
+                words: &words,
             };
             write_sampling_message(table, ports, request, port, handed, out)
         }
@@ -84,10 +85,11 @@ pub(crate) fn serve_ports(
             length,
             timeout,
         } => {
+            let words = copied(words);
             let handed = Handed {
                 array,
                 length,
-                words,
+                words: &words,
             };
             send_queuing_message(table, ports, request, port, handed, timeout, out)
         }

@@ -10,7 +10,7 @@ ghost use Rattle.partition.specs.declared.rooms.TheConstants.{ACTIONS_TO_SERVE, 
 use crate::kernel::Kernel;
 use crate::object_services::serve_objects;
 use crate::port_services::{is_on_ports, serve_ports};
-use apex_types::{Call, Moment, Out, Runner, Words};
+use apex_types::{Call, Moment, Out, Runner, Words, copied};
 use process_table::{
     create_process, delayed_start, get_my_id, get_process_id, get_process_status, get_time,
     lock_preemption, periodic_wait, replenish, resume, set_priority, start, stop, suspend,
@@ -70,10 +70,11 @@ impl Kernel {
             Call::SetPartitionMode { mode } => self.set_partition_mode(moment, caller, mode, out),
             Call::StopSelf => self.end_body(caller, out),
             Call::ReportApplicationMessage { array, length } => {
+                let words = copied(words);
                 let handed = Handed {
                     array,
                     length,
-                    words,
+                    words: &words,
                 };
                 self.report(moment, caller, handed, out)
             }
@@ -84,10 +85,11 @@ impl Kernel {
                 array,
                 length,
             } => {
+                let words = copied(words);
                 let handed = Handed {
                     array,
                     length,
-                    words,
+                    words: &words,
                 };
                 self.raise_application_error(moment, caller, error, handed, out)
             }

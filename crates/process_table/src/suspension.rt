@@ -48,8 +48,8 @@ pub fn suspend_self(table: &mut ProcessTable, request: Request, limit: i64, out:
     if limit == 0 {
         return answer(caller, who, service, ReturnCode::NoError, &[], out);
     }
-    if let Some(found) = found {
-        table.suspend_self(request.moment, &found, limit, out);
+    if let Some(found) = &found {
+        table.suspend_self(request.moment, found, limit, out);
     }
 }
 

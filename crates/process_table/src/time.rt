@@ -64,12 +64,15 @@ fn wait_for(table: &mut ProcessTable, request: Request, delay: i64, out: &mut Ou
             &[],
             out,
         );
-        if let Some(found) = found {
-            table.go_last(&found);
+        if let Some(found) = &found {
+            table.go_last(found);
         }
-    } else if let Some(found) = table.found(caller) {
+    } else {
+        let found = table.found(caller);
         let due = Due::Delay(Ticks(request.moment.at.now.0 + delay as u64));
-        table.wait(&found, service, Some(due), out);
+        if let Some(found) = &found {
+            table.wait(found, service, Some(due), out);
+        }
     }
 }
 
