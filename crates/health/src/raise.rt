@@ -55,14 +55,15 @@ fn raise_message(
     table: &ProcessTable,
     errors: &Errors,
     request: Request,
-    handed: Handed<'_>,
+    handed: Handed,
+    words: &Words,
     out: &mut Out,
 ) -> Option<PartitionAction>
     requires { HasRoom 2 2 out.old }
     ensures step { IsMade
         (row (λ c. leaves_none (refuses table.now request.caller Service.RaiseApplicationError c))
         ((
-          not (meaning.is_message_length handed.entry.array.size handed.entry.length),
+          not (meaning.is_message_length handed.array.size handed.length),
           ReturnCode.InvalidParam,
         )
         ∷ [])
@@ -71,7 +72,7 @@ fn raise_message(
         (answers table.now request.caller Service.RaiseApplicationError ReturnCode.NoError []))
         (meaning.raises health request.mode (both table.now errors.now)
         request.caller ErrorKind.ApplicationError
-        (first_words handed.entry.length handed.entry.words.now.items))))
+        (first_words handed.length words.now.items))))
         result out.old out.new }
     ensures grows { Grows 2 2 out.old out.new }
 {
@@ -80,7 +81,7 @@ fn raise_message(
         table.refuse(request.caller, service, ReturnCode::InvalidParam, out);
         return None;
     }
-    let message = first_words(handed.length, handed.words);
+    let message = first_words(handed.length, words);
     raise(health, table, errors, request, message, out)
 }
 
@@ -94,13 +95,14 @@ pub fn raise_application_error(
     errors: &Errors,
     request: Request,
     error: i64,
-    handed: Handed<'_>,
+    handed: Handed,
+    words: &Words,
     out: &mut Out,
 ) -> Option<PartitionAction>
     requires { HasRoom 2 2 out.old }
     ensures step { IsMade
         (meaning.raise_application_error health request.mode (both table.now errors.now)
-        request.caller error handed.entry.array handed.entry.length handed.entry.words.now.items)
+        request.caller error handed.array handed.length words.now.items)
         result out.old out.new }
     ensures grows { Grows 2 2 out.old out.new }
 {
@@ -109,7 +111,7 @@ pub fn raise_application_error(
         table.refuse(request.caller, service, ReturnCode::InvalidParam, out);
         return None;
     }
-    raise_message(health, table, errors, request, handed, out)
+    raise_message(health, table, errors, request, handed, words, out)
 }
 
 /// Whether it is the number of the error that a process may raise.

@@ -6,7 +6,7 @@ ghost use Rattle.kernel_meaning.specs.HealthServices as meaning;
 ghost use Rattle.kernel_meaning.specs.Made.{IsTold};
 
 use apex_types::limits::MOST_REPORT_WORDS;
-use apex_types::{EventKind, Out, ReturnCode, Service};
+use apex_types::{EventKind, Out, ReturnCode, Service, Words};
 use process_table_base::{Handed, ProcessTable, Request, answer, first_words, name_of, refuse};
 
 /// Whether a message of so many words may be handed in from an array of a size, in words.
@@ -22,13 +22,14 @@ pub fn is_message_length(size: i64, length: i64) -> bool
 pub fn report_application_message(
     table: &ProcessTable,
     request: Request,
-    handed: Handed<'_>,
+    handed: Handed,
+    words: &Words,
     out: &mut Out,
 )
     requires { HasRoom 2 1 out.old }
     ensures step { IsTold
-        (meaning.report table.now request.caller handed.entry.array handed.entry.length
-        handed.entry.words.now.items)
+        (meaning.report table.now request.caller handed.array handed.length
+        words.now.items)
         out.old out.new }
     ensures grows { Grows 2 1 out.old out.new }
 {
@@ -52,6 +53,6 @@ pub fn report_application_message(
         &[],
         out,
     );
-    let message = first_words(handed.length, handed.words);
+    let message = first_words(handed.length, words);
     out.lines.push(EventKind::Report(name_of(&found), message));
 }

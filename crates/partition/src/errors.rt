@@ -128,19 +128,20 @@ impl Kernel {
         &mut self,
         moment: Moment,
         caller: Runner,
-        handed: Handed<'_>,
+        handed: Handed,
+        words: &Words,
         out: &mut Out,
     )
         requires { HasRoom 2 1 out.old }
         ensures step { IsMade
             (of_processes self.old
-            (meaning.report self.old.processes caller handed.entry.array
-            handed.entry.length handed.entry.words.now.items))
+            (meaning.report self.old.processes caller handed.array
+            handed.length words.now.items))
             self.new out.old out.new }
         ensures grows { Grows 2 1 out.old out.new }
     {
         let request = self.request(moment, caller);
-        report_application_message(&self.processes, request, handed, out);
+        report_application_message(&self.processes, request, handed, words, out);
     }
 
     /// CREATE_ERROR_HANDLER (ARINC 653 Part 1, health monitoring).
@@ -181,13 +182,14 @@ impl Kernel {
         moment: Moment,
         caller: Runner,
         error: i64,
-        handed: Handed<'_>,
+        handed: Handed,
+        words: &Words,
         out: &mut Out,
     )
         requires room { HasRoom (2 + LINES_TO_CLEAR) (2 + ACTIONS_TO_CLEAR) out.old }
         ensures step { IsMade
-            (meaning.raises_application_error self.old caller error handed.entry.array
-            handed.entry.length handed.entry.words.now.items)
+            (meaning.raises_application_error self.old caller error handed.array
+            handed.length words.now.items)
             self.new out.old out.new }
         ensures grows { Grows (2 + LINES_TO_CLEAR) (2 + ACTIONS_TO_CLEAR) out.old out.new }
     {
@@ -201,6 +203,7 @@ impl Kernel {
             request,
             error,
             handed,
+            words,
             out,
         );
         self.act_on_error(caller, ErrorKind::ApplicationError, left, out);

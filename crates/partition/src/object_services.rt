@@ -7,7 +7,7 @@ ghost use Rattle.kernel_meaning.specs.Sharing.{both};
 ghost use Rattle.kernel_meaning.specs.Made.{IsMade};
 ghost use Rattle.partition.specs.declared.rooms.TheConstants.{ACTIONS_TO_SERVE, LINES_TO_SERVE};
 
-use apex_types::{Call, Out, Words, copied};
+use apex_types::{Call, Out, Words};
 use process_table_base::{Handed, ProcessTable, Request};
 use sync_objects::blackboards::{
     clear_blackboard, create_blackboard, display_blackboard, get_blackboard_id,
@@ -49,13 +49,8 @@ pub(crate) fn serve_objects(
             length,
             timeout,
         } => {
-            let words = copied(words);
-            let handed = Handed {
-                array,
-                length,
-                words: &words,
-            };
-            send_buffer(table, objects, request, buffer, handed, timeout, out)
+            let handed = Handed { array, length };
+            send_buffer(table, objects, request, buffer, handed, words, timeout, out)
         }
         Call::ReceiveBuffer {
             buffer,
@@ -72,13 +67,8 @@ pub(crate) fn serve_objects(
             array,
             length,
         } => {
-            let words = copied(words);
-            let handed = Handed {
-                array,
-                length,
-                words: &words,
-            };
-            display_blackboard(table, objects, request, blackboard, handed, out)
+            let handed = Handed { array, length };
+            display_blackboard(table, objects, request, blackboard, handed, words, out)
         }
         Call::ReadBlackboard {
             blackboard,

@@ -7,7 +7,7 @@ ghost use Rattle.kernel_meaning.specs.Sharing.{both};
 ghost use Rattle.kernel_meaning.specs.Made.{IsMade};
 ghost use Rattle.partition.specs.declared.rooms.TheConstants.{ACTIONS_TO_SERVE, LINES_TO_SERVE};
 
-use apex_types::{Call, Out, Words, copied};
+use apex_types::{Call, Out, Words};
 use ports::{
     Ports, clear_queuing_port, create_queuing_port, create_sampling_port, get_queuing_port_id,
     get_queuing_port_status, get_sampling_port_id, get_sampling_port_status, read_sampling_message,
@@ -61,13 +61,8 @@ pub(crate) fn serve_ports(
             array,
             length,
         } => {
-            let words = copied(words);
-            let handed = Handed {
-                array,
-                length,
-                words: &words,
-            };
-            write_sampling_message(table, ports, request, port, handed, out)
+            let handed = Handed { array, length };
+            write_sampling_message(table, ports, request, port, handed, words, out)
         }
         Call::ReadSamplingMessage { port, array } => {
             read_sampling_message(table, ports, request, port, array, out)
@@ -85,13 +80,8 @@ pub(crate) fn serve_ports(
             length,
             timeout,
         } => {
-            let words = copied(words);
-            let handed = Handed {
-                array,
-                length,
-                words: &words,
-            };
-            send_queuing_message(table, ports, request, port, handed, timeout, out)
+            let handed = Handed { array, length };
+            send_queuing_message(table, ports, request, port, handed, words, timeout, out)
         }
         Call::ReceiveQueuingMessage {
             port,

@@ -10,7 +10,7 @@ ghost use Rattle.partition.specs.declared.rooms.TheConstants.{ACTIONS_TO_SERVE, 
 use crate::kernel::Kernel;
 use crate::object_services::serve_objects;
 use crate::port_services::{is_on_ports, serve_ports};
-use apex_types::{Call, Moment, Out, Runner, Words, copied};
+use apex_types::{Call, Moment, Out, Runner, Words};
 use process_table::{
     create_process, delayed_start, get_my_id, get_process_id, get_process_status, get_time,
     lock_preemption, periodic_wait, replenish, resume, set_priority, start, stop, suspend,
@@ -70,13 +70,8 @@ impl Kernel {
             Call::SetPartitionMode { mode } => self.set_partition_mode(moment, caller, mode, out),
             Call::StopSelf => self.end_body(caller, out),
             Call::ReportApplicationMessage { array, length } => {
-                let words = copied(words);
-                let handed = Handed {
-                    array,
-                    length,
-                    words: &words,
-                };
-                self.report(moment, caller, handed, out)
+                let handed = Handed { array, length };
+                self.report(moment, caller, handed, words, out)
             }
             Call::CreateErrorHandler => self.create_error_handler(moment, caller, out),
             Call::GetErrorStatus { array } => self.get_error_status(moment, caller, array, out),
@@ -85,13 +80,8 @@ impl Kernel {
                 array,
                 length,
             } => {
-                let words = copied(words);
-                let handed = Handed {
-                    array,
-                    length,
-                    words: &words,
-                };
-                self.raise_application_error(moment, caller, error, handed, out)
+                let handed = Handed { array, length };
+                self.raise_application_error(moment, caller, error, handed, words, out)
             }
             Call::GetProcessId { name } => get_process_id(&self.processes, request, name, out),
             Call::GetProcessStatus { process } => get_process_status(

@@ -119,15 +119,16 @@ pub fn send_queuing_message(
     ports: &mut Ports,
     request: Request,
     id: i64,
-    handed: Handed<'_>,
+    handed: Handed,
+    words: &Words,
     limit: i64,
     out: &mut Out,
 )
     requires room { HasRoom 1 1 out.old }
     ensures step { IsMade
         (meaning.send_queuing_message request.moment.at (both table.old ports.old)
-        request.caller id handed.entry.array handed.entry.length limit
-        handed.entry.words.now.items)
+        request.caller id handed.array handed.length limit
+        words.now.items)
         (both table.new ports.new) out.old out.new }
     ensures grows { Grows 1 1 out.old out.new }
 {
@@ -144,7 +145,7 @@ pub fn send_queuing_message(
     if !is_length(port.row.words, handed.array, handed.length) {
         return table.refuse(request.caller, service, ReturnCode::InvalidParam, out);
     }
-    let message = first_words(handed.length, handed.words);
+    let message = first_words(handed.length, words);
     send(table, ports, request, limit, message, place, port, out);
 }
 

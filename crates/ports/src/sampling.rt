@@ -10,7 +10,7 @@ ghost use Rattle.ports.specs.Status.{placed_port};
 use crate::deliver::deliver;
 use crate::port::validity_number;
 use crate::ports::Ports;
-use apex_types::{ArrayPlace, Mode, Out, ReturnCode, Service};
+use apex_types::{ArrayPlace, Mode, Out, ReturnCode, Service, Words};
 use process_table_base::{Handed, ProcessTable, Request, first_words, is_large_enough, is_length};
 
 /// CREATE_SAMPLING_PORT (ARINC 653 Part 1, interpartition communication): the sampling port of that
@@ -76,13 +76,14 @@ pub fn write_sampling_message(
     ports: &mut Ports,
     request: Request,
     id: i64,
-    handed: Handed<'_>,
+    handed: Handed,
+    words: &Words,
     out: &mut Out,
 )
     requires { HasRoom 1 1 out.old }
     ensures step { IsMade
         (meaning.write_sampling_message (both table.now ports.old)
-        request.caller id handed.entry.array handed.entry.length handed.entry.words.now.items)
+        request.caller id handed.array handed.length words.now.items)
         (both table.now ports.new) out.old out.new }
     ensures grows { Grows 1 1 out.old out.new }
 {
@@ -100,7 +101,7 @@ pub fn write_sampling_message(
         return table.refuse(request.caller, service, ReturnCode::InvalidParam, out);
     }
     table.answer(request.caller, service, ReturnCode::NoError, &[], out);
-    ports.put_sample(place, first_words(handed.length, handed.words));
+    ports.put_sample(place, first_words(handed.length, words));
 }
 
 /// The port's message goes into the array, and stays in the port. Where there is none nothing is done.

@@ -44,11 +44,7 @@ impl ProcessTable {
         ensures found { pair_of result
             ≡ meaning.numbered process (meaning.row_of self.now (Runner.Process process)) }
     {
-        let runner = Runner::Process(process);
-        match self.row(runner) {
-            Some(row) => Some(Found { runner, row }),
-            None => None,
-        }
+        self.found(Runner::Process(process))
     }
 
     /// The caller may not wait: it is INIT or the handler, or preemption is locked.

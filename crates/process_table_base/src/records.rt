@@ -9,10 +9,12 @@ ghost use Rattle.kernel_meaning.specs.Times.{ticks};
 ghost use Rattle.links.specs.Timers.{IsDueMask, IsNextDue, number_of};
 ghost use Rattle.apex_types.specs.declared.limits.TheConstants.{MOST_PROCESSES};
 ghost use Rattle.process_table_base.specs.Bounds.{AreAllBounded, AreShort, IsBounded};
+ghost use Rattle.process_table_base.specs.FoundView.{record_of};
 ghost use Rattle.process_table_base.specs.ShortFact.{shorts_prop};
 ghost use Rattle.process_table_base.specs.States.{put_state};
 ghost use Rattle.process_table_base.specs.Timed.{AreTimed, deadlines, due_times};
 
+use crate::found::Found;
 use crate::timers::Timers;
 use apex_types::{
     MOST_PROCESSES, MOST_RUNNERS, Mode, Priority, ProcessRow, ProcessState, ProcessStatus, Runner,
@@ -137,6 +139,15 @@ impl Records {
         record_at(&self.rows, runner.place())
     }
 
+    /// The record of INIT, of the handler or of a process, with whose it is, where there is such a process.
+    #[tactic(auto, using(crate::proofs::Bounds::bounds))]
+    pub(crate) fn find(&self, runner: Runner) -> Option<Found>
+        ensures found { record_of result ≡ slice_get self.now (place_of runner) }
+        ensures own { IfSome result (λ found. found.runner ≡ runner) }
+    {
+        found_at(&self.rows, runner)
+    }
+
     /// Puts a record in its place, where there is one.
     pub(crate) fn put(&mut self, runner: Runner, row: &ProcessStatus)
         requires { IsBounded row.now }
@@ -215,6 +226,20 @@ fn record_at(rows: &[ProcessStatus], place: usize) -> Option<ProcessStatus>
     ensures { result ≡ slice_get rows.now place }
 {
     rows.get(place).copied()
+}
+
+/// The record of a runner in its place, with whose it is, where there is one.
+#[tactic(auto, using(crate::proofs::Bounds::bounded_at))]
+fn found_at(rows: &[ProcessStatus], runner: Runner) -> Option<Found>
+    requires few { length rows.now ≤ MOST_RUNNERS }
+    requires bounded { AreAllBounded rows.now }
+    ensures found { record_of result ≡ slice_get rows.now (place_of runner) }
+    ensures own { IfSome result (λ found. found.runner ≡ runner) }
+{
+    match rows.get(runner.place()) {
+        Some(row) => Some(Found { runner, row: *row }),
+        None => None,
+    }
 }
 
 /// Another state in the record at a place, where there is one.

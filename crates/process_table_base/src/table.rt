@@ -90,10 +90,7 @@ impl ProcessTable {
         ensures found { record_of result ≡ meaning.row_of self.now runner }
         ensures own { IfSome result (λ found. found.runner ≡ runner) }
     {
-        match self.row(runner) {
-            Some(row) => Some(Found { runner, row }),
-            None => None,
-        }
+        self.records.find(runner)
     }
 
     /// The same; each reading is counted.

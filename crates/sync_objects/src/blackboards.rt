@@ -109,13 +109,14 @@ pub fn display_blackboard(
     objects: &mut Objects,
     request: Request,
     id: i64,
-    handed: Handed<'_>,
+    handed: Handed,
+    words: &Words,
     out: &mut Out,
 )
     requires { HasRoom (1 + LINES_TO_GIVE_ALL) (1 + ACTIONS_TO_GIVE_ALL) out.old }
     ensures step { IsMade
         (meaning.display_blackboard (both table.old objects.old)
-        request.caller id handed.entry.array handed.entry.length handed.entry.words.now.items)
+        request.caller id handed.array handed.length words.now.items)
         (both table.new objects.new) out.old out.new }
     ensures grows { Grows (1 + LINES_TO_GIVE_ALL) (1 + ACTIONS_TO_GIVE_ALL) out.old out.new }
 {
@@ -126,7 +127,7 @@ pub fn display_blackboard(
     if !blackboard.created || !is_length(blackboard.row.words, handed.array, handed.length) {
         return table.refuse(request.caller, service, ReturnCode::InvalidParam, out);
     }
-    let message = first_words(handed.length, handed.words);
+    let message = first_words(handed.length, words);
     display(table, objects, request, message, place, out);
 }
 

@@ -123,15 +123,16 @@ pub fn send_buffer(
     objects: &mut Objects,
     request: Request,
     id: i64,
-    handed: Handed<'_>,
+    handed: Handed,
+    words: &Words,
     limit: i64,
     out: &mut Out,
 )
     requires room { HasRoom 3 3 out.old }
     ensures step { IsMade
         (meaning.send_buffer request.moment.at (both table.old objects.old)
-        request.caller id handed.entry.array handed.entry.length limit
-        handed.entry.words.now.items)
+        request.caller id handed.array handed.length limit
+        words.now.items)
         (both table.new objects.new) out.old out.new }
     ensures grows { Grows 3 3 out.old out.new }
 {
@@ -145,7 +146,7 @@ pub fn send_buffer(
     if !is_duration(limit) {
         return table.refuse(request.caller, service, ReturnCode::InvalidParam, out);
     }
-    let message = first_words(handed.length, handed.words);
+    let message = first_words(handed.length, words);
     send(table, objects, request, limit, message, place, buffer, out);
 }
 

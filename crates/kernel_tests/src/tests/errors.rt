@@ -255,10 +255,9 @@ fn a_message_is_reported(rt: HostRuntime) {
     let handed = Handed {
         array: ArrayPlace { base: 0, size: 2 },
         length: 1,
-        words: &words,
     };
     let mut out = Out::new();
-    report_application_message(&table, request(PROCESS), handed, &mut out);
+    report_application_message(&table, request(PROCESS), handed, &words, &mut out);
     expect_line(&rt, rt.alloc(), &mut out, "0000000000003 a REPORT p 5\n");
 }
 
