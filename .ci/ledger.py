@@ -44,7 +44,7 @@ def heads(source):
             kept.append(line)
             if re.search(r"\bfn \w", line):
                 function = indent
-            if function is not None and line.endswith("{"):
+            if function == indent and line.endswith("{"):
                 function, body = None, function
             elif function == indent and line.endswith((";", "}")):
                 function = None
@@ -59,10 +59,16 @@ def without_imports(file):
     return re.sub(rf"^ *(?:pub |ghost )?use {ends}", "", text, flags=re.M)
 
 
+def without_layout(text):
+    """The text with each break of a line as a space: where a clause is broken does not count."""
+    text = re.sub(r" ?([()\[\]{}]) ?", r"\1", re.sub(r"\s+", " ", text))
+    return re.sub(r"[,;]([)\]}])", r"\1", text)
+
+
 def own_sum(name):
     """The sum of all that a crate's edits are tried on, and of the edits."""
     files = files_of(name, ("src", "specs", "proofs", *FOLDERS))
-    return sum_of([f"{it.relative_to(ROOT)}\0{without_imports(it)}" for it in files])
+    return sum_of([f"{it.relative_to(ROOT)}\0{without_layout(without_imports(it))}" for it in files])
 
 
 def file_of(crate, path):
@@ -80,7 +86,7 @@ def promise_of(file):
     text = heads(file.read_text()) if file.suffix == ".rt" else file.read_text()
     named = {file_of(crate, path) for crate, path in re.findall(r"\bRattle\.(\w+)\.specs\.([\w.]*\w)", text) if (ROOT / "crates" / crate).is_dir()}
     called = {crate for crate in re.findall(r"^ *(?:pub )?use (\w+)::", text, re.M) if (ROOT / "crates" / crate).is_dir()}
-    return text, named.union(*(set(files_of(crate, ("src",))) for crate in called))
+    return without_layout(text), named.union(*(set(files_of(crate, ("src",))) for crate in called))
 
 
 def promises_sum(name):

@@ -1,6 +1,6 @@
--- Each service is the one of its number, and none has a number above 57.
+-- Each service is the one of its number, and none has a number above how many there are.
 use Rattle.std.proofs.Common.{◌≡◌, ◌∙◌, ℕ, zero, suc, ◌+◌, ◌-◌, ◌<◌, ◌≤◌, List, [], ◌∷◌, Some, None, nat_eq, true, false, refl, sym, ap, inl, inr, rules, arith}
-use Rattle.std.specs.Prelude.{slice_get, IsNone, is_some}
+use Rattle.std.specs.Prelude.{length, slice_get, IsNone, is_some}
 use Rattle.std.proofs.lemmas.Bool.Decides.{nat_tests}
 use Rattle.std.proofs.lemmas.Option.{slice_get_past, slice_get_cases}
 use Rattle.apex_types.specs.declared.service.Service.{Service}
@@ -11,7 +11,7 @@ pub service_of_number : (s : Service) → service_of (number_of s) ≡ Some s
 service_of_number service.GetPartitionStatus = refl
 service_of_number _ = refl
 
-pub service_of_above : (number : ℕ) → 57 < number → service_of number ≡ None
+pub service_of_above : (number : ℕ) → length services < number → service_of number ≡ None
 service_of_above number above =
     let some : nat_eq number 0 ≡ false = grind (arith, nat_tests) in
     rw some (slice_get_past services (number - 1) (omega arith))
@@ -39,8 +39,8 @@ number_in (t ∷ ss) n (suc i) s h e = number_in ss (n + 1) i s h.1 e ∙ omega 
 pub number_of_service : (number : ℕ) (s : Service) → 0 < number → slice_get services (number - 1) ≡ Some s → number_of s ≡ number
 number_of_service number s above e = number_in services 1 (number - 1) s all_numbered e ∙ omega arith
 
-pub past_when_none : (i : ℕ) → IsNone (slice_get services i) → 57 ≤ i
+pub past_when_none : (i : ℕ) → IsNone (slice_get services i) → length services ≤ i
 past_when_none i e = elim (slice_get_cases services i).1 [ inl w ↦ absurd (let clash : true ≡ false = sym (ap is_some w.2) ∙ e in cc) | inr past ↦ past.0 ]
 
-pub none_when_past : (i : ℕ) → 57 ≤ i → IsNone (slice_get services i)
+pub none_when_past : (i : ℕ) → length services ≤ i → IsNone (slice_get services i)
 none_when_past i past = ap is_some (slice_get_past services i past)

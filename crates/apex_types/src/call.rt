@@ -1,8 +1,8 @@
 //! The call of a service from the words of its arguments.
 
-ghost use Rattle.std.specs.Prelude.{◌≡◌, ◌<◌, None, Some, ℕ};
+ghost use Rattle.std.specs.Prelude.{◌≡◌, ◌<◌, length, None, Some, ℕ};
 ghost use Rattle.apex_types.specs.declared.service.Service.{Service};
-ghost use Rattle.apex_types.specs.ServiceShape.{number_of, service_of};
+ghost use Rattle.apex_types.specs.ServiceShape.{services, number_of, service_of};
 ghost use Rattle.apex_types.specs.ServiceCalls.{argument, array_argument, call_of, array_of};
 
 use crate::service::{ArrayPlace, Call, Service};
@@ -232,8 +232,8 @@ pub fn array_of(call: Call) -> Option<ArrayPlace>
     }
 }
 
-/// Each service has its own number, from 1 to 57, and there is none of another number.
+/// Each service has its own number, from 1 on, and there is none of a number above how many they are.
 pub fn services_are_numbered()
     ensures each { (service : Service) → service_of (number_of service) ≡ Some service }
-    ensures others { (number : ℕ) → 57 < number → service_of number ≡ None }
+    ensures others { (number : ℕ) → length services < number → service_of number ≡ None }
 {}

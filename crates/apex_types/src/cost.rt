@@ -41,7 +41,10 @@ pub struct Costs {
     pub service: u32,
     /// The end of the body of INIT, of the error handler or of a process.
     pub end: u32,
-    pub ghost within: { are_costs (literal ∷ scalar ∷ array ∷ add ∷ mul ∷ div ∷ logic ∷ branch ∷ jump ∷ call ∷ ret ∷ create ∷ message ∷ service ∷ end ∷ []) ≡ true },
+    pub ghost within: { are_costs
+        (literal ∷ scalar ∷ array ∷ add ∷ mul ∷ div ∷ logic ∷ branch ∷ jump ∷ call ∷ ret ∷ create
+        ∷ message ∷ service ∷ end ∷ [])
+        ≡ true },
 }
 
 /// An instruction that names no number of ticks or no service that there is.

@@ -28,7 +28,9 @@ pub trait EventLog {
     /// Tells an event of a partition, or of the module itself.
     fn tell(&mut self, tick: Ticks, partition: &Option<Name>, kind: &EventKind)
         requires { 0 < room self.old }
-        ensures held { held self.new ≡ held self.old ++ pieces (record { tick = tick; partition = partition.now; kind = kind.now } ∷ []) }
+        ensures held { held self.new
+            ≡ held self.old
+            ++ pieces (record { tick = tick; partition = partition.now; kind = kind.now } ∷ []) }
         ensures room { room self.old ≤ room self.new + 1 };
 
     /// Whether it holds nothing.
@@ -37,7 +39,8 @@ pub trait EventLog {
 
     ghost none: { pieces [] ≡ [] };
 
-    ghost more: { (before after : List Event) → pieces (before ++ after) ≡ pieces before ++ pieces after };
+    ghost more: { (before after : List Event)
+        → pieces (before ++ after) ≡ pieces before ++ pieces after };
 
     ghost silent: { (events : List Event) → pieces events ≡ [] → events ≡ [] };
 

@@ -1,6 +1,6 @@
 //! The services of the standard and their calls.
 
-ghost use Rattle.std.specs.Prelude.{◌≡◌, ◌<◌, ◌↔◌, ◌⊎◌, slice_get, IfSome, IsNone};
+ghost use Rattle.std.specs.Prelude.{◌≡◌, ◌<◌, ◌↔◌, ◌⊎◌, length, slice_get, IfSome, IsNone};
 
 /// A service by its name in the standard, with this profile's number.
 #[derive(Clone, Copy, Debug, PartialEq, Eq)]
@@ -133,9 +133,9 @@ fn service_at(services: &[Service], index: usize) -> Option<Service>
 }
 
 impl Service {
-    ghost use Rattle.apex_types.specs.ServiceShape.{number_of, service_of};
+    ghost use Rattle.apex_types.specs.ServiceShape.{services, number_of, service_of};
 
-    /// The number of this service, 1 to 57.
+    /// The number of this service, from 1 on.
     pub fn number(self) -> u32
         ensures { result ≡ number_of self }
     {
@@ -147,7 +147,7 @@ impl Service {
     pub fn from_number(number: u32) -> Option<Service>
         ensures service { result ≡ service_of number }
         ensures number { IfSome result (λ s. number_of s ≡ number) }
-        ensures none { IsNone result ↔ (number ≡ 0) ⊎ (57 < number) }
+        ensures none { IsNone result ↔ (number ≡ 0) ⊎ (length services < number) }
     {
         if number == 0 {
             return None;

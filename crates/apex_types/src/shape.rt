@@ -86,22 +86,109 @@ const EVENT: ArgumentKind = ArgumentKind::Object(ObjectKind::Event);
 
 const PORT: ArgumentKind = ArgumentKind::Object(ObjectKind::Port);
 
+/// The row of a service that creates nothing.
+#[inline(always)]
+fn row(word: &'static str, arguments: &'static [ArgumentKind], outputs: u8) -> Shape
+    ensures word { result.word.now ≡ word.now }
+    ensures arguments { result.arguments.now ≡ arguments.now }
+    ensures outputs { result.outputs ≡ outputs }
+    ensures creates { result.creates ≡ false }
+{
+    Shape {
+        word,
+        arguments,
+        outputs,
+        creates: false,
+    }
+}
+
+/// The row of a service that creates an object, a port, a process or the handler.
+#[inline(always)]
+fn creation(word: &'static str, arguments: &'static [ArgumentKind], outputs: u8) -> Shape
+    ensures word { result.word.now ≡ word.now }
+    ensures arguments { result.arguments.now ≡ arguments.now }
+    ensures outputs { result.outputs ≡ outputs }
+    ensures creates { result.creates ≡ true }
+{
+    Shape {
+        creates: true,
+        ..row(word, arguments, outputs)
+    }
+}
+
 impl Service {
     ghost use Rattle.apex_types.specs.ServiceShape.{shape, service_word, arguments_of, argument_words};
     ghost use Rattle.apex_types.specs.ServiceShape.{answer_words, class_of, cost_of_service};
 
     /// The row of this service.
+    #[inline(always)]
     pub fn shape(self) -> Shape
         ensures word { result.word.now ≡ (shape self).word }
+        ensures short { length result.word.now ≤ 26 }
         ensures arguments { result.arguments.now ≡ (shape self).arguments }
+        ensures few { length result.arguments.now ≤ 4 }
         ensures outputs { result.outputs ≡ (shape self).outputs }
+        ensures answers { result.outputs ≤ 6 }
         ensures creates { result.creates ≡ (shape self).creates }
     {
-        Shape {
-            word: self.word(),
-            arguments: self.arguments(),
-            outputs: self.outputs(),
-            creates: self.creates(),
+        match self {
+            Self::GetPartitionStatus => row("GET_PARTITION_STATUS", &[], 6),
+            Self::SetPartitionMode => row("SET_PARTITION_MODE", &[WORD], 0),
+            Self::GetProcessId => row("GET_PROCESS_ID", &[PROCESS], 1),
+            Self::GetProcessStatus => row("GET_PROCESS_STATUS", &[WORD], 3),
+            Self::CreateProcess => creation("CREATE_PROCESS", &[PROCESS], 1),
+            Self::SetPriority => row("SET_PRIORITY", &[WORD, WORD], 0),
+            Self::SuspendSelf => row("SUSPEND_SELF", &[WORD], 0),
+            Self::Suspend => row("SUSPEND", &[WORD], 0),
+            Self::Resume => row("RESUME", &[WORD], 0),
+            Self::StopSelf => row("STOP_SELF", &[], 0),
+            Self::Stop => row("STOP", &[WORD], 0),
+            Self::Start => row("START", &[WORD], 0),
+            Self::DelayedStart => row("DELAYED_START", &[WORD, WORD], 0),
+            Self::LockPreemption => row("LOCK_PREEMPTION", &[], 1),
+            Self::UnlockPreemption => row("UNLOCK_PREEMPTION", &[], 1),
+            Self::GetMyId => row("GET_MY_ID", &[], 1),
+            Self::TimedWait => row("TIMED_WAIT", &[WORD], 0),
+            Self::PeriodicWait => row("PERIODIC_WAIT", &[], 0),
+            Self::GetTime => row("GET_TIME", &[], 1),
+            Self::Replenish => row("REPLENISH", &[WORD], 0),
+            Self::CreateBuffer => creation("CREATE_BUFFER", &[BUFFER], 1),
+            Self::SendBuffer => row("SEND_BUFFER", &[WORD, ARRAY, WORD, WORD], 0),
+            Self::ReceiveBuffer => row("RECEIVE_BUFFER", &[WORD, ARRAY, WORD], 1),
+            Self::GetBufferId => row("GET_BUFFER_ID", &[BUFFER], 1),
+            Self::GetBufferStatus => row("GET_BUFFER_STATUS", &[WORD], 4),
+            Self::CreateBlackboard => creation("CREATE_BLACKBOARD", &[BLACKBOARD], 1),
+            Self::DisplayBlackboard => row("DISPLAY_BLACKBOARD", &[WORD, ARRAY, WORD], 0),
+            Self::ReadBlackboard => row("READ_BLACKBOARD", &[WORD, ARRAY, WORD], 1),
+            Self::ClearBlackboard => row("CLEAR_BLACKBOARD", &[WORD], 0),
+            Self::GetBlackboardId => row("GET_BLACKBOARD_ID", &[BLACKBOARD], 1),
+            Self::GetBlackboardStatus => row("GET_BLACKBOARD_STATUS", &[WORD], 3),
+            Self::CreateSemaphore => creation("CREATE_SEMAPHORE", &[SEMAPHORE], 1),
+            Self::WaitSemaphore => row("WAIT_SEMAPHORE", &[WORD, WORD], 0),
+            Self::SignalSemaphore => row("SIGNAL_SEMAPHORE", &[WORD], 0),
+            Self::GetSemaphoreId => row("GET_SEMAPHORE_ID", &[SEMAPHORE], 1),
+            Self::GetSemaphoreStatus => row("GET_SEMAPHORE_STATUS", &[WORD], 3),
+            Self::CreateEvent => creation("CREATE_EVENT", &[EVENT], 1),
+            Self::SetEvent => row("SET_EVENT", &[WORD], 0),
+            Self::ResetEvent => row("RESET_EVENT", &[WORD], 0),
+            Self::WaitEvent => row("WAIT_EVENT", &[WORD, WORD], 0),
+            Self::GetEventId => row("GET_EVENT_ID", &[EVENT], 1),
+            Self::GetEventStatus => row("GET_EVENT_STATUS", &[WORD], 2),
+            Self::CreateSamplingPort => creation("CREATE_SAMPLING_PORT", &[PORT], 1),
+            Self::WriteSamplingMessage => row("WRITE_SAMPLING_MESSAGE", &[WORD, ARRAY, WORD], 0),
+            Self::ReadSamplingMessage => row("READ_SAMPLING_MESSAGE", &[WORD, ARRAY], 2),
+            Self::GetSamplingPortId => row("GET_SAMPLING_PORT_ID", &[PORT], 1),
+            Self::GetSamplingPortStatus => row("GET_SAMPLING_PORT_STATUS", &[WORD], 4),
+            Self::CreateQueuingPort => creation("CREATE_QUEUING_PORT", &[PORT], 1),
+            Self::SendQueuingMessage => row("SEND_QUEUING_MESSAGE", &[WORD, ARRAY, WORD, WORD], 0),
+            Self::ReceiveQueuingMessage => row("RECEIVE_QUEUING_MESSAGE", &[WORD, ARRAY, WORD], 1),
+            Self::GetQueuingPortId => row("GET_QUEUING_PORT_ID", &[PORT], 1),
+            Self::GetQueuingPortStatus => row("GET_QUEUING_PORT_STATUS", &[WORD], 5),
+            Self::ClearQueuingPort => row("CLEAR_QUEUING_PORT", &[WORD], 0),
+            Self::ReportApplicationMessage => row("REPORT_APPLICATION_MESSAGE", &[ARRAY, WORD], 0),
+            Self::CreateErrorHandler => creation("CREATE_ERROR_HANDLER", &[], 0),
+            Self::GetErrorStatus => row("GET_ERROR_STATUS", &[ARRAY], 3),
+            Self::RaiseApplicationError => row("RAISE_APPLICATION_ERROR", &[WORD, ARRAY, WORD], 0),
         }
     }
 
@@ -110,65 +197,7 @@ impl Service {
         ensures word { result.now ≡ service_word self }
         ensures short { length result.now ≤ 26 }
     {
-        match self {
-            Self::GetPartitionStatus => "GET_PARTITION_STATUS",
-            Self::SetPartitionMode => "SET_PARTITION_MODE",
-            Self::GetProcessId => "GET_PROCESS_ID",
-            Self::GetProcessStatus => "GET_PROCESS_STATUS",
-            Self::CreateProcess => "CREATE_PROCESS",
-            Self::SetPriority => "SET_PRIORITY",
-            Self::SuspendSelf => "SUSPEND_SELF",
-            Self::Suspend => "SUSPEND",
-            Self::Resume => "RESUME",
-            Self::StopSelf => "STOP_SELF",
-            Self::Stop => "STOP",
-            Self::Start => "START",
-            Self::DelayedStart => "DELAYED_START",
-            Self::LockPreemption => "LOCK_PREEMPTION",
-            Self::UnlockPreemption => "UNLOCK_PREEMPTION",
-            Self::GetMyId => "GET_MY_ID",
-            Self::TimedWait => "TIMED_WAIT",
-            Self::PeriodicWait => "PERIODIC_WAIT",
-            Self::GetTime => "GET_TIME",
-            Self::Replenish => "REPLENISH",
-            Self::CreateBuffer => "CREATE_BUFFER",
-            Self::SendBuffer => "SEND_BUFFER",
-            Self::ReceiveBuffer => "RECEIVE_BUFFER",
-            Self::GetBufferId => "GET_BUFFER_ID",
-            Self::GetBufferStatus => "GET_BUFFER_STATUS",
-            Self::CreateBlackboard => "CREATE_BLACKBOARD",
-            Self::DisplayBlackboard => "DISPLAY_BLACKBOARD",
-            Self::ReadBlackboard => "READ_BLACKBOARD",
-            Self::ClearBlackboard => "CLEAR_BLACKBOARD",
-            Self::GetBlackboardId => "GET_BLACKBOARD_ID",
-            Self::GetBlackboardStatus => "GET_BLACKBOARD_STATUS",
-            Self::CreateSemaphore => "CREATE_SEMAPHORE",
-            Self::WaitSemaphore => "WAIT_SEMAPHORE",
-            Self::SignalSemaphore => "SIGNAL_SEMAPHORE",
-            Self::GetSemaphoreId => "GET_SEMAPHORE_ID",
-            Self::GetSemaphoreStatus => "GET_SEMAPHORE_STATUS",
-            Self::CreateEvent => "CREATE_EVENT",
-            Self::SetEvent => "SET_EVENT",
-            Self::ResetEvent => "RESET_EVENT",
-            Self::WaitEvent => "WAIT_EVENT",
-            Self::GetEventId => "GET_EVENT_ID",
-            Self::GetEventStatus => "GET_EVENT_STATUS",
-            Self::CreateSamplingPort => "CREATE_SAMPLING_PORT",
-            Self::WriteSamplingMessage => "WRITE_SAMPLING_MESSAGE",
-            Self::ReadSamplingMessage => "READ_SAMPLING_MESSAGE",
-            Self::GetSamplingPortId => "GET_SAMPLING_PORT_ID",
-            Self::GetSamplingPortStatus => "GET_SAMPLING_PORT_STATUS",
-            Self::CreateQueuingPort => "CREATE_QUEUING_PORT",
-            Self::SendQueuingMessage => "SEND_QUEUING_MESSAGE",
-            Self::ReceiveQueuingMessage => "RECEIVE_QUEUING_MESSAGE",
-            Self::GetQueuingPortId => "GET_QUEUING_PORT_ID",
-            Self::GetQueuingPortStatus => "GET_QUEUING_PORT_STATUS",
-            Self::ClearQueuingPort => "CLEAR_QUEUING_PORT",
-            Self::ReportApplicationMessage => "REPORT_APPLICATION_MESSAGE",
-            Self::CreateErrorHandler => "CREATE_ERROR_HANDLER",
-            Self::GetErrorStatus => "GET_ERROR_STATUS",
-            Self::RaiseApplicationError => "RAISE_APPLICATION_ERROR",
-        }
+        self.shape().word
     }
 
     /// What the arguments of this service have to be, in their order.
@@ -176,113 +205,7 @@ impl Service {
         ensures kinds { result.now ≡ arguments_of self }
         ensures few { length result.now ≤ 4 }
     {
-        match self {
-            Self::GetPartitionStatus
-            | Self::StopSelf
-            | Self::LockPreemption
-            | Self::UnlockPreemption
-            | Self::GetMyId
-            | Self::PeriodicWait
-            | Self::GetTime
-            | Self::CreateErrorHandler => &[],
-            Self::SetPartitionMode
-            | Self::GetProcessStatus
-            | Self::SuspendSelf
-            | Self::Suspend
-            | Self::Resume
-            | Self::Stop
-            | Self::Start
-            | Self::TimedWait
-            | Self::Replenish
-            | Self::GetBufferStatus
-            | Self::ClearBlackboard
-            | Self::GetBlackboardStatus
-            | Self::SignalSemaphore
-            | Self::GetSemaphoreStatus
-            | Self::SetEvent
-            | Self::ResetEvent
-            | Self::GetEventStatus
-            | Self::GetSamplingPortStatus
-            | Self::GetQueuingPortStatus
-            | Self::ClearQueuingPort => &[WORD],
-            Self::GetProcessId | Self::CreateProcess => &[PROCESS],
-            Self::SetPriority | Self::DelayedStart | Self::WaitSemaphore | Self::WaitEvent => &[
-                WORD, WORD,
-            ],
-            Self::CreateBuffer | Self::GetBufferId => &[BUFFER],
-            Self::SendBuffer | Self::SendQueuingMessage => &[WORD, ARRAY, WORD, WORD],
-            Self::ReceiveBuffer
-            | Self::DisplayBlackboard
-            | Self::ReadBlackboard
-            | Self::WriteSamplingMessage
-            | Self::ReceiveQueuingMessage
-            | Self::RaiseApplicationError => &[WORD, ARRAY, WORD],
-            Self::CreateBlackboard | Self::GetBlackboardId => &[BLACKBOARD],
-            Self::CreateSemaphore | Self::GetSemaphoreId => &[SEMAPHORE],
-            Self::CreateEvent | Self::GetEventId => &[EVENT],
-            Self::CreateSamplingPort
-            | Self::GetSamplingPortId
-            | Self::CreateQueuingPort
-            | Self::GetQueuingPortId => &[PORT],
-            Self::ReadSamplingMessage => &[WORD, ARRAY],
-            Self::ReportApplicationMessage => &[ARRAY, WORD],
-            Self::GetErrorStatus => &[ARRAY],
-        }
-    }
-
-    /// How many outputs this service has beside its code.
-    fn outputs(self) -> u8
-        ensures { result ≡ (shape self).outputs }
-    {
-        match self {
-            Self::GetPartitionStatus => 6,
-            Self::GetProcessId
-            | Self::CreateProcess
-            | Self::LockPreemption
-            | Self::UnlockPreemption
-            | Self::GetMyId
-            | Self::GetTime
-            | Self::CreateBuffer
-            | Self::ReceiveBuffer
-            | Self::GetBufferId
-            | Self::CreateBlackboard
-            | Self::ReadBlackboard
-            | Self::GetBlackboardId
-            | Self::CreateSemaphore
-            | Self::GetSemaphoreId
-            | Self::CreateEvent
-            | Self::GetEventId
-            | Self::CreateSamplingPort
-            | Self::GetSamplingPortId
-            | Self::CreateQueuingPort
-            | Self::ReceiveQueuingMessage
-            | Self::GetQueuingPortId => 1,
-            Self::GetProcessStatus
-            | Self::GetBlackboardStatus
-            | Self::GetSemaphoreStatus
-            | Self::GetErrorStatus => 3,
-            Self::GetBufferStatus | Self::GetSamplingPortStatus => 4,
-            Self::GetEventStatus | Self::ReadSamplingMessage => 2,
-            Self::GetQueuingPortStatus => 5,
-            _ => 0,
-        }
-    }
-
-    /// Whether this service creates an object, a port, a process or the handler.
-    fn creates(self) -> bool
-        ensures { result ≡ (shape self).creates }
-    {
-        match self {
-            Self::CreateProcess
-            | Self::CreateBuffer
-            | Self::CreateBlackboard
-            | Self::CreateSemaphore
-            | Self::CreateEvent
-            | Self::CreateSamplingPort
-            | Self::CreateQueuingPort
-            | Self::CreateErrorHandler => true,
-            _ => false,
-        }
+        self.shape().arguments
     }
 
     /// The words of this service's arguments: an array argument is two, its place and its size.
@@ -298,7 +221,7 @@ impl Service {
     {
         match self {
             Service::StopSelf => 0,
-            _ => 1 + self.outputs(),
+            _ => 1 + self.shape().outputs,
         }
     }
 

@@ -82,7 +82,8 @@ pub fn put_all<S: Sink>(sink: &mut S, bytes: &[u8]) -> Result<(), SinkFault>
     ensures ok { OnOk result (Appends (S.taken sink.old) (S.taken sink.new) bytes.now) }
     ensures quiet { OnOk result (S.failures sink.new ≡ S.failures sink.old) }
     ensures failed { OnErr result (S.failures sink.new ≡ S.failures sink.old + 1) }
-    ensures beginning { OnErr result (TakesBeginning (S.taken sink.old) (S.taken sink.new) bytes.now) }
+    ensures beginning { OnErr result
+        (TakesBeginning (S.taken sink.old) (S.taken sink.new) bytes.now) }
 {
     let mut done = 0usize;
     while done < bytes.len() {

@@ -84,7 +84,8 @@ pub fn write_event<S: Sink>(event: &Event, sink: &mut S) -> Result<(), SinkFault
     ensures ok { OnOk result (Appends (S.taken sink.old) (S.taken sink.new) (line_of event.now)) }
     ensures quiet { OnOk result (S.failures sink.new ≡ S.failures sink.old) }
     ensures failed { OnErr result (S.failures sink.new ≡ S.failures sink.old + 1) }
-    ensures beginning { OnErr result (TakesBeginning (S.taken sink.old) (S.taken sink.new) (line_of event.now)) }
+    ensures beginning { OnErr result
+        (TakesBeginning (S.taken sink.old) (S.taken sink.new) (line_of event.now)) }
 {
     let stamp = Stamp::new(event.tick);
     let mut line = Line::new();
@@ -122,11 +123,13 @@ impl TraceBuffer {
     /// beginning of their text is out.
     pub fn write_events<S: Sink>(&mut self, sink: &mut S) -> Result<(), SinkFault>
         requires { S.failures sink.old < 2 ^ 64 - 1 }
-        ensures ok { OnOk result (Appends (S.taken sink.old) (S.taken sink.new) self.old.text.items) }
+        ensures ok { OnOk result
+            (Appends (S.taken sink.old) (S.taken sink.new) self.old.text.items) }
         ensures empty { OnOk result (self.new.text.items ≡ []) }
         ensures quiet { OnOk result (S.failures sink.new ≡ S.failures sink.old) }
         ensures failed { OnErr result (S.failures sink.new ≡ S.failures sink.old + 1) }
-        ensures beginning { OnErr result (TakesBeginning (S.taken sink.old) (S.taken sink.new) self.old.text.items) }
+        ensures beginning { OnErr result
+            (TakesBeginning (S.taken sink.old) (S.taken sink.new) self.old.text.items) }
     {
         put_all(sink, self.text.as_slice())?;
         self.text.clear();
@@ -173,7 +176,11 @@ fn push_line<const N: usize>(
     kind: &EventKind,
 )
     requires { array_vec_len line.old + MOST_LINE_BYTES ≤ N }
-    ensures items { line.new.items ≡ line.old.items ++ (digits.now ++ codes " " ++ partition_text partition.now ++ codes " " ++ kind_text kind.now ++ 10 ∷ []) }
+    ensures items { line.new.items
+        ≡ line.old.items
+        ++ (digits.now ++ codes " " ++ partition_text partition.now ++ codes " "
+        ++ kind_text kind.now ++ 10
+        ∷ []) }
     ensures len { array_vec_len line.new ≤ array_vec_len line.old + MOST_LINE_BYTES }
 {
     push_bytes(line, digits);
@@ -230,7 +237,8 @@ fn digits(number: u64) -> [u8; 13]
 /// The digits of a number become those of another one of the same thousand.
 #[tactic(auto, using(crate::proofs::Digits::same_thousand))]
 fn put_last_digits(digits: &mut [u8; 13], number: u64)
-    ensures { (other : ℕ) → digits.old ≡ thirteen_digits other → other / 1000 ≡ number / 1000 → digits.new ≡ thirteen_digits number }
+    ensures { (other : ℕ) → digits.old ≡ thirteen_digits other → other / 1000 ≡ number / 1000
+        → digits.new ≡ thirteen_digits number }
 {
     digits[10] = digit(number, 100);
     digits[11] = digit(number, 10);
@@ -284,7 +292,8 @@ fn push_word<const N: usize>(line: &mut ArrayVec<u8, N>, word: i64)
 fn push_words<const N: usize>(line: &mut ArrayVec<u8, N>, words: &[i64])
     requires { array_vec_len line.old + MOST_WORD_BYTES * length words.now ≤ N }
     ensures items { line.new.items ≡ line.old.items ++ words_text words.now }
-    ensures len { array_vec_len line.new ≤ array_vec_len line.old + MOST_WORD_BYTES * length words.now }
+    ensures len { array_vec_len line.new
+        ≤ array_vec_len line.old + MOST_WORD_BYTES * length words.now }
 {
     for word in words {
         push_word(line, *word);
@@ -295,7 +304,8 @@ fn push_words<const N: usize>(line: &mut ArrayVec<u8, N>, words: &[i64])
 fn push_message<const N: usize>(line: &mut ArrayVec<u8, N>, name: &Name, words: &[i64])
     requires { array_vec_len line.old + MOST_NAME_BYTES + MOST_WORD_BYTES * length words.now ≤ N }
     ensures items { line.new.items ≡ line.old.items ++ name.now ++ words_text words.now }
-    ensures len { array_vec_len line.new ≤ array_vec_len line.old + MOST_NAME_BYTES + MOST_WORD_BYTES * length words.now }
+    ensures len { array_vec_len line.new
+        ≤ array_vec_len line.old + MOST_NAME_BYTES + MOST_WORD_BYTES * length words.now }
 {
     push_bytes(line, name.as_bytes());
     push_words(line, words);
@@ -308,7 +318,8 @@ fn push_return<const N: usize>(
     code: ReturnCode,
 )
     requires { array_vec_len line.old + 70 + MOST_NAME_BYTES ≤ N }
-    ensures items { line.new.items ≡ line.old.items ++ kind_text (EventKind.Return who.now service code) }
+    ensures items { line.new.items
+        ≡ line.old.items ++ kind_text (EventKind.Return who.now service code) }
     ensures len { array_vec_len line.new ≤ array_vec_len line.old + 70 + MOST_NAME_BYTES }
 {
     let mut buffer = itoa::Buffer::new();
@@ -327,7 +338,8 @@ fn push_error<const N: usize>(
     response: Response,
 )
     requires { array_vec_len line.old + 70 + MOST_NAME_BYTES ≤ N }
-    ensures items { line.new.items ≡ line.old.items ++ kind_text (EventKind.Error error who.now response) }
+    ensures items { line.new.items
+        ≡ line.old.items ++ kind_text (EventKind.Error error who.now response) }
     ensures len { array_vec_len line.new ≤ array_vec_len line.old + 70 + MOST_NAME_BYTES }
 {
     push_text(line, "HM ");
@@ -343,7 +355,8 @@ fn push_error<const N: usize>(
 fn push_kind<const N: usize>(line: &mut ArrayVec<u8, N>, kind: &EventKind)
     requires { array_vec_len line.old + 64 + MOST_WORD_BYTES * MOST_WORDS ≤ N }
     ensures items { line.new.items ≡ line.old.items ++ kind_text kind.now }
-    ensures len { array_vec_len line.new ≤ array_vec_len line.old + 64 + MOST_WORD_BYTES * MOST_WORDS }
+    ensures len { array_vec_len line.new
+        ≤ array_vec_len line.old + 64 + MOST_WORD_BYTES * MOST_WORDS }
 {
     match kind {
         EventKind::State(who, state) => {

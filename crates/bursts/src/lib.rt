@@ -19,10 +19,23 @@ ghost use Rattle.bursts.specs.Running.{is_silent, advances_by, burst_of, lifted}
 
 /// Ticks in which nothing happens are one jump.
 pub fn still_ticks_are_one_jump()
-    ensures { (plan : Plan) (devices : List DeviceLine) (origin from limit : ℕ) (members : List (Member MachineControl)) → AreStill origin from limit members → (n m t : ℕ) → from ≤ t → t + n ≤ limit → HaveNoLines t (t + n) devices → trace_from plan devices (n + m) (Some (tick_from origin t)) members ≡ trace_from plan devices m (Some (tick_from origin (t + n))) members }
+    ensures { (plan : Plan) (devices : List DeviceLine) (origin from limit : ℕ)
+        (members : List (Member MachineControl))
+        → AreStill origin from limit members → (n m t : ℕ) → from ≤ t → t + n ≤ limit
+        → HaveNoLines t (t + n) devices
+        → trace_from plan devices (n + m) (Some (tick_from origin t)) members
+        ≡ trace_from plan devices m (Some (tick_from origin (t + n))) members }
 {}
 
 /// While nothing is due and the choice stays, ticks of a partition are a burst of the one that runs.
 pub fn ticks_are_a_burst_of_the_running_one()
-    ensures { (e : Engine MachineControl) (origin : ℕ) (p : Runner) (n m t : ℕ) (w : World MachineControl) → w.kernel.processes.running ≡ Some p → chooses_with_handler w.kernel ≡ nothing w.kernel → ((i : ℕ) → i < n → HasNothingDue (tick_from origin (t + i)) w.kernel) → let b = burst_of e n p w in let l = lifted e origin p w t b in advances_by e origin (b.ticks + m) w t ≡ (if is_silent l.told then later b.ticks (advances_by e origin m l.control l.words) else l) }
+    ensures { (e : Engine MachineControl) (origin : ℕ) (p : Runner) (n m t : ℕ)
+        (w : World MachineControl) → w.kernel.processes.running ≡ Some p
+        → chooses_with_handler w.kernel ≡ nothing w.kernel
+        → ((i : ℕ) → i < n → HasNothingDue (tick_from origin (t + i)) w.kernel)
+        → let b = burst_of e n p w in
+        let l = lifted e origin p w t b in
+        advances_by e origin (b.ticks + m) w t
+        ≡ (if is_silent l.told then later b.ticks (advances_by e origin m l.control l.words)
+        else l) }
 {}

@@ -35,13 +35,21 @@ pub fn perform<S: AsStr, F: Files, O: Stream>(
     note: &mut Note,
 ) -> Result<(), Failure<Refusal>>
     requires { O.failures out.old < 2 ^ 64 - 1 }
-    ensures asked { asked.old ≡ false → asks (subcommand_of mb_app (map S.text words.now)) ≡ false → asked.new ≡ false }
+    ensures asked { asked.old ≡ false → asks (subcommand_of mb_app (map S.text words.now)) ≡ false
+        → asked.new ≡ false }
     ensures command { OnOk result (fault_of mb_app (map S.text words.now) ≡ []) }
-    ensures done { OnOk result (IsDone (order_of (subcommand_of mb_app (map S.text words.now)))
-        (state (F.contents files.old) (seen O.taken O.failures O.is_flushed out.old)) (state (F.contents files.new) (seen O.taken O.failures O.is_flushed out.new))) }
-    ensures flushed { OnOk result (IsFlushed (seen O.taken O.failures O.is_flushed out.old) (seen O.taken O.failures O.is_flushed out.new)) }
-    ensures failed { IfErr result (λ f. IsFailureOfWords (fault_of mb_app (map S.text words.now)) (order_of (subcommand_of mb_app (map S.text words.now)))
-        (state (F.contents files.old) (seen O.taken O.failures O.is_flushed out.old)) (state (F.contents files.new) (seen O.taken O.failures O.is_flushed out.new)) f) }
+    ensures done { OnOk result
+        (IsDone (order_of (subcommand_of mb_app (map S.text words.now)))
+        (state (F.contents files.old) (seen O.taken O.failures O.is_flushed out.old))
+        (state (F.contents files.new) (seen O.taken O.failures O.is_flushed out.new))) }
+    ensures flushed { OnOk result
+        (IsFlushed (seen O.taken O.failures O.is_flushed out.old)
+        (seen O.taken O.failures O.is_flushed out.new)) }
+    ensures failed { IfErr result
+        (λ f. IsFailureOfWords (fault_of mb_app (map S.text words.now))
+        (order_of (subcommand_of mb_app (map S.text words.now)))
+        (state (F.contents files.old) (seen O.taken O.failures O.is_flushed out.old))
+        (state (F.contents files.new) (seen O.taken O.failures O.is_flushed out.new)) f) }
     ensures noted { OnOk result (F.failed files.new ≡ F.failed files.old) }
     ensures named { IfErr result (λ f. IsOfFailedFile (F.failed files.old) (F.failed files.new) f) }
 {
@@ -70,11 +78,17 @@ fn obey<F: Files, O: Stream>(
     note: &mut Note,
 ) -> Result<(), Failure<Refusal>>
     requires { O.failures out.old < 2 ^ 64 - 1 }
-    ensures done { OnOk result (IsDone (order_of (subcommand_rows_of matches.now))
-        (state (F.contents files.old) (seen O.taken O.failures O.is_flushed out.old)) (state (F.contents files.new) (seen O.taken O.failures O.is_flushed out.new))) }
-    ensures flushed { OnOk result (IsFlushed (seen O.taken O.failures O.is_flushed out.old) (seen O.taken O.failures O.is_flushed out.new)) }
-    ensures failed { IfErr result (λ f. IsFailure (order_of (subcommand_rows_of matches.now))
-        (state (F.contents files.old) (seen O.taken O.failures O.is_flushed out.old)) (state (F.contents files.new) (seen O.taken O.failures O.is_flushed out.new)) f) }
+    ensures done { OnOk result
+        (IsDone (order_of (subcommand_rows_of matches.now))
+        (state (F.contents files.old) (seen O.taken O.failures O.is_flushed out.old))
+        (state (F.contents files.new) (seen O.taken O.failures O.is_flushed out.new))) }
+    ensures flushed { OnOk result
+        (IsFlushed (seen O.taken O.failures O.is_flushed out.old)
+        (seen O.taken O.failures O.is_flushed out.new)) }
+    ensures failed { IfErr result
+        (λ f. IsFailure (order_of (subcommand_rows_of matches.now))
+        (state (F.contents files.old) (seen O.taken O.failures O.is_flushed out.old))
+        (state (F.contents files.new) (seen O.taken O.failures O.is_flushed out.new)) f) }
     ensures noted { OnOk result (F.failed files.new ≡ F.failed files.old) }
     ensures named { IfErr result (λ f. IsOfFailedFile (F.failed files.old) (F.failed files.new) f) }
 {
@@ -123,11 +137,17 @@ fn check<F: Files, O: Stream>(
     note: &mut Note,
 ) -> Result<(), Refusal>
     requires { O.failures out.old < 2 ^ 64 - 1 }
-    ensures done { OnOk result (IsDone (Check table.now (map (λ s. s.now) sources.now))
-        (state (F.contents files.old) (seen O.taken O.failures O.is_flushed out.old)) (state (F.contents files.new) (seen O.taken O.failures O.is_flushed out.new))) }
-    ensures flushed { OnOk result (IsFlushed (seen O.taken O.failures O.is_flushed out.old) (seen O.taken O.failures O.is_flushed out.new)) }
-    ensures refused { IfErr result (λ r. IsCheckRefused table.now (map (λ s. s.now) sources.now)
-        (state (F.contents files.old) (seen O.taken O.failures O.is_flushed out.old)) (state (F.contents files.new) (seen O.taken O.failures O.is_flushed out.new)) r) }
+    ensures done { OnOk result
+        (IsDone (Check table.now (map (λ s. s.now) sources.now))
+        (state (F.contents files.old) (seen O.taken O.failures O.is_flushed out.old))
+        (state (F.contents files.new) (seen O.taken O.failures O.is_flushed out.new))) }
+    ensures flushed { OnOk result
+        (IsFlushed (seen O.taken O.failures O.is_flushed out.old)
+        (seen O.taken O.failures O.is_flushed out.new)) }
+    ensures refused { IfErr result
+        (λ r. IsCheckRefused table.now (map (λ s. s.now) sources.now)
+        (state (F.contents files.old) (seen O.taken O.failures O.is_flushed out.old))
+        (state (F.contents files.new) (seen O.taken O.failures O.is_flushed out.new)) r) }
     ensures noted { OnOk result (F.failed files.new ≡ F.failed files.old) }
     ensures named { IfErr result (λ r. IsOfFailed (F.failed files.old) (F.failed files.new) r) }
 {
@@ -146,11 +166,17 @@ fn build<F: Files, O: Stream>(
     note: &mut Note,
 ) -> Result<(), Refusal>
     requires { O.failures out.old < 2 ^ 64 - 1 }
-    ensures done { OnOk result (IsDone (Build table.now name.now (map (λ s. s.now) sources.now))
-        (state (F.contents files.old) (seen O.taken O.failures O.is_flushed out.old)) (state (F.contents files.new) (seen O.taken O.failures O.is_flushed out.new))) }
-    ensures flushed { OnOk result (IsFlushed (seen O.taken O.failures O.is_flushed out.old) (seen O.taken O.failures O.is_flushed out.new)) }
-    ensures refused { IfErr result (λ r. IsBuildRefused table.now name.now (map (λ s. s.now) sources.now)
-        (state (F.contents files.old) (seen O.taken O.failures O.is_flushed out.old)) (state (F.contents files.new) (seen O.taken O.failures O.is_flushed out.new)) r) }
+    ensures done { OnOk result
+        (IsDone (Build table.now name.now (map (λ s. s.now) sources.now))
+        (state (F.contents files.old) (seen O.taken O.failures O.is_flushed out.old))
+        (state (F.contents files.new) (seen O.taken O.failures O.is_flushed out.new))) }
+    ensures flushed { OnOk result
+        (IsFlushed (seen O.taken O.failures O.is_flushed out.old)
+        (seen O.taken O.failures O.is_flushed out.new)) }
+    ensures refused { IfErr result
+        (λ r. IsBuildRefused table.now name.now (map (λ s. s.now) sources.now)
+        (state (F.contents files.old) (seen O.taken O.failures O.is_flushed out.old))
+        (state (F.contents files.new) (seen O.taken O.failures O.is_flushed out.new)) r) }
     ensures noted { OnOk result (F.failed files.new ≡ F.failed files.old) }
     ensures named { IfErr result (λ r. IsOfFailed (F.failed files.old) (F.failed files.new) r) }
 {

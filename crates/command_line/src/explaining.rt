@@ -59,7 +59,9 @@ fn explained(
     partition: &Name,
     fault: PalFault,
 ) -> Option<String>
-    ensures { IfSome result (λ text. IsExplained table.now (map (λ s. s.now) sources.now) partition.now fault (string_bytes text)) }
+    ensures { IfSome result
+        (λ text. IsExplained table.now (map (λ s. s.now) sources.now) partition.now fault
+        (string_bytes text)) }
 {
     let table = accepted(alloc, table)?;
     explained_with(alloc, &table, sources, partition, fault)
@@ -83,7 +85,10 @@ fn explained_with(
     partition: &Name,
     fault: PalFault,
 ) -> Option<String>
-    ensures { IfSome result (λ text. IsExplainedWith (table_of table.now) (map (λ s. s.now) sources.now) partition.now fault (string_bytes text)) }
+    ensures { IfSome result
+        (λ text.
+        IsExplainedWith (table_of table.now) (map (λ s. s.now) sources.now) partition.now fault
+        (string_bytes text)) }
 {
     let source = source_of(table.partitions.as_slice(), sources, partition)?;
     match explain_source(alloc, source, fault) {
@@ -98,7 +103,8 @@ fn source_of<'a>(
     sources: &'a [&'a [u8]],
     name: &Name,
 ) -> Option<&'a [u8]>
-    ensures { option_map (λ s. s.now) result ≡ source_of (map partition_view partitions.now) (map (λ s. s.now) sources.now) name.now }
+    ensures { option_map (λ s. s.now) result
+        ≡ source_of (map partition_view partitions.now) (map (λ s. s.now) sources.now) name.now }
 {
     match (partitions.split_first(), sources.split_first()) {
         (Some((partition, partitions)), Some((source, sources))) => {

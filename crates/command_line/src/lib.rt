@@ -49,9 +49,13 @@ pub fn command<S: AsStr, F: Files, O: Stream, E: Stream>(
 ) -> u8
     requires out { O.failures out.old < 2 ^ 64 - 1 }
     requires err { E.failures err.old < 2 ^ 64 - 1 }
-    ensures { IsAnswer (fault_of mb_app (map S.text words.now)) (order_of (subcommand_of mb_app (map S.text words.now))) (asks (subcommand_of mb_app (map S.text words.now)))
-        (state (F.contents files.old) (seen O.taken O.failures O.is_flushed out.old)) (state (F.contents files.new) (seen O.taken O.failures O.is_flushed out.new))
-        (F.failed files.old) (F.failed files.new) (seen E.taken E.failures E.is_flushed err.old) (seen E.taken E.failures E.is_flushed err.new) result }
+    ensures { IsAnswer (fault_of mb_app (map S.text words.now))
+        (order_of (subcommand_of mb_app (map S.text words.now)))
+        (asks (subcommand_of mb_app (map S.text words.now)))
+        (state (F.contents files.old) (seen O.taken O.failures O.is_flushed out.old))
+        (state (F.contents files.new) (seen O.taken O.failures O.is_flushed out.new))
+        (F.failed files.old) (F.failed files.new) (seen E.taken E.failures E.is_flushed err.old)
+        (seen E.taken E.failures E.is_flushed err.new) result }
 {
     let mut asked = false;
     let mut note = Note::new(false);

@@ -36,8 +36,11 @@ pub fn read<F: Files>(alloc: Global, name: &str, files: &mut F) -> Result<Vec<u8
 
 /// The bytes of the files of these names, in their order.
 fn read_all<F: Files>(alloc: Global, names: &[&str], files: &mut F) -> Result<Vec<Vec<u8>>, Refusal>
-    ensures held { IfOk result (λ texts. HoldAll (F.contents files.old) (map (λ s. s.now) names.now) (texts_of texts.items)) }
-    ensures refused { IfErr result (λ r. IsUnreadAmong (F.contents files.old) (map (λ s. s.now) names.now) r) }
+    ensures held { IfOk result
+        (λ texts.
+        HoldAll (F.contents files.old) (map (λ s. s.now) names.now) (texts_of texts.items)) }
+    ensures refused { IfErr result
+        (λ r. IsUnreadAmong (F.contents files.old) (map (λ s. s.now) names.now) r) }
     ensures unchanged { F.contents files.new ≡ F.contents files.old }
     ensures noted { OnOk result (F.failed files.new ≡ F.failed files.old) }
     ensures named { IfErr result (λ r. IsOfFailed (F.failed files.old) (F.failed files.new) r) }
@@ -58,8 +61,11 @@ pub fn build_named<F: Files>(
     files: &mut F,
     note: &mut Note,
 ) -> Result<Vec<u8>, Refusal>
-    ensures built { IfOk result (λ image. IsBuilt (F.contents files.old) table.now (map (λ s. s.now) sources.now) image.items) }
-    ensures refused { IfErr result (λ r. IsNotBuilt (F.contents files.old) table.now (map (λ s. s.now) sources.now) r) }
+    ensures built { IfOk result
+        (λ image.
+        IsBuilt (F.contents files.old) table.now (map (λ s. s.now) sources.now) image.items) }
+    ensures refused { IfErr result
+        (λ r. IsNotBuilt (F.contents files.old) table.now (map (λ s. s.now) sources.now) r) }
     ensures unchanged { F.contents files.new ≡ F.contents files.old }
     ensures noted { OnOk result (F.failed files.new ≡ F.failed files.old) }
     ensures named { IfErr result (λ r. IsOfFailed (F.failed files.old) (F.failed files.new) r) }
@@ -98,8 +104,11 @@ pub fn costs_named<F: Files>(
     files: &mut F,
     note: &mut Note,
 ) -> Result<Vec<PartitionCosts>, Refusal>
-    ensures costed { IfOk result (λ costs. AreCosted (F.contents files.old) table.now (map (λ s. s.now) sources.now) costs.items) }
-    ensures refused { IfErr result (λ r. IsNotCosted (F.contents files.old) table.now (map (λ s. s.now) sources.now) r) }
+    ensures costed { IfOk result
+        (λ costs.
+        AreCosted (F.contents files.old) table.now (map (λ s. s.now) sources.now) costs.items) }
+    ensures refused { IfErr result
+        (λ r. IsNotCosted (F.contents files.old) table.now (map (λ s. s.now) sources.now) r) }
     ensures unchanged { F.contents files.new ≡ F.contents files.old }
     ensures noted { OnOk result (F.failed files.new ≡ F.failed files.old) }
     ensures named { IfErr result (λ r. IsOfFailed (F.failed files.old) (F.failed files.new) r) }
@@ -131,7 +140,8 @@ fn costs_of_texts(
 
 /// The image in the file of that name.
 pub fn load_named<F: Files>(alloc: Global, name: &str, files: &mut F) -> Result<Image, Refusal>
-    ensures loaded { IfOk result (λ image. IsImageIn (F.contents files.old) name.now (image_of image)) }
+    ensures loaded { IfOk result
+        (λ image. IsImageIn (F.contents files.old) name.now (image_of image)) }
     ensures refused { IfErr result (λ r. IsNotLoaded (F.contents files.old) name.now r) }
     ensures unchanged { F.contents files.new ≡ F.contents files.old }
     ensures noted { OnOk result (F.failed files.new ≡ F.failed files.old) }

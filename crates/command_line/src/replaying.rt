@@ -30,11 +30,17 @@ pub fn replay<F: Files, O: Stream>(
     out: &mut O,
 ) -> Result<(), Failure<Refusal>>
     requires { O.failures out.old < 2 ^ 64 - 1 }
-    ensures done { OnOk result (IsDone (Replay image.now partition.now inputs.now ticks.now)
-        (state (F.contents files.old) (seen O.taken O.failures O.is_flushed out.old)) (state (F.contents files.new) (seen O.taken O.failures O.is_flushed out.new))) }
-    ensures flushed { OnOk result (IsFlushed (seen O.taken O.failures O.is_flushed out.old) (seen O.taken O.failures O.is_flushed out.new)) }
-    ensures failed { IfErr result (λ f. IsFailure (Replay image.now partition.now inputs.now ticks.now)
-        (state (F.contents files.old) (seen O.taken O.failures O.is_flushed out.old)) (state (F.contents files.new) (seen O.taken O.failures O.is_flushed out.new)) f) }
+    ensures done { OnOk result
+        (IsDone (Replay image.now partition.now inputs.now ticks.now)
+        (state (F.contents files.old) (seen O.taken O.failures O.is_flushed out.old))
+        (state (F.contents files.new) (seen O.taken O.failures O.is_flushed out.new))) }
+    ensures flushed { OnOk result
+        (IsFlushed (seen O.taken O.failures O.is_flushed out.old)
+        (seen O.taken O.failures O.is_flushed out.new)) }
+    ensures failed { IfErr result
+        (λ f. IsFailure (Replay image.now partition.now inputs.now ticks.now)
+        (state (F.contents files.old) (seen O.taken O.failures O.is_flushed out.old))
+        (state (F.contents files.new) (seen O.taken O.failures O.is_flushed out.new)) f) }
     ensures noted { OnOk result (F.failed files.new ≡ F.failed files.old) }
     ensures named { IfErr result (λ f. IsOfFailedFile (F.failed files.old) (F.failed files.new) f) }
 {
@@ -55,11 +61,17 @@ fn replay_named<F: Files, O: Stream>(
     out: &mut O,
 ) -> Result<(), Refusal>
     requires { O.failures out.old < 2 ^ 64 - 1 }
-    ensures done { OnOk result (IsReplayDone image.now partition.now inputs.now ticks
-        (state (F.contents files.old) (seen O.taken O.failures O.is_flushed out.old)) (state (F.contents files.new) (seen O.taken O.failures O.is_flushed out.new))) }
-    ensures flushed { OnOk result (IsFlushed (seen O.taken O.failures O.is_flushed out.old) (seen O.taken O.failures O.is_flushed out.new)) }
-    ensures refused { IfErr result (λ r. IsReplayRefused image.now partition.now inputs.now ticks
-        (state (F.contents files.old) (seen O.taken O.failures O.is_flushed out.old)) (state (F.contents files.new) (seen O.taken O.failures O.is_flushed out.new)) r) }
+    ensures done { OnOk result
+        (IsReplayDone image.now partition.now inputs.now ticks
+        (state (F.contents files.old) (seen O.taken O.failures O.is_flushed out.old))
+        (state (F.contents files.new) (seen O.taken O.failures O.is_flushed out.new))) }
+    ensures flushed { OnOk result
+        (IsFlushed (seen O.taken O.failures O.is_flushed out.old)
+        (seen O.taken O.failures O.is_flushed out.new)) }
+    ensures refused { IfErr result
+        (λ r. IsReplayRefused image.now partition.now inputs.now ticks
+        (state (F.contents files.old) (seen O.taken O.failures O.is_flushed out.old))
+        (state (F.contents files.new) (seen O.taken O.failures O.is_flushed out.new)) r) }
     ensures noted { OnOk result (F.failed files.new ≡ F.failed files.old) }
     ensures named { IfErr result (λ r. IsOfFailed (F.failed files.old) (F.failed files.new) r) }
 {
@@ -88,9 +100,12 @@ fn trace_alone<O: Stream>(
     out: &mut O,
 ) -> Result<(), RunFault>
     requires { O.failures out.old < 2 ^ 64 - 1 }
-    ensures trace { Replays (image_at image.now) partition.now inputs.now ticks (O.taken out.old) (O.taken out.new) result }
+    ensures trace { Replays (image_at image.now) partition.now inputs.now ticks (O.taken out.old)
+        (O.taken out.new) result }
     ensures quiet { OnOk result (O.failures out.new ≡ O.failures out.old) }
-    ensures failed { IfErr result (λ f. HasFailedBy f (seen O.taken O.failures O.is_flushed out.old) (seen O.taken O.failures O.is_flushed out.new)) }
+    ensures failed { IfErr result
+        (λ f. HasFailedBy f (seen O.taken O.failures O.is_flushed out.old)
+        (seen O.taken O.failures O.is_flushed out.new)) }
 {
     module::replay(alloc, image, partition, inputs, ticks, out)
 }
@@ -106,11 +121,17 @@ pub fn inputs<F: Files, O: Stream>(
     out: &mut O,
 ) -> Result<(), Failure<Refusal>>
     requires { O.failures out.old < 2 ^ 64 - 1 }
-    ensures done { OnOk result (IsDone (Inputs image.now partition.now devices.now ticks.now)
-        (state (F.contents files.old) (seen O.taken O.failures O.is_flushed out.old)) (state (F.contents files.new) (seen O.taken O.failures O.is_flushed out.new))) }
-    ensures flushed { OnOk result (IsFlushed (seen O.taken O.failures O.is_flushed out.old) (seen O.taken O.failures O.is_flushed out.new)) }
-    ensures failed { IfErr result (λ f. IsFailure (Inputs image.now partition.now devices.now ticks.now)
-        (state (F.contents files.old) (seen O.taken O.failures O.is_flushed out.old)) (state (F.contents files.new) (seen O.taken O.failures O.is_flushed out.new)) f) }
+    ensures done { OnOk result
+        (IsDone (Inputs image.now partition.now devices.now ticks.now)
+        (state (F.contents files.old) (seen O.taken O.failures O.is_flushed out.old))
+        (state (F.contents files.new) (seen O.taken O.failures O.is_flushed out.new))) }
+    ensures flushed { OnOk result
+        (IsFlushed (seen O.taken O.failures O.is_flushed out.old)
+        (seen O.taken O.failures O.is_flushed out.new)) }
+    ensures failed { IfErr result
+        (λ f. IsFailure (Inputs image.now partition.now devices.now ticks.now)
+        (state (F.contents files.old) (seen O.taken O.failures O.is_flushed out.old))
+        (state (F.contents files.new) (seen O.taken O.failures O.is_flushed out.new)) f) }
     ensures noted { OnOk result (F.failed files.new ≡ F.failed files.old) }
     ensures named { IfErr result (λ f. IsOfFailedFile (F.failed files.old) (F.failed files.new) f) }
 {
@@ -131,11 +152,17 @@ fn inputs_named<F: Files, O: Stream>(
     out: &mut O,
 ) -> Result<(), Refusal>
     requires { O.failures out.old < 2 ^ 64 - 1 }
-    ensures done { OnOk result (AreInputsDone image.now partition.now devices.now ticks
-        (state (F.contents files.old) (seen O.taken O.failures O.is_flushed out.old)) (state (F.contents files.new) (seen O.taken O.failures O.is_flushed out.new))) }
-    ensures flushed { OnOk result (IsFlushed (seen O.taken O.failures O.is_flushed out.old) (seen O.taken O.failures O.is_flushed out.new)) }
-    ensures refused { IfErr result (λ r. AreInputsRefused image.now partition.now devices.now ticks
-        (state (F.contents files.old) (seen O.taken O.failures O.is_flushed out.old)) (state (F.contents files.new) (seen O.taken O.failures O.is_flushed out.new)) r) }
+    ensures done { OnOk result
+        (AreInputsDone image.now partition.now devices.now ticks
+        (state (F.contents files.old) (seen O.taken O.failures O.is_flushed out.old))
+        (state (F.contents files.new) (seen O.taken O.failures O.is_flushed out.new))) }
+    ensures flushed { OnOk result
+        (IsFlushed (seen O.taken O.failures O.is_flushed out.old)
+        (seen O.taken O.failures O.is_flushed out.new)) }
+    ensures refused { IfErr result
+        (λ r. AreInputsRefused image.now partition.now devices.now ticks
+        (state (F.contents files.old) (seen O.taken O.failures O.is_flushed out.old))
+        (state (F.contents files.new) (seen O.taken O.failures O.is_flushed out.new)) r) }
     ensures noted { OnOk result (F.failed files.new ≡ F.failed files.old) }
     ensures named { IfErr result (λ r. IsOfFailed (F.failed files.old) (F.failed files.new) r) }
 {
@@ -162,9 +189,12 @@ fn tell_inputs<O: Stream>(
     out: &mut O,
 ) -> Result<(), InputsFault>
     requires { O.failures out.old < 2 ^ 64 - 1 }
-    ensures told { Tells (image_at image.now) partition.now devices.now ticks (O.taken out.old) (O.taken out.new) result }
+    ensures told { Tells (image_at image.now) partition.now devices.now ticks (O.taken out.old)
+        (O.taken out.new) result }
     ensures quiet { OnOk result (O.failures out.new ≡ O.failures out.old) }
-    ensures failed { IfErr result (λ f. HasFailedByInputs f (seen O.taken O.failures O.is_flushed out.old) (seen O.taken O.failures O.is_flushed out.new)) }
+    ensures failed { IfErr result
+        (λ f. HasFailedByInputs f (seen O.taken O.failures O.is_flushed out.old)
+        (seen O.taken O.failures O.is_flushed out.new)) }
 {
     module::inputs(alloc, image, partition, devices, ticks, out)
 }

@@ -29,11 +29,17 @@ pub fn run<F: Files, O: Stream>(
     out: &mut O,
 ) -> Result<(), Failure<Refusal>>
     requires { O.failures out.old < 2 ^ 64 - 1 }
-    ensures done { OnOk result (IsDone (Run image.now devices.now ticks.now)
-        (state (F.contents files.old) (seen O.taken O.failures O.is_flushed out.old)) (state (F.contents files.new) (seen O.taken O.failures O.is_flushed out.new))) }
-    ensures flushed { OnOk result (IsFlushed (seen O.taken O.failures O.is_flushed out.old) (seen O.taken O.failures O.is_flushed out.new)) }
-    ensures failed { IfErr result (λ f. IsFailure (Run image.now devices.now ticks.now)
-        (state (F.contents files.old) (seen O.taken O.failures O.is_flushed out.old)) (state (F.contents files.new) (seen O.taken O.failures O.is_flushed out.new)) f) }
+    ensures done { OnOk result
+        (IsDone (Run image.now devices.now ticks.now)
+        (state (F.contents files.old) (seen O.taken O.failures O.is_flushed out.old))
+        (state (F.contents files.new) (seen O.taken O.failures O.is_flushed out.new))) }
+    ensures flushed { OnOk result
+        (IsFlushed (seen O.taken O.failures O.is_flushed out.old)
+        (seen O.taken O.failures O.is_flushed out.new)) }
+    ensures failed { IfErr result
+        (λ f. IsFailure (Run image.now devices.now ticks.now)
+        (state (F.contents files.old) (seen O.taken O.failures O.is_flushed out.old))
+        (state (F.contents files.new) (seen O.taken O.failures O.is_flushed out.new)) f) }
     ensures noted { OnOk result (F.failed files.new ≡ F.failed files.old) }
     ensures named { IfErr result (λ f. IsOfFailedFile (F.failed files.old) (F.failed files.new) f) }
 {
@@ -53,11 +59,17 @@ fn run_named<F: Files, O: Stream>(
     out: &mut O,
 ) -> Result<(), Refusal>
     requires { O.failures out.old < 2 ^ 64 - 1 }
-    ensures done { OnOk result (IsRunDone image.now devices.now ticks
-        (state (F.contents files.old) (seen O.taken O.failures O.is_flushed out.old)) (state (F.contents files.new) (seen O.taken O.failures O.is_flushed out.new))) }
-    ensures flushed { OnOk result (IsFlushed (seen O.taken O.failures O.is_flushed out.old) (seen O.taken O.failures O.is_flushed out.new)) }
-    ensures refused { IfErr result (λ r. IsRunRefused image.now devices.now ticks
-        (state (F.contents files.old) (seen O.taken O.failures O.is_flushed out.old)) (state (F.contents files.new) (seen O.taken O.failures O.is_flushed out.new)) r) }
+    ensures done { OnOk result
+        (IsRunDone image.now devices.now ticks
+        (state (F.contents files.old) (seen O.taken O.failures O.is_flushed out.old))
+        (state (F.contents files.new) (seen O.taken O.failures O.is_flushed out.new))) }
+    ensures flushed { OnOk result
+        (IsFlushed (seen O.taken O.failures O.is_flushed out.old)
+        (seen O.taken O.failures O.is_flushed out.new)) }
+    ensures refused { IfErr result
+        (λ r. IsRunRefused image.now devices.now ticks
+        (state (F.contents files.old) (seen O.taken O.failures O.is_flushed out.old))
+        (state (F.contents files.new) (seen O.taken O.failures O.is_flushed out.new)) r) }
     ensures noted { OnOk result (F.failed files.new ≡ F.failed files.old) }
     ensures named { IfErr result (λ r. IsOfFailed (F.failed files.old) (F.failed files.new) r) }
 {
@@ -76,9 +88,12 @@ fn trace<O: Stream>(
     out: &mut O,
 ) -> Result<(), RunFault>
     requires { O.failures out.old < 2 ^ 64 - 1 }
-    ensures trace { Runs (image_at image.now) devices.now ticks (O.taken out.old) (O.taken out.new) result }
+    ensures trace { Runs (image_at image.now) devices.now ticks (O.taken out.old) (O.taken out.new)
+        result }
     ensures quiet { OnOk result (O.failures out.new ≡ O.failures out.old) }
-    ensures failed { IfErr result (λ f. HasFailedBy f (seen O.taken O.failures O.is_flushed out.old) (seen O.taken O.failures O.is_flushed out.new)) }
+    ensures failed { IfErr result
+        (λ f. HasFailedBy f (seen O.taken O.failures O.is_flushed out.old)
+        (seen O.taken O.failures O.is_flushed out.new)) }
 {
     module::run(alloc, image, devices, ticks, out)
 }
@@ -87,8 +102,12 @@ fn trace<O: Stream>(
 pub fn run_stored<O: Stream>(alloc: Global, out: &mut O) -> Result<(), Refusal>
     requires { O.failures out.old < 2 ^ 64 - 1 }
     ensures done { OnOk result (IsFirstRun (O.taken out.old) (O.taken out.new) is_ok) }
-    ensures flushed { OnOk result (IsFlushed (seen O.taken O.failures O.is_flushed out.old) (seen O.taken O.failures O.is_flushed out.new)) }
-    ensures refused { IfErr result (λ r. IsStoredRefused (seen O.taken O.failures O.is_flushed out.old) (seen O.taken O.failures O.is_flushed out.new) r) }
+    ensures flushed { OnOk result
+        (IsFlushed (seen O.taken O.failures O.is_flushed out.old)
+        (seen O.taken O.failures O.is_flushed out.new)) }
+    ensures refused { IfErr result
+        (λ r. IsStoredRefused (seen O.taken O.failures O.is_flushed out.old)
+        (seen O.taken O.failures O.is_flushed out.new) r) }
 {
     trace_stored(alloc, out)?;
     Ok(out.flush()?)
@@ -99,7 +118,9 @@ fn trace_stored<O: Stream>(alloc: Global, out: &mut O) -> Result<(), BuildAndRun
     requires { O.failures out.old < 2 ^ 64 - 1 }
     ensures trace { IsFirstRun (O.taken out.old) (O.taken out.new) result }
     ensures quiet { OnOk result (O.failures out.new ≡ O.failures out.old) }
-    ensures failed { IfErr result (λ f. HasFailedByBoth f (seen O.taken O.failures O.is_flushed out.old) (seen O.taken O.failures O.is_flushed out.new)) }
+    ensures failed { IfErr result
+        (λ f. HasFailedByBoth f (seen O.taken O.failures O.is_flushed out.old)
+        (seen O.taken O.failures O.is_flushed out.new)) }
 {
     let sources = [SOURCE.as_bytes()];
     module::build_and_run(alloc, TABLE.as_bytes(), &sources, &[], TICKS, out)

@@ -33,11 +33,17 @@ pub fn cost<F: Files, O: Stream>(
     note: &mut Note,
 ) -> Result<(), Refusal>
     requires { O.failures out.old < 2 ^ 64 - 1 }
-    ensures done { OnOk result (IsDone (Cost table.now (map (λ s. s.now) sources.now))
-        (state (F.contents files.old) (seen O.taken O.failures O.is_flushed out.old)) (state (F.contents files.new) (seen O.taken O.failures O.is_flushed out.new))) }
-    ensures flushed { OnOk result (IsFlushed (seen O.taken O.failures O.is_flushed out.old) (seen O.taken O.failures O.is_flushed out.new)) }
-    ensures refused { IfErr result (λ r. IsCostRefused table.now (map (λ s. s.now) sources.now)
-        (state (F.contents files.old) (seen O.taken O.failures O.is_flushed out.old)) (state (F.contents files.new) (seen O.taken O.failures O.is_flushed out.new)) r) }
+    ensures done { OnOk result
+        (IsDone (Cost table.now (map (λ s. s.now) sources.now))
+        (state (F.contents files.old) (seen O.taken O.failures O.is_flushed out.old))
+        (state (F.contents files.new) (seen O.taken O.failures O.is_flushed out.new))) }
+    ensures flushed { OnOk result
+        (IsFlushed (seen O.taken O.failures O.is_flushed out.old)
+        (seen O.taken O.failures O.is_flushed out.new)) }
+    ensures refused { IfErr result
+        (λ r. IsCostRefused table.now (map (λ s. s.now) sources.now)
+        (state (F.contents files.old) (seen O.taken O.failures O.is_flushed out.old))
+        (state (F.contents files.new) (seen O.taken O.failures O.is_flushed out.new)) r) }
     ensures noted { OnOk result (F.failed files.new ≡ F.failed files.old) }
     ensures named { IfErr result (λ r. IsOfFailed (F.failed files.old) (F.failed files.new) r) }
 {
@@ -53,11 +59,17 @@ pub fn dis<F: Files, O: Stream>(
     out: &mut O,
 ) -> Result<(), Refusal>
     requires { O.failures out.old < 2 ^ 64 - 1 }
-    ensures done { OnOk result (IsDone (Dis image.now)
-        (state (F.contents files.old) (seen O.taken O.failures O.is_flushed out.old)) (state (F.contents files.new) (seen O.taken O.failures O.is_flushed out.new))) }
-    ensures flushed { OnOk result (IsFlushed (seen O.taken O.failures O.is_flushed out.old) (seen O.taken O.failures O.is_flushed out.new)) }
-    ensures refused { IfErr result (λ r. IsDisRefused image.now
-        (state (F.contents files.old) (seen O.taken O.failures O.is_flushed out.old)) (state (F.contents files.new) (seen O.taken O.failures O.is_flushed out.new)) r) }
+    ensures done { OnOk result
+        (IsDone (Dis image.now)
+        (state (F.contents files.old) (seen O.taken O.failures O.is_flushed out.old))
+        (state (F.contents files.new) (seen O.taken O.failures O.is_flushed out.new))) }
+    ensures flushed { OnOk result
+        (IsFlushed (seen O.taken O.failures O.is_flushed out.old)
+        (seen O.taken O.failures O.is_flushed out.new)) }
+    ensures refused { IfErr result
+        (λ r. IsDisRefused image.now
+        (state (F.contents files.old) (seen O.taken O.failures O.is_flushed out.old))
+        (state (F.contents files.new) (seen O.taken O.failures O.is_flushed out.new)) r) }
     ensures noted { OnOk result (F.failed files.new ≡ F.failed files.old) }
     ensures named { IfErr result (λ r. IsOfFailed (F.failed files.old) (F.failed files.new) r) }
 {
@@ -68,10 +80,16 @@ pub fn dis<F: Files, O: Stream>(
 /// Writes the lines of costs, to their end.
 fn show_costs<O: Stream>(costs: &[PartitionCosts], out: &mut O) -> Result<(), SinkFault>
     requires { O.failures out.old < 2 ^ 64 - 1 }
-    ensures written { OnOk result (Appends (O.taken out.old) (O.taken out.new) (costs_text costs.now)) }
-    ensures flushed { OnOk result (IsFlushed (seen O.taken O.failures O.is_flushed out.old) (seen O.taken O.failures O.is_flushed out.new)) }
-    ensures beginning { OnErr result (TakesBeginning (O.taken out.old) (O.taken out.new) (costs_text costs.now)) }
-    ensures failed { OnErr result (HasFailed (seen O.taken O.failures O.is_flushed out.old) (seen O.taken O.failures O.is_flushed out.new)) }
+    ensures written { OnOk result
+        (Appends (O.taken out.old) (O.taken out.new) (costs_text costs.now)) }
+    ensures flushed { OnOk result
+        (IsFlushed (seen O.taken O.failures O.is_flushed out.old)
+        (seen O.taken O.failures O.is_flushed out.new)) }
+    ensures beginning { OnErr result
+        (TakesBeginning (O.taken out.old) (O.taken out.new) (costs_text costs.now)) }
+    ensures failed { OnErr result
+        (HasFailed (seen O.taken O.failures O.is_flushed out.old)
+        (seen O.taken O.failures O.is_flushed out.new)) }
 {
     write_costs(costs, out)?;
     out.flush()
@@ -80,10 +98,16 @@ fn show_costs<O: Stream>(costs: &[PartitionCosts], out: &mut O) -> Result<(), Si
 /// Writes the lines of an image's instructions, to their end.
 fn show_code<O: Stream>(image: &Image, out: &mut O) -> Result<(), SinkFault>
     requires { O.failures out.old < 2 ^ 64 - 1 }
-    ensures written { OnOk result (Appends (O.taken out.old) (O.taken out.new) (code_text (image_of image.now))) }
-    ensures flushed { OnOk result (IsFlushed (seen O.taken O.failures O.is_flushed out.old) (seen O.taken O.failures O.is_flushed out.new)) }
-    ensures beginning { OnErr result (TakesBeginning (O.taken out.old) (O.taken out.new) (code_text (image_of image.now))) }
-    ensures failed { OnErr result (HasFailed (seen O.taken O.failures O.is_flushed out.old) (seen O.taken O.failures O.is_flushed out.new)) }
+    ensures written { OnOk result
+        (Appends (O.taken out.old) (O.taken out.new) (code_text (image_of image.now))) }
+    ensures flushed { OnOk result
+        (IsFlushed (seen O.taken O.failures O.is_flushed out.old)
+        (seen O.taken O.failures O.is_flushed out.new)) }
+    ensures beginning { OnErr result
+        (TakesBeginning (O.taken out.old) (O.taken out.new) (code_text (image_of image.now))) }
+    ensures failed { OnErr result
+        (HasFailed (seen O.taken O.failures O.is_flushed out.old)
+        (seen O.taken O.failures O.is_flushed out.new)) }
 {
     write_code(image, out)?;
     out.flush()

@@ -17,8 +17,11 @@ pub fn tell_usage<D: Display + Drop, O: Stream, E: Stream>(
 ) -> u8
     requires out { O.failures out.old < 2 ^ 64 - 1 }
     requires err { E.failures err.old < 2 ^ 64 - 1 }
-    ensures { IsUsageTold error.now (D.output unwritten) (seen O.taken O.failures O.is_flushed out.old) (seen O.taken O.failures O.is_flushed out.new)
-        (seen E.taken E.failures E.is_flushed err.old) (seen E.taken E.failures E.is_flushed err.new) result }
+    ensures { IsUsageTold error.now (D.output unwritten)
+        (seen O.taken O.failures O.is_flushed out.old)
+        (seen O.taken O.failures O.is_flushed out.new)
+        (seen E.taken E.failures E.is_flushed err.old)
+        (seen E.taken E.failures E.is_flushed err.new) result }
 {
     if error.use_stderr() {
         tell_text(err, error);

@@ -16,8 +16,11 @@ use std::alloc::{AllocError, Global};
 /// The body of INIT, of the handler or of a process, closed with END, and its row.
 pub fn emit_body(code: &mut Vec<Instr>, body: &Body) -> Result<BodyRow, AllocError>
     requires { length code.old.items + cost.size_of_body (body_of body.now) ≤ MOST_INSTRUCTIONS }
-    ensures code { OnOk result (code.new.items ≡ code.old.items ++ code_of.body_code (length code.old.items) (body_of body.now)) }
-    ensures row { IfOk result (λ row. row ≡ code_of.body_row (length code.old.items) (body_of body.now)) }
+    ensures code { OnOk result
+        (code.new.items
+        ≡ code.old.items ++ code_of.body_code (length code.old.items) (body_of body.now)) }
+    ensures row { IfOk result
+        (λ row. row ≡ code_of.body_row (length code.old.items) (body_of body.now)) }
 {
     let entry = code.len() as u32;
     let slots = u16::from(body.locals);
@@ -37,9 +40,15 @@ pub fn emit_handler(
     code: &mut Vec<Instr>,
     handler: &Option<Body>,
 ) -> Result<Option<BodyRow>, AllocError>
-    requires { length code.old.items + cost.size_of_handler (option_map body_of handler.now) ≤ MOST_INSTRUCTIONS }
-    ensures code { OnOk result (code.new.items ≡ code.old.items ++ code_of.handler_code (length code.old.items) (option_map body_of handler.now)) }
-    ensures row { IfOk result (λ row. row ≡ option_map (code_of.body_row (length code.old.items)) (option_map body_of handler.now)) }
+    requires { length code.old.items + cost.size_of_handler (option_map body_of handler.now)
+        ≤ MOST_INSTRUCTIONS }
+    ensures code { OnOk result
+        (code.new.items
+        ≡ code.old.items
+        ++ code_of.handler_code (length code.old.items) (option_map body_of handler.now)) }
+    ensures row { IfOk result
+        (λ row. row
+        ≡ option_map (code_of.body_row (length code.old.items)) (option_map body_of handler.now)) }
 {
     match handler {
         None => Ok(None),
@@ -53,9 +62,15 @@ pub fn emit_processes(
     code: &mut Vec<Instr>,
     processes: &[Process],
 ) -> Result<Vec<ProcessRow>, AllocError>
-    requires { length code.old.items + sum_by cost.size_of_process (map process_of processes.now) ≤ MOST_INSTRUCTIONS }
-    ensures code { OnOk result (code.new.items ≡ code.old.items ++ code_of.processes_code (length code.old.items) (map process_of processes.now)) }
-    ensures rows { IfOk result (λ rows. rows.items ≡ code_of.process_rows (length code.old.items) (map process_of processes.now)) }
+    requires { length code.old.items + sum_by cost.size_of_process (map process_of processes.now)
+        ≤ MOST_INSTRUCTIONS }
+    ensures code { OnOk result
+        (code.new.items
+        ≡ code.old.items
+        ++ code_of.processes_code (length code.old.items) (map process_of processes.now)) }
+    ensures rows { IfOk result
+        (λ rows.
+        rows.items ≡ code_of.process_rows (length code.old.items) (map process_of processes.now)) }
 {
     let mut rows = Vec::new(alloc);
     for process in processes {
@@ -79,9 +94,14 @@ fn slots_of(parameters: u8, locals: u8) -> u16
 
 /// A procedure, closed with `return 0`, and its row.
 fn emit_procedure(code: &mut Vec<Instr>, procedure: &Procedure) -> Result<RoutineRow, AllocError>
-    requires { length code.old.items + cost.size_of_procedure (procedure_of procedure.now) ≤ MOST_INSTRUCTIONS }
-    ensures code { OnOk result (code.new.items ≡ code.old.items ++ code_of.procedure_code (length code.old.items) (procedure_of procedure.now)) }
-    ensures row { IfOk result (λ row. row ≡ code_of.routine_row (length code.old.items) (procedure_of procedure.now)) }
+    requires { length code.old.items + cost.size_of_procedure (procedure_of procedure.now)
+        ≤ MOST_INSTRUCTIONS }
+    ensures code { OnOk result
+        (code.new.items
+        ≡ code.old.items
+        ++ code_of.procedure_code (length code.old.items) (procedure_of procedure.now)) }
+    ensures row { IfOk result
+        (λ row. row ≡ code_of.routine_row (length code.old.items) (procedure_of procedure.now)) }
 {
     let entry = code.len() as u32;
     let slots = slots_of(procedure.parameters, procedure.locals);
@@ -103,9 +123,15 @@ pub fn emit_procedures(
     code: &mut Vec<Instr>,
     procedures: &[Procedure],
 ) -> Result<Vec<RoutineRow>, AllocError>
-    requires { length code.old.items + sum_by cost.size_of_procedure (map procedure_of procedures.now) ≤ MOST_INSTRUCTIONS }
-    ensures code { OnOk result (code.new.items ≡ code.old.items ++ code_of.procedures_code (length code.old.items) (map procedure_of procedures.now)) }
-    ensures rows { IfOk result (λ rows. rows.items ≡ code_of.routine_rows (length code.old.items) (map procedure_of procedures.now)) }
+    requires { length code.old.items
+        + sum_by cost.size_of_procedure (map procedure_of procedures.now) ≤ MOST_INSTRUCTIONS }
+    ensures code { OnOk result
+        (code.new.items
+        ≡ code.old.items
+        ++ code_of.procedures_code (length code.old.items) (map procedure_of procedures.now)) }
+    ensures rows { IfOk result
+        (λ rows. rows.items
+        ≡ code_of.routine_rows (length code.old.items) (map procedure_of procedures.now)) }
 {
     let mut rows = Vec::new(alloc);
     for procedure in procedures {

@@ -42,7 +42,8 @@ fn store(place: Place) -> Instr
 /// The instructions that leave the value of an expression as the top operand.
 #[cycle(emit_expr)]
 fn emit_expr(code: &mut Vec<Instr>, expr: &Expr) -> Result<(), AllocError>
-    ensures { OnOk result (code.new.items ≡ code.old.items ++ code_of.expr_code (expr_of expr.now)) }
+    ensures { OnOk result
+        (code.new.items ≡ code.old.items ++ code_of.expr_code (expr_of expr.now)) }
 {
     match expr {
         Expr::Literal(value) => put(code, Instr::Push(*value)),
@@ -68,7 +69,8 @@ fn emit_expr(code: &mut Vec<Instr>, expr: &Expr) -> Result<(), AllocError>
 
 #[cycle(emit_expr)]
 fn emit_links(code: &mut Vec<Instr>, links: &[Link]) -> Result<(), AllocError>
-    ensures { OnOk result (code.new.items ≡ code.old.items ++ code_of.links_code (links_of links.now)) }
+    ensures { OnOk result
+        (code.new.items ≡ code.old.items ++ code_of.links_code (links_of links.now)) }
 {
     for link in links {
         emit_expr(code, &link.operand)?;
@@ -79,7 +81,8 @@ fn emit_links(code: &mut Vec<Instr>, links: &[Link]) -> Result<(), AllocError>
 
 #[cycle(emit_expr)]
 fn emit_exprs(code: &mut Vec<Instr>, exprs: &[Expr]) -> Result<(), AllocError>
-    ensures { OnOk result (code.new.items ≡ code.old.items ++ code_of.exprs_code (exprs_of exprs.now)) }
+    ensures { OnOk result
+        (code.new.items ≡ code.old.items ++ code_of.exprs_code (exprs_of exprs.now)) }
 {
     for expr in exprs {
         emit_expr(code, expr)?;
@@ -100,8 +103,10 @@ fn emit_targets(code: &mut Vec<Instr>, targets: &[Place]) -> Result<(), AllocErr
 /// A test, and the place of the branch behind it.
 fn emit_test(code: &mut Vec<Instr>, test: &Expr) -> Result<u32, AllocError>
     requires { length code.old.items + size_of_expr (expr_of test.now) ≤ MOST_INSTRUCTIONS }
-    ensures code { OnOk result (code.new.items ≡ code.old.items ++ code_of.expr_code (expr_of test.now)) }
-    ensures size { OnOk result (length code.new.items ≡ length code.old.items + size_of_expr (expr_of test.now)) }
+    ensures code { OnOk result
+        (code.new.items ≡ code.old.items ++ code_of.expr_code (expr_of test.now)) }
+    ensures size { OnOk result
+        (length code.new.items ≡ length code.old.items + size_of_expr (expr_of test.now)) }
     ensures place { IfOk result (λ place. place ≡ length code.new.items) }
 {
     emit_expr(code, test)?;
@@ -115,7 +120,11 @@ fn emit_service_call(
     arguments: &[Expr],
     targets: &[Place],
 ) -> Result<(), AllocError>
-    ensures { OnOk result (code.new.items ≡ code.old.items ++ (code_of.exprs_code (exprs_of arguments.now) ++ (Instr.Service (number_of service) ∷ map code_of.store targets.now))) }
+    ensures { OnOk result
+        (code.new.items
+        ≡ code.old.items
+        ++ (code_of.exprs_code (exprs_of arguments.now)
+        ++ (Instr.Service (number_of service) ∷ map code_of.store targets.now))) }
 {
     emit_exprs(code, arguments)?;
     put(code, Instr::Service(service.number()))?;
@@ -127,7 +136,9 @@ fn emit_service_call(
 #[cycle(emit_stmt)]
 fn emit_stmt(code: &mut Vec<Instr>, slots: u16, stmt: &Stmt) -> Result<(), AllocError>
     requires { length code.old.items + size_of_stmt (stmt_of stmt.now) ≤ MOST_INSTRUCTIONS }
-    ensures { OnOk result (code.new.items ≡ code.old.items ++ code_of.stmt_code slots (length code.old.items) (stmt_of stmt.now)) }
+    ensures { OnOk result
+        (code.new.items
+        ≡ code.old.items ++ code_of.stmt_code slots (length code.old.items) (stmt_of stmt.now)) }
 {
     match stmt {
         Stmt::Assign(place, value) => {
@@ -177,8 +188,12 @@ fn emit_stmt(code: &mut Vec<Instr>, slots: u16, stmt: &Stmt) -> Result<(), Alloc
 #[cycle(emit_stmt)]
 pub fn emit_block(code: &mut Vec<Instr>, slots: u16, block: &[Stmt]) -> Result<(), AllocError>
     requires room { length code.old.items + size_of_block (block_of block.now) ≤ MOST_INSTRUCTIONS }
-    ensures code { OnOk result (code.new.items ≡ code.old.items ++ code_of.block_code slots (length code.old.items) (block_of block.now)) }
-    ensures size { OnOk result (length code.new.items ≡ length code.old.items + size_of_block (block_of block.now)) }
+    ensures code { OnOk result
+        (code.new.items
+        ≡ code.old.items
+        ++ code_of.block_code slots (length code.old.items) (block_of block.now)) }
+    ensures size { OnOk result
+        (length code.new.items ≡ length code.old.items + size_of_block (block_of block.now)) }
 {
     for stmt in block {
         emit_stmt(code, slots, stmt)?;

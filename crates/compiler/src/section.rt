@@ -29,12 +29,18 @@ use std::alloc::{AllocError, Global};
 /// `TooLong` if the code would have more than [`MOST_INSTRUCTIONS`]; otherwise `Memory` if there is
 /// no memory for the section.
 pub fn compile(alloc: Global, checked: &Checked) -> Result<Section, CompileFault>
-    ensures section { IfOk result (λ section. section_view section ≡ code_of.section_of (program_of checked.now.program)) }
-    ensures reads_back { IfOk result (λ section. map reading section.code.items ≡ map Some (code_of.code_of (program_of checked.now.program))) }
+    ensures section { IfOk result
+        (λ section. section_view section ≡ code_of.section_of (program_of checked.now.program)) }
+    ensures reads_back { IfOk result
+        (λ section. map reading section.code.items
+        ≡ map Some (code_of.code_of (program_of checked.now.program))) }
     ensures words { IfOk result (λ section. All (FitsSigned w64) section.initial.items) }
-    ensures size { IfOk result (λ section. length section.code.items ≡ cost.size_of (program_of checked.now.program)) }
-    ensures means { IfOk result (λ section. IsFaithful (section_view section) (program_of checked.now.program)) }
-    ensures too_long { result ≡ Err CompileFault.TooLong ↔ MOST_INSTRUCTIONS < cost.size_of (program_of checked.now.program) }
+    ensures size { IfOk result
+        (λ section. length section.code.items ≡ cost.size_of (program_of checked.now.program)) }
+    ensures means { IfOk result
+        (λ section. IsFaithful (section_view section) (program_of checked.now.program)) }
+    ensures too_long { result ≡ Err CompileFault.TooLong
+        ↔ MOST_INSTRUCTIONS < cost.size_of (program_of checked.now.program) }
 {
     if size_of_program(checked) > MOST_INSTRUCTIONS {
         return Err(CompileFault::TooLong);
@@ -47,11 +53,17 @@ pub fn compile(alloc: Global, checked: &Checked) -> Result<Section, CompileFault
 
 fn section_of(alloc: Global, program: &Program) -> Result<Section, AllocError>
     requires { cost.size_of (program_of program.now) ≤ MOST_INSTRUCTIONS }
-    ensures section { IfOk result (λ section. section_view section ≡ code_of.section_of (program_of program.now)) }
-    ensures reads_back { IfOk result (λ section. map reading section.code.items ≡ map Some (code_of.code_of (program_of program.now))) }
+    ensures section { IfOk result
+        (λ section. section_view section ≡ code_of.section_of (program_of program.now)) }
+    ensures reads_back { IfOk result
+        (λ section.
+        map reading section.code.items ≡ map Some (code_of.code_of (program_of program.now))) }
     ensures words { IfOk result (λ section. All (FitsSigned w64) section.initial.items) }
-    ensures size { IfOk result (λ section. length section.code.items ≡ cost.size_of (program_of program.now)) }
-    ensures means { IfOk result (λ section. Fits (program_of program.now) → IsFaithful (section_view section) (program_of program.now)) }
+    ensures size { IfOk result
+        (λ section. length section.code.items ≡ cost.size_of (program_of program.now)) }
+    ensures means { IfOk result
+        (λ section. Fits (program_of program.now)
+        → IsFaithful (section_view section) (program_of program.now)) }
 {
     let mut code = Vec::new(alloc);
     let init = emit_body(&mut code, &program.init)?;

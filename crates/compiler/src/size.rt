@@ -59,7 +59,8 @@ fn size_of_procedure(procedure: &Procedure) -> u32
 }
 
 fn size_of_procedures(procedures: &[Procedure]) -> u32
-    ensures { result ≡ min (sum_by cost.size_of_procedure (map procedure_of procedures.now)) u32.MAX }
+    ensures { result
+        ≡ min (sum_by cost.size_of_procedure (map procedure_of procedures.now)) u32.MAX }
 {
     let mut size: u32 = 0;
     for procedure in procedures {

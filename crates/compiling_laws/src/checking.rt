@@ -18,18 +18,26 @@ ghost use Rattle.machine_meaning.specs.ImageLimits.{IsSection};
 
 /// What is accepted keeps to all on which its compiled code depends, if that code is not too long.
 pub fn accepted_program_fits()
-    ensures { (ports : List PortRow) (period : ℕ) (p : written.Program) (r : program.Program) → verdict ports period p ≡ Ok r → size_of r ≤ MOST_INSTRUCTIONS → Fits r }
+    ensures { (ports : List PortRow) (period : ℕ) (p : written.Program) (r : program.Program)
+        → verdict ports period p ≡ Ok r → size_of r ≤ MOST_INSTRUCTIONS → Fits r }
 {}
 
 /// What is accepted has at most twice as many constructs as its text has bytes, and what its bodies come
 /// to, where that text may be a source, has 64 bits, whatever constructs cost.
 pub fn accepted_program_is_short()
-    ensures size { (ports : List PortRow) (period : ℕ) (text : List ℕ) (p : written.Program) (r : program.Program) → IsWritten (words_of text) p → verdict ports period p ≡ Ok r → size_of r ≤ 2 * length text }
-    ensures costs { (costs : Costs) (ports : List PortRow) (period : ℕ) (text : List ℕ) (p : written.Program) (r : program.Program) → IsWritten (words_of text) p → length text ≤ MOST_SOURCE_BYTES → verdict ports period p ≡ Ok r → AreCostsHeld costs r }
+    ensures size { (ports : List PortRow) (period : ℕ) (text : List ℕ) (p : written.Program)
+        (r : program.Program)
+        → IsWritten (words_of text) p → verdict ports period p ≡ Ok r
+        → size_of r ≤ 2 * length text }
+    ensures costs { (costs : Costs) (ports : List PortRow) (period : ℕ) (text : List ℕ)
+        (p : written.Program) (r : program.Program) → IsWritten (words_of text) p
+        → length text ≤ MOST_SOURCE_BYTES → verdict ports period p ≡ Ok r → AreCostsHeld costs r }
 {}
 
 /// What is accepted and has words as its data becomes a section that an image may have, in a partition
 /// of that period.
 pub fn accepted_section_is_lawful()
-    ensures { (ports : List PortRow) (period : ℕ) (p : written.Program) (r : program.Program) → verdict ports period p ≡ Ok r → size_of r ≤ MOST_INSTRUCTIONS → All (FitsSigned w64) r.initial → IsSection period (section_of r) }
+    ensures { (ports : List PortRow) (period : ℕ) (p : written.Program) (r : program.Program)
+        → verdict ports period p ≡ Ok r → size_of r ≤ MOST_INSTRUCTIONS
+        → All (FitsSigned w64) r.initial → IsSection period (section_of r) }
 {}

@@ -3,16 +3,18 @@
 ghost use Rattle.std.specs.Prelude.{◌≡◌, pos, true};
 ghost use Rattle.apex_types.specs.Room.{HasRoom, Grows};
 ghost use Rattle.kernel_meaning.specs.HealthServices as meaning;
-ghost use Rattle.kernel_meaning.specs.Processes.{row_of};
+ghost use Rattle.kernel_meaning.specs.Processes.{is_created, row_of};
 ghost use Rattle.kernel_meaning.specs.Sharing.{both};
 ghost use Rattle.kernel_meaning.specs.Made.{IsMade};
 ghost use Rattle.kernel_meaning.specs.Step.{nothing};
+ghost use Rattle.process_table_base.specs.FoundView.{record_of};
 
 use crate::errors::Errors;
-use crate::respond::is_handler_created;
 use apex_types::limits::MOST_REPORT_WORDS;
 use apex_types::{Action, ArrayPlace, ErrorKind, Mode, Out, ReturnCode, Runner, Service};
-use process_table_base::{ProcessTable, fill, is_dormant, is_large_enough, is_same};
+use process_table_base::{
+    Found, ProcessTable, Request, fill, is_dormant, is_large_enough, is_same,
+};
 
 /// CREATE_ERROR_HANDLER (ARINC 653 Part 1, health monitoring): the error handler is created, and is
 /// dormant until an error waits for it. INVALID_MODE: in normal mode; INVALID_CONFIG: the source has no
@@ -20,26 +22,41 @@ use process_table_base::{ProcessTable, fill, is_dormant, is_large_enough, is_sam
 pub fn create_error_handler(
     table: &mut ProcessTable,
     errors: &Errors,
-    mode: Mode,
-    caller: Runner,
+    request: Request,
     out: &mut Out,
 )
     requires { HasRoom 1 1 out.old }
-    ensures step { IsMade (meaning.create_error_handler mode (both table.old errors.now) caller) (both table.new errors.now) out.old out.new }
+    ensures step { IsMade
+        (meaning.create_error_handler request.mode (both table.old errors.now) request.caller)
+        (both table.new errors.now) out.old out.new }
     ensures grows { Grows 1 1 out.old out.new }
 {
     let service = Service::CreateErrorHandler;
-    if mode == Mode::Normal {
+    let caller = request.caller;
+    if request.mode == Mode::Normal {
         return table.refuse(caller, service, ReturnCode::InvalidMode, out);
     }
     if !errors.has_handler() {
         return table.refuse(caller, service, ReturnCode::InvalidConfig, out);
     }
-    if is_handler_created(table) {
+    let handler = table.found(Runner::Handler);
+    if is_created(&handler) {
         return table.refuse(caller, service, ReturnCode::NoAction, out);
     }
     table.answer(caller, service, ReturnCode::NoError, &[], out);
-    table.create(Runner::Handler);
+    if let Some(handler) = handler {
+        table.create(&handler);
+    }
+}
+
+/// Whether someone was found who is created.
+fn is_created(found: &Option<Found>) -> bool
+    ensures { result ≡ meaning.has_row (record_of found.now) is_created }
+{
+    match found {
+        Some(found) => found.row.created,
+        None => false,
+    }
 }
 
 /// The number of an error in what a program reads, 0 to 6.
@@ -55,12 +72,14 @@ fn number_of_error(error: ErrorKind) -> i64
 fn take_error(
     table: &ProcessTable,
     errors: &mut Errors,
-    caller: Runner,
+    request: Request,
     array: ArrayPlace,
     out: &mut Out,
 )
     requires { HasRoom 1 2 out.old }
-    ensures step { IsMade (meaning.takes_error (both table.now errors.old) caller array errors.old.waiting) (both table.now errors.new) out.old out.new }
+    ensures step { IsMade
+        (meaning.takes_error (both table.now errors.old) request.caller array errors.old.waiting)
+        (both table.now errors.new) out.old out.new }
     ensures grows { Grows 1 2 out.old out.new }
 {
     let service = Service::GetErrorStatus;
@@ -69,10 +88,10 @@ fn take_error(
             let process = i64::from(error.process.0) + 1;
             let length = error.words.len() as i64;
             let outputs = [number_of_error(error.kind), process, length];
-            table.answer(caller, service, ReturnCode::NoError, &outputs, out);
-            fill(Some(array), &error.words, out);
+            table.answer(request.caller, service, ReturnCode::NoError, &outputs, out);
+            fill(Some(array), error.words, out);
         }
-        None => table.refuse(caller, service, ReturnCode::NoAction, out),
+        None => table.refuse(request.caller, service, ReturnCode::NoAction, out),
     }
 }
 
@@ -83,34 +102,37 @@ fn take_error(
 pub fn get_error_status(
     table: &ProcessTable,
     errors: &mut Errors,
-    caller: Runner,
+    request: Request,
     array: ArrayPlace,
     out: &mut Out,
 )
     requires { HasRoom 1 2 out.old }
-    ensures step { IsMade (meaning.get_error_status (both table.now errors.old) caller array) (both table.now errors.new) out.old out.new }
+    ensures step { IsMade
+        (meaning.get_error_status (both table.now errors.old) request.caller array)
+        (both table.now errors.new) out.old out.new }
     ensures grows { Grows 1 2 out.old out.new }
 {
     let service = Service::GetErrorStatus;
-    if !is_same(caller, Runner::Handler) {
-        return table.refuse(caller, service, ReturnCode::InvalidConfig, out);
+    if !is_same(request.caller, Runner::Handler) {
+        return table.refuse(request.caller, service, ReturnCode::InvalidConfig, out);
     }
     if !is_large_enough(MOST_REPORT_WORDS, array) {
-        return table.refuse(caller, service, ReturnCode::InvalidParam, out);
+        return table.refuse(request.caller, service, ReturnCode::InvalidParam, out);
     }
-    take_error(table, errors, caller, array, out);
+    take_error(table, errors, request, array, out);
 }
 
 /// A created handler that is dormant begins with a fresh stack, and is ready.
 #[tactic(auto, using(crate::proofs::Waking::waking))]
 fn begin_if_dormant(table: &mut ProcessTable, out: &mut Out)
     requires { HasRoom 1 1 out.old }
-    ensures step { IsMade (meaning.begins_if_dormant table.old (row_of table.old Runner.Handler)) table.new out.old out.new }
+    ensures step { IsMade (meaning.begins_if_dormant table.old (row_of table.old Runner.Handler))
+        table.new out.old out.new }
     ensures grows { Grows 1 1 out.old out.new }
 {
-    if let Some(row) = table.row(Runner::Handler) {
-        if row.created && is_dormant(&row) {
-            table.wake(Runner::Handler, out);
+    if let Some(handler) = table.found(Runner::Handler) {
+        if handler.row.created && is_dormant(&handler.row) {
+            table.wake(&handler, out);
             out.actions.push(Action::Begin(Runner::Handler));
         }
     }
@@ -118,7 +140,9 @@ fn begin_if_dormant(table: &mut ProcessTable, out: &mut Out)
 
 /// Whether the handler is not dormant, or was not created.
 fn cannot_begin(table: &ProcessTable) -> bool
-    ensures { result ≡ true → meaning.begins_if_dormant table.now (row_of table.now Runner.Handler) ≡ nothing table.now }
+    ensures { result ≡ true
+        → meaning.begins_if_dormant table.now (row_of table.now Runner.Handler)
+        ≡ nothing table.now }
 {
     match table.row(Runner::Handler) {
         Some(row) => !(row.created && is_dormant(&row)),
@@ -129,7 +153,8 @@ fn cannot_begin(table: &ProcessTable) -> bool
 /// Whether [`start_handler`] would change nothing: the mode is not normal, no error waits, or the
 /// handler is not dormant.
 pub fn handler_stays(table: &ProcessTable, errors: &Errors, mode: Mode) -> bool
-    ensures { result ≡ true → meaning.starts_handler mode (both table.now errors.now) ≡ nothing table.now }
+    ensures { result ≡ true
+        → meaning.starts_handler mode (both table.now errors.now) ≡ nothing table.now }
 {
     mode != Mode::Normal || !errors.is_waiting() || cannot_begin(table)
 }
@@ -137,7 +162,8 @@ pub fn handler_stays(table: &ProcessTable, errors: &Errors, mode: Mode) -> bool
 /// In normal mode a dormant error handler starts if an error waits for it, and is ready.
 pub fn start_handler(table: &mut ProcessTable, errors: &Errors, mode: Mode, out: &mut Out)
     requires { HasRoom 1 1 out.old }
-    ensures step { IsMade (meaning.starts_handler mode (both table.old errors.now)) table.new out.old out.new }
+    ensures step { IsMade (meaning.starts_handler mode (both table.old errors.now))
+        table.new out.old out.new }
     ensures grows { Grows 1 1 out.old out.new }
 {
     if mode == Mode::Normal && errors.is_waiting() {

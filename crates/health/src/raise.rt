@@ -11,57 +11,78 @@ ghost use Rattle.kernel_meaning.specs.Made.{IsMade};
 ghost use Rattle.kernel_meaning.specs.Step.{after, first_words, row};
 
 use crate::errors::Errors;
-use crate::respond::raise_error;
+use crate::respond::{Raised, raise_error};
 use crate::tell::is_message_length;
-use apex_types::{
-    ArrayPlace, ErrorKind, HealthTable, Mode, Out, PartitionAction, ReturnCode, Runner, Service,
-    Words,
-};
-use process_table_base::{ProcessTable, first_words};
+use apex_types::{ErrorKind, HealthTable, Out, PartitionAction, ReturnCode, Service, Words};
+use process_table_base::{Handed, ProcessTable, Request, answer, first_words, name_of};
 
 /// The answer to a caller, then its error APPLICATION_ERROR with its message.
 fn raise(
     health: HealthTable,
-    mode: Mode,
     table: &ProcessTable,
     errors: &Errors,
-    caller: Runner,
+    request: Request,
     message: Words,
     out: &mut Out,
 ) -> Option<PartitionAction>
     requires { HasRoom 2 2 out.old }
-    ensures step { IsMade (after (leaves_none (answers table.now caller Service.RaiseApplicationError ReturnCode.NoError [])) (meaning.raises health mode (both table.now errors.now) caller ErrorKind.ApplicationError message.items)) result out.old out.new }
+    ensures step { IsMade
+        (after
+        (leaves_none
+        (answers table.now request.caller Service.RaiseApplicationError ReturnCode.NoError []))
+        (meaning.raises health request.mode (both table.now errors.now)
+        request.caller ErrorKind.ApplicationError message.items))
+        result out.old out.new }
     ensures grows { Grows 2 2 out.old out.new }
 {
+    let caller = request.caller;
+    let found = table.found(caller);
     let service = Service::RaiseApplicationError;
-    table.answer(caller, service, ReturnCode::NoError, &[], out);
-    let error = ErrorKind::ApplicationError;
-    raise_error(health, mode, table, errors, caller, error, message, out)
+    let code = ReturnCode::NoError;
+    answer(caller, name_of(&found), service, code, &[], out);
+    let raised = Raised {
+        runner: caller,
+        who: name_of(&found),
+        error: ErrorKind::ApplicationError,
+        words: message,
+    };
+    raise_error(health, request.mode, table, errors, raised, out)
 }
 
 /// The error is one that a process may raise; its message may have a wrong length.
 fn raise_message(
     health: HealthTable,
-    mode: Mode,
     table: &ProcessTable,
     errors: &Errors,
-    caller: Runner,
-    array: ArrayPlace,
-    length: i64,
-    words: Words,
+    request: Request,
+    handed: Handed,
+    words: &Words,
     out: &mut Out,
 ) -> Option<PartitionAction>
     requires { HasRoom 2 2 out.old }
-    ensures step { IsMade (row (λ c. leaves_none (refuses table.now caller Service.RaiseApplicationError c)) ((not (meaning.is_message_length array.size length), ReturnCode.InvalidParam) ∷ []) (after (leaves_none (answers table.now caller Service.RaiseApplicationError ReturnCode.NoError [])) (meaning.raises health mode (both table.now errors.now) caller ErrorKind.ApplicationError (first_words length words.items)))) result out.old out.new }
+    ensures step { IsMade
+        (row (λ c. leaves_none (refuses table.now request.caller Service.RaiseApplicationError c))
+        ((
+          not (meaning.is_message_length handed.array.size handed.length),
+          ReturnCode.InvalidParam,
+        )
+        ∷ [])
+        (after
+        (leaves_none
+        (answers table.now request.caller Service.RaiseApplicationError ReturnCode.NoError []))
+        (meaning.raises health request.mode (both table.now errors.now)
+        request.caller ErrorKind.ApplicationError
+        (first_words handed.length words.now.items))))
+        result out.old out.new }
     ensures grows { Grows 2 2 out.old out.new }
 {
-    if !is_message_length(array.size, length) {
+    if !is_message_length(handed.array.size, handed.length) {
         let service = Service::RaiseApplicationError;
-        table.refuse(caller, service, ReturnCode::InvalidParam, out);
+        table.refuse(request.caller, service, ReturnCode::InvalidParam, out);
         return None;
     }
-    let message = first_words(length, &words);
-    raise(health, mode, table, errors, caller, message, out)
+    let message = first_words(handed.length, words);
+    raise(health, table, errors, request, message, out)
 }
 
 /// RAISE_APPLICATION_ERROR (ARINC 653 Part 1, health monitoring): the caller's error
@@ -70,28 +91,27 @@ fn raise_message(
 /// INVALID_PARAM: the error is not 1, or a length below 1, above 16, or above the array's size.
 pub fn raise_application_error(
     health: HealthTable,
-    mode: Mode,
     table: &ProcessTable,
     errors: &Errors,
-    caller: Runner,
+    request: Request,
     error: i64,
-    array: ArrayPlace,
-    length: i64,
-    words: Words,
+    handed: Handed,
+    words: &Words,
     out: &mut Out,
 ) -> Option<PartitionAction>
     requires { HasRoom 2 2 out.old }
-    ensures step { IsMade (meaning.raise_application_error health mode (both table.now errors.now) caller error array length words.items) result out.old out.new }
+    ensures step { IsMade
+        (meaning.raise_application_error health request.mode (both table.now errors.now)
+        request.caller error handed.array handed.length words.now.items)
+        result out.old out.new }
     ensures grows { Grows 2 2 out.old out.new }
 {
     if !is_application_error(error) {
         let service = Service::RaiseApplicationError;
-        table.refuse(caller, service, ReturnCode::InvalidParam, out);
+        table.refuse(request.caller, service, ReturnCode::InvalidParam, out);
         return None;
     }
-    raise_message(
-        health, mode, table, errors, caller, array, length, words, out,
-    )
+    raise_message(health, table, errors, request, handed, words, out)
 }
 
 /// Whether it is the number of the error that a process may raise.

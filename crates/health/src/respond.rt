@@ -5,16 +5,17 @@ ghost use Rattle.apex_types.specs.Room.{HasRoom, Grows};
 ghost use Rattle.kernel_meaning.specs.HealthServices as meaning;
 ghost use Rattle.kernel_meaning.specs.Sharing.{both};
 ghost use Rattle.kernel_meaning.specs.Made.{IsMade, IsTold};
+ghost use Rattle.health.specs.Raising.{raises_of};
 
 use crate::errors::Errors;
 use apex_types::{
     Action, ErrorKind, ErrorLevel, EventKind, HealthTable, Mode, Out, PartitionAction, Response,
-    Runner, WaitingError, Words,
+    Runner, Subject, WaitingError, Words,
 };
 use process_table_base::ProcessTable;
 
 /// Whether the error handler was created since the last Clear.
-pub(crate) fn is_handler_created(table: &ProcessTable) -> bool
+fn is_handler_created(table: &ProcessTable) -> bool
     ensures { result ≡ meaning.is_handler_created table.now }
 {
     match table.row(Runner::Handler) {
@@ -97,7 +98,8 @@ fn wait_or_leave(
     out: &mut Out,
 ) -> Option<PartitionAction>
     requires { HasRoom 0 1 out.old }
-    ensures step { IsMade (meaning.waits_or_leaves runner error words.items response) result out.old out.new }
+    ensures step { IsMade (meaning.waits_or_leaves runner error words.items response)
+        result out.old out.new }
     ensures grows { Grows 0 1 out.old out.new }
 {
     match response {
@@ -110,25 +112,40 @@ fn wait_or_leave(
     }
 }
 
-/// An error of this one, with its message: its line, then at process level it waits for the error
+/// An error of someone: who it is and how lines name them, which error, and its message.
+#[derive(Drop)]
+pub struct Raised {
+    pub runner: Runner,
+    pub who: Subject,
+    pub error: ErrorKind,
+    pub words: Words,
+}
+
+/// An error of someone, with its message: its line, then at process level it waits for the error
 /// handler. At partition level the partition's action for it is left to be done, and is answered.
 pub fn raise_error(
     health: HealthTable,
     mode: Mode,
     table: &ProcessTable,
     errors: &Errors,
-    runner: Runner,
-    error: ErrorKind,
-    words: Words,
+    raised: Raised,
     out: &mut Out,
 ) -> Option<PartitionAction>
     requires { HasRoom 1 1 out.old }
-    ensures step { IsMade (meaning.raises health mode (both table.now errors.now) runner error words.items) result out.old out.new }
+    ensures step { let how =
+        meaning.response_of health mode (both table.now errors.now) raised.runner raised.error in
+        IsMade (raises_of raised.runner raised.who raised.error raised.words.items how)
+        result out.old out.new }
     ensures grows { Grows 1 1 out.old out.new }
 {
+    let Raised {
+        runner,
+        who,
+        error,
+        words,
+    } = raised;
     let level = level_of(mode, table, errors, runner);
     let response = response_at(level, action_of(health, error));
-    let who = Some(table.subject(runner));
-    out.lines.push(EventKind::Error(error, who, response));
+    out.lines.push(EventKind::Error(error, Some(who), response));
     wait_or_leave(runner, error, words, response, out)
 }

@@ -6,8 +6,8 @@ ghost use Rattle.kernel_meaning.specs.HealthServices as meaning;
 ghost use Rattle.kernel_meaning.specs.Made.{IsTold};
 
 use apex_types::limits::MOST_REPORT_WORDS;
-use apex_types::{ArrayPlace, EventKind, Out, ReturnCode, Runner, Service, Words};
-use process_table_base::ProcessTable;
+use apex_types::{EventKind, Out, ReturnCode, Service, Words};
+use process_table_base::{Handed, ProcessTable, Request, answer, first_words, name_of, refuse};
 
 /// Whether a message of so many words may be handed in from an array of a size, in words.
 pub fn is_message_length(size: i64, length: i64) -> bool
@@ -19,26 +19,40 @@ pub fn is_message_length(size: i64, length: i64) -> bool
 /// REPORT_APPLICATION_MESSAGE (ARINC 653 Part 1, health monitoring): the first words of those that the
 /// call hands in go into the trace. INVALID_PARAM: a length below 1, above 16, or above the array's
 /// size.
-#[tactic(auto, using(kernel_laws::proofs::Numbers::handed_words))]
 pub fn report_application_message(
     table: &ProcessTable,
-    caller: Runner,
-    array: ArrayPlace,
-    length: i64,
-    words: Words,
+    request: Request,
+    handed: Handed,
+    words: &Words,
     out: &mut Out,
 )
     requires { HasRoom 2 1 out.old }
-    ensures step { IsTold (meaning.report table.now caller array length words.items) out.old out.new }
+    ensures step { IsTold
+        (meaning.report table.now request.caller handed.array handed.length
+        words.now.items)
+        out.old out.new }
     ensures grows { Grows 2 1 out.old out.new }
 {
     let service = Service::ReportApplicationMessage;
-    if !is_message_length(array.size, length) {
-        return table.refuse(caller, service, ReturnCode::InvalidParam, out);
+    let caller = request.caller;
+    let found = table.found(caller);
+    if !is_message_length(handed.array.size, handed.length) {
+        return refuse(
+            caller,
+            name_of(&found),
+            service,
+            ReturnCode::InvalidParam,
+            out,
+        );
     }
-    table.answer(caller, service, ReturnCode::NoError, &[], out);
-    let mut message = words;
-    message.truncate(length as usize);
-    out.lines
-        .push(EventKind::Report(table.subject(caller), message));
+    answer(
+        caller,
+        name_of(&found),
+        service,
+        ReturnCode::NoError,
+        &[],
+        out,
+    );
+    let message = first_words(handed.length, words);
+    out.lines.push(EventKind::Report(name_of(&found), message));
 }

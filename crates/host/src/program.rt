@@ -53,10 +53,15 @@ fn words(rt: &(impl Env + AllocGlobal)) -> io::Result<Vec<String>> {
 /// one is not UTF-8. Its line goes to `err`; what cannot be shown is told by the status alone.
 fn wordless<E: Stream>(kind: ErrorKind, memory: &str, err: &mut E) -> u8
     requires { E.failures err.old < 2 ^ 64 - 1 }
-    ensures memory { kind ≡ ErrorKind.OutOfMemory → (result ≡ 1)
-        × TakesLine (seen E.taken E.failures E.is_flushed err.old) (seen E.taken E.failures E.is_flushed err.new) memory.now }
-    ensures other { kind ≢ ErrorKind.OutOfMemory → (result ≡ 2)
-        × TakesLine (seen E.taken E.failures E.is_flushed err.old) (seen E.taken E.failures E.is_flushed err.new) (codes "error: a word of the command line is not UTF-8") }
+    ensures memory { kind ≡ ErrorKind.OutOfMemory
+        → (result ≡ 1)
+        × TakesLine (seen E.taken E.failures E.is_flushed err.old)
+        (seen E.taken E.failures E.is_flushed err.new) memory.now }
+    ensures other { kind ≢ ErrorKind.OutOfMemory
+        → (result ≡ 2)
+        × TakesLine (seen E.taken E.failures E.is_flushed err.old)
+        (seen E.taken E.failures E.is_flushed err.new)
+        (codes "error: a word of the command line is not UTF-8") }
 {
     match kind {
         ErrorKind::OutOfMemory => {

@@ -15,7 +15,8 @@ use window_table::{Schedule, has_wrong_window};
 /// The image of fields that are within their limits, if they keep the rules of the module table.
 fn judge(alloc: Global, fields: Fields) -> Result<Image, ImageFault>
     requires { IsWithinLimits (fields_of fields) }
-    ensures { Gives image_of result (if keeps_table_rules (fields_of fields) then Ok (fields_of fields) else Err Limit) }
+    ensures { Gives image_of result
+        (if keeps_table_rules (fields_of fields) then Ok (fields_of fields) else Err Limit) }
 {
     let Fields {
         frame,

@@ -24,8 +24,12 @@ pub fn keeps_rules(
 ) -> Result<bool, AllocError>
     requires few { length partitions.now ≤ MOST_PARTITIONS }
     requires periods { list_any (λ p. p.period == 0) (rows_of partitions.now) ≡ false }
-    requires windows { has_wrong_window (schedule_of schedule.now) (length (rows_of partitions.now)) ≡ false }
-    ensures { IfOk result (λ kept. kept ≡ keeps_rules (schedule_of schedule.now) (rows_of partitions.now) (channels_of channels.now)) }
+    requires windows { has_wrong_window (schedule_of schedule.now) (length (rows_of partitions.now))
+        ≡ false }
+    ensures { IfOk result
+        (λ kept. kept
+        ≡ keeps_rules (schedule_of schedule.now) (rows_of partitions.now)
+        (channels_of channels.now)) }
 {
     if has_odd_period(schedule.frame, partitions)
         || has_short_period(schedule, partitions)

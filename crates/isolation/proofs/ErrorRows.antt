@@ -17,7 +17,7 @@ use Rattle.apex_types.specs.declared.row.PortRow.{PortRow}
 use Rattle.apex_types.specs.declared.service.ArrayPlace.{ArrayPlace}
 use Rattle.kernel_meaning.specs.Times.{mode_of_action}
 use Rattle.kernel_meaning.specs.Kernel.{Errors}
-use Rattle.kernel_meaning.specs.HealthServices.{create_error_handler, creates_found, get_error_status, takes_error, goes_on, is_fault, enters_mode as enters_mode_of_action, acts_on_error, raise_application_error, raises_application_error, raises, faults}
+use Rattle.kernel_meaning.specs.HealthServices.{create_error_handler, creates_found, get_error_status, takes_error, ignores, is_fault, enters_mode as enters_mode_of_action, acts_on_error, raise_application_error, raises_application_error, raises, faults}
 use Rattle.kernel_meaning.specs.Kernel.{Kernel, of_processes, with_errors}
 use Rattle.kernel_meaning.specs.PartitionServices.{enters_mode, mode_of, wants, is_warm, is_cold, next_release_of, set_partition_mode, ends_body, starts_normally}
 use Rattle.kernel_meaning.specs.Processes.{row_of, rests_found, is_normal}
@@ -79,13 +79,13 @@ module _ (rows : List PortRow) where
       either (not (is_some (mode_of m))) _ _ h (either (wants is_normal (mode_of m) && is_normal k.mode) _ _ h (either (wants is_warm (mode_of m) && is_cold k.mode) _ _ h (enters_sound at k (mode_of m) h)))
 
   -- ---- what the partition does on an error
-  goes_on_sound : (k : Kernel) (p : Runner) (e : ErrorKind) → IsSoundKernel rows k → Sound (goes_on k p e)
-  goes_on_sound k runner.Init e h = either (is_fault e) _ _ (clears_sound rows k mode.Idle condition.HmPartitionRestart h) h
-  goes_on_sound k runner.Handler e h = h
-  goes_on_sound k (runner.Process q) e h = h
+  ignores_sound : (k : Kernel) (p : Runner) (e : ErrorKind) → IsSoundKernel rows k → Sound (ignores k p e)
+  ignores_sound k runner.Init e h = either (is_fault e) _ _ (clears_sound rows k mode.Idle condition.HmPartitionRestart h) h
+  ignores_sound k runner.Handler e h = h
+  ignores_sound k (runner.Process q) e h = h
 
   enters_of_action_sound : (k : Kernel) (p : Runner) (e : ErrorKind) (o : Option Mode) → IsSoundKernel rows k → Sound (enters_mode_of_action k p e o)
-  enters_of_action_sound k p e None h = goes_on_sound k p e h
+  enters_of_action_sound k p e None h = ignores_sound k p e h
   enters_of_action_sound k p e (Some m) h = clears_sound rows k m condition.HmPartitionRestart h
 
   acts_sound : (k : Kernel) (p : Runner) (e : ErrorKind) (o : Option PartitionAction) → IsSoundKernel rows k → Sound (acts_on_error k p e o)

@@ -24,7 +24,7 @@ use Rattle.apex_types.specs.declared.service.ArrayPlace.{ArrayPlace}
 use Rattle.apex_types.specs.declared.service.Call.{Call}
 use Rattle.apex_types.specs.declared.service.Call.TheVariants as call
 use Rattle.engine_meaning.specs.Engine.{Engine, Asks, Nothing, Calls, Faults, Ends}
-use Rattle.kernel_meaning.specs.HealthServices.{acts_on_error, breaks, enters_mode as enters_mode_of_action, goes_on, handles, faults, is_fault, raise_application_error, raises, raises_application_error, then_clears}
+use Rattle.kernel_meaning.specs.HealthServices.{acts_on_error, breaks, enters_mode as enters_mode_of_action, ignores, handles, faults, is_fault, raise_application_error, raises, raises_application_error, then_clears}
 use Rattle.kernel_meaning.specs.PortServices as arrival
 use Rattle.kernel_meaning.specs.Kernel.{Fixed, Kernel, of_processes, of_ports, of_ports_alone, with_errors, with_ports}
 use Rattle.kernel_meaning.specs.Processes.{row_of, rests_found, refuses, answers, is_normal}
@@ -59,13 +59,13 @@ enters_keeps at k (Some mode.Idle) = refl
 enters_keeps at k (Some mode.ColdStart) = refl
 enters_keeps at k (Some mode.WarmStart) = refl
 
-goes_on_keeps : (k : Kernel) (p : Runner) (e : ErrorKind) → (goes_on k p e).part.fixed ≡ k.fixed
-goes_on_keeps k runner.Init e = either_keeps k.fixed (is_fault e) _ _ refl refl
-goes_on_keeps k runner.Handler e = refl
-goes_on_keeps k (runner.Process p) e = refl
+ignores_keeps : (k : Kernel) (p : Runner) (e : ErrorKind) → (ignores k p e).part.fixed ≡ k.fixed
+ignores_keeps k runner.Init e = either_keeps k.fixed (is_fault e) _ _ refl refl
+ignores_keeps k runner.Handler e = refl
+ignores_keeps k (runner.Process p) e = refl
 
 enters_of_action_keeps : (k : Kernel) (p : Runner) (e : ErrorKind) (o : Option Mode) → (enters_mode_of_action k p e o).part.fixed ≡ k.fixed
-enters_of_action_keeps k p e None = goes_on_keeps k p e
+enters_of_action_keeps k p e None = ignores_keeps k p e
 enters_of_action_keeps k p e (Some m) = refl
 
 acts_keeps : (k : Kernel) (p : Runner) (e : ErrorKind) (o : Option PartitionAction) → (acts_on_error k p e o).part.fixed ≡ k.fixed

@@ -15,7 +15,7 @@ use Rattle.apex_types.specs.declared.service.Call.TheVariants as call
 use Rattle.kernel_meaning.specs.BlackboardServices as blackboards
 use Rattle.kernel_meaning.specs.BufferServices as buffers
 use Rattle.kernel_meaning.specs.EventServices as events
-use Rattle.kernel_meaning.specs.Objects.{Objects, Blackboard, Buffer, Semaphore, Event}
+use Rattle.kernel_meaning.specs.Objects.{Objects, Blackboard, Buffer, Semaphore, ApexEvent}
 use Rattle.kernel_meaning.specs.ObjectServices.{serves_objects}
 use Rattle.kernel_meaning.specs.SemaphoreServices as semaphores
 use Rattle.kernel_meaning.specs.Sharing.{Sharing, of_processes, on}
@@ -82,13 +82,13 @@ module _ (rows : List PortRow) where
     takes_sound : (at : At) (limit : ℤ) (place : ℕ) (x : Semaphore) → IsKept (semaphores.takes at b p limit place x)
     takes_sound at limit place x = either (nat_lt 0 x.value) _ _ h (waits_sound at limit (semaphores.waiting_for place x) (message []) tt)
 
-    awaits_sound : (at : At) (limit : ℤ) (place : ℕ) (x : Event) → IsKept (events.awaits at b p limit place x)
+    awaits_sound : (at : At) (limit : ℤ) (place : ℕ) (x : ApexEvent) → IsKept (events.awaits at b p limit place x)
     awaits_sound at limit place x = either x.up _ _ h (waits_sound at limit (events.waiting_for place) (message []) tt)
 
     sends_sound : (at : At) (limit : ℤ) (m : ArrayVec ℤ) (place : ℕ) (x : Buffer) → IsKept (buffers.sends at b p limit m place x)
     sends_sound at limit m place x = either (buffers.is_full x) _ _ (waits_sound at limit (buffers.sender place x) m tt) (takes_message_sound place x m (first_waiting b.processes (buffers.list place)))
 
-    raises_sound : (place : ℕ) (x : Event) → IsKept (events.raises b place x)
+    raises_sound : (place : ℕ) (x : ApexEvent) → IsKept (events.raises b place x)
     raises_sound place x = all_released_sound rows (waiting b.processes (events.list place)) b.processes h
 
     displays_sound : (m : ArrayVec ℤ) (place : ℕ) (x : Blackboard) → IsKept (blackboards.displays b m place x)

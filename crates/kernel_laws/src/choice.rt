@@ -10,15 +10,20 @@ ghost use Rattle.kernel_meaning.specs.Processes.{Processes, without, behind_equa
 
 /// Where one is no longer ready, the others keep their order by their numbers.
 pub fn one_leaves()
-    ensures { (number : ℕ → ℕ) (next p : ℕ) (ready : List Entry) → IsNumbered number next ready → IsNumbered number next (without p ready) }
+    ensures { (number : ℕ → ℕ) (next p : ℕ) (ready : List Entry) → IsNumbered number next ready
+        → IsNumbered number next (without p ready) }
 {}
 
 /// One that becomes ready, or goes last, takes a fresh and greater number.
 pub fn one_goes_last()
-    ensures { (number : ℕ → ℕ) (next : ℕ) (e : Entry) (ready : List Entry) → IsNumbered number next ready → IsNumbered (takes number e.process.0 next) (next + 1) (behind_equals e (without e.process.0 ready)) }
+    ensures { (number : ℕ → ℕ) (next : ℕ) (e : Entry) (ready : List Entry)
+        → IsNumbered number next ready
+        → IsNumbered (takes number e.process.0 next) (next + 1)
+        (behind_equals e (without e.process.0 ready)) }
 {}
 
 /// The one that is chosen is the one that may run, and there is no other.
 pub fn chosen_is_the_one()
-    ensures { (number : ℕ → ℕ) (next : ℕ) (mode : Mode) (s : Processes) (p : Runner) → IsNumbered number next s.ready → (pick mode s ≡ Some p ↔ Picks number mode s p) }
+    ensures { (number : ℕ → ℕ) (next : ℕ) (mode : Mode) (s : Processes) (p : Runner)
+        → IsNumbered number next s.ready → (pick mode s ≡ Some p ↔ Picks number mode s p) }
 {}

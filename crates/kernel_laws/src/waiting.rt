@@ -10,20 +10,29 @@ ghost use Rattle.kernel_laws.specs.WaitingOrder.{AreQueues, IsReleasedFirst};
 
 /// Where one no longer waits, the others keep their order by their numbers, in each list.
 pub fn one_leaves()
-    ensures { (disciplines : ListKey → Discipline) (number : ℕ → ℕ) (next p : ℕ) (queues : Queues) → AreQueues disciplines number next queues → AreQueues disciplines number next (without_in_all p queues) }
+    ensures { (disciplines : ListKey → Discipline) (number : ℕ → ℕ) (next p : ℕ) (queues : Queues)
+        → AreQueues disciplines number next queues
+        → AreQueues disciplines number next (without_in_all p queues) }
 {}
 
 /// One that begins to wait takes a fresh and greater number.
 pub fn one_begins_to_wait()
-    ensures { (disciplines : ListKey → Discipline) (number : ℕ → ℕ) (next : ℕ) (k : ListKey) (e : Entry) (queues : Queues) → AreQueues disciplines number next queues → AreQueues disciplines (takes number e.process.0 next) (next + 1) (joins k (disciplines k) e queues) }
+    ensures { (disciplines : ListKey → Discipline) (number : ℕ → ℕ) (next : ℕ) (k : ListKey)
+        (e : Entry) (queues : Queues) → AreQueues disciplines number next queues
+        → AreQueues disciplines (takes number e.process.0 next) (next + 1)
+        (joins k (disciplines k) e queues) }
 {}
 
 /// The one at the head of a list is the one that is released first, and there is no other.
 pub fn head_is_released_first()
-    ensures { (disciplines : ListKey → Discipline) (number : ℕ → ℕ) (next : ℕ) (k : ListKey) (e : Entry) (queues : Queues) → AreQueues disciplines number next queues → (slice_get (list_at queues k) 0 ≡ Some e ↔ IsReleasedFirst (disciplines k) number (list_at queues k) e) }
+    ensures { (disciplines : ListKey → Discipline) (number : ℕ → ℕ) (next : ℕ) (k : ListKey)
+        (e : Entry) (queues : Queues) → AreQueues disciplines number next queues
+        → (slice_get (list_at queues k) 0 ≡ Some e
+        ↔ IsReleasedFirst (disciplines k) number (list_at queues k) e) }
 {}
 
 /// Where nobody waits, any numbers will do.
 pub fn nobody_waits()
-    ensures { (disciplines : ListKey → Discipline) (number : ℕ → ℕ) (next : ℕ) (queues : Queues) → AreQueues disciplines number next (emptied queues) }
+    ensures { (disciplines : ListKey → Discipline) (number : ℕ → ℕ) (next : ℕ) (queues : Queues)
+        → AreQueues disciplines number next (emptied queues) }
 {}

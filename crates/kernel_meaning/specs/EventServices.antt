@@ -10,12 +10,12 @@ use Rattle.apex_types.specs.declared.identity.Runner.{Runner}
 use Rattle.apex_types.specs.declared.process.Waiting.{Waiting}
 use Rattle.apex_types.specs.declared.service.Service.TheVariants as service
 use Rattle.kernel_meaning.specs.Times.{is_duration}
-use Rattle.kernel_meaning.specs.Objects.{Objects, Event, event, put_event}
+use Rattle.kernel_meaning.specs.Objects.{Objects, ApexEvent, event, put_event}
 use Rattle.kernel_meaning.specs.Sharing.{Sharing, of_processes, becomes, answers, refuses, has, on, create, get_id, get_status}
 use Rattle.kernel_meaning.specs.Step.{Step, after, message, row}
 use Rattle.kernel_meaning.specs.Sharing.{waiting, waiting_count, releases_all, blocks}
 
-abbrev pub is_created : Event → Bool
+abbrev pub is_created : ApexEvent → Bool
 is_created x = x.created
 
 -- its waiting list
@@ -24,7 +24,7 @@ list place = key.Event place
 
 -- ---- CREATE_EVENT and GET_EVENT_ID
 
-abbrev pub creates : Sharing Objects → ℕ → Event → Step (Sharing Objects)
+abbrev pub creates : Sharing Objects → ℕ → ApexEvent → Step (Sharing Objects)
 creates b place x = becomes b (put_event b.shared place (record x { created = true }))
 
 abbrev pub create_event : Mode → Sharing Objects → Runner → ℤ → Step (Sharing Objects)
@@ -35,11 +35,11 @@ get_event_id b p name = get_id b p service.GetEventId name (event b.shared name)
 
 -- ---- SET_EVENT and RESET_EVENT
 
-abbrev pub sets : Sharing Objects → Bool → ℕ → Event → Step (Sharing Objects)
+abbrev pub sets : Sharing Objects → Bool → ℕ → ApexEvent → Step (Sharing Objects)
 sets b up place x = becomes b (put_event b.shared place (record x { up = up }))
 
 -- it is up, and all who wait are released in the order in which they came
-abbrev pub raises : Sharing Objects → ℕ → Event → Step (Sharing Objects)
+abbrev pub raises : Sharing Objects → ℕ → ApexEvent → Step (Sharing Objects)
 raises b place x =
     let s = sets b true place x in
     after s (of_processes s.part (releases_all (waiting b.processes (list place)) b.processes))
@@ -64,7 +64,7 @@ abbrev pub waiting_for : ℕ → Waiting
 waiting_for place = record { service = service.WaitEvent; list = list place; discipline = discipline.Fifo; array = None }
 
 -- while it is down the caller waits
-abbrev pub awaits : At → Sharing Objects → Runner → ℤ → ℕ → Event → Step (Sharing Objects)
+abbrev pub awaits : At → Sharing Objects → Runner → ℤ → ℕ → ApexEvent → Step (Sharing Objects)
 awaits at b p limit place x =
     if x.up
     then answers b p service.WaitEvent code.NoError []
@@ -85,7 +85,7 @@ number_of_state false = 0
 number_of_state true = 1
 
 -- down or up, and how many wait
-abbrev pub status : Sharing Objects → ℕ → Event → List ℤ
+abbrev pub status : Sharing Objects → ℕ → ApexEvent → List ℤ
 status b place x = pos (number_of_state x.up) ∷ pos (waiting_count b.processes (list place)) ∷ []
 
 abbrev pub get_event_status : Sharing Objects → Runner → ℤ → Step (Sharing Objects)

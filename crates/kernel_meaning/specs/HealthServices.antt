@@ -199,13 +199,13 @@ is_fault error.MemoryViolation = true
 is_fault _ = false
 
 -- an ignored fault of INIT leaves the partition idle
-abbrev pub goes_on : Kernel → Runner → ErrorKind → Step Kernel
-goes_on k runner.Init e = if is_fault e then clears k mode.Idle condition.HmPartitionRestart else nothing k
-goes_on k _ e = nothing k
+abbrev pub ignores : Kernel → Runner → ErrorKind → Step Kernel
+ignores k runner.Init e = if is_fault e then clears k mode.Idle condition.HmPartitionRestart else nothing k
+ignores k _ e = nothing k
 
 -- the partition enters the mode that its action for the error leads to, if it leads to one
 abbrev pub enters_mode : Kernel → Runner → ErrorKind → Option Mode → Step Kernel
-enters_mode k p e None = goes_on k p e
+enters_mode k p e None = ignores k p e
 enters_mode k p e (Some m) = clears k m condition.HmPartitionRestart
 
 -- the partition's action for an error of p, if one is left to be done

@@ -21,7 +21,7 @@ pub record Semaphore : Type 0 where
   pub created : Bool
   pub value : ℕ
 
-pub record Event : Type 0 where
+pub record ApexEvent : Type 0 where
   pub created : Bool
   pub up : Bool
 
@@ -40,7 +40,7 @@ pub record Blackboard : Type 0 where
 -- each kind in the order of the source
 pub record Objects : Type 0 where
   pub semaphores : List Semaphore
-  pub events : List Event
+  pub events : List ApexEvent
   pub buffers : List Buffer
   pub blackboards : List Blackboard
 
@@ -49,7 +49,7 @@ pub record Objects : Type 0 where
 abbrev pub fresh_semaphore : SemaphoreRow → Semaphore
 fresh_semaphore row = record { row = row; created = false; value = row.value }
 
-abbrev pub fresh_event : Event
+abbrev pub fresh_event : ApexEvent
 fresh_event = record { created = false; up = false }
 
 abbrev pub fresh_buffer : BufferRow → Buffer
@@ -72,7 +72,7 @@ fresh_objects semaphores events buffers blackboards = record {
 abbrev pub cleared_semaphore : Semaphore → Semaphore
 cleared_semaphore x = fresh_semaphore x.row
 
-abbrev pub cleared_event : Event → Event
+abbrev pub cleared_event : ApexEvent → ApexEvent
 cleared_event x = fresh_event
 
 abbrev pub cleared_buffer : Buffer → Buffer
@@ -105,7 +105,7 @@ numbered_in xs _ = None
 abbrev pub semaphore : Objects → ℤ → Option (ℕ × Semaphore)
 semaphore o id = numbered_in o.semaphores id
 
-abbrev pub event : Objects → ℤ → Option (ℕ × Event)
+abbrev pub event : Objects → ℤ → Option (ℕ × ApexEvent)
 event o id = numbered_in o.events id
 
 abbrev pub buffer : Objects → ℤ → Option (ℕ × Buffer)
@@ -117,7 +117,7 @@ blackboard o id = numbered_in o.blackboards id
 abbrev pub put_semaphore : Objects → ℕ → Semaphore → Objects
 put_semaphore o place x = record o { semaphores = slice_set o.semaphores place x }
 
-abbrev pub put_event : Objects → ℕ → Event → Objects
+abbrev pub put_event : Objects → ℕ → ApexEvent → Objects
 put_event o place x = record o { events = slice_set o.events place x }
 
 abbrev pub put_buffer : Objects → ℕ → Buffer → Objects

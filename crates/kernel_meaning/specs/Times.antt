@@ -140,8 +140,8 @@ pub record Treated : Type 0 where
   pub free : ℕ
   pub clears : Option Mode
 
-abbrev pub goes_on : ℕ → Step Processes → Treated
-goes_on free s = record { step = s; free = free; clears = None }
+abbrev pub without_clear : ℕ → Step Processes → Treated
+without_clear free s = record { step = s; free = free; clears = None }
 
 -- the mode that an action of a partition leads to
 abbrev pub mode_of_action : PartitionAction → Option Mode
@@ -177,8 +177,8 @@ is_past now None = false
 is_past now (Some tick) = nat_le tick.0 now
 
 abbrev pub treats_deadline : At → ℕ → PartitionAction → Processes → ProcessIndex → Option ProcessStatus → Treated
-treats_deadline at free action s p None = goes_on free (nothing s)
-treats_deadline at free action s p (Some r) = if is_past at.now.0 r.deadline then misses free action s p r else goes_on free (nothing s)
+treats_deadline at free action s p None = without_clear free (nothing s)
+treats_deadline at free action s p (Some r) = if is_past at.now.0 r.deadline then misses free action s p r else without_clear free (nothing s)
 
 -- ---- each process
 
@@ -187,7 +187,7 @@ treated_after s t = record { step = after s t.step; free = t.free; clears = t.cl
 
 -- one process: its due time, then its deadline
 abbrev pub treats : At → ℕ → PartitionAction → Processes → ProcessIndex → Option ProcessStatus → Treated
-treats at free action s p None = goes_on free (nothing s)
+treats at free action s p None = without_clear free (nothing s)
 treats at free action s p (Some r) =
     let d = treats_due at s (runner.Process p) r r.due in
     treated_after d (treats_deadline at free action d.part p (row_of d.part (runner.Process p)))
@@ -198,7 +198,7 @@ then_others t others = if is_some t.clears then t else treated_after t.step othe
 
 -- so many processes from a place on, in number order
 abbrev pub due_from : At → PartitionAction → ℕ → ℕ → ℕ → Processes → Treated
-due_from at action zero place free s = goes_on free (nothing s)
+due_from at action zero place free s = without_clear free (nothing s)
 due_from at action (suc n) place free s =
     let t = treats at free action s (index place) (row_of s (runner.Process (index place))) in
     then_others t (due_from at action n (place + 1) t.free t.step.part)

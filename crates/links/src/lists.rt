@@ -71,7 +71,9 @@ pub(crate) fn copy_at(lists: &[Entries], list: ListId) -> Entries
 /// Takes a process out of a list, in which it stands once at most.
 pub(crate) fn leave_at(lists: &mut Vec<Entries>, list: ListId, process: ProcessIndex)
     requires { times_listed process.0 (list_in (map entries_of lists.old.items) list.0) ≤ 1 }
-    ensures { map entries_of lists.new.items ≡ put_in (map entries_of lists.old.items) list.0 (without process.0 (list_in (map entries_of lists.old.items) list.0)) }
+    ensures { map entries_of lists.new.items
+        ≡ put_in (map entries_of lists.old.items) list.0
+        (without process.0 (list_in (map entries_of lists.old.items) list.0)) }
 {
     if let Some(entries) = lists.get_mut(usize::from(list.0)) {
         entries::leave(entries, process);
@@ -81,7 +83,9 @@ pub(crate) fn leave_at(lists: &mut Vec<Entries>, list: ListId, process: ProcessI
 /// Puts an entry into a list as its discipline says.
 pub(crate) fn join_at(lists: &mut Vec<Entries>, list: ListId, discipline: Discipline, entry: Entry)
     requires { length (list_in (map entries_of lists.old.items) list.0) < MOST_PROCESSES }
-    ensures { map entries_of lists.new.items ≡ put_in (map entries_of lists.old.items) list.0 (joined discipline entry (list_in (map entries_of lists.old.items) list.0)) }
+    ensures { map entries_of lists.new.items
+        ≡ put_in (map entries_of lists.old.items) list.0
+        (joined discipline entry (list_in (map entries_of lists.old.items) list.0)) }
 {
     if let Some(entries) = lists.get_mut(usize::from(list.0)) {
         entries::join(entries, discipline, entry);

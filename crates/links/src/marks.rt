@@ -9,7 +9,10 @@ pub(crate) type Marks = [u64; 4];
 
 /// Sets the bit of a level where its list has any, and clears it where it has none.
 pub(crate) fn put(marks: &mut Marks, level: u8, any: bool)
-    ensures { (w b : ℕ) → b < 64 → bit_at (slice_index marks.new w) b ≡ (if 64 * w + b == level then (if any then 1 else 0) else bit_at (slice_index marks.old w) b) }
+    ensures { (w b : ℕ) → b < 64
+        → bit_at (slice_index marks.new w) b
+        ≡ (if 64 * w
+        + b == level then (if any then 1 else 0) else bit_at (slice_index marks.old w) b) }
 {
     let word = usize::from(level / 64);
     let bit = 1 << (level % 64);

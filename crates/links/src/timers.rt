@@ -10,7 +10,8 @@ use apex_types::{MOST_PROCESSES, ProcessIndex, Ticks};
 pub fn set_timer(dues: &mut DueList, process: ProcessIndex, tick: Option<Ticks>)
     requires { process.0 < MOST_PROCESSES }
     ensures list { dues.new ≡ timer_set process tick dues.old }
-    ensures exact { (ticks : ℕ → Option ℕ) → IsExact ticks dues.old → IsExact (ticks_with process.0 (number_of tick) ticks) dues.new }
+    ensures exact { (ticks : ℕ → Option ℕ) → IsExact ticks dues.old
+        → IsExact (ticks_with process.0 (number_of tick) ticks) dues.new }
 {
     match tick {
         Some(tick) => dues.insert_by_due(process, tick),
@@ -20,7 +21,8 @@ pub fn set_timer(dues: &mut DueList, process: ProcessIndex, tick: Option<Ticks>)
 
 /// The least tick.
 fn least(dues: &DueList) -> Option<Ticks>
-    ensures { (ticks : ℕ → Option ℕ) → IsExact ticks dues.now → IsLeastTick ticks (number_of result) }
+    ensures { (ticks : ℕ → Option ℕ) → IsExact ticks dues.now
+        → IsLeastTick ticks (number_of result) }
 {
     match dues.first() {
         Some(entry) => Some(entry.tick),
@@ -41,7 +43,8 @@ fn earlier(one: Option<Ticks>, other: Option<Ticks>) -> Option<Ticks>
 
 /// The least due time or deadline, or none.
 pub fn next_due(dues: &DueList, deadlines: &DueList) -> Option<Ticks>
-    ensures { (due deadline : ℕ → Option ℕ) → IsExact due dues.now → IsExact deadline deadlines.now → IsNextDue due deadline (number_of result) }
+    ensures { (due deadline : ℕ → Option ℕ) → IsExact due dues.now → IsExact deadline deadlines.now
+        → IsNextDue due deadline (number_of result) }
 {
     let due = least(dues);
     let deadline = least(deadlines);
@@ -50,7 +53,8 @@ pub fn next_due(dues: &DueList, deadlines: &DueList) -> Option<Ticks>
 
 /// A bit for each process whose due time or deadline is not later than now: bit 0 is that of process 0.
 pub fn due_mask(dues: &DueList, deadlines: &DueList, now: Ticks) -> u64
-    ensures { (due deadline : ℕ → Option ℕ) → IsExact due dues.now → IsExact deadline deadlines.now → IsDueMask now.0 due deadline result }
+    ensures { (due deadline : ℕ → Option ℕ) → IsExact due dues.now → IsExact deadline deadlines.now
+        → IsDueMask now.0 due deadline result }
 {
     let due = dues.due_by(now);
     let missed = deadlines.due_by(now);

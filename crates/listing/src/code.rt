@@ -21,7 +21,8 @@ use processor::{fields, op_name};
 /// Only where the sink failed; then a beginning of the text is out.
 pub fn write_code<S: Sink>(image: &Image, sink: &mut S) -> Result<(), SinkFault>
     requires { S.failures sink.old < 2 ^ 64 - 1 }
-    ensures { IsListed (code_text (image_of image.now)) (S.taken sink.old) (S.taken sink.new) (S.failures sink.old) (S.failures sink.new) result }
+    ensures { IsListed (code_text (image_of image.now)) (S.taken sink.old) (S.taken sink.new)
+        (S.failures sink.old) (S.failures sink.new) result }
 {
     for item in &image.partitions {
         write_partition(item, sink)?;
@@ -32,7 +33,8 @@ pub fn write_code<S: Sink>(image: &Image, sink: &mut S) -> Result<(), SinkFault>
 /// Writes a partition: the line of its name, and the lines of its instructions.
 fn write_partition<S: Sink>(item: &PartitionItem, sink: &mut S) -> Result<(), SinkFault>
     requires { S.failures sink.old < 2 ^ 64 - 1 }
-    ensures { IsListed (partition_text (item_of item.now)) (S.taken sink.old) (S.taken sink.new) (S.failures sink.old) (S.failures sink.new) result }
+    ensures { IsListed (partition_text (item_of item.now)) (S.taken sink.old) (S.taken sink.new)
+        (S.failures sink.old) (S.failures sink.new) result }
 {
     write_line(&name_line(&item.row.name), sink)?;
     write_instructions(item.section.code.as_slice(), sink)
@@ -41,7 +43,8 @@ fn write_partition<S: Sink>(item: &PartitionItem, sink: &mut S) -> Result<(), Si
 /// Writes the lines of instructions with their indices from 0.
 fn write_instructions<S: Sink>(code: &[[u8; 16]], sink: &mut S) -> Result<(), SinkFault>
     requires { S.failures sink.old < 2 ^ 64 - 1 }
-    ensures { IsListed (instruction_lines 0 code.now) (S.taken sink.old) (S.taken sink.new) (S.failures sink.old) (S.failures sink.new) result }
+    ensures { IsListed (instruction_lines 0 code.now) (S.taken sink.old) (S.taken sink.new)
+        (S.failures sink.old) (S.failures sink.new) result }
 {
     for (index, instruction) in code.iter().enumerate() {
         write_line(&instruction_line(index, instruction), sink)?;

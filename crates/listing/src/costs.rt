@@ -20,7 +20,8 @@ use pal::{BodyCost, BodyName};
 /// Only where the sink failed; then a beginning of the text is out.
 pub fn write_costs<S: Sink>(costs: &[PartitionCosts], sink: &mut S) -> Result<(), SinkFault>
     requires { S.failures sink.old < 2 ^ 64 - 1 }
-    ensures { IsListed (costs_text costs.now) (S.taken sink.old) (S.taken sink.new) (S.failures sink.old) (S.failures sink.new) result }
+    ensures { IsListed (costs_text costs.now) (S.taken sink.old) (S.taken sink.new)
+        (S.failures sink.old) (S.failures sink.new) result }
 {
     for partition in costs {
         write_bodies(&partition.partition, &partition.bodies, sink)?;
@@ -35,7 +36,8 @@ fn write_bodies<S: Sink>(
     sink: &mut S,
 ) -> Result<(), SinkFault>
     requires { S.failures sink.old < 2 ^ 64 - 1 }
-    ensures { IsListed (flat_map (cost_line partition.now) bodies.now) (S.taken sink.old) (S.taken sink.new) (S.failures sink.old) (S.failures sink.new) result }
+    ensures { IsListed (flat_map (cost_line partition.now) bodies.now) (S.taken sink.old)
+        (S.taken sink.new) (S.failures sink.old) (S.failures sink.new) result }
 {
     for body in bodies {
         write_line(&cost_line(partition, body), sink)?;

@@ -53,7 +53,8 @@ pub fn push_word(line: &mut Line, word: i64)
 /// Writes a line. An error is answered only where the sink failed; then a beginning of the line is out.
 pub fn write_line<S: Sink>(line: &Line, sink: &mut S) -> Result<(), SinkFault>
     requires { S.failures sink.old < 2 ^ 64 - 1 }
-    ensures { IsListed line.now.items (S.taken sink.old) (S.taken sink.new) (S.failures sink.old) (S.failures sink.new) result }
+    ensures { IsListed line.now.items (S.taken sink.old) (S.taken sink.new) (S.failures sink.old)
+        (S.failures sink.new) result }
 {
     put_all(sink, line.as_slice())
 }

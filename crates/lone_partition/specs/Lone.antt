@@ -2,7 +2,7 @@
 use Rattle.machine_meaning.specs.MachineControl.{MachineControl}
 use Rattle.isolation.specs.Alone.{Alone}
 use Rattle.partition.specs.Members.{member_of}
-use Rattle.partition_base.specs.contracts.machine.MachineExecutor.TheImpl.{ghosts as machine}
+use Rattle.partition_base.specs.contracts.machine.PartitionProcessorExecutor.TheImpl.{ghosts as machine}
 use Rattle.lone_partition.specs.Around.{around}
 use Rattle.lone_partition.specs.Only.{only_part}
 use Rattle.lone_partition.specs.declared.lone.LonePartition.{LonePartition}

@@ -29,7 +29,8 @@ pub fn channel_from(
     partition: PartitionId,
     port: PortId,
 ) -> Option<&ChannelRow>
-    ensures { option_map (λ c. channel_of c.now) result ≡ meaning.channel_from (channels_of channels.now) partition port }
+    ensures { option_map (λ c. channel_of c.now) result
+        ≡ meaning.channel_from (channels_of channels.now) partition port }
 {
     for channel in channels {
         if is_port(partition, port, channel.source) {
@@ -75,7 +76,8 @@ pub fn ways_out(
     ports: &[PortRow],
 ) -> Result<Vec<Option<Name>>, AllocError>
     requires few { length ports.now ≤ MOST_PORTS }
-    ensures { IfOk result (λ ways. ways.items ≡ slices.ways_from (channels_of channels.now) partition 1 ports.now) }
+    ensures { IfOk result
+        (λ ways. ways.items ≡ slices.ways_from (channels_of channels.now) partition 1 ports.now) }
 {
     let mut ways = Vec::with_capacity(alloc, ports.len())?;
     let mut number = 1u8;

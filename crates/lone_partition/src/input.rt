@@ -8,7 +8,7 @@ ghost use Rattle.lone_partition.specs.Outputs.{next_at, sent_of};
 ghost use Rattle.lone_partition.specs.Written.{IsPathMade};
 
 use crate::output::Output;
-use crate::step::{Step, write_step};
+use crate::step::{PartitionStep, write_step};
 use apex_types::{At, ModuleAction, Moment, Sink, StartCondition, copied};
 use isolation::{Input, InputLine};
 use partition::Partition;
@@ -26,7 +26,10 @@ fn meet_fault<E: Executor, S: Sink>(
 ) -> Option<Moment>
     requires { E.laid mem.old ≡ E.layout partition.old.executor }
     ensures fits { E.laid mem.new ≡ E.layout partition.new.executor }
-    ensures written { IsPathMade (meets_fault moment.at action (member_of E.Executor partition.old mem.old)) (next_at result) (member_of E.Executor partition.new mem.new) (sent_of S.Sink output.old) (sent_of S.Sink output.new) }
+    ensures written { IsPathMade
+        (meets_fault moment.at action (member_of E.Executor partition.old mem.old)) (next_at result)
+        (member_of E.Executor partition.new mem.new) (sent_of S.Sink output.old)
+        (sent_of S.Sink output.new) }
 {
     match action {
         ModuleAction::Ignore => Some(moment),
@@ -36,7 +39,7 @@ fn meet_fault<E: Executor, S: Sink>(
             let origin = Moment {
                 at: At { now, origin: now },
             };
-            let step = Step::Start(StartCondition::HmModuleRestart);
+            let step = PartitionStep::Start(StartCondition::HmModuleRestart);
             write_step(partition, mem, origin, &step, output);
             Some(origin)
         }
@@ -54,16 +57,19 @@ fn take<E: Executor, S: Sink>(
 ) -> Option<Moment>
     requires { E.laid mem.old ≡ E.layout partition.old.executor }
     ensures fits { E.laid mem.new ≡ E.layout partition.new.executor }
-    ensures written { IsPathMade (takes fault moment.at input.now (member_of E.Executor partition.old mem.old)) (next_at result) (member_of E.Executor partition.new mem.new) (sent_of S.Sink output.old) (sent_of S.Sink output.new) }
+    ensures written { IsPathMade
+        (takes fault moment.at input.now (member_of E.Executor partition.old mem.old))
+        (next_at result) (member_of E.Executor partition.new mem.new) (sent_of S.Sink output.old)
+        (sent_of S.Sink output.new) }
 {
     match input {
         Input::Arrive(port, message) => {
-            let step = Step::Arrive(*port, copied(message));
+            let step = PartitionStep::Arrive(*port, copied(message));
             write_step(partition, mem, moment, &step, output);
             Some(moment)
         }
         Input::PartitionFault => {
-            write_step(partition, mem, moment, &Step::BreakDown, output);
+            write_step(partition, mem, moment, &PartitionStep::BreakDown, output);
             Some(moment)
         }
         Input::ModuleFault => meet_fault(fault, partition, mem, moment, output),
@@ -82,7 +88,11 @@ pub fn take_all<E: Executor, S: Sink>(
 ) -> Option<Moment>
     requires { E.laid mem.old ≡ E.layout partition.old.executor }
     ensures fits { E.laid mem.new ≡ E.layout partition.new.executor }
-    ensures written { IsPathMade (takes_all fault moment.at (inputs_of lines.now) (member_of E.Executor partition.old mem.old)) (next_at result) (member_of E.Executor partition.new mem.new) (sent_of S.Sink output.old) (sent_of S.Sink output.new) }
+    ensures written { IsPathMade
+        (takes_all fault moment.at (inputs_of lines.now)
+        (member_of E.Executor partition.old mem.old))
+        (next_at result) (member_of E.Executor partition.new mem.new) (sent_of S.Sink output.old)
+        (sent_of S.Sink output.new) }
 {
     let mut last = moment;
     for line in lines {

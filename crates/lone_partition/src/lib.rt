@@ -27,4 +27,4 @@ pub use load::{fixed, load_memory, load_partition};
 pub use lone::LonePartition;
 pub use output::Output;
 pub use pieces::write_advance;
-pub use step::{Step, write_leave, write_step};
+pub use step::{PartitionStep, write_leave, write_step};

@@ -37,7 +37,8 @@ pub fn split_tick<L: HasTick>(lines: &[L], tick: Ticks) -> (&[L], &[L])
     ensures own { result.0.now ≡ lines_in L.tick_of tick.0 lines.now }
     ensures only { lines_in L.tick_of tick.0 result.0.now ≡ result.0.now }
     ensures later { AreFrom L.tick_of (tick.0 + 1) result.1.now }
-    ensures rest { (t : ℕ) → tick.0 < t → lines_in L.tick_of t result.1.now ≡ lines_in L.tick_of t lines.now }
+    ensures rest { (t : ℕ) → tick.0 < t
+        → lines_in L.tick_of t result.1.now ≡ lines_in L.tick_of t lines.now }
 {
     lines.split_at(count_of_tick(lines, tick))
 }
@@ -48,7 +49,8 @@ fn count_of_tick<L: HasTick>(lines: &[L], tick: Ticks) -> usize
     ensures within { result ≤ length lines.now }
     ensures own { take result lines.now ≡ lines_in L.tick_of tick.0 lines.now }
     ensures later { AreFrom L.tick_of (tick.0 + 1) (drop result lines.now) }
-    ensures rest { (t : ℕ) → tick.0 < t → lines_in L.tick_of t (drop result lines.now) ≡ lines_in L.tick_of t lines.now }
+    ensures rest { (t : ℕ) → tick.0 < t
+        → lines_in L.tick_of t (drop result lines.now) ≡ lines_in L.tick_of t lines.now }
 {
     let mut count = 0;
     while count < lines.len() && lines[count].own_tick() == tick {

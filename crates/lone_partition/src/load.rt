@@ -7,14 +7,14 @@ ghost use Rattle.image.specs.Items.{partition_of, section_of};
 ghost use Rattle.partition.specs.Members.{member_of};
 ghost use Rattle.partition.specs.View.{fixed_of as view};
 ghost use Rattle.partition_base.specs.Machines.{laid_of, layout_of};
-ghost use Rattle.partition_base.specs.contracts.machine.MachineExecutor.TheImpl.{ghosts as machine};
+ghost use Rattle.partition_base.specs.contracts.machine.PartitionProcessorExecutor.TheImpl.{ghosts as machine};
 ghost use Rattle.window_table.specs.Schedules.{schedule_of};
 ghost use Rattle.lone_partition.specs.Loading.{IsFittingItem, fresh_item};
 
 use apex_types::PartitionId;
 use image::PartitionItem;
 use partition::{Fixed, Partition, PartitionRows};
-use partition_base::{FittingSection, Machine, memory_plan};
+use partition_base::{FittingSection, PartitionProcessor, memory_plan};
 use regions::Memory;
 use std::alloc::{AllocError, Global};
 use window_table::{PartitionRow, Schedule};
@@ -26,7 +26,9 @@ pub fn fixed(
     number: PartitionId,
     row: &PartitionRow,
 ) -> Result<Fixed, AllocError>
-    ensures { IfOk result (λ fixed. view fixed ≡ fixed_of (schedule_of schedule.now) number.0 (partition_of row.now)) }
+    ensures { IfOk result
+        (λ fixed.
+        view fixed ≡ fixed_of (schedule_of schedule.now) number.0 (partition_of row.now)) }
 {
     Ok(Fixed {
         name: row.name,
@@ -44,13 +46,16 @@ pub fn load_partition(
     alloc: Global,
     fixed: Fixed,
     item: &PartitionItem,
-) -> Result<Partition<Machine>, AllocError>
+) -> Result<Partition<PartitionProcessor>, AllocError>
     requires { IsFittingItem item.now }
-    ensures member { IfOk result (λ partition. member_of machine partition (fresh_item item.now) ≡ machine_member (view fixed) item.now.row.ports.items (section_of item.now.section)) }
-    ensures fits { IfOk result (λ partition. laid_of (fresh_item item.now) ≡ layout_of partition.executor) }
+    ensures member { IfOk result
+        (λ partition. member_of machine partition (fresh_item item.now)
+        ≡ machine_member (view fixed) item.now.row.ports.items (section_of item.now.section)) }
+    ensures fits { IfOk result
+        (λ partition. laid_of (fresh_item item.now) ≡ layout_of partition.executor) }
 {
     let section = &item.section;
-    let executor = Machine::new(alloc, FittingSection { section })?;
+    let executor = PartitionProcessor::new(alloc, FittingSection { section })?;
     let rows = PartitionRows {
         ports: &item.row.ports,
         section,

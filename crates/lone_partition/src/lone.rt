@@ -7,7 +7,7 @@ use crate::surroundings::Surroundings;
 use apex_types::PartitionId;
 use image::Image;
 use partition::Partition;
-use partition_base::Machine;
+use partition_base::PartitionProcessor;
 use regions::Memory;
 use std::alloc::{AllocError, Global};
 
@@ -15,7 +15,7 @@ use std::alloc::{AllocError, Global};
 #[derive(Drop)]
 pub struct LonePartition {
     pub(crate) surroundings: Surroundings,
-    pub(crate) partition: Partition<Machine>,
+    pub(crate) partition: Partition<PartitionProcessor>,
     /// The memory of this partition alone.
     pub(crate) memory: Memory,
     ghost alone: { IsAlone partition memory },
@@ -37,7 +37,9 @@ impl LonePartition {
     ) -> Result<LonePartition, AllocError>
         requires there { 0 < number.0 }
         requires within { number.0 ≤ length image.now.partitions.items }
-        ensures { IfOk result (λ lone. Some (alone_of lone) ≡ option_map machine_alone (slice (image_of image.now) number.0)) }
+        ensures { IfOk result
+            (λ lone. Some (alone_of lone)
+            ≡ option_map machine_alone (slice (image_of image.now) number.0)) }
     {
         let item = &image.partitions[usize::from(number.0) - 1];
         let surroundings = Surroundings::load(alloc, image, number, &item.row.ports)?;

@@ -24,7 +24,14 @@ impl<'a, S: Sink> Output<'a, S> {
     /// The lines that are told into the buffer go to the sink, which has not failed yet.
     pub fn new(trace: &'a mut TraceBuffer, sink: &'a mut S) -> Self
         requires { S.failures sink.old < 2 ^ 64 - 1 }
-        ensures { sent_of S.Sink result ≡ record { trace = trace.entry.ghost_name; sink = sink.entry.ghost_name; taken = S.taken sink.old; failures = S.failures sink.old; failed = false } }
+        ensures { sent_of S.Sink result
+            ≡ record {
+              trace = trace.entry.ghost_name;
+              sink = sink.entry.ghost_name;
+              taken = S.taken sink.old;
+              failures = S.failures sink.old;
+              failed = false;
+            } }
     {
         Output {
             trace,
@@ -43,7 +50,8 @@ impl<'a, S: Sink> Output<'a, S> {
     /// The lines in the buffer go to the sink, unless it has failed before. They stay in the buffer until
     /// the next step clears it.
     pub fn write(&mut self)
-        ensures { HasSent (sent_of S.Sink self.old) (sent_of S.Sink self.new) self.old.trace.now.text.items }
+        ensures { HasSent (sent_of S.Sink self.old) (sent_of S.Sink self.new)
+            self.old.trace.now.text.items }
     {
         if self.has_failed {
             return;

@@ -30,7 +30,9 @@ pub fn write_advance<E: Executor, S: Sink>(
     requires fits { E.laid mem.old ≡ E.layout partition.old.executor }
     requires soon { moment.at.now.0 + most ≤ MOST_TICKS }
     ensures fits { E.laid mem.new ≡ E.layout partition.new.executor }
-    ensures written { HasAdvancedWritten moment.at most (member_of E.Executor partition.old mem.old) (member_of E.Executor partition.new mem.new) (sent_of S.Sink output.old) (sent_of S.Sink output.new) result }
+    ensures written { HasAdvancedWritten moment.at most (member_of E.Executor partition.old mem.old)
+        (member_of E.Executor partition.new mem.new) (sent_of S.Sink output.old)
+        (sent_of S.Sink output.new) result }
 {
     output.trace.clear();
     let count = partition.advance(mem, moment, most, output.trace);
@@ -50,7 +52,12 @@ fn write_piece<E: Executor, S: Sink>(
     requires fits { E.laid mem.old ≡ E.layout partition.old.executor }
     requires soon { moment.at.now.0 + most ≤ MOST_TICKS }
     ensures fits { E.laid mem.new ≡ E.layout partition.new.executor }
-    ensures run { (s : Around) (lines : List InputLine) (number : ℕ) → ((i : ℕ) → i < most → IsWithin s lines moment.at.origin.0 (moment.at.now.0 + i) (Some number)) → HasRunSome s lines most moment.at (member_of E.Executor partition.old mem.old) (member_of E.Executor partition.new mem.new) (sent_of S.Sink output.old) (sent_of S.Sink output.new) result }
+    ensures run { (s : Around) (lines : List InputLine) (number : ℕ)
+        → ((i : ℕ) → i < most
+        → IsWithin s lines moment.at.origin.0 (moment.at.now.0 + i) (Some number))
+        → HasRunSome s lines most moment.at (member_of E.Executor partition.old mem.old)
+        (member_of E.Executor partition.new mem.new) (sent_of S.Sink output.old)
+        (sent_of S.Sink output.new) result }
 {
     let mut left = most;
     while left > 0 && !output.has_failed() {
@@ -102,7 +109,10 @@ fn advance_window<E: Executor, S: Sink>(
     requires fits { E.laid mem.old ≡ E.layout partition.old.executor }
     requires soon { moment.at.now.0 + most ≤ MOST_TICKS }
     ensures fits { E.laid mem.new ≡ E.layout partition.new.executor }
-    ensures run { (lines : List InputLine) → AreFrom tick_of_input (moment.at.now.0 + most) lines → HasRunSome (around surroundings.now) lines most moment.at (member_of E.Executor partition.old mem.old) (member_of E.Executor partition.new mem.new) (sent_of S.Sink output.old) (sent_of S.Sink output.new) result }
+    ensures run { (lines : List InputLine) → AreFrom tick_of_input (moment.at.now.0 + most) lines
+        → HasRunSome (around surroundings.now) lines most moment.at
+        (member_of E.Executor partition.old mem.old) (member_of E.Executor partition.new mem.new)
+        (sent_of S.Sink output.old) (sent_of S.Sink output.new) result }
 {
     let schedule = &surroundings.schedule;
     if schedule.ended(moment).is_some() {
@@ -132,7 +142,9 @@ pub fn advance<E: Executor, S: Sink>(
     requires order { AreFrom tick_of_input moment.at.now.0 lines.now }
     ensures fits { E.laid mem.new ≡ E.layout partition.new.executor }
     ensures order { AreFrom tick_of_input (moment.at.now.0 + result) lines.now }
-    ensures run { HasRunSome (around surroundings.now) lines.now most moment.at (member_of E.Executor partition.old mem.old) (member_of E.Executor partition.new mem.new) (sent_of S.Sink output.old) (sent_of S.Sink output.new) result }
+    ensures run { HasRunSome (around surroundings.now) lines.now most moment.at
+        (member_of E.Executor partition.old mem.old) (member_of E.Executor partition.new mem.new)
+        (sent_of S.Sink output.old) (sent_of S.Sink output.new) result }
 {
     let quiet = until_input(lines, moment.at.now, most);
     let still = partition.kernel().still_ticks(moment, quiet);

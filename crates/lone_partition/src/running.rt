@@ -18,7 +18,7 @@ use crate::lines::split_tick;
 use crate::lone::LonePartition;
 use crate::output::Output;
 use crate::pieces::advance;
-use crate::step::{Step, write_step};
+use crate::step::{PartitionStep, write_step};
 use crate::surroundings::Surroundings;
 use crate::ticking::tick;
 use apex_types::{At, Moment, PartitionId, Sink, SinkFault, StartCondition, Ticks, TraceBuffer};
@@ -61,7 +61,8 @@ impl LonePartition {
         requires ticks { ticks ≤ MOST_TICKS }
         requires order { AreInOrder inputs.now }
         requires failures { S.failures sink.old < 2 ^ 64 - 1 }
-        ensures { AreWritten (trace_alone (alone_of self) inputs.now ticks) (S.taken sink.old) (S.taken sink.new) (S.failures sink.old) (S.failures sink.new) result }
+        ensures { AreWritten (trace_alone (alone_of self) inputs.now ticks) (S.taken sink.old)
+            (S.taken sink.new) (S.failures sink.old) (S.failures sink.new) result }
     {
         let LonePartition {
             surroundings,
@@ -86,7 +87,14 @@ fn run_alone<E: Executor, S: Sink>(
     requires ticks { ticks ≤ MOST_TICKS }
     requires order { AreInOrder inputs.now }
     requires failures { S.failures sink.old < 2 ^ 64 - 1 }
-    ensures { AreWritten (trace_alone (record { around = around surroundings.now; member = member_of E.Executor partition.old mem.old }) inputs.now ticks) (S.taken sink.old) (S.taken sink.new) (S.failures sink.old) (S.failures sink.new) result }
+    ensures { AreWritten
+        (trace_alone
+        (record {
+          around = around surroundings.now;
+          member = member_of E.Executor partition.old mem.old;
+        })
+        inputs.now ticks)
+        (S.taken sink.old) (S.taken sink.new) (S.failures sink.old) (S.failures sink.new) result }
 {
     let mut trace = TraceBuffer::new();
     let mut output = Output::new(&mut trace, sink);
@@ -109,12 +117,19 @@ fn start_and_run<E: Executor, S: Sink>(
     requires fits { E.laid mem.old ≡ E.layout partition.old.executor }
     requires ticks { ticks ≤ MOST_TICKS }
     requires order { AreInOrder inputs.now }
-    ensures { HasSent (sent_of S.Sink output.old) (sent_of S.Sink output.new) (text_of (trace_alone (record { around = around surroundings.now; member = member_of E.Executor partition.old mem.old }) inputs.now ticks)) }
+    ensures { HasSent (sent_of S.Sink output.old) (sent_of S.Sink output.new)
+        (text_of
+        (trace_alone
+        (record {
+          around = around surroundings.now;
+          member = member_of E.Executor partition.old mem.old;
+        })
+        inputs.now ticks)) }
 {
     if ticks == 0 {
         return;
     }
-    let start = Step::Start(StartCondition::NormalStart);
+    let start = PartitionStep::Start(StartCondition::NormalStart);
     write_step(partition, mem, first(), &start, output);
     run_ticks(surroundings, partition, mem, inputs, ticks, output);
 }
@@ -131,7 +146,10 @@ fn run_ticks<E: Executor, S: Sink>(
     requires fits { E.laid mem.old ≡ E.layout partition.old.executor }
     requires ticks { ticks ≤ MOST_TICKS }
     requires order { AreInOrder inputs.now }
-    ensures { HasSent (sent_of S.Sink output.old) (sent_of S.Sink output.new) (text_of (alone_from (around surroundings.now) inputs.now ticks (Some first_tick) (member_of E.Executor partition.old mem.old))) }
+    ensures { HasSent (sent_of S.Sink output.old) (sent_of S.Sink output.new)
+        (text_of
+        (alone_from (around surroundings.now) inputs.now ticks (Some first_tick)
+        (member_of E.Executor partition.old mem.old))) }
 {
     let mut moment = first();
     let mut left = ticks;

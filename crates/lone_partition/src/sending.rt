@@ -10,7 +10,7 @@ ghost use Rattle.lone_partition.specs.Outputs.{sent_of};
 ghost use Rattle.lone_partition.specs.Written.{IsMade};
 
 use crate::output::Output;
-use crate::step::{Step, write_leave, write_step};
+use crate::step::{PartitionStep, write_leave, write_step};
 use crate::surroundings::Surroundings;
 use apex_types::{Moment, Name, PortId, Sink, Words};
 use partition::{Kernel, Partition};
@@ -27,10 +27,13 @@ fn go_out<E: Executor, S: Sink>(
 )
     requires { E.laid mem.old ≡ E.layout partition.old.executor }
     ensures fits { E.laid mem.new ≡ E.layout partition.new.executor }
-    ensures written { IsMade (goes_by_way moment.at message way (member_of E.Executor partition.old mem.old)) (member_of E.Executor partition.new mem.new) (sent_of S.Sink output.old) (sent_of S.Sink output.new) }
+    ensures written { IsMade
+        (goes_by_way moment.at message way (member_of E.Executor partition.old mem.old))
+        (member_of E.Executor partition.new mem.new) (sent_of S.Sink output.old)
+        (sent_of S.Sink output.new) }
 {
     if let Some(channel) = way {
-        let step = Step::GoOut(channel, message);
+        let step = PartitionStep::GoOut(channel, message);
         write_step(partition, mem, moment, &step, output);
     }
 }
@@ -46,7 +49,11 @@ fn send_message<E: Executor, S: Sink>(
 )
     requires { E.laid mem.old ≡ E.layout partition.old.executor }
     ensures fits { E.laid mem.new ≡ E.layout partition.new.executor }
-    ensures written { IsMade (sends_message (around surroundings.now) moment.at port (member_of E.Executor partition.old mem.old)) (member_of E.Executor partition.new mem.new) (sent_of S.Sink output.old) (sent_of S.Sink output.new) }
+    ensures written { IsMade
+        (sends_message (around surroundings.now) moment.at port
+        (member_of E.Executor partition.old mem.old))
+        (member_of E.Executor partition.new mem.new) (sent_of S.Sink output.old)
+        (sent_of S.Sink output.new) }
 {
     if let Some(message) = write_leave(partition, mem, moment, port, output) {
         let way = surroundings.way_out(port);
@@ -66,7 +73,11 @@ fn send_messages<E: Executor, S: Sink>(
 )
     requires { E.laid mem.old ≡ E.layout partition.old.executor }
     ensures fits { E.laid mem.new ≡ E.layout partition.new.executor }
-    ensures written { IsMade (sends_messages count (around surroundings.now) moment.at port (member_of E.Executor partition.old mem.old)) (member_of E.Executor partition.new mem.new) (sent_of S.Sink output.old) (sent_of S.Sink output.new) }
+    ensures written { IsMade
+        (sends_messages count (around surroundings.now) moment.at port
+        (member_of E.Executor partition.old mem.old))
+        (member_of E.Executor partition.new mem.new) (sent_of S.Sink output.old)
+        (sent_of S.Sink output.new) }
 {
     for _ in 0..count {
         send_message(surroundings, partition, mem, moment, port, output);
@@ -95,13 +106,17 @@ fn send_port<E: Executor, S: Sink>(
 )
     requires { E.laid mem.old ≡ E.layout partition.old.executor }
     ensures fits { E.laid mem.new ≡ E.layout partition.new.executor }
-    ensures written { IsMade (sends_port (around surroundings.now) moment.at port (member_of E.Executor partition.old mem.old)) (member_of E.Executor partition.new mem.new) (sent_of S.Sink output.old) (sent_of S.Sink output.new) }
+    ensures written { IsMade
+        (sends_port (around surroundings.now) moment.at port
+        (member_of E.Executor partition.old mem.old))
+        (member_of E.Executor partition.new mem.new) (sent_of S.Sink output.old)
+        (sent_of S.Sink output.new) }
 {
     let Some(count) = count_to_send(partition.kernel(), port) else {
         return;
     };
     send_messages(count, surroundings, partition, mem, moment, port, output);
-    write_step(partition, mem, moment, &Step::Admit(port), output);
+    write_step(partition, mem, moment, &PartitionStep::Admit(port), output);
 }
 
 /// So many ports of the partition, in number order.
@@ -115,7 +130,11 @@ pub fn send_ports<E: Executor, S: Sink>(
 )
     requires { E.laid mem.old ≡ E.layout partition.old.executor }
     ensures fits { E.laid mem.new ≡ E.layout partition.new.executor }
-    ensures written { IsMade (sends_ports count 1 (around surroundings.now) moment.at (member_of E.Executor partition.old mem.old)) (member_of E.Executor partition.new mem.new) (sent_of S.Sink output.old) (sent_of S.Sink output.new) }
+    ensures written { IsMade
+        (sends_ports count 1 (around surroundings.now) moment.at
+        (member_of E.Executor partition.old mem.old))
+        (member_of E.Executor partition.new mem.new) (sent_of S.Sink output.old)
+        (sent_of S.Sink output.new) }
 {
     for place in 0..count {
         let port = PortId(place + 1);

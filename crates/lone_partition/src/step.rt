@@ -16,7 +16,7 @@ use partition_base::Executor;
 
 /// What happens to a partition in a step.
 #[derive(Drop)]
-pub enum Step {
+pub enum PartitionStep {
     /// It clears to a cold start, for a reason.
     Start(StartCondition),
     /// A message arrives at a port.
@@ -36,24 +36,33 @@ fn step_member<E: Executor>(
     partition: &mut Partition<E>,
     mem: &mut E::Mem,
     moment: Moment,
-    step: &Step,
+    step: &PartitionStep,
     trace: &mut TraceBuffer,
 )
     requires { E.laid mem.old ≡ E.layout partition.old.executor }
     ensures fits { E.laid mem.new ≡ E.layout partition.new.executor }
-    ensures member { let x = member_of E.Executor partition.old mem.old in member_of E.Executor partition.new mem.new ≡ with_world x (step_of moment.at step.now x).world }
-    ensures lines { trace.new.text.items ≡ text_of (step_of moment.at step.now (member_of E.Executor partition.old mem.old)).lines }
+    ensures member { let x = member_of E.Executor partition.old mem.old in
+        member_of E.Executor partition.new mem.new
+        ≡ with_world x (step_of moment.at step.now x).world }
+    ensures lines { trace.new.text.items
+        ≡ text_of (step_of moment.at step.now (member_of E.Executor partition.old mem.old)).lines }
 {
     trace.clear();
     match step {
-        Step::Start(condition) => partition.clear(mem, moment, *condition, trace),
-        Step::Arrive(port, message) => partition.arrive(mem, moment, *port, copied(message), trace),
-        Step::Admit(port) => partition.admit(mem, moment, *port, trace),
-        Step::GoOut(channel, message) => {
+        PartitionStep::Start(condition) => partition.clear(mem, moment, *condition, trace),
+        PartitionStep::Arrive(port, message) => partition.arrive(
+            mem,
+            moment,
+            *port,
+            copied(message),
+            trace,
+        ),
+        PartitionStep::Admit(port) => partition.admit(mem, moment, *port, trace),
+        PartitionStep::GoOut(channel, message) => {
             partition.go_out(mem, moment, *channel, copied(message), trace)
         }
-        Step::BreakDown => partition.fault(mem, moment, trace),
-        Step::Tick => partition.tick(mem, moment, trace),
+        PartitionStep::BreakDown => partition.fault(mem, moment, trace),
+        PartitionStep::Tick => partition.tick(mem, moment, trace),
     }
 }
 
@@ -62,12 +71,15 @@ pub fn write_step<E: Executor, S: Sink>(
     partition: &mut Partition<E>,
     mem: &mut E::Mem,
     moment: Moment,
-    step: &Step,
+    step: &PartitionStep,
     output: &mut Output<'_, S>,
 )
     requires { E.laid mem.old ≡ E.layout partition.old.executor }
     ensures fits { E.laid mem.new ≡ E.layout partition.new.executor }
-    ensures written { IsMade (goes (step_of moment.at step.now) (member_of E.Executor partition.old mem.old)) (member_of E.Executor partition.new mem.new) (sent_of S.Sink output.old) (sent_of S.Sink output.new) }
+    ensures written { IsMade
+        (goes (step_of moment.at step.now) (member_of E.Executor partition.old mem.old))
+        (member_of E.Executor partition.new mem.new) (sent_of S.Sink output.old)
+        (sent_of S.Sink output.new) }
 {
     step_member(partition, mem, moment, step, output.trace);
     output.write();
@@ -85,7 +97,10 @@ pub fn write_leave<E: Executor, S: Sink>(
     requires { E.laid mem.old ≡ E.layout partition.old.executor }
     ensures fits { E.laid mem.new ≡ E.layout partition.new.executor }
     ensures message { result ≡ leaving port (member_of E.Executor partition.old mem.old) }
-    ensures written { IsMade (goes (leaves moment.at port) (member_of E.Executor partition.old mem.old)) (member_of E.Executor partition.new mem.new) (sent_of S.Sink output.old) (sent_of S.Sink output.new) }
+    ensures written { IsMade
+        (goes (leaves moment.at port) (member_of E.Executor partition.old mem.old))
+        (member_of E.Executor partition.new mem.new) (sent_of S.Sink output.old)
+        (sent_of S.Sink output.new) }
 {
     output.trace.clear();
     let message = partition.move_one(mem, moment, port, output.trace);

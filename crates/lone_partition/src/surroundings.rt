@@ -36,7 +36,9 @@ impl Surroundings {
         ports: &[PortRow],
     ) -> Result<Surroundings, AllocError>
         requires few { length ports.now ≤ MOST_PORTS }
-        ensures { IfOk result (λ s. around s ≡ surroundings_of (machine_module (image_of image.now)).plan number.0 ports.now) }
+        ensures { IfOk result
+            (λ s. around s
+            ≡ surroundings_of (machine_module (image_of image.now)).plan number.0 ports.now) }
     {
         Ok(Surroundings {
             schedule: image.schedule.of_partition(alloc, number)?,

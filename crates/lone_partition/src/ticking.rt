@@ -11,7 +11,7 @@ ghost use Rattle.lone_partition.specs.Written.{IsMade, IsPathMade, done_in};
 use crate::input::take_all;
 use crate::output::Output;
 use crate::sending::send_ports;
-use crate::step::{Step, write_step};
+use crate::step::{PartitionStep, write_step};
 use crate::surroundings::Surroundings;
 use apex_types::{Moment, Sink};
 use isolation::InputLine;
@@ -29,7 +29,11 @@ fn send_ended<E: Executor, S: Sink>(
 )
     requires { E.laid mem.old ≡ E.layout partition.old.executor }
     ensures fits { E.laid mem.new ≡ E.layout partition.new.executor }
-    ensures written { IsMade (sends_ended (around surroundings.now) moment.at (member_of E.Executor partition.old mem.old) ends) (member_of E.Executor partition.new mem.new) (sent_of S.Sink output.old) (sent_of S.Sink output.new) }
+    ensures written { IsMade
+        (sends_ended (around surroundings.now) moment.at
+        (member_of E.Executor partition.old mem.old) ends)
+        (member_of E.Executor partition.new mem.new) (sent_of S.Sink output.old)
+        (sent_of S.Sink output.new) }
 {
     if ends {
         let count = partition.kernel().port_count();
@@ -47,10 +51,12 @@ fn tick_own<E: Executor, S: Sink>(
 )
     requires { E.laid mem.old ≡ E.layout partition.old.executor }
     ensures fits { E.laid mem.new ≡ E.layout partition.new.executor }
-    ensures written { IsMade (ticks_own moment.at (member_of E.Executor partition.old mem.old) owns) (member_of E.Executor partition.new mem.new) (sent_of S.Sink output.old) (sent_of S.Sink output.new) }
+    ensures written { IsMade (ticks_own moment.at (member_of E.Executor partition.old mem.old) owns)
+        (member_of E.Executor partition.new mem.new) (sent_of S.Sink output.old)
+        (sent_of S.Sink output.new) }
 {
     if owns {
-        write_step(partition, mem, moment, &Step::Tick, output);
+        write_step(partition, mem, moment, &PartitionStep::Tick, output);
     }
 }
 
@@ -64,7 +70,12 @@ fn send_and_tick<E: Executor, S: Sink>(
 )
     requires { E.laid mem.old ≡ E.layout partition.old.executor }
     ensures fits { E.laid mem.new ≡ E.layout partition.new.executor }
-    ensures written { IsMade (done_in (sends_and_ticks (around surroundings.now) moment.at (member_of E.Executor partition.old mem.old))) (member_of E.Executor partition.new mem.new) (sent_of S.Sink output.old) (sent_of S.Sink output.new) }
+    ensures written { IsMade
+        (done_in
+        (sends_and_ticks (around surroundings.now) moment.at
+        (member_of E.Executor partition.old mem.old)))
+        (member_of E.Executor partition.new mem.new) (sent_of S.Sink output.old)
+        (sent_of S.Sink output.new) }
 {
     let ended = surroundings.schedule.ended(moment);
     let owner = surroundings.schedule.owner(moment);
@@ -85,7 +96,11 @@ pub fn tick<E: Executor, S: Sink>(
 ) -> Option<Moment>
     requires { E.laid mem.old ≡ E.layout partition.old.executor }
     ensures fits { E.laid mem.new ≡ E.layout partition.new.executor }
-    ensures written { IsPathMade (tick_alone (around surroundings.now) moment.at (inputs_of lines.now) (member_of E.Executor partition.old mem.old)) (next_at result) (member_of E.Executor partition.new mem.new) (sent_of S.Sink output.old) (sent_of S.Sink output.new) }
+    ensures written { IsPathMade
+        (tick_alone (around surroundings.now) moment.at (inputs_of lines.now)
+        (member_of E.Executor partition.old mem.old))
+        (next_at result) (member_of E.Executor partition.new mem.new) (sent_of S.Sink output.old)
+        (sent_of S.Sink output.new) }
 {
     let last = take_all(surroundings.fault, lines, partition, mem, moment, output)?;
     send_and_tick(surroundings, partition, mem, last, output);

@@ -15,7 +15,8 @@ ghost use Rattle.kernel_meaning.specs.Windows.{next_release};
 
 /// What is read is lawful, and the bytes are its spelling.
 pub fn read_is_spelled()
-    ensures { (bytes : List ℕ) (image : Image) → ((i : ℕ) → slice_index bytes i < 256) → image_at bytes ≡ Ok image → IsLawful image × (bytes ≡ spelling image) }
+    ensures { (bytes : List ℕ) (image : Image) → ((i : ℕ) → slice_index bytes i < 256)
+        → image_at bytes ≡ Ok image → IsLawful image × (bytes ≡ spelling image) }
 {}
 
 /// What is lawful is read again from its spelling.
@@ -26,19 +27,23 @@ pub fn spelled_is_read()
 /// No spelling begins another: where one lawful image's spelling stands, with any bytes behind it, in
 /// another's, the images are one and nothing stands behind it.
 pub fn no_spelling_begins_another()
-    ensures { (one other : Image) (rest : List ℕ) → IsLawful one → IsLawful other → spelling other ≡ spelling one ++ rest → (one ≡ other) × (rest ≡ []) }
+    ensures { (one other : Image) (rest : List ℕ) → IsLawful one → IsLawful other
+        → spelling other ≡ spelling one ++ rest → (one ≡ other) × (rest ≡ []) }
 {}
 
 /// Each partition of a lawful image has a next release after every tick: the computed one.
 pub fn lawful_image_releases()
-    ensures { (image : Image) (p : ℕ) (at : At) → IsLawful image → 1 ≤ p → p ≤ length image.items → at.origin.0 ≤ at.now.0 → IsNextRelease image.schedule p at (next_release image.schedule p at) }
+    ensures { (image : Image) (p : ℕ) (at : At) → IsLawful image → 1 ≤ p → p ≤ length image.items
+        → at.origin.0 ≤ at.now.0
+        → IsNextRelease image.schedule p at (next_release image.schedule p at) }
 {}
 
 /// A partition's kernel knows its own windows alone. The next release that it computes from them is the
 /// module's: the least later tick at which one of its windows marked release starts.
 pub fn lawful_image_releases_by_own_windows()
-    ensures { (image : Image) (p : ℕ) (row : Partition) (k : Kernel) (at : At) → IsLawful image → 1 ≤ p → p ≤ length image.items → k.fixed ≡ fixed_of image.schedule p row → at.origin.0 ≤ at.now.0
-        → IsNextRelease image.schedule p at (next_release_of at k) }
+    ensures { (image : Image) (p : ℕ) (row : Partition) (k : Kernel) (at : At) → IsLawful image
+        → 1 ≤ p → p ≤ length image.items → k.fixed ≡ fixed_of image.schedule p row
+        → at.origin.0 ≤ at.now.0 → IsNextRelease image.schedule p at (next_release_of at k) }
 {}
 
 /// At most one window holds a tick, so at most one partition owns it.

@@ -15,26 +15,45 @@ ghost use Rattle.kernel_meaning.specs.Windows.{next_release};
 
 /// An accepted table whose partitions have become lawful sections is within all limits of an image.
 pub fn accepted_table_is_within_limits()
-    ensures { (ms : Members) (t : Table) (items : List Item) → verdict ms ≡ Ok t → map (λ it. it.partition) items ≡ t.partitions → All (λ it. IsSection it.partition.period it.section) items
-        → IsWithinLimits (record { schedule = t.schedule; fault = t.fault; items = items; channels = t.channels }) }
+    ensures { (ms : Members) (t : Table) (items : List Item) → verdict ms ≡ Ok t
+        → map (λ it. it.partition) items ≡ t.partitions
+        → All (λ it. IsSection it.partition.period it.section) items
+        → IsWithinLimits
+        (record {
+          schedule = t.schedule;
+          fault = t.fault;
+          items = items;
+          channels = t.channels;
+        }) }
 {}
 
 /// It is a lawful image: it also keeps the rules that are judged when all fields are read.
 pub fn accepted_table_is_lawful()
-    ensures { (ms : Members) (t : Table) (items : List Item) → verdict ms ≡ Ok t → map (λ it. it.partition) items ≡ t.partitions → All (λ it. IsSection it.partition.period it.section) items
-        → IsLawful (record { schedule = t.schedule; fault = t.fault; items = items; channels = t.channels }) }
+    ensures { (ms : Members) (t : Table) (items : List Item) → verdict ms ≡ Ok t
+        → map (λ it. it.partition) items ≡ t.partitions
+        → All (λ it. IsSection it.partition.period it.section) items
+        → IsLawful
+        (record {
+          schedule = t.schedule;
+          fault = t.fault;
+          items = items;
+          channels = t.channels;
+        }) }
 {}
 
 /// Each partition has a next release after every tick: the computed one.
 pub fn accepted_table_releases()
-    ensures { (ms : Members) (t : Table) (p : ℕ) (at : At) → verdict ms ≡ Ok t → 1 ≤ p → p ≤ length t.partitions → at.origin.0 ≤ at.now.0 → IsNextRelease t.schedule p at (next_release t.schedule p at) }
+    ensures { (ms : Members) (t : Table) (p : ℕ) (at : At) → verdict ms ≡ Ok t → 1 ≤ p
+        → p ≤ length t.partitions → at.origin.0 ≤ at.now.0
+        → IsNextRelease t.schedule p at (next_release t.schedule p at) }
 {}
 
 /// A partition's kernel knows its own windows alone. The next release that it computes from them is the
 /// module's: the least later tick at which one of its windows marked release starts.
 pub fn accepted_table_releases_by_own_windows()
-    ensures { (ms : Members) (t : Table) (p : ℕ) (row : Partition) (k : Kernel) (at : At) → verdict ms ≡ Ok t → 1 ≤ p → p ≤ length t.partitions → k.fixed ≡ fixed_of t.schedule p row → at.origin.0 ≤ at.now.0
-        → IsNextRelease t.schedule p at (next_release_of at k) }
+    ensures { (ms : Members) (t : Table) (p : ℕ) (row : Partition) (k : Kernel) (at : At)
+        → verdict ms ≡ Ok t → 1 ≤ p → p ≤ length t.partitions → k.fixed ≡ fixed_of t.schedule p row
+        → at.origin.0 ≤ at.now.0 → IsNextRelease t.schedule p at (next_release_of at k) }
 {}
 
 /// At most one window holds a tick, so at most one partition owns it.

@@ -10,7 +10,7 @@ use Rattle.machine_meaning.specs.MachineControl.{MachineControl}
 use Rattle.module_meaning.specs.Module.{Course, of_tick}
 use Rattle.machine_meaning.specs.MachineMeaning.{machine_module}
 use Rattle.image.specs.Views.{image_of}
-use Rattle.partition_base.specs.contracts.machine.MachineExecutor.TheImpl.{ghosts as executor}
+use Rattle.partition_base.specs.contracts.machine.PartitionProcessorExecutor.TheImpl.{ghosts as executor}
 use Rattle.module.specs.Pieces.{HasRun, IsBrokenOff}
 use Rattle.module.specs.Standing.{Standing, at_first, after, ticks}
 use Rattle.module.specs.Views.{standing_of}

@@ -25,8 +25,12 @@ pub fn accept_sources(
     sources: &[&[u8]],
 ) -> Result<Vec<Checked>, BuildFault>
     requires { length sources.now ≡ length rows.now }
-    ensures accepted { IfOk result (λ accepted. AreSources (map partition_of rows.now) (map (λ s. s.now) sources.now) accepted.items) }
-    ensures refused { IfErr result (λ fault. AreSourceRefusals (map partition_of rows.now) (map (λ s. s.now) sources.now) fault) }
+    ensures accepted { IfOk result
+        (λ accepted.
+        AreSources (map partition_of rows.now) (map (λ s. s.now) sources.now) accepted.items) }
+    ensures refused { IfErr result
+        (λ fault.
+        AreSourceRefusals (map partition_of rows.now) (map (λ s. s.now) sources.now) fault) }
 {
     let mut accepted = Vec::with_capacity(alloc, rows.len())?;
     for row in rows {
@@ -38,8 +42,10 @@ pub fn accept_sources(
 
 /// The source of one partition, if it is accepted.
 fn accept(alloc: Global, row: &PartitionRow, source: &[u8]) -> Result<Checked, BuildFault>
-    ensures accepted { IfOk result (λ accepted. IsSource (partition_of row.now) source.now accepted) }
-    ensures refused { IfErr result (λ fault. IsSourceRefusal (partition_of row.now) source.now fault) }
+    ensures accepted { IfOk result
+        (λ accepted. IsSource (partition_of row.now) source.now accepted) }
+    ensures refused { IfErr result
+        (λ fault. IsSourceRefusal (partition_of row.now) source.now fault) }
 {
     match judge(alloc, row, source) {
         Ok(accepted) => Ok(accepted),
@@ -49,8 +55,10 @@ fn accept(alloc: Global, row: &PartitionRow, source: &[u8]) -> Result<Checked, B
 
 /// The source as a program that is well formed for its partition.
 fn judge(alloc: Global, row: &PartitionRow, source: &[u8]) -> Result<Checked, PalFault>
-    ensures accepted { IfOk result (λ accepted. IsSource (partition_of row.now) source.now accepted) }
-    ensures refused { IfErr result (λ fault. IsNotAccepted (partition_of row.now) source.now fault.refusal) }
+    ensures accepted { IfOk result
+        (λ accepted. IsSource (partition_of row.now) source.now accepted) }
+    ensures refused { IfErr result
+        (λ fault. IsNotAccepted (partition_of row.now) source.now fault.refusal) }
 {
     let written = parse(alloc, source)?;
     check(alloc, written, row)
@@ -68,8 +76,10 @@ fn refused(partition: Name, fault: PalFault) -> BuildFault
 
 /// Refuses the first program that is too long, by the name of its partition.
 pub fn judge_lengths(rows: &[PartitionRow], sources: &[Checked]) -> Result<(), BuildFault>
-    ensures none { IfOk result (λ _. first_too_long (map partition_of rows.now) (programs_of sources.now) ≡ None) }
-    ensures refused { IfErr result (λ fault. IsLengthRefusal (map partition_of rows.now) (programs_of sources.now) fault) }
+    ensures none { IfOk result
+        (λ _. first_too_long (map partition_of rows.now) (programs_of sources.now) ≡ None) }
+    ensures refused { IfErr result
+        (λ fault. IsLengthRefusal (map partition_of rows.now) (programs_of sources.now) fault) }
 {
     match first_too_long(rows, sources) {
         Some(partition) => Err(BuildFault::Compile {

@@ -10,7 +10,7 @@ ghost use Rattle.module.specs.Written.{done_in, IsCourse, IsMade};
 use crate::member::Members;
 use apex_types::{At, DeviceLine, Moment, PartitionId, Sink, StartCondition, Ticks};
 use image::Image;
-use lone_partition::{Output, Step};
+use lone_partition::{Output, PartitionStep};
 use partition_base::Executor;
 use regions::PartitionMem;
 
@@ -31,10 +31,14 @@ impl<E: Executor<Mem = PartitionMem>> Members<E> {
         owner: Option<PartitionId>,
         output: &mut Output<'_, S>,
     )
-        ensures { IsMade (meaning.ticks_owner moment.at (members_in E.Executor self.old) (option_map (λ p. p.0) owner)) (members_in E.Executor self.new) (sent_of S.Sink output.old) (sent_of S.Sink output.new) }
+        ensures { IsMade
+            (meaning.ticks_owner moment.at (members_in E.Executor self.old)
+            (option_map (λ p. p.0) owner))
+            (members_in E.Executor self.new) (sent_of S.Sink output.old)
+            (sent_of S.Sink output.new) }
     {
         if let Some(partition) = owner {
-            self.step(partition, moment, &Step::Tick, output);
+            self.step(partition, moment, &PartitionStep::Tick, output);
         }
     }
 
@@ -45,7 +49,12 @@ impl<E: Executor<Mem = PartitionMem>> Members<E> {
         moment: Moment,
         output: &mut Output<'_, S>,
     )
-        ensures { IsMade (done_in (meaning.moves_and_ticks (plan_of plan.now) moment.at (members_in E.Executor self.old))) (members_in E.Executor self.new) (sent_of S.Sink output.old) (sent_of S.Sink output.new) }
+        ensures { IsMade
+            (done_in
+            (meaning.moves_and_ticks (plan_of plan.now) moment.at
+            (members_in E.Executor self.old)))
+            (members_in E.Executor self.new) (sent_of S.Sink output.old)
+            (sent_of S.Sink output.new) }
     {
         let channels = plan.channels.as_slice();
         let ended = plan.schedule.ended(moment);
@@ -64,7 +73,11 @@ impl<E: Executor<Mem = PartitionMem>> Members<E> {
         output: &mut Output<'_, S>,
     ) -> Option<Moment>
         requires { meaning.of_tick moment.at.now.0 lines.now ≡ lines.now }
-        ensures { IsCourse (meaning.module_tick (plan_of plan.now) moment.at lines.now (members_in E.Executor self.old)) (next_at result) (members_in E.Executor self.new) (sent_of S.Sink output.old) (sent_of S.Sink output.new) }
+        ensures { IsCourse
+            (meaning.module_tick (plan_of plan.now) moment.at lines.now
+            (members_in E.Executor self.old))
+            (next_at result) (members_in E.Executor self.new) (sent_of S.Sink output.old)
+            (sent_of S.Sink output.new) }
     {
         let last = self.input_all(plan, moment, lines, output)?;
         self.move_and_tick(plan, last, output);
@@ -74,7 +87,9 @@ impl<E: Executor<Mem = PartitionMem>> Members<E> {
     /// Before the first tick each partition starts.
     #[tactic(auto, using(crate::proofs::Written::nothing))]
     pub fn begin<S: Sink>(&mut self, moment: Moment, output: &mut Output<'_, S>)
-        ensures { IsMade (begins moment.at.now.0 (members_in E.Executor self.old)) (members_in E.Executor self.new) (sent_of S.Sink output.old) (sent_of S.Sink output.new) }
+        ensures { IsMade (begins moment.at.now.0 (members_in E.Executor self.old))
+            (members_in E.Executor self.new) (sent_of S.Sink output.old)
+            (sent_of S.Sink output.new) }
     {
         if moment.at.now.0 == 0 {
             self.start_all(FIRST, StartCondition::NormalStart, output);
@@ -91,7 +106,11 @@ impl<E: Executor<Mem = PartitionMem>> Members<E> {
         output: &mut Output<'_, S>,
     ) -> Option<Moment>
         requires { meaning.of_tick moment.at.now.0 lines.now ≡ lines.now }
-        ensures { IsCourse (begins_and_ticks (plan_of plan.now) moment.at lines.now (members_in E.Executor self.old)) (next_at result) (members_in E.Executor self.new) (sent_of S.Sink output.old) (sent_of S.Sink output.new) }
+        ensures { IsCourse
+            (begins_and_ticks (plan_of plan.now) moment.at lines.now
+            (members_in E.Executor self.old))
+            (next_at result) (members_in E.Executor self.new) (sent_of S.Sink output.old)
+            (sent_of S.Sink output.new) }
     {
         self.begin(moment, output);
         self.tick(plan, moment, lines, output)

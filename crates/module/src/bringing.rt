@@ -24,7 +24,8 @@ fn bring_to(
     watched: PartitionId,
     inputs: &mut Collected,
 ) -> Result<(), InputsFault>
-    ensures { AreCollected now.0 (brought_to watched.0 message.now (end ∷ [])) inputs.old.lines.items inputs.new.lines.items result }
+    ensures { AreCollected now.0 (brought_to watched.0 message.now (end ∷ []))
+        inputs.old.lines.items inputs.new.lines.items result }
 {
     let ChannelEnd::Port(partition, port) = end else {
         return Ok(());
@@ -43,7 +44,8 @@ fn bring_to_all(
     watched: PartitionId,
     inputs: &mut Collected,
 ) -> Result<(), InputsFault>
-    ensures { AreCollected now.0 (brought_to watched.0 message.now ends.now) inputs.old.lines.items inputs.new.lines.items result }
+    ensures { AreCollected now.0 (brought_to watched.0 message.now ends.now)
+        inputs.old.lines.items inputs.new.lines.items result }
 {
     for end in ends {
         bring_to(*end, message, now, watched, inputs)?;
@@ -60,7 +62,9 @@ pub fn bring_by(
     watched: PartitionId,
     inputs: &mut Collected,
 ) -> Result<(), InputsFault>
-    ensures { AreCollected now.0 (brought_by watched.0 message.now (option_map (λ c. channel_of c.now) channel.entry)) inputs.old.lines.items inputs.new.lines.items result }
+    ensures { AreCollected now.0
+        (brought_by watched.0 message.now (option_map (λ c. channel_of c.now) channel.entry))
+        inputs.old.lines.items inputs.new.lines.items result }
 {
     match channel {
         Some(channel) => {
@@ -80,7 +84,8 @@ fn bring_in(
     watched: PartitionId,
     inputs: &mut Collected,
 ) -> Result<(), InputsFault>
-    ensures { AreCollected now.0 (brought_in (plan_of plan.now) watched.0 input.now) inputs.old.lines.items inputs.new.lines.items result }
+    ensures { AreCollected now.0 (brought_in (plan_of plan.now) watched.0 input.now)
+        inputs.old.lines.items inputs.new.lines.items result }
 {
     match input {
         DeviceInput::Message(channel, message) => {
@@ -126,7 +131,8 @@ pub fn bring_in_all(
     watched: PartitionId,
     inputs: &mut Collected,
 ) -> Result<(), InputsFault>
-    ensures { AreCollected now.0 (brought_in_all (plan_of plan.now) watched.0 lines.now) inputs.old.lines.items inputs.new.lines.items result }
+    ensures { AreCollected now.0 (brought_in_all (plan_of plan.now) watched.0 lines.now)
+        inputs.old.lines.items inputs.new.lines.items result }
 {
     for line in lines {
         bring_in(plan, &line.input, now, watched, inputs)?;

@@ -33,8 +33,10 @@ use window_table::{ModuleTable, PartitionRow, TableFault, read_table};
 /// with its line, of the first partition whose source is refused; and the first partition whose program
 /// would have more than 65,536 instructions.
 pub fn build(alloc: Global, table: &[u8], sources: &[&[u8]]) -> Result<Vec<u8>, BuildFault>
-    ensures image { IfOk result (λ bytes. IsImageOf table.now (map (λ s. s.now) sources.now) bytes.items) }
-    ensures refused { IfErr result (λ fault. IsRefusal table.now (map (λ s. s.now) sources.now) fault) }
+    ensures image { IfOk result
+        (λ bytes. IsImageOf table.now (map (λ s. s.now) sources.now) bytes.items) }
+    ensures refused { IfErr result
+        (λ fault. IsRefusal table.now (map (λ s. s.now) sources.now) fault) }
 {
     let table = read(alloc, table)?;
     build_table(alloc, table, sources)
@@ -55,8 +57,10 @@ pub fn read(alloc: Global, text: &[u8]) -> Result<ModuleTable, BuildFault>
 /// The bytes of the image of an accepted table and its sources.
 fn build_table(alloc: Global, table: ModuleTable, sources: &[&[u8]]) -> Result<Vec<u8>, BuildFault>
     requires { IsJudged (table_of table) }
-    ensures built { IfOk result (λ bytes. IsBuiltFrom (table_of table) (map (λ s. s.now) sources.now) bytes.items) }
-    ensures refused { IfErr result (λ fault. IsRefusedWith (table_of table) (map (λ s. s.now) sources.now) fault) }
+    ensures built { IfOk result
+        (λ bytes. IsBuiltFrom (table_of table) (map (λ s. s.now) sources.now) bytes.items) }
+    ensures refused { IfErr result
+        (λ fault. IsRefusedWith (table_of table) (map (λ s. s.now) sources.now) fault) }
 {
     if sources.len() != table.partitions.len() {
         return Err(BuildFault::Sources);
@@ -75,7 +79,8 @@ fn build_accepted(
     requires count { length sources.now ≡ length table.partitions.items }
     requires lawful { BecomesLawful (table_of table) (programs_of sources.now) }
     requires short { list_any is_too_long (programs_of sources.now) ≡ false }
-    ensures spelled { IfOk result (λ bytes. bytes.items ≡ spelling (built_image (table_of table) (programs_of sources.now))) }
+    ensures spelled { IfOk result
+        (λ bytes. bytes.items ≡ spelling (built_image (table_of table) (programs_of sources.now))) }
     ensures coded { IfOk result (λ bytes. AreCoded (programs_of sources.now)) }
 {
     let image = build_image(alloc, table, sources)?;
@@ -90,7 +95,8 @@ fn build_image(alloc: Global, table: ModuleTable, sources: &[Checked]) -> Result
     requires count { length sources.now ≡ length table.partitions.items }
     requires lawful { BecomesLawful (table_of table) (programs_of sources.now) }
     requires short { list_any is_too_long (programs_of sources.now) ≡ false }
-    ensures image { IfOk result (λ image. image_of image ≡ built_image (table_of table) (programs_of sources.now)) }
+    ensures image { IfOk result
+        (λ image. image_of image ≡ built_image (table_of table) (programs_of sources.now)) }
     ensures coded { IfOk result (λ image. AreCoded (programs_of sources.now)) }
 {
     let ModuleTable {
@@ -116,7 +122,9 @@ fn build_items(
 ) -> Result<Vec<PartitionItem>, AllocError>
     requires count { length sources.now ≡ length rows.items }
     requires short { list_any is_too_long (programs_of sources.now) ≡ false }
-    ensures items { IfOk result (λ items. items_of items.items ≡ built_items (map partition_of rows.items) (programs_of sources.now)) }
+    ensures items { IfOk result
+        (λ items. items_of items.items
+        ≡ built_items (map partition_of rows.items) (programs_of sources.now)) }
     ensures coded { IfOk result (λ items. AreCoded (programs_of sources.now)) }
 {
     let mut items = Vec::with_capacity(alloc, sources.len())?;
@@ -136,7 +144,8 @@ fn build_item(
     source: &Checked,
 ) -> Result<PartitionItem, AllocError>
     requires { is_too_long (program_of source.now.program) ≡ false }
-    ensures item { IfOk result (λ item. item_of item ≡ built_item (partition_of row) (program_of source.now.program)) }
+    ensures item { IfOk result
+        (λ item. item_of item ≡ built_item (partition_of row) (program_of source.now.program)) }
     ensures coded { IfOk result (λ item. IsCoded (program_of source.now.program)) }
 {
     let section = compiled(alloc, source)?;
@@ -147,7 +156,8 @@ fn build_item(
 #[tactic(auto, using(crate::proofs::Built::coded_section, crate::proofs::Built::short_enough))]
 fn compiled(alloc: Global, source: &Checked) -> Result<Section, AllocError>
     requires { is_too_long (program_of source.now.program) ≡ false }
-    ensures section { IfOk result (λ section. section_of section ≡ code_of.section_of (program_of source.now.program)) }
+    ensures section { IfOk result
+        (λ section. section_of section ≡ code_of.section_of (program_of source.now.program)) }
     ensures coded { IfOk result (λ section. IsCoded (program_of source.now.program)) }
 {
     match compile(alloc, source) {

@@ -32,8 +32,10 @@ pub fn costs(
     table: &[u8],
     sources: &[&[u8]],
 ) -> Result<Vec<PartitionCosts>, BuildFault>
-    ensures costs { IfOk result (λ costs. AreCosts table.now (map (λ s. s.now) sources.now) costs.items) }
-    ensures refused { IfErr result (λ fault. IsCostRefusal table.now (map (λ s. s.now) sources.now) fault) }
+    ensures costs { IfOk result
+        (λ costs. AreCosts table.now (map (λ s. s.now) sources.now) costs.items) }
+    ensures refused { IfErr result
+        (λ fault. IsCostRefusal table.now (map (λ s. s.now) sources.now) fault) }
 {
     let table = read(alloc, table)?;
     costs_with(alloc, &table, sources)
@@ -45,8 +47,11 @@ fn costs_with(
     table: &ModuleTable,
     sources: &[&[u8]],
 ) -> Result<Vec<PartitionCosts>, BuildFault>
-    ensures costs { IfOk result (λ costs. AreCosted (table_of table.now).partitions (map (λ s. s.now) sources.now) costs.items) }
-    ensures refused { IfErr result (λ fault. IsCostRefusedWith (table_of table.now) (map (λ s. s.now) sources.now) fault) }
+    ensures costs { IfOk result
+        (λ costs.
+        AreCosted (table_of table.now).partitions (map (λ s. s.now) sources.now) costs.items) }
+    ensures refused { IfErr result
+        (λ fault. IsCostRefusedWith (table_of table.now) (map (λ s. s.now) sources.now) fault) }
 {
     if sources.len() != table.partitions.len() {
         return Err(BuildFault::Sources);
@@ -63,7 +68,8 @@ fn costs_of_sources(
     sources: Vec<Checked>,
 ) -> Result<Vec<PartitionCosts>, AllocError>
     requires { length sources.items ≡ length rows.now }
-    ensures { IfOk result (λ costs. AreCostsOf (map partition_of rows.now) sources.items costs.items) }
+    ensures { IfOk result
+        (λ costs. AreCostsOf (map partition_of rows.now) sources.items costs.items) }
 {
     let mut costs = Vec::with_capacity(alloc, rows.len())?;
     let mut place = 0usize;

@@ -11,7 +11,7 @@ ghost use Rattle.module.specs.Written.{IsMade};
 
 use crate::member::Members;
 use apex_types::{ChannelEnd, Moment, PartitionId, PortId, Sink, Words, copied};
-use lone_partition::{Output, Step, channel_from};
+use lone_partition::{Output, PartitionStep, channel_from};
 use partition::Kernel;
 use partition_base::Executor;
 use regions::PartitionMem;
@@ -28,15 +28,19 @@ impl<E: Executor<Mem = PartitionMem>> Members<E> {
         end: ChannelEnd,
         output: &mut Output<'_, S>,
     )
-        ensures { IsMade (meaning.delivers moment.at (channel_of channel.now) message.now channel.now.source end (members_in E.Executor self.old)) (members_in E.Executor self.new) (sent_of S.Sink output.old) (sent_of S.Sink output.new) }
+        ensures { IsMade
+            (meaning.delivers moment.at (channel_of channel.now) message.now channel.now.source end
+            (members_in E.Executor self.old))
+            (members_in E.Executor self.new) (sent_of S.Sink output.old)
+            (sent_of S.Sink output.new) }
     {
         match (end, channel.source) {
             (ChannelEnd::Port(partition, port), _) => {
-                let step = Step::Arrive(port, copied(message));
+                let step = PartitionStep::Arrive(port, copied(message));
                 self.step(partition, moment, &step, output);
             }
             (ChannelEnd::Device, ChannelEnd::Port(partition, _)) => {
-                let step = Step::GoOut(channel.name, copied(message));
+                let step = PartitionStep::GoOut(channel.name, copied(message));
                 self.step(partition, moment, &step, output);
             }
             (ChannelEnd::Device, ChannelEnd::Device) => {}
@@ -53,7 +57,11 @@ impl<E: Executor<Mem = PartitionMem>> Members<E> {
         ends: &[ChannelEnd],
         output: &mut Output<'_, S>,
     )
-        ensures { IsMade (meaning.delivers_all moment.at (channel_of channel.now) message.now ends.now (members_in E.Executor self.old)) (members_in E.Executor self.new) (sent_of S.Sink output.old) (sent_of S.Sink output.new) }
+        ensures { IsMade
+            (meaning.delivers_all moment.at (channel_of channel.now) message.now ends.now
+            (members_in E.Executor self.old))
+            (members_in E.Executor self.new) (sent_of S.Sink output.old)
+            (sent_of S.Sink output.new) }
     {
         for end in ends {
             self.deliver(moment, channel, message, *end, output);
@@ -70,7 +78,11 @@ impl<E: Executor<Mem = PartitionMem>> Members<E> {
         channel: Option<&ChannelRow>,
         output: &mut Output<'_, S>,
     )
-        ensures { IsMade (meaning.goes_by moment.at message.now (option_map (λ c. channel_of c.now) channel.entry) (members_in E.Executor self.old)) (members_in E.Executor self.new) (sent_of S.Sink output.old) (sent_of S.Sink output.new) }
+        ensures { IsMade
+            (meaning.goes_by moment.at message.now
+            (option_map (λ c. channel_of c.now) channel.entry) (members_in E.Executor self.old))
+            (members_in E.Executor self.new) (sent_of S.Sink output.old)
+            (sent_of S.Sink output.new) }
     {
         if let Some(channel) = channel {
             let ends = channel.destinations.as_slice();
@@ -87,7 +99,11 @@ impl<E: Executor<Mem = PartitionMem>> Members<E> {
         port: PortId,
         output: &mut Output<'_, S>,
     )
-        ensures { IsMade (meaning.moves_message (channels_of channels.now) moment.at partition port (members_in E.Executor self.old)) (members_in E.Executor self.new) (sent_of S.Sink output.old) (sent_of S.Sink output.new) }
+        ensures { IsMade
+            (meaning.moves_message (channels_of channels.now) moment.at partition port
+            (members_in E.Executor self.old))
+            (members_in E.Executor self.new) (sent_of S.Sink output.old)
+            (sent_of S.Sink output.new) }
     {
         if let Some(message) = self.leave(partition, moment, port, output) {
             let channel = channel_from(channels, partition, port);
@@ -106,7 +122,11 @@ impl<E: Executor<Mem = PartitionMem>> Members<E> {
         port: PortId,
         output: &mut Output<'_, S>,
     )
-        ensures { IsMade (meaning.moves_messages count (channels_of channels.now) moment.at partition port (members_in E.Executor self.old)) (members_in E.Executor self.new) (sent_of S.Sink output.old) (sent_of S.Sink output.new) }
+        ensures { IsMade
+            (meaning.moves_messages count (channels_of channels.now) moment.at partition port
+            (members_in E.Executor self.old))
+            (members_in E.Executor self.new) (sent_of S.Sink output.old)
+            (sent_of S.Sink output.new) }
     {
         for _ in 0..count {
             self.move_message(channels, moment, partition, port, output);
@@ -115,7 +135,8 @@ impl<E: Executor<Mem = PartitionMem>> Members<E> {
 
     /// The kernel of the partition at a place among them, if there is one.
     fn kernel_at(&self, place: usize) -> Option<&Kernel>
-        ensures { option_map (λ k. k.now) result ≡ option_map (λ x. x.world.kernel) (slice_get (members_in E.Executor self.now) place) }
+        ensures { option_map (λ k. k.now) result
+            ≡ option_map (λ x. x.world.kernel) (slice_get (members_in E.Executor self.now) place) }
     {
         if place >= self.partitions.len() {
             return None;
@@ -125,7 +146,9 @@ impl<E: Executor<Mem = PartitionMem>> Members<E> {
 
     /// The kernel of the partition with a number, if there is one.
     pub fn kernel(&self, number: PartitionId) -> Option<&Kernel>
-        ensures { option_map (λ k. k.now) result ≡ option_map (λ x. x.world.kernel) (at_number (members_in E.Executor self.now) number.0) }
+        ensures { option_map (λ k. k.now) result
+            ≡ option_map (λ x. x.world.kernel)
+            (at_number (members_in E.Executor self.now) number.0) }
     {
         let place = number.place()?;
         self.kernel_at(usize::from(place))
@@ -134,7 +157,9 @@ impl<E: Executor<Mem = PartitionMem>> Members<E> {
     /// How many messages a source port holds; none where there is no such source port.
     #[tactic(auto, using(crate::proofs::Members::seen))]
     pub fn messages_to_move(&self, partition: PartitionId, port: PortId) -> Option<u8>
-        ensures { result ≡ messages_to_move (at_number (meaning.ports_from (members_in E.Executor self.now) partition.0) port.0) }
+        ensures { result
+            ≡ messages_to_move
+            (at_number (meaning.ports_from (members_in E.Executor self.now) partition.0) port.0) }
     {
         let kernel = self.kernel(partition)?;
         match kernel.is_source(port) {
@@ -154,13 +179,17 @@ impl<E: Executor<Mem = PartitionMem>> Members<E> {
         port: PortId,
         output: &mut Output<'_, S>,
     )
-        ensures { IsMade (meaning.moves_port (channels_of channels.now) moment.at partition port (members_in E.Executor self.old)) (members_in E.Executor self.new) (sent_of S.Sink output.old) (sent_of S.Sink output.new) }
+        ensures { IsMade
+            (meaning.moves_port (channels_of channels.now) moment.at partition port
+            (members_in E.Executor self.old))
+            (members_in E.Executor self.new) (sent_of S.Sink output.old)
+            (sent_of S.Sink output.new) }
     {
         let Some(count) = self.messages_to_move(partition, port) else {
             return;
         };
         self.move_messages(count, channels, moment, partition, port, output);
-        self.step(partition, moment, &Step::Admit(port), output);
+        self.step(partition, moment, &PartitionStep::Admit(port), output);
     }
 
     /// So many ports of a partition, in number order.
@@ -173,7 +202,11 @@ impl<E: Executor<Mem = PartitionMem>> Members<E> {
         partition: PartitionId,
         output: &mut Output<'_, S>,
     )
-        ensures { IsMade (meaning.moves_ports count 1 (channels_of channels.now) moment.at partition (members_in E.Executor self.old)) (members_in E.Executor self.new) (sent_of S.Sink output.old) (sent_of S.Sink output.new) }
+        ensures { IsMade
+            (meaning.moves_ports count 1 (channels_of channels.now) moment.at partition
+            (members_in E.Executor self.old))
+            (members_in E.Executor self.new) (sent_of S.Sink output.old)
+            (sent_of S.Sink output.new) }
     {
         for place in 0..count {
             let port = PortId(place + 1);
@@ -184,7 +217,8 @@ impl<E: Executor<Mem = PartitionMem>> Members<E> {
     /// How many ports a partition has; none where there is no such partition.
     #[tactic(auto, using(crate::proofs::Members::seen))]
     pub fn port_count(&self, partition: PartitionId) -> u8
-        ensures { result ≡ length (meaning.ports_from (members_in E.Executor self.now) partition.0) }
+        ensures { result
+            ≡ length (meaning.ports_from (members_in E.Executor self.now) partition.0) }
     {
         match self.kernel(partition) {
             Some(kernel) => kernel.port_count(),
@@ -201,7 +235,11 @@ impl<E: Executor<Mem = PartitionMem>> Members<E> {
         ended: Option<PartitionId>,
         output: &mut Output<'_, S>,
     )
-        ensures { IsMade (meaning.moves_ended (channels_of channels.now) moment.at (members_in E.Executor self.old) (option_map (λ p. p.0) ended)) (members_in E.Executor self.new) (sent_of S.Sink output.old) (sent_of S.Sink output.new) }
+        ensures { IsMade
+            (meaning.moves_ended (channels_of channels.now) moment.at
+            (members_in E.Executor self.old) (option_map (λ p. p.0) ended))
+            (members_in E.Executor self.new) (sent_of S.Sink output.old)
+            (sent_of S.Sink output.new) }
     {
         let Some(partition) = ended else {
             return;

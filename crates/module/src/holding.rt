@@ -23,7 +23,9 @@ impl<E: Executor<Mem = PartitionMem>> Members<E> {
     /// A copy of the message of a port that has so many before it, if there is one.
     #[tactic(auto, using(crate::proofs::Members::seen))]
     fn message_behind(&self, from: PartitionId, port: PortId, before: u8) -> Option<Words>
-        ensures { result ≡ message_behind before (at_number (meaning.ports_from (members_in E.Executor self.now) from.0) port.0) }
+        ensures { result
+            ≡ message_behind before
+            (at_number (meaning.ports_from (members_in E.Executor self.now) from.0) port.0) }
     {
         let kernel = self.kernel(from)?;
         kernel.message_behind(port, before)
@@ -41,7 +43,11 @@ impl<E: Executor<Mem = PartitionMem>> Members<E> {
         watched: PartitionId,
         inputs: &mut Collected,
     ) -> Result<(), InputsFault>
-        ensures { AreCollected now.0 (brought_found watched.0 (option_map (λ c. channel_of c.now) channel.entry) (message_behind before (at_number (meaning.ports_from (members_in E.Executor self.now) from.0) port.0))) inputs.old.lines.items inputs.new.lines.items result }
+        ensures { AreCollected now.0
+            (brought_found watched.0 (option_map (λ c. channel_of c.now) channel.entry)
+            (message_behind before
+            (at_number (meaning.ports_from (members_in E.Executor self.now) from.0) port.0)))
+            inputs.old.lines.items inputs.new.lines.items result }
     {
         match self.message_behind(from, port, before) {
             Some(message) => bring_by(channel, &message, now, watched, inputs),
@@ -59,7 +65,10 @@ impl<E: Executor<Mem = PartitionMem>> Members<E> {
         watched: PartitionId,
         inputs: &mut Collected,
     ) -> Result<(), InputsFault>
-        ensures { AreCollected now.0 (held_found (channels_of channels.now) watched.0 from port.0 (at_number (meaning.ports_from (members_in E.Executor self.now) from.0) port.0)) inputs.old.lines.items inputs.new.lines.items result }
+        ensures { AreCollected now.0
+            (held_found (channels_of channels.now) watched.0 from port.0
+            (at_number (meaning.ports_from (members_in E.Executor self.now) from.0) port.0))
+            inputs.old.lines.items inputs.new.lines.items result }
     {
         let Some(count) = self.messages_to_move(from, port) else {
             return Ok(());
@@ -82,7 +91,10 @@ impl<E: Executor<Mem = PartitionMem>> Members<E> {
         inputs: &mut Collected,
     ) -> Result<(), InputsFault>
         requires { count ≡ length (meaning.ports_from (members_in E.Executor self.now) from.0) }
-        ensures { AreCollected now.0 (held_ports (channels_of channels.now) watched.0 from 1 (meaning.ports_from (members_in E.Executor self.now) from.0)) inputs.old.lines.items inputs.new.lines.items result }
+        ensures { AreCollected now.0
+            (held_ports (channels_of channels.now) watched.0 from 1
+            (meaning.ports_from (members_in E.Executor self.now) from.0))
+            inputs.old.lines.items inputs.new.lines.items result }
     {
         for place in 0..count {
             let port = PortId(place + 1);
@@ -101,7 +113,10 @@ impl<E: Executor<Mem = PartitionMem>> Members<E> {
         watched: PartitionId,
         inputs: &mut Collected,
     ) -> Result<(), InputsFault>
-        ensures { AreCollected now.0 (held_ended (channels_of channels.now) watched.0 (members_in E.Executor self.now) (option_map (λ p. p.0) ended)) inputs.old.lines.items inputs.new.lines.items result }
+        ensures { AreCollected now.0
+            (held_ended (channels_of channels.now) watched.0 (members_in E.Executor self.now)
+            (option_map (λ p. p.0) ended))
+            inputs.old.lines.items inputs.new.lines.items result }
     {
         let Some(from) = ended else {
             return Ok(());

@@ -9,7 +9,7 @@ ghost use Rattle.module.specs.Written.{IsCourse};
 use crate::member::Members;
 use apex_types::{DeviceInput, DeviceLine, Moment, Sink};
 use image::Image;
-use lone_partition::{Output, Step};
+use lone_partition::{Output, PartitionStep};
 use partition_base::Executor;
 use regions::PartitionMem;
 
@@ -23,7 +23,10 @@ impl<E: Executor<Mem = PartitionMem>> Members<E> {
         input: &DeviceInput,
         output: &mut Output<'_, S>,
     ) -> Option<Moment>
-        ensures { IsCourse (meaning.inputs (plan_of plan.now) moment.at input.now (members_in E.Executor self.old)) (next_at result) (members_in E.Executor self.new) (sent_of S.Sink output.old) (sent_of S.Sink output.new) }
+        ensures { IsCourse
+            (meaning.inputs (plan_of plan.now) moment.at input.now (members_in E.Executor self.old))
+            (next_at result) (members_in E.Executor self.new) (sent_of S.Sink output.old)
+            (sent_of S.Sink output.new) }
     {
         match input {
             DeviceInput::Message(channel, message) => {
@@ -32,7 +35,7 @@ impl<E: Executor<Mem = PartitionMem>> Members<E> {
                 Some(moment)
             }
             DeviceInput::PartitionFault(partition) => {
-                self.step(*partition, moment, &Step::BreakDown, output);
+                self.step(*partition, moment, &PartitionStep::BreakDown, output);
                 Some(moment)
             }
             DeviceInput::ModuleFault => self.break_module(moment, plan.fault, output),
@@ -48,7 +51,11 @@ impl<E: Executor<Mem = PartitionMem>> Members<E> {
         lines: &[DeviceLine],
         output: &mut Output<'_, S>,
     ) -> Option<Moment>
-        ensures { IsCourse (meaning.inputs_all (plan_of plan.now) moment.at lines.now (members_in E.Executor self.old)) (next_at result) (members_in E.Executor self.new) (sent_of S.Sink output.old) (sent_of S.Sink output.new) }
+        ensures { IsCourse
+            (meaning.inputs_all (plan_of plan.now) moment.at lines.now
+            (members_in E.Executor self.old))
+            (next_at result) (members_in E.Executor self.new) (sent_of S.Sink output.old)
+            (sent_of S.Sink output.new) }
     {
         let mut last = moment;
         for line in lines {

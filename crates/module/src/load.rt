@@ -5,7 +5,7 @@ ghost use Rattle.apex_types.specs.declared.limits.TheConstants.{MOST_PARTITIONS}
 ghost use Rattle.machine_meaning.specs.MachineMeaning.{machine_members, machine_module};
 ghost use Rattle.image.specs.Items.{items_of};
 ghost use Rattle.image.specs.Views.{image_of};
-ghost use Rattle.partition_base.specs.contracts.machine.MachineExecutor.TheImpl.{ghosts as machine};
+ghost use Rattle.partition_base.specs.contracts.machine.PartitionProcessorExecutor.TheImpl.{ghosts as machine};
 ghost use Rattle.lone_partition.specs.Loading.{AreFittingItems, fresh_item};
 ghost use Rattle.module.specs.Members.{members_of, AreFitting};
 ghost use Rattle.module.specs.Standing.{at_first};
@@ -17,16 +17,18 @@ use apex_types::{PartitionId, Ticks};
 use image::{Image, PartitionItem};
 use lone_partition::{fixed, load_partition};
 use partition::Partition;
-use partition_base::{Machine, memory_plan};
+use partition_base::{PartitionProcessor, memory_plan};
 use regions::Memory;
 use std::alloc::{AllocError, Global};
 use window_table::Schedule;
 
-impl Module<Machine> {
+impl Module<PartitionProcessor> {
     /// The partitions of an image, idle, with nothing created. An error is one of memory.
     #[tactic(auto, using(lone_partition::proofs::Lawful::fitting_items))]
-    pub fn load(alloc: Global, image: Image) -> Result<Module<Machine>, AllocError>
-        ensures standing { IfOk result (λ loaded. standing_of machine loaded ≡ at_first (machine_module (image_of image)).members) }
+    pub fn load(alloc: Global, image: Image) -> Result<Module<PartitionProcessor>, AllocError>
+        ensures standing { IfOk result
+            (λ loaded.
+            standing_of machine loaded ≡ at_first (machine_module (image_of image)).members) }
         ensures image { IfOk result (λ loaded. loaded.image ≡ image) }
     {
         let items = image.partitions.as_slice();
@@ -57,11 +59,14 @@ fn load_partitions(
     alloc: Global,
     schedule: &Schedule,
     items: &[PartitionItem],
-) -> Result<Vec<Partition<Machine>>, AllocError>
+) -> Result<Vec<Partition<PartitionProcessor>>, AllocError>
     requires fit { AreFittingItems items.now }
     requires few { length items.now ≤ MOST_PARTITIONS }
-    ensures members { IfOk result (λ partitions. members_of machine partitions.items (map fresh_item items.now) ≡ machine_members (schedule_of schedule.now) 1 (items_of items.now)) }
-    ensures fit { IfOk result (λ partitions. AreFitting machine partitions.items (map fresh_item items.now)) }
+    ensures members { IfOk result
+        (λ partitions. members_of machine partitions.items (map fresh_item items.now)
+        ≡ machine_members (schedule_of schedule.now) 1 (items_of items.now)) }
+    ensures fit { IfOk result
+        (λ partitions. AreFitting machine partitions.items (map fresh_item items.now)) }
     ensures few { IfOk result (λ partitions. length partitions.items ≤ MOST_PARTITIONS) }
 {
     let mut partitions = Vec::with_capacity(alloc, items.len())?;

@@ -23,6 +23,7 @@ use apex_types::{DeviceLine, Sink, TraceBuffer};
 use image::Image;
 use lone_partition::Output;
 use module_base::{DeviceTextFault, read_devices};
+use partition_base::PartitionProcessor;
 use std::alloc::Global;
 
 /// An image that runs tick by tick.
@@ -31,7 +32,7 @@ use std::alloc::Global;
 /// lines of that tick. So many ticks write what [`run`](crate::run) writes.
 #[derive(Drop)]
 pub struct Machine {
-    module: Module<partition_base::Machine>,
+    module: Module<PartitionProcessor>,
     /// The lines of a step on their way to the sink.
     trace: TraceBuffer,
     /// The sink failed.
@@ -62,9 +63,11 @@ impl Machine {
     /// [`RunFault::Device`] with the lowest rule that the first wrong line breaks; or want of memory.
     #[tactic(auto, using(crate::proofs::Devices::read_in_order))]
     pub fn devices(&self, alloc: Global, text: &[u8]) -> Result<Vec<DeviceLine>, RunFault>
-        ensures taken { IfOk result (λ lines. verdict_for (machine_of self.now).image text.now ≡ Ok lines.items) }
+        ensures taken { IfOk result
+            (λ lines. verdict_for (machine_of self.now).image text.now ≡ Ok lines.items) }
         ensures order { IfOk result (λ lines. AreFrom 0 lines.items) }
-        ensures refused { IfErr result (λ fault. AreRefused (verdict_for (machine_of self.now).image text.now) fault) }
+        ensures refused { IfErr result
+            (λ fault. AreRefused (verdict_for (machine_of self.now).image text.now) fault) }
     {
         match read_devices(alloc, &self.module.image, text) {
             Ok(lines) => Ok(lines),
@@ -106,7 +109,9 @@ impl Machine {
         requires order { AreFrom (machine_of self.old).standing.now lines.now }
         requires failures { S.failures sink.old < 2 ^ 64 - 1 }
         ensures order { OnOk result (AreFrom (machine_of self.new).standing.now lines.now) }
-        ensures run { HasRunOn lines.now most (machine_of self.old) (machine_of self.new) (S.taken sink.old) (S.taken sink.new) (S.failures sink.old) (S.failures sink.new) result }
+        ensures run { HasRunOn lines.now most (machine_of self.old) (machine_of self.new)
+            (S.taken sink.old) (S.taken sink.new) (S.failures sink.old) (S.failures sink.new)
+            result }
     {
         let mut output = Output::new(&mut self.trace, sink);
         let count = self.module.advance(lines, most, &mut output);
@@ -129,7 +134,8 @@ impl Machine {
     pub fn tick<S: Sink>(&mut self, lines: &[DeviceLine], sink: &mut S) -> Result<(), RunFault>
         requires lines { of_tick (machine_of self.old).standing.now lines.now ≡ lines.now }
         requires failures { S.failures sink.old < 2 ^ 64 - 1 }
-        ensures { HasTicked lines.now (machine_of self.old) (machine_of self.new) (S.taken sink.old) (S.taken sink.new) (S.failures sink.old) (S.failures sink.new) result }
+        ensures { HasTicked lines.now (machine_of self.old) (machine_of self.new) (S.taken sink.old)
+            (S.taken sink.new) (S.failures sink.old) (S.failures sink.new) result }
     {
         if self.has_failed {
             return Err(RunFault::Failed);
@@ -153,14 +159,22 @@ impl Machine {
 /// beginning of it where the sink fails. No call is refused but for that.
 #[tactic(auto, using(crate::proofs::Machines::calls_write_the_trace, crate::proofs::Machines::ticks_are_the_trace))]
 pub fn ticks_make_the_trace()
-    ensures written { (image : meant.Image) (lines : List DeviceLine) (n : ℕ) (last : machines.Machine) (old new : Option (List ℕ)) (before now : ℕ) (answer : Result (Unit {0}) RunFault) → n ≤ MOST_TICKS
-        → HaveTicked lines n (fresh_machine image) last old new before now answer → RunsImage (machine_trace image lines n) old new answer }
-    ensures lines { (image : meant.Image) (lines : List DeviceLine) (n : ℕ) → lines_of (machine_module image).plan lines n (fresh_machine image).standing ≡ machine_trace image lines n }
+    ensures written { (image : meant.Image) (lines : List DeviceLine) (n : ℕ)
+        (last : machines.Machine) (old new : Option (List ℕ)) (before now : ℕ)
+        (answer : Result (Unit {0}) RunFault)
+        → n ≤ MOST_TICKS → HaveTicked lines n (fresh_machine image) last old new before now answer
+        → RunsImage (machine_trace image lines n) old new answer }
+    ensures lines { (image : meant.Image) (lines : List DeviceLine) (n : ℕ)
+        → lines_of (machine_module image).plan lines n (fresh_machine image).standing
+        ≡ machine_trace image lines n }
 {}
 
 /// What such calls write shows of each partition of the image what the partition shows alone, from its
 /// slice of the image and from what these lines of the devices bring it: whatever code the others run.
 pub fn ticks_isolate_the_partitions()
-    ensures { (image : meant.Image) (text : List ℕ) (lines : List DeviceLine) (n : ℕ) (last : machines.Machine) (old new : Option (List ℕ)) (before now : ℕ) → IsLawful image → verdict_for image text ≡ Ok lines → n ≤ MOST_TICKS
-        → HaveTicked lines n (fresh_machine image) last old new before now (Ok tt) → WritesAlone image lines n old new }
+    ensures { (image : meant.Image) (text : List ℕ) (lines : List DeviceLine) (n : ℕ)
+        (last : machines.Machine) (old new : Option (List ℕ)) (before now : ℕ)
+        → IsLawful image → verdict_for image text ≡ Ok lines → n ≤ MOST_TICKS
+        → HaveTicked lines n (fresh_machine image) last old new before now (Ok tt)
+        → WritesAlone image lines n old new }
 {}

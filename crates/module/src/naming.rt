@@ -10,7 +10,8 @@ use image::Image;
 /// The number of the partition of a name, if the image has one.
 #[tactic(auto, using(std::proofs::lemmas::List::drop_more, lone_partition::proofs::Lawful::items_of_image_few), unfolding(module_meaning::specs::DeviceText::first_from))]
 pub fn numbered(image: &Image, name: &str) -> Option<PartitionId>
-    ensures number { option_map (λ p. p.0) result ≡ option_map (λ found. found.0) (numbered (image_of image.now) name.now) }
+    ensures number { option_map (λ p. p.0) result
+        ≡ option_map (λ found. found.0) (numbered (image_of image.now) name.now) }
     ensures there { IfSome result (λ p. 0 < p.0) }
     ensures within { IfSome result (λ p. p.0 ≤ length image.now.partitions.items) }
 {

@@ -23,7 +23,9 @@ impl<E: Executor<Mem = PartitionMem>> Members<E> {
     /// something may.
     fn still_ticks(&self, moment: Moment, most: u32) -> u32
         ensures within { result ≤ most }
-        ensures still { 0 < result → AreStill moment.at.origin.0 moment.at.now.0 (moment.at.now.0 + result) (members_in E.Executor self.now) }
+        ensures still { 0 < result
+            → AreStill moment.at.origin.0 moment.at.now.0 (moment.at.now.0 + result)
+            (members_in E.Executor self.now) }
     {
         let mut least = most;
         let mut place = 0;
@@ -49,8 +51,11 @@ impl<E: Executor<Mem = PartitionMem>> Members<E> {
         output: &mut Output<'_, S>,
     ) -> u32
         requires soon { moment.at.now.0 + most ≤ MOST_TICKS }
-        ensures written { HasMovedWritten moment.at most place (members_in E.Executor self.old) (slice_get (members_in E.Executor self.old) place) (members_in E.Executor self.new) (sent_of S.Sink output.old) (sent_of S.Sink output.new) result }
-        ensures others { (q : ℕ) → q ≢ place → slice_get self.new.memory q ≡ slice_get self.old.memory q }
+        ensures written { HasMovedWritten moment.at most place (members_in E.Executor self.old)
+            (slice_get (members_in E.Executor self.old) place) (members_in E.Executor self.new)
+            (sent_of S.Sink output.old) (sent_of S.Sink output.new) result }
+        ensures others { (q : ℕ) → q ≢ place
+            → slice_get self.new.memory q ≡ slice_get self.old.memory q }
     {
         if place >= self.partitions.len() {
             return 0;
@@ -90,7 +95,12 @@ impl<E: Executor<Mem = PartitionMem>> Module<E> {
     fn skip(&mut self, ticks: u32)
         requires soon { self.old.now.0 + ticks ≤ MOST_TICKS }
         ensures image { self.new.image ≡ self.old.image }
-        ensures standing { standing_of E.Executor self.new ≡ record { members = members_in E.Executor self.old.members; now = self.old.now.0 + ticks; origin = ticks_in self.old.origin } }
+        ensures standing { standing_of E.Executor self.new
+            ≡ record {
+              members = members_in E.Executor self.old.members;
+              now = self.old.now.0 + ticks;
+              origin = ticks_in self.old.origin;
+            } }
         ensures origin { self.new.origin ≡ self.old.origin }
     {
         self.now = Ticks(self.now.0 + u64::from(ticks));
@@ -109,11 +119,20 @@ impl<E: Executor<Mem = PartitionMem>> Module<E> {
         requires origin { self.old.origin ≡ Some moment.at.origin }
         requires begun { 0 < moment.at.now.0 }
         requires soon { moment.at.now.0 + most ≤ MOST_TICKS }
-        requires owner { (i : ℕ) → i < most → owner (plan_of self.old.image).schedule (tick_from moment.at.origin.0 (moment.at.now.0 + i)) ≡ Some (suc place) }
-        requires ended { (i : ℕ) → i < most → ended (plan_of self.old.image).schedule (tick_from moment.at.origin.0 (moment.at.now.0 + i)) ≡ None }
+        requires owner { (i : ℕ) → i < most
+            → owner (plan_of self.old.image).schedule
+            (tick_from moment.at.origin.0 (moment.at.now.0 + i))
+            ≡ Some (suc place) }
+        requires ended { (i : ℕ) → i < most
+            → ended (plan_of self.old.image).schedule
+            (tick_from moment.at.origin.0 (moment.at.now.0 + i))
+            ≡ None }
         ensures image { self.new.image ≡ self.old.image }
         ensures origin { self.new.origin ≡ self.old.origin }
-        ensures run { (lines : List DeviceLine) → AreFrom (moment.at.now.0 + most) lines → HasPassedSome (plan_of self.old.image) lines most (standing_of E.Executor self.old) (standing_of E.Executor self.new) (sent_of S.Sink output.old) (sent_of S.Sink output.new) result }
+        ensures run { (lines : List DeviceLine) → AreFrom (moment.at.now.0 + most) lines
+            → HasPassedSome (plan_of self.old.image) lines most (standing_of E.Executor self.old)
+            (standing_of E.Executor self.new) (sent_of S.Sink output.old)
+            (sent_of S.Sink output.new) result }
     {
         let count = self.members.advance_at(place, moment, most, output);
         self.skip(count);
@@ -133,10 +152,19 @@ impl<E: Executor<Mem = PartitionMem>> Module<E> {
         requires origin { self.old.origin ≡ Some moment.at.origin }
         requires begun { 0 < moment.at.now.0 }
         requires soon { moment.at.now.0 + most ≤ MOST_TICKS }
-        requires owner { (i : ℕ) → i < most → owner (plan_of self.old.image).schedule (tick_from moment.at.origin.0 (moment.at.now.0 + i)) ≡ Some (suc place) }
-        requires ended { (i : ℕ) → i < most → ended (plan_of self.old.image).schedule (tick_from moment.at.origin.0 (moment.at.now.0 + i)) ≡ None }
+        requires owner { (i : ℕ) → i < most
+            → owner (plan_of self.old.image).schedule
+            (tick_from moment.at.origin.0 (moment.at.now.0 + i))
+            ≡ Some (suc place) }
+        requires ended { (i : ℕ) → i < most
+            → ended (plan_of self.old.image).schedule
+            (tick_from moment.at.origin.0 (moment.at.now.0 + i))
+            ≡ None }
         ensures image { self.new.image ≡ self.old.image }
-        ensures run { (lines : List DeviceLine) → AreFrom (moment.at.now.0 + most) lines → HasPassedSome (plan_of self.old.image) lines most (standing_of E.Executor self.old) (standing_of E.Executor self.new) (sent_of S.Sink output.old) (sent_of S.Sink output.new) result }
+        ensures run { (lines : List DeviceLine) → AreFrom (moment.at.now.0 + most) lines
+            → HasPassedSome (plan_of self.old.image) lines most (standing_of E.Executor self.old)
+            (standing_of E.Executor self.new) (sent_of S.Sink output.old)
+            (sent_of S.Sink output.new) result }
     {
         let mut left = most;
         while left > 0 && !output.has_failed() {
@@ -168,7 +196,10 @@ impl<E: Executor<Mem = PartitionMem>> Module<E> {
         requires begun { 0 < moment.at.now.0 }
         requires soon { moment.at.now.0 + most ≤ MOST_TICKS }
         ensures image { self.new.image ≡ self.old.image }
-        ensures run { (lines : List DeviceLine) → AreFrom (moment.at.now.0 + most) lines → HasPassedSome (plan_of self.old.image) lines most (standing_of E.Executor self.old) (standing_of E.Executor self.new) (sent_of S.Sink output.old) (sent_of S.Sink output.new) result }
+        ensures run { (lines : List DeviceLine) → AreFrom (moment.at.now.0 + most) lines
+            → HasPassedSome (plan_of self.old.image) lines most (standing_of E.Executor self.old)
+            (standing_of E.Executor self.new) (sent_of S.Sink output.old)
+            (sent_of S.Sink output.new) result }
     {
         if self.image.schedule.ended(moment).is_some() {
             return 0;
@@ -200,7 +231,9 @@ impl<E: Executor<Mem = PartitionMem>> Module<E> {
         requires order { AreFrom self.old.now.0 lines.now }
         ensures image { self.new.image ≡ self.old.image }
         ensures order { AreFrom self.new.now.0 lines.now }
-        ensures run { HasPassedSome (plan_of self.old.image) lines.now most (standing_of E.Executor self.old) (standing_of E.Executor self.new) (sent_of S.Sink output.old) (sent_of S.Sink output.new) result }
+        ensures run { HasPassedSome (plan_of self.old.image) lines.now most
+            (standing_of E.Executor self.old) (standing_of E.Executor self.new)
+            (sent_of S.Sink output.old) (sent_of S.Sink output.new) result }
     {
         let Some(moment) = self.moment() else {
             return 0;

@@ -40,11 +40,15 @@ pub fn replay<S: Sink>(
     sink: &mut S,
 ) -> Result<(), RunFault>
     requires { S.failures sink.old < 2 ^ 64 - 1 }
-    ensures trace { Replays (image_at image.now) partition.now inputs.now ticks (S.taken sink.old) (S.taken sink.new) result }
-    ensures isolated { OnOk result (ReplaysPart (image_at image.now) partition.now inputs.now ticks (S.taken sink.old) (S.taken sink.new)) }
+    ensures trace { Replays (image_at image.now) partition.now inputs.now ticks (S.taken sink.old)
+        (S.taken sink.new) result }
+    ensures isolated { OnOk result
+        (ReplaysPart (image_at image.now) partition.now inputs.now ticks (S.taken sink.old)
+        (S.taken sink.new)) }
     ensures ok { OnOk result (S.failures sink.new ≡ S.failures sink.old) }
     ensures write { IsErrOf result RunFault.Write → S.failures sink.new ≡ S.failures sink.old + 1 }
-    ensures quiet { IfErr result (λ fault. fault ≢ RunFault.Write → S.failures sink.new ≡ S.failures sink.old) }
+    ensures quiet { IfErr result
+        (λ fault. fault ≢ RunFault.Write → S.failures sink.new ≡ S.failures sink.old) }
 {
     if ticks > MOST_TICKS {
         return Err(RunFault::Ticks);
@@ -69,10 +73,12 @@ fn replay_numbered<S: Sink>(
     requires there { 0 < number.0 }
     requires within { number.0 ≤ length image.now.partitions.items }
     requires failures { S.failures sink.old < 2 ^ 64 - 1 }
-    ensures trace { (s : Slice) → slice (image_of image.now) number.0 ≡ Some s → ReplaysSlice s inputs.now ticks (S.taken sink.old) (S.taken sink.new) result }
+    ensures trace { (s : Slice) → slice (image_of image.now) number.0 ≡ Some s
+        → ReplaysSlice s inputs.now ticks (S.taken sink.old) (S.taken sink.new) result }
     ensures ok { OnOk result (S.failures sink.new ≡ S.failures sink.old) }
     ensures write { IsErrOf result RunFault.Write → S.failures sink.new ≡ S.failures sink.old + 1 }
-    ensures quiet { IfErr result (λ fault. fault ≢ RunFault.Write → S.failures sink.new ≡ S.failures sink.old) }
+    ensures quiet { IfErr result
+        (λ fault. fault ≢ RunFault.Write → S.failures sink.new ≡ S.failures sink.old) }
 {
     let item = &image.partitions[usize::from(number.0) - 1];
     let lines = read_inputs(alloc, &item.row, inputs)?;

@@ -10,7 +10,7 @@ use crate::member::Members;
 use apex_types::{
     At, ErrorKind, EventKind, EventLog, ModuleAction, Moment, Response, Sink, StartCondition,
 };
-use lone_partition::{Output, Step};
+use lone_partition::{Output, PartitionStep};
 use partition_base::Executor;
 use regions::PartitionMem;
 
@@ -22,9 +22,11 @@ impl<E: Executor<Mem = PartitionMem>> Members<E> {
         condition: StartCondition,
         output: &mut Output<'_, S>,
     )
-        ensures { IsMade (meaning.starts_all moment.at condition (members_in E.Executor self.old)) (members_in E.Executor self.new) (sent_of S.Sink output.old) (sent_of S.Sink output.new) }
+        ensures { IsMade (meaning.starts_all moment.at condition (members_in E.Executor self.old))
+            (members_in E.Executor self.new) (sent_of S.Sink output.old)
+            (sent_of S.Sink output.new) }
     {
-        let step = Step::Start(condition);
+        let step = PartitionStep::Start(condition);
         let mut place = 0;
         while place < self.partitions.len() {
             self.step_at(place, moment, &step, output);
@@ -34,7 +36,9 @@ impl<E: Executor<Mem = PartitionMem>> Members<E> {
 
     /// A fault of the module is told. It is no partition's.
     fn tell_fault<S: Sink>(&self, moment: Moment, action: ModuleAction, output: &mut Output<'_, S>)
-        ensures { IsMade (meaning.tells_fault moment.at action (members_in E.Executor self.now)) (members_in E.Executor self.now) (sent_of S.Sink output.old) (sent_of S.Sink output.new) }
+        ensures { IsMade (meaning.tells_fault moment.at action (members_in E.Executor self.now))
+            (members_in E.Executor self.now) (sent_of S.Sink output.old)
+            (sent_of S.Sink output.new) }
     {
         let error = EventKind::Error(ErrorKind::HardwareFault, None, Response::Module(action));
         output.trace.clear();
@@ -46,7 +50,12 @@ impl<E: Executor<Mem = PartitionMem>> Members<E> {
     /// to a cold start. It answers the tick with this origin.
     fn reset<S: Sink>(&mut self, moment: Moment, output: &mut Output<'_, S>) -> Moment
         ensures origin { result.at ≡ meaning.as_origin moment.at }
-        ensures written { IsMade (meaning.then_goes (meaning.tells_fault moment.at ModuleAction.Reset (members_in E.Executor self.old)) (meaning.starts_all (meaning.as_origin moment.at) StartCondition.HmModuleRestart)) (members_in E.Executor self.new) (sent_of S.Sink output.old) (sent_of S.Sink output.new) }
+        ensures written { IsMade
+            (meaning.then_goes
+            (meaning.tells_fault moment.at ModuleAction.Reset (members_in E.Executor self.old))
+            (meaning.starts_all (meaning.as_origin moment.at) StartCondition.HmModuleRestart))
+            (members_in E.Executor self.new) (sent_of S.Sink output.old)
+            (sent_of S.Sink output.new) }
     {
         self.tell_fault(moment, ModuleAction::Reset, output);
         let now = moment.at.now;
@@ -65,7 +74,9 @@ impl<E: Executor<Mem = PartitionMem>> Members<E> {
         action: ModuleAction,
         output: &mut Output<'_, S>,
     ) -> Option<Moment>
-        ensures { IsCourse (meaning.breaks_module moment.at action (members_in E.Executor self.old)) (next_at result) (members_in E.Executor self.new) (sent_of S.Sink output.old) (sent_of S.Sink output.new) }
+        ensures { IsCourse (meaning.breaks_module moment.at action (members_in E.Executor self.old))
+            (next_at result) (members_in E.Executor self.new) (sent_of S.Sink output.old)
+            (sent_of S.Sink output.new) }
     {
         match action {
             ModuleAction::Ignore => {

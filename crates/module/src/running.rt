@@ -42,11 +42,14 @@ pub fn run<S: Sink>(
     sink: &mut S,
 ) -> Result<(), RunFault>
     requires { S.failures sink.old < 2 ^ 64 - 1 }
-    ensures trace { Runs (image_at image.now) devices.now ticks (S.taken sink.old) (S.taken sink.new) result }
-    ensures isolated { OnOk result (IsIsolated (image_at image.now) devices.now ticks (S.taken sink.old) (S.taken sink.new)) }
+    ensures trace { Runs (image_at image.now) devices.now ticks (S.taken sink.old)
+        (S.taken sink.new) result }
+    ensures isolated { OnOk result
+        (IsIsolated (image_at image.now) devices.now ticks (S.taken sink.old) (S.taken sink.new)) }
     ensures ok { OnOk result (S.failures sink.new ≡ S.failures sink.old) }
     ensures write { IsErrOf result RunFault.Write → S.failures sink.new ≡ S.failures sink.old + 1 }
-    ensures quiet { IfErr result (λ fault. fault ≢ RunFault.Write → S.failures sink.new ≡ S.failures sink.old) }
+    ensures quiet { IfErr result
+        (λ fault. fault ≢ RunFault.Write → S.failures sink.new ≡ S.failures sink.old) }
 {
     if ticks > MOST_TICKS {
         return Err(RunFault::Ticks);
@@ -81,7 +84,8 @@ fn run_ticks<S: Sink>(
     requires fresh { machine_of machine.old ≡ fresh_machine (machine_of machine.old).image }
     requires order { AreFrom 0 devices.now }
     requires failures { S.failures sink.old < 2 ^ 64 - 1 }
-    ensures trace { RunsImage (machine_trace (machine_of machine.old).image devices.now ticks) (S.taken sink.old) (S.taken sink.new) result }
+    ensures trace { RunsImage (machine_trace (machine_of machine.old).image devices.now ticks)
+        (S.taken sink.old) (S.taken sink.new) result }
     ensures ok { OnOk result (S.failures sink.new ≡ S.failures sink.old) }
     ensures write { IsErrOf result RunFault.Write → S.failures sink.new ≡ S.failures sink.old + 1 }
 {
@@ -116,11 +120,17 @@ pub fn build_and_run<S: Sink>(
     sink: &mut S,
 ) -> Result<(), BuildAndRunFault>
     requires { S.failures sink.old < 2 ^ 64 - 1 }
-    ensures trace { Means table.now (map (λ s. s.now) sources.now) devices.now ticks (S.taken sink.old) (S.taken sink.new) result }
-    ensures isolated { OnOk result (IsSourceIsolated table.now (map (λ s. s.now) sources.now) devices.now ticks (S.taken sink.old) (S.taken sink.new)) }
+    ensures trace { Means table.now (map (λ s. s.now) sources.now) devices.now ticks
+        (S.taken sink.old) (S.taken sink.new) result }
+    ensures isolated { OnOk result
+        (IsSourceIsolated table.now (map (λ s. s.now) sources.now) devices.now ticks
+        (S.taken sink.old) (S.taken sink.new)) }
     ensures ok { OnOk result (S.failures sink.new ≡ S.failures sink.old) }
-    ensures write { IsErrOf result (BuildAndRunFault.Run RunFault.Write) → S.failures sink.new ≡ S.failures sink.old + 1 }
-    ensures quiet { IfErr result (λ fault. fault ≢ BuildAndRunFault.Run RunFault.Write → S.failures sink.new ≡ S.failures sink.old) }
+    ensures write { IsErrOf result (BuildAndRunFault.Run RunFault.Write)
+        → S.failures sink.new ≡ S.failures sink.old + 1 }
+    ensures quiet { IfErr result
+        (λ fault.
+        fault ≢ BuildAndRunFault.Run RunFault.Write → S.failures sink.new ≡ S.failures sink.old) }
 {
     let image = match build(alloc, table, sources) {
         Ok(image) => image,

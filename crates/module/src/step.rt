@@ -13,7 +13,7 @@ ghost use Rattle.module.specs.Written.{IsMade};
 
 use crate::member::Members;
 use apex_types::{Moment, PartitionId, PortId, Sink, Words};
-use lone_partition::{Output, Step, write_leave, write_step};
+use lone_partition::{Output, PartitionStep, write_leave, write_step};
 use partition_base::Executor;
 use regions::PartitionMem;
 
@@ -34,11 +34,16 @@ impl<E: Executor<Mem = PartitionMem>> Members<E> {
         &mut self,
         place: usize,
         moment: Moment,
-        step: &Step,
+        step: &PartitionStep,
         output: &mut Output<'_, S>,
     )
-        ensures written { IsMade (meaning.steps_member (step_of moment.at step.now) (members_in E.Executor self.old) place (slice_get (members_in E.Executor self.old) place)) (members_in E.Executor self.new) (sent_of S.Sink output.old) (sent_of S.Sink output.new) }
-        ensures others { (q : ℕ) → q ≢ place → slice_get self.new.memory q ≡ slice_get self.old.memory q }
+        ensures written { IsMade
+            (meaning.steps_member (step_of moment.at step.now) (members_in E.Executor self.old)
+            place (slice_get (members_in E.Executor self.old) place))
+            (members_in E.Executor self.new) (sent_of S.Sink output.old)
+            (sent_of S.Sink output.new) }
+        ensures others { (q : ℕ) → q ≢ place
+            → slice_get self.new.memory q ≡ slice_get self.old.memory q }
         ensures count { length self.new.partitions.items ≡ length self.old.partitions.items }
     {
         if place >= self.partitions.len() {
@@ -54,11 +59,15 @@ impl<E: Executor<Mem = PartitionMem>> Members<E> {
         &mut self,
         number: PartitionId,
         moment: Moment,
-        step: &Step,
+        step: &PartitionStep,
         output: &mut Output<'_, S>,
     )
-        ensures written { IsMade (meaning.steps (step_of moment.at step.now) (members_in E.Executor self.old) number.0) (members_in E.Executor self.new) (sent_of S.Sink output.old) (sent_of S.Sink output.new) }
-        ensures others { (q : ℕ) → number.0 ≢ q + 1 → slice_get self.new.memory q ≡ slice_get self.old.memory q }
+        ensures written { IsMade
+            (meaning.steps (step_of moment.at step.now) (members_in E.Executor self.old) number.0)
+            (members_in E.Executor self.new) (sent_of S.Sink output.old)
+            (sent_of S.Sink output.new) }
+        ensures others { (q : ℕ) → number.0 ≢ q + 1
+            → slice_get self.new.memory q ≡ slice_get self.old.memory q }
     {
         if let Some(place) = number.place() {
             self.step_at(usize::from(place), moment, step, output);
@@ -75,9 +84,16 @@ impl<E: Executor<Mem = PartitionMem>> Members<E> {
         port: PortId,
         output: &mut Output<'_, S>,
     ) -> Option<Words>
-        ensures message { result ≡ meaning.of_member None (leaving port) (slice_get (members_in E.Executor self.old) place) }
-        ensures written { IsMade (meaning.steps_member (leaves moment.at port) (members_in E.Executor self.old) place (slice_get (members_in E.Executor self.old) place)) (members_in E.Executor self.new) (sent_of S.Sink output.old) (sent_of S.Sink output.new) }
-        ensures others { (q : ℕ) → q ≢ place → slice_get self.new.memory q ≡ slice_get self.old.memory q }
+        ensures message { result
+            ≡ meaning.of_member None (leaving port)
+            (slice_get (members_in E.Executor self.old) place) }
+        ensures written { IsMade
+            (meaning.steps_member (leaves moment.at port) (members_in E.Executor self.old) place
+            (slice_get (members_in E.Executor self.old) place))
+            (members_in E.Executor self.new) (sent_of S.Sink output.old)
+            (sent_of S.Sink output.new) }
+        ensures others { (q : ℕ) → q ≢ place
+            → slice_get self.new.memory q ≡ slice_get self.old.memory q }
     {
         if place >= self.partitions.len() {
             return None;
@@ -96,9 +112,15 @@ impl<E: Executor<Mem = PartitionMem>> Members<E> {
         port: PortId,
         output: &mut Output<'_, S>,
     ) -> Option<Words>
-        ensures message { result ≡ meaning.of_member None (leaving port) (at_number (members_in E.Executor self.old) number.0) }
-        ensures written { IsMade (meaning.steps (leaves moment.at port) (members_in E.Executor self.old) number.0) (members_in E.Executor self.new) (sent_of S.Sink output.old) (sent_of S.Sink output.new) }
-        ensures others { (q : ℕ) → number.0 ≢ q + 1 → slice_get self.new.memory q ≡ slice_get self.old.memory q }
+        ensures message { result
+            ≡ meaning.of_member None (leaving port)
+            (at_number (members_in E.Executor self.old) number.0) }
+        ensures written { IsMade
+            (meaning.steps (leaves moment.at port) (members_in E.Executor self.old) number.0)
+            (members_in E.Executor self.new) (sent_of S.Sink output.old)
+            (sent_of S.Sink output.new) }
+        ensures others { (q : ℕ) → number.0 ≢ q + 1
+            → slice_get self.new.memory q ≡ slice_get self.old.memory q }
     {
         let place = number.place()?;
         self.leave_at(usize::from(place), moment, port, output)

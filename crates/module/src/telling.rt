@@ -6,7 +6,7 @@ ghost use Rattle.machine_meaning.specs.ImageReading.{image_at};
 ghost use Rattle.machine_meaning.specs.MachineMeaning.{machine_module};
 ghost use Rattle.image.specs.Views.{image_of};
 ghost use Rattle.isolation.specs.Slices.{Slice, machine_inputs, slice};
-ghost use Rattle.partition_base.specs.contracts.machine.MachineExecutor.TheImpl.{ghosts as machine};
+ghost use Rattle.partition_base.specs.contracts.machine.PartitionProcessorExecutor.TheImpl.{ghosts as machine};
 ghost use Rattle.module.specs.Collecting.{HasNoRoom};
 ghost use Rattle.module.specs.Standing.{at_first};
 ghost use Rattle.module.specs.Telling.{Tells, TellsSlice};
@@ -24,7 +24,7 @@ use apex_types::{DeviceLine, PartitionId, Sink, TraceBuffer};
 use image::{Image, load_image};
 use lone_partition::Output;
 use module_base::{read_devices, write_inputs};
-use partition_base::Machine;
+use partition_base::PartitionProcessor;
 use std::alloc::Global;
 
 /// Runs the image for so many ticks with what the device text says, and writes what comes to one of its
@@ -48,10 +48,13 @@ pub fn inputs<S: Sink>(
     sink: &mut S,
 ) -> Result<(), InputsFault>
     requires { S.failures sink.old < 2 ^ 64 - 1 }
-    ensures text { Tells (image_at image.now) partition.now devices.now ticks (S.taken sink.old) (S.taken sink.new) result }
+    ensures text { Tells (image_at image.now) partition.now devices.now ticks (S.taken sink.old)
+        (S.taken sink.new) result }
     ensures ok { OnOk result (S.failures sink.new ≡ S.failures sink.old) }
-    ensures write { IsErrOf result InputsFault.Write → S.failures sink.new ≡ S.failures sink.old + 1 }
-    ensures quiet { IfErr result (λ fault. fault ≢ InputsFault.Write → S.failures sink.new ≡ S.failures sink.old) }
+    ensures write { IsErrOf result InputsFault.Write
+        → S.failures sink.new ≡ S.failures sink.old + 1 }
+    ensures quiet { IfErr result
+        (λ fault. fault ≢ InputsFault.Write → S.failures sink.new ≡ S.failures sink.old) }
 {
     if ticks > MOST_TICKS {
         return Err(InputsFault::Ticks);
@@ -76,10 +79,14 @@ fn tell_numbered<S: Sink>(
     requires there { 0 < number.0 }
     requires within { number.0 ≤ length image.partitions.items }
     requires failures { S.failures sink.old < 2 ^ 64 - 1 }
-    ensures told { (s : Slice) → slice (image_of image) number.0 ≡ Some s → TellsSlice (image_of image) s devices.now ticks (S.taken sink.old) (S.taken sink.new) result }
+    ensures told { (s : Slice) → slice (image_of image) number.0 ≡ Some s
+        → TellsSlice (image_of image) s devices.now ticks (S.taken sink.old) (S.taken sink.new)
+        result }
     ensures ok { OnOk result (S.failures sink.new ≡ S.failures sink.old) }
-    ensures write { IsErrOf result InputsFault.Write → S.failures sink.new ≡ S.failures sink.old + 1 }
-    ensures quiet { IfErr result (λ fault. fault ≢ InputsFault.Write → S.failures sink.new ≡ S.failures sink.old) }
+    ensures write { IsErrOf result InputsFault.Write
+        → S.failures sink.new ≡ S.failures sink.old + 1 }
+    ensures quiet { IfErr result
+        (λ fault. fault ≢ InputsFault.Write → S.failures sink.new ≡ S.failures sink.old) }
 {
     let lines = read_devices(alloc, &image, devices)?;
     let mut module = Module::load(alloc, image)?;
@@ -92,17 +99,22 @@ fn tell_numbered<S: Sink>(
 /// What so many ticks bring the watched partition, with these lines of the devices.
 pub fn collect(
     alloc: Global,
-    module: &mut Module<Machine>,
+    module: &mut Module<PartitionProcessor>,
     devices: &[DeviceLine],
     ticks: u64,
     watched: PartitionId,
 ) -> Result<Collected, InputsFault>
     requires ticks { ticks ≤ MOST_TICKS }
-    requires fresh { standing_of machine module.old ≡ at_first (machine_module (image_of module.old.image)).members }
+    requires fresh { standing_of machine module.old
+        ≡ at_first (machine_module (image_of module.old.image)).members }
     requires order { AreFrom 0 devices.now }
     ensures image { module.new.image ≡ module.old.image }
-    ensures inputs { IfOk result (λ inputs. inputs.lines.items ≡ machine_inputs (image_of module.old.image) watched.0 devices.now ticks) }
-    ensures refused { IfErr result (HasNoRoom (length (machine_inputs (image_of module.old.image) watched.0 devices.now ticks))) }
+    ensures inputs { IfOk result
+        (λ inputs. inputs.lines.items
+        ≡ machine_inputs (image_of module.old.image) watched.0 devices.now ticks) }
+    ensures refused { IfErr result
+        (HasNoRoom
+        (length (machine_inputs (image_of module.old.image) watched.0 devices.now ticks))) }
 {
     let mut trace = TraceBuffer::new();
     let mut nowhere = Forgetful;

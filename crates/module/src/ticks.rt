@@ -34,7 +34,10 @@ impl<E: Executor<Mem = PartitionMem>> Module<E> {
         requires now { self.old.now.0 < MOST_TICKS }
         requires lines { meaning.of_tick self.old.now.0 lines.now ≡ lines.now }
         ensures image { self.new.image ≡ self.old.image }
-        ensures written { HasGoneOn (ticks (plan_of self.old.image) lines.now (standing_of E.Executor self.old)) (standing_of E.Executor self.old) (standing_of E.Executor self.new) (sent_of S.Sink output.old) (sent_of S.Sink output.new) }
+        ensures written { HasGoneOn
+            (ticks (plan_of self.old.image) lines.now (standing_of E.Executor self.old))
+            (standing_of E.Executor self.old) (standing_of E.Executor self.new)
+            (sent_of S.Sink output.old) (sent_of S.Sink output.new) }
     {
         let last = self.go(lines, output);
         if !output.has_failed() {
@@ -47,7 +50,12 @@ impl<E: Executor<Mem = PartitionMem>> Module<E> {
         requires now { self.old.now.0 < MOST_TICKS }
         requires of_now { IsNow self.old.now.0 (next_at last) }
         ensures image { self.new.image ≡ self.old.image }
-        ensures standing { standing_of E.Executor self.new ≡ record { members = members_in E.Executor self.old.members; now = self.old.now.0 + 1; origin = option_map origin_of (next_at last) } }
+        ensures standing { standing_of E.Executor self.new
+            ≡ record {
+              members = members_in E.Executor self.old.members;
+              now = self.old.now.0 + 1;
+              origin = option_map origin_of (next_at last);
+            } }
     {
         self.now = Ticks(self.now.0 + 1);
         self.origin = match last {
@@ -61,7 +69,10 @@ impl<E: Executor<Mem = PartitionMem>> Module<E> {
         requires { meaning.of_tick self.old.now.0 lines.now ≡ lines.now }
         ensures image { self.new.image ≡ self.old.image }
         ensures now { self.new.now ≡ self.old.now }
-        ensures written { IsCourse (ticks (plan_of self.old.image) lines.now (standing_of E.Executor self.old)) (next_at result) (members_in E.Executor self.new.members) (sent_of S.Sink output.old) (sent_of S.Sink output.new) }
+        ensures written { IsCourse
+            (ticks (plan_of self.old.image) lines.now (standing_of E.Executor self.old))
+            (next_at result) (members_in E.Executor self.new.members) (sent_of S.Sink output.old)
+            (sent_of S.Sink output.new) }
     {
         let Some(moment) = self.moment() else {
             return None;
@@ -77,7 +88,8 @@ pub fn split_tick(lines: &[DeviceLine], tick: u64) -> (&[DeviceLine], &[DeviceLi
     ensures own { result.0.now ≡ meaning.of_tick tick lines.now }
     ensures of_tick { meaning.of_tick tick result.0.now ≡ result.0.now }
     ensures later { AreFrom (tick + 1) result.1.now }
-    ensures rest { (t : ℕ) → tick < t → meaning.of_tick t result.1.now ≡ meaning.of_tick t lines.now }
+    ensures rest { (t : ℕ) → tick < t
+        → meaning.of_tick t result.1.now ≡ meaning.of_tick t lines.now }
 {
     lines.split_at(count_of_tick(lines, Ticks(tick)))
 }
@@ -88,7 +100,8 @@ fn count_of_tick(lines: &[DeviceLine], now: Ticks) -> usize
     ensures within { result ≤ length lines.now }
     ensures now { take result lines.now ≡ meaning.of_tick now.0 lines.now }
     ensures later { AreFrom (now.0 + 1) (drop result lines.now) }
-    ensures rest { (t : ℕ) → now.0 < t → meaning.of_tick t (drop result lines.now) ≡ meaning.of_tick t lines.now }
+    ensures rest { (t : ℕ) → now.0 < t
+        → meaning.of_tick t (drop result lines.now) ≡ meaning.of_tick t lines.now }
 {
     let mut count = 0;
     while count < lines.len() && lines[count].tick == now {

@@ -44,8 +44,14 @@ impl<E: Executor<Mem = PartitionMem>> Members<E> {
         inputs: &mut Collected,
         output: &mut Output<'_, Forgetful>,
     ) -> Result<(), InputsFault>
-        ensures members { OnOk result (members_in E.Executor self.new ≡ (meaning.moves_and_ticks (plan_of plan.now) moment.at (members_in E.Executor self.old)).members) }
-        ensures inputs { AreCollected moment.at.now.0 (brought_moved (plan_of plan.now) watched.0 (members_in E.Executor self.old) (Some moment.at)) inputs.old.lines.items inputs.new.lines.items result }
+        ensures members { OnOk result
+            (members_in E.Executor self.new
+            ≡ (meaning.moves_and_ticks (plan_of plan.now) moment.at
+            (members_in E.Executor self.old)).members) }
+        ensures inputs { AreCollected moment.at.now.0
+            (brought_moved (plan_of plan.now) watched.0 (members_in E.Executor self.old)
+            (Some moment.at))
+            inputs.old.lines.items inputs.new.lines.items result }
     {
         let ended = plan.schedule.ended(moment);
         let now = moment.at.now;
@@ -66,8 +72,15 @@ impl<E: Executor<Mem = PartitionMem>> Members<E> {
         output: &mut Output<'_, Forgetful>,
     ) -> Result<Option<Moment>, InputsFault>
         requires { meaning.of_tick moment.at.now.0 lines.now ≡ lines.now }
-        ensures made { IfOk result (λ last. IsMadeUnseen (meaning.module_tick (plan_of plan.now) moment.at lines.now (members_in E.Executor self.old)) (next_at last) (members_in E.Executor self.new)) }
-        ensures inputs { AreCollected moment.at.now.0 (brought_tick (plan_of plan.now) watched.0 moment.at lines.now (members_in E.Executor self.old)) inputs.old.lines.items inputs.new.lines.items result }
+        ensures made { IfOk result
+            (λ last. IsMadeUnseen
+            (meaning.module_tick (plan_of plan.now) moment.at lines.now
+            (members_in E.Executor self.old))
+            (next_at last) (members_in E.Executor self.new)) }
+        ensures inputs { AreCollected moment.at.now.0
+            (brought_tick (plan_of plan.now) watched.0 moment.at lines.now
+            (members_in E.Executor self.old))
+            inputs.old.lines.items inputs.new.lines.items result }
     {
         bring_in_all(plan, lines, moment.at.now, watched, inputs)?;
         let Some(last) = self.input_all(plan, moment, lines, output) else {
@@ -89,8 +102,15 @@ impl<E: Executor<Mem = PartitionMem>> Members<E> {
         output: &mut Output<'_, Forgetful>,
     ) -> Result<Option<Moment>, InputsFault>
         requires { meaning.of_tick moment.at.now.0 lines.now ≡ lines.now }
-        ensures made { IfOk result (λ last. IsMadeUnseen (begins_and_ticks (plan_of plan.now) moment.at lines.now (members_in E.Executor self.old)) (next_at last) (members_in E.Executor self.new)) }
-        ensures inputs { AreCollected moment.at.now.0 (brought_tick (plan_of plan.now) watched.0 moment.at lines.now (begins moment.at.now.0 (members_in E.Executor self.old)).members) inputs.old.lines.items inputs.new.lines.items result }
+        ensures made { IfOk result
+            (λ last. IsMadeUnseen
+            (begins_and_ticks (plan_of plan.now) moment.at lines.now
+            (members_in E.Executor self.old))
+            (next_at last) (members_in E.Executor self.new)) }
+        ensures inputs { AreCollected moment.at.now.0
+            (brought_tick (plan_of plan.now) watched.0 moment.at lines.now
+            (begins moment.at.now.0 (members_in E.Executor self.old)).members)
+            inputs.old.lines.items inputs.new.lines.items result }
     {
         self.begin(moment, output);
         self.tick_watched(plan, moment, lines, watched, inputs, output)
@@ -109,8 +129,14 @@ impl<E: Executor<Mem = PartitionMem>> Module<E> {
         requires now { self.old.now.0 < MOST_TICKS }
         requires lines { meaning.of_tick self.old.now.0 lines.now ≡ lines.now }
         ensures image { self.new.image ≡ self.old.image }
-        ensures standing { OnOk result (standing_of E.Executor self.new ≡ after (standing_of E.Executor self.old) (ticks (plan_of self.old.image) lines.now (standing_of E.Executor self.old))) }
-        ensures inputs { AreCollected self.old.now.0 (brought_next (plan_of self.old.image) watched.0 lines.now (standing_of E.Executor self.old)) inputs.old.lines.items inputs.new.lines.items result }
+        ensures standing { OnOk result
+            (standing_of E.Executor self.new
+            ≡ after (standing_of E.Executor self.old)
+            (ticks (plan_of self.old.image) lines.now (standing_of E.Executor self.old))) }
+        ensures inputs { AreCollected self.old.now.0
+            (brought_next (plan_of self.old.image) watched.0 lines.now
+            (standing_of E.Executor self.old))
+            inputs.old.lines.items inputs.new.lines.items result }
     {
         let last = self.go_watched(lines, watched, inputs, output)?;
         self.pass(last);
@@ -129,8 +155,14 @@ impl<E: Executor<Mem = PartitionMem>> Module<E> {
         requires { meaning.of_tick self.old.now.0 lines.now ≡ lines.now }
         ensures image { self.new.image ≡ self.old.image }
         ensures now { self.new.now ≡ self.old.now }
-        ensures made { IfOk result (λ last. IsMadeUnseen (ticks (plan_of self.old.image) lines.now (standing_of E.Executor self.old)) (next_at last) (members_in E.Executor self.new.members)) }
-        ensures inputs { AreCollected self.old.now.0 (brought_next (plan_of self.old.image) watched.0 lines.now (standing_of E.Executor self.old)) inputs.old.lines.items inputs.new.lines.items result }
+        ensures made { IfOk result
+            (λ last. IsMadeUnseen
+            (ticks (plan_of self.old.image) lines.now (standing_of E.Executor self.old))
+            (next_at last) (members_in E.Executor self.new.members)) }
+        ensures inputs { AreCollected self.old.now.0
+            (brought_next (plan_of self.old.image) watched.0 lines.now
+            (standing_of E.Executor self.old))
+            inputs.old.lines.items inputs.new.lines.items result }
     {
         let Some(moment) = self.moment() else {
             return Ok(None);

@@ -33,8 +33,10 @@ pub fn read_devices(
     image: &Image,
     text: &[u8],
 ) -> Result<Vec<DeviceLine>, DeviceTextFault>
-    ensures accepted { IfOk result (λ lines. verdict_for (image_of image.now) text.now ≡ Ok lines.items) }
-    ensures refused { IfErr result (λ fault. IsRefusal (verdict_for (image_of image.now) text.now) fault) }
+    ensures accepted { IfOk result
+        (λ lines. verdict_for (image_of image.now) text.now ≡ Ok lines.items) }
+    ensures refused { IfErr result
+        (λ fault. IsRefusal (verdict_for (image_of image.now) text.now) fault) }
 {
     read_lines(alloc, b"MSG".as_slice(), image, text)
 }
@@ -67,7 +69,8 @@ fn taken(
     tick: Ticks,
     written: Written,
 ) -> Result<DeviceLine, DeviceFault>
-    ensures { (w : meant.Written) → written ≡ seen w → result ≡ meant.named (rows_in image.now) (channels_in image.now) count tick.0 w }
+    ensures { (w : meant.Written) → written ≡ seen w
+        → result ≡ meant.named (rows_in image.now) (channels_in image.now) count tick.0 w }
 {
     match written {
         Written::Message(channel, words) => message(image, count, tick, channel, words),
@@ -85,7 +88,10 @@ fn message(
     name: Name,
     words: MessageWords,
 ) -> Result<DeviceLine, DeviceFault>
-    ensures { (ws : List ℤ) → words ≡ fitting ws → result ≡ meant.taken_message (rows_in image.now) count tick.0 ws (first_from 0 (λ c. same c.name name) (channels_in image.now)) }
+    ensures { (ws : List ℤ) → words ≡ fitting ws
+        → result
+        ≡ meant.taken_message (rows_in image.now) count tick.0 ws
+        (first_from 0 (λ c. same c.name name) (channels_in image.now)) }
 {
     for (place, channel) in image.channels.iter().enumerate() {
         if channel.name.as_bytes() == name.as_bytes() {
@@ -106,7 +112,10 @@ fn message_by(
     channel: &ChannelRow,
     words: MessageWords,
 ) -> Result<DeviceLine, DeviceFault>
-    ensures { (ws : List ℤ) → words ≡ fitting ws → result ≡ meant.taken_message (rows_in image.now) count tick.0 ws (Some (index.0, channel_of channel.now)) }
+    ensures { (ws : List ℤ) → words ≡ fitting ws
+        → result
+        ≡ meant.taken_message (rows_in image.now) count tick.0 ws
+        (Some (index.0, channel_of channel.now)) }
 {
     if !is_device(channel.source) {
         return Err(DeviceFault::Name);
@@ -129,7 +138,9 @@ fn partition_fault(
     tick: Ticks,
     name: Name,
 ) -> Result<DeviceLine, DeviceFault>
-    ensures { result ≡ meant.taken_fault count tick.0 (first_from 1 (λ p. same p.name name) (rows_in image.now)) }
+    ensures { result
+        ≡ meant.taken_fault count tick.0
+        (first_from 1 (λ p. same p.name name) (rows_in image.now)) }
 {
     for (place, partition) in image.partitions.iter().enumerate() {
         if partition.row.name.as_bytes() == name.as_bytes() {

@@ -36,9 +36,11 @@ pub fn read_inputs(
     text: &[u8],
 ) -> Result<Vec<InputLine>, DeviceTextFault>
     requires { HasPorts (partition_of row.now) }
-    ensures accepted { IfOk result (λ lines. replay_verdict (partition_of row.now) text.now ≡ Ok lines.items) }
+    ensures accepted { IfOk result
+        (λ lines. replay_verdict (partition_of row.now) text.now ≡ Ok lines.items) }
     ensures order { IfOk result (λ lines. AreInOrder 0 lines.items) }
-    ensures refused { IfErr result (λ fault. IsRefusal (replay_verdict (partition_of row.now) text.now) fault) }
+    ensures refused { IfErr result
+        (λ fault. IsRefusal (replay_verdict (partition_of row.now) text.now) fault) }
 {
     read_lines(alloc, b"ARRIVE".as_slice(), row, text)
 }
@@ -73,7 +75,8 @@ fn taken(
     written: Written,
 ) -> Result<InputLine, DeviceFault>
     requires { HasPorts (partition_of row.now) }
-    ensures { (w : meant.Written) → written ≡ seen w → result ≡ replay.named (partition_of row.now) count tick.0 w }
+    ensures { (w : meant.Written) → written ≡ seen w
+        → result ≡ replay.named (partition_of row.now) count tick.0 w }
 {
     match written {
         Written::Message(port, words) => message(row.ports.as_slice(), count, tick, port, words),
@@ -93,7 +96,8 @@ fn message(
 ) -> Result<InputLine, DeviceFault>
     requires count { length ports.now ≤ MOST_PORTS }
     requires words { All (λ (x : PortRow). x.words ≤ MOST_WORDS) ports.now }
-    ensures { (ws : List ℤ) → words ≡ fitting ws → result ≡ taken_message count tick.0 ws (first_from 1 (λ x. same x.name name) ports.now) }
+    ensures { (ws : List ℤ) → words ≡ fitting ws
+        → result ≡ taken_message count tick.0 ws (first_from 1 (λ x. same x.name name) ports.now) }
 {
     for (place, row) in ports.iter().enumerate() {
         if row.name.as_bytes() == name.as_bytes() {
@@ -114,7 +118,8 @@ fn message_at(
     words: MessageWords,
 ) -> Result<InputLine, DeviceFault>
     requires { row.now.words ≤ MOST_WORDS }
-    ensures { (ws : List ℤ) → words ≡ fitting ws → result ≡ taken_message count tick.0 ws (Some (port.0, row.now)) }
+    ensures { (ws : List ℤ) → words ≡ fitting ws
+        → result ≡ taken_message count tick.0 ws (Some (port.0, row.now)) }
 {
     if !is_destination(row.direction) {
         return Err(DeviceFault::Name);
@@ -139,7 +144,9 @@ fn is_destination(direction: PortDirection) -> bool
 
 /// A fault of the partition, which has to be named by its own name.
 fn own_fault(own: &Name, count: usize, tick: Ticks, name: Name) -> Result<InputLine, DeviceFault>
-    ensures { result ≡ (if same own.now name then replay.within (is_room count) tick.0 PartitionFault else Err fault.Name) }
+    ensures { result
+        ≡ (if same own.now name then replay.within (is_room count)
+        tick.0 PartitionFault else Err fault.Name) }
 {
     if own.as_bytes() == name.as_bytes() {
         within(is_room(count), tick, Input::PartitionFault)

@@ -51,7 +51,8 @@ pub fn line_of(mark: &[u8], text: &[u8]) -> Option<WrittenLine>
 
 /// What stands behind the tick.
 fn written_of(mark: &[u8], text: Option<&[u8]>) -> Option<Written>
-    ensures { result ≡ option_map seen (written_by mark.now (pieces_of 32 (option_copied text.entry))) }
+    ensures { result
+        ≡ option_map seen (written_by mark.now (pieces_of 32 (option_copied text.entry))) }
 {
     let (kind, rest) = split_at(b' ', text?);
     if kind == mark {
@@ -65,7 +66,8 @@ fn written_of(mark: &[u8], text: Option<&[u8]>) -> Option<Written>
 
 /// The name of a channel or a port, and the words of a message.
 fn message_of(text: Option<&[u8]>) -> Option<Written>
-    ensures { result ≡ option_map seen (meant.message_of (pieces_of 32 (option_copied text.entry))) }
+    ensures { result
+        ≡ option_map seen (meant.message_of (pieces_of 32 (option_copied text.entry))) }
 {
     let (name, rest) = split_at(b' ', text?);
     let name = Name::new(name)?;

@@ -51,8 +51,10 @@ pub fn read_lines<T: TakesLines>(
     text: &[u8],
 ) -> Result<Vec<T::Line>, DeviceTextFault>
     requires { T.is_readable taker.now }
-    ensures accepted { IfOk result (λ lines. verdict_by mark.now (T.named taker.now) T.tick_of text.now ≡ Ok lines.items) }
-    ensures refused { IfErr result (λ fault. IsRefusal (verdict_by mark.now (T.named taker.now) T.tick_of text.now) fault) }
+    ensures accepted { IfOk result
+        (λ lines. verdict_by mark.now (T.named taker.now) T.tick_of text.now ≡ Ok lines.items) }
+    ensures refused { IfErr result
+        (λ fault. IsRefusal (verdict_by mark.now (T.named taker.now) T.tick_of text.now) fault) }
 {
     let mut lines: Vec<T::Line> = Vec::new(alloc);
     let mut before = Ticks(0);
@@ -94,7 +96,8 @@ fn taken<T: TakesLines>(
     line: WrittenLine,
 ) -> Result<T::Line, DeviceFault>
     requires { T.is_readable taker.now }
-    ensures { (l : meant.WrittenLine) → line ≡ seen_line l → result ≡ taken_by (T.named taker.now) count before.0 (Some l) }
+    ensures { (l : meant.WrittenLine) → line ≡ seen_line l
+        → result ≡ taken_by (T.named taker.now) count before.0 (Some l) }
 {
     let WrittenLine { tick, written } = line;
     if tick < before {

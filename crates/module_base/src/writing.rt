@@ -36,10 +36,14 @@ pub fn write_inputs<S: Sink>(
     sink: &mut S,
 ) -> Result<(), SinkFault>
     requires { S.failures sink.old < 2 ^ 64 - 1 }
-    ensures ok { OnOk result (Appends (S.taken sink.old) (S.taken sink.new) (replay_text (partition_of row.now) lines.now)) }
+    ensures ok { OnOk result
+        (Appends (S.taken sink.old) (S.taken sink.new)
+        (replay_text (partition_of row.now) lines.now)) }
     ensures quiet { OnOk result (S.failures sink.new ≡ S.failures sink.old) }
     ensures failed { OnErr result (S.failures sink.new ≡ S.failures sink.old + 1) }
-    ensures beginning { OnErr result (TakesBeginning (S.taken sink.old) (S.taken sink.new) (replay_text (partition_of row.now) lines.now)) }
+    ensures beginning { OnErr result
+        (TakesBeginning (S.taken sink.old) (S.taken sink.new)
+        (replay_text (partition_of row.now) lines.now)) }
     ensures words { OnOk result (AreWritable lines.now) }
 {
     let mut rest = lines;
@@ -53,10 +57,14 @@ pub fn write_inputs<S: Sink>(
 /// Writes the line of an input.
 fn write_line<S: Sink>(row: &PartitionRow, line: &InputLine, sink: &mut S) -> Result<(), SinkFault>
     requires { S.failures sink.old < 2 ^ 64 - 1 }
-    ensures ok { OnOk result (Appends (S.taken sink.old) (S.taken sink.new) (input_text (partition_of row.now) line.now)) }
+    ensures ok { OnOk result
+        (Appends (S.taken sink.old) (S.taken sink.new)
+        (input_text (partition_of row.now) line.now)) }
     ensures quiet { OnOk result (S.failures sink.new ≡ S.failures sink.old) }
     ensures failed { OnErr result (S.failures sink.new ≡ S.failures sink.old + 1) }
-    ensures beginning { OnErr result (TakesBeginning (S.taken sink.old) (S.taken sink.new) (input_text (partition_of row.now) line.now)) }
+    ensures beginning { OnErr result
+        (TakesBeginning (S.taken sink.old) (S.taken sink.new)
+        (input_text (partition_of row.now) line.now)) }
     ensures words { IsWritable line.now.input }
 {
     put_all(sink, line_bytes(row, line).as_slice())
@@ -78,8 +86,10 @@ fn line_bytes(row: &PartitionRow, line: &InputLine) -> Line
 /// What stands behind the tick.
 fn push_input(line: &mut Line, row: &PartitionRow, input: &Input)
     requires { array_vec_len line.old + 64 + MOST_WORD_BYTES * MOST_WORDS ≤ MOST_LINE_BYTES }
-    ensures items { line.new.items ≡ line.old.items ++ behind_tick (partition_of row.now) input.now }
-    ensures len { array_vec_len line.new ≤ array_vec_len line.old + 64 + MOST_WORD_BYTES * MOST_WORDS }
+    ensures items { line.new.items
+        ≡ line.old.items ++ behind_tick (partition_of row.now) input.now }
+    ensures len { array_vec_len line.new
+        ≤ array_vec_len line.old + 64 + MOST_WORD_BYTES * MOST_WORDS }
     ensures words { IsWritable input.now }
 {
     match input {
@@ -115,7 +125,8 @@ fn name_of_port(ports: &[PortRow], port: PortId) -> &[u8]
 fn push_words(line: &mut Line, words: &[i64])
     requires { array_vec_len line.old + MOST_WORD_BYTES * length words.now ≤ MOST_LINE_BYTES }
     ensures items { line.new.items ≡ line.old.items ++ words_text words.now }
-    ensures len { array_vec_len line.new ≤ array_vec_len line.old + MOST_WORD_BYTES * length words.now }
+    ensures len { array_vec_len line.new
+        ≤ array_vec_len line.old + MOST_WORD_BYTES * length words.now }
     ensures words { AreWords words.now }
 {
     for word in words {

@@ -11,7 +11,7 @@ use Rattle.apex_types.specs.declared.identity.Runner.{Runner}
 use Rattle.apex_types.specs.declared.service.Service.TheVariants as service
 use Rattle.kernel_meaning.specs.Times.{is_duration}
 use Rattle.kernel_meaning.specs.EventServices.{awaits, create_event, creates, is_created, list, raises, reset_event, set_event, sets, wait_event, waiting_for}
-use Rattle.kernel_meaning.specs.Objects.{Objects, Event, event, put_event}
+use Rattle.kernel_meaning.specs.Objects.{Objects, ApexEvent, event, put_event}
 use Rattle.kernel_meaning.specs.Sharing.{Sharing, becomes, has, refuses}
 use Rattle.kernel_meaning.specs.Step.{Step, message}
 use Rattle.kernel_meaning.specs.Sharing.{waiting}
@@ -26,7 +26,7 @@ module _ (d : ListKey → Discipline) (names : ℕ → List ℕ) where
   abbrev To : May → Sharing Objects → Step (Sharing Objects) → Type 0
   To may b t = Shares d names Objects (HaveDisciplines d) may b t
 
-  put_fits : (b : Sharing Objects) (place : ℕ) (x : Event) → Set b → discipline.Fifo ≡ d (list place) → HaveDisciplines d (put_event b.shared place x)
+  put_fits : (b : Sharing Objects) (place : ℕ) (x : ApexEvent) → Set b → discipline.Fifo ≡ d (list place) → HaveDisciplines d (put_event b.shared place x)
   put_fits b place x h k = record {
     semaphores = h.fit.semaphores;
     events = each_put (λ place x. discipline.Fifo ≡ d (list place)) b.shared.events place x h.fit.events k;
@@ -34,10 +34,10 @@ module _ (d : ListKey → Discipline) (names : ℕ → List ℕ) where
     blackboards = h.fit.blackboards;
   }
 
-  found_fits : (b : Sharing Objects) (id : ℤ) (f : ℕ × Event) → Set b → event b.shared id ≡ Some f → (λ (place : ℕ) (x : Event). discipline.Fifo ≡ d (list place)) f.0 f.1
+  found_fits : (b : Sharing Objects) (id : ℤ) (f : ℕ × ApexEvent) → Set b → event b.shared id ≡ Some f → (λ (place : ℕ) (x : ApexEvent). discipline.Fifo ≡ d (list place)) f.0 f.1
   found_fits b id f h e = numbered_is (λ place x. discipline.Fifo ≡ d (list place)) b.shared.events id f h.fit.events e
 
-  puts : (may : May) (b : Sharing Objects) (place : ℕ) (x : Event) → Set b → discipline.Fifo ≡ d (list place) → To may b (becomes b (put_event b.shared place x))
+  puts : (may : May) (b : Sharing Objects) (place : ℕ) (x : ApexEvent) → Set b → discipline.Fifo ≡ d (list place) → To may b (becomes b (put_event b.shared place x))
   puts may b place x h k = becomes_shares d names Objects (HaveDisciplines d) may b (put_event b.shared place x) h (put_fits b place x h k)
 
   pub create_event_shares : (may : May) (m : Mode) (b : Sharing Objects) (p : Runner) (name : ℤ) → Set b → To may b (create_event m b p name)
@@ -45,7 +45,7 @@ module _ (d : ListKey → Discipline) (names : ℕ → List ℕ) where
       create_shares d names Objects (HaveDisciplines d) may m b p service.CreateEvent name (event b.shared name) is_created (creates b) h
       (λ f e. puts may b f.0 (record f.1 { created = true }) h (found_fits b name f h e))
 
-  raises_shares : (may : May) (b : Sharing Objects) (place : ℕ) (x : Event) → Set b → discipline.Fifo ≡ d (list place) → To may b (raises b place x)
+  raises_shares : (may : May) (b : Sharing Objects) (place : ℕ) (x : ApexEvent) → Set b → discipline.Fifo ≡ d (list place) → To may b (raises b place x)
   raises_shares may b place x h e =
       after_shares d names Objects (HaveDisciplines d) may b (sets b true place x) _ (puts may b place (record x { up = true }) h e)
       (λ k. of_shares d names Objects (HaveDisciplines d) may _ _ k (releases_goes d names may (waiting b.processes (list place)) b.processes h.named))
@@ -64,7 +64,7 @@ module _ (d : ListKey → Discipline) (names : ℕ → List ℕ) where
       (after_shares d names Objects (HaveDisciplines d) may b _ _ (answers_shares d names Objects (HaveDisciplines d) may b p service.ResetEvent code.NoError [] h)
       (λ k. on_shares d names Objects (HaveDisciplines d) may b (event b.shared id) (sets b false) k (λ f e. puts may b f.0 (record f.1 { up = false }) k (found_fits b id f k e))))
 
-  awaits_shares : (may : May) (at : At) (b : Sharing Objects) (p : Runner) (limit : ℤ) (place : ℕ) (x : Event) → Set b → may.begin_to_wait ≡ itself p → discipline.Fifo ≡ d (list place)
+  awaits_shares : (may : May) (at : At) (b : Sharing Objects) (p : Runner) (limit : ℤ) (place : ℕ) (x : ApexEvent) → Set b → may.begin_to_wait ≡ itself p → discipline.Fifo ≡ d (list place)
       → To may b (awaits at b p limit place x)
   awaits_shares may at b p limit place x h own e =
       either_shares d names Objects (HaveDisciplines d) may b x.up _ _ (answers_shares d names Objects (HaveDisciplines d) may b p service.WaitEvent code.NoError [] h)

@@ -176,14 +176,14 @@ module _ (d : ListKey → Discipline) (names : ℕ → List ℕ) where
 
   -- ---- errors
 
-  goes_on_moves : (may : May) (k : Kernel) (p : Runner) (e : ErrorKind) → IsReady k → Moves may k (health.goes_on k p e)
-  goes_on_moves may k runner.Init e h =
+  ignores_moves : (may : May) (k : Kernel) (p : Runner) (e : ErrorKind) → IsReady k → Moves may k (health.ignores k p e)
+  ignores_moves may k runner.Init e h =
       either_moves may k (is_fault e) _ _ (clears_moves may k mode.Idle condition.HmPartitionRestart h) (of_moves may k _ h (nothing_goes d names may k.processes h.named))
-  goes_on_moves may k runner.Handler e h = of_moves may k _ h (nothing_goes d names may k.processes h.named)
-  goes_on_moves may k (runner.Process p) e h = of_moves may k _ h (nothing_goes d names may k.processes h.named)
+  ignores_moves may k runner.Handler e h = of_moves may k _ h (nothing_goes d names may k.processes h.named)
+  ignores_moves may k (runner.Process p) e h = of_moves may k _ h (nothing_goes d names may k.processes h.named)
 
   enters_moves : (may : May) (k : Kernel) (p : Runner) (e : ErrorKind) (o : Option Mode) → IsReady k → Moves may k (health.enters_mode k p e o)
-  enters_moves may k p e None h = goes_on_moves may k p e h
+  enters_moves may k p e None h = ignores_moves may k p e h
   enters_moves may k p e (Some m) h = clears_moves may k m condition.HmPartitionRestart h
 
   acts_moves : (may : May) (k : Kernel) (p : Runner) (e : ErrorKind) (o : Option PartitionAction) → IsReady k → Moves may k (acts_on_error k p e o)
@@ -264,7 +264,7 @@ module _ (d : ListKey → Discipline) (names : ℕ → List ℕ) where
       → Goes d names may s (treats_deadline at free action s p (row_of s (runner.Process p))).step
   deadline_goes may at free action s p h = by_row (row_of s (runner.Process p)) refl
     where
-      by_test : (r : ProcessStatus) → IsOf d names (runner.Process p) r → (b : Bool) → Goes d names may s (if b then misses free action s p r else due.goes_on free (nothing s)).step
+      by_test : (r : ProcessStatus) → IsOf d names (runner.Process p) r → (b : Bool) → Goes d names may s (if b then misses free action s p r else due.without_clear free (nothing s)).step
       by_test r e true = misses_goes may free action s p r h e
       by_test r e false = nothing_goes d names may s h
 

@@ -29,7 +29,7 @@ use Rattle.apex_types.specs.declared.service.ArrayPlace.{ArrayPlace}
 use Rattle.apex_types.specs.declared.service.Service.TheVariants as service
 use Rattle.kernel_meaning.specs.Times.{Treated, timed_out, ends_wait, treats_due, misses, treats_deadline, treats, due_from, is_past, tick_of, mode_of_action}
 use Rattle.kernel_meaning.specs.Kernel.{Errors}
-use Rattle.kernel_meaning.specs.HealthServices.{action_of, acts_on_error, begins_if_dormant, breaks, create_error_handler, creates_found, enters_mode as enters_mode_of_action, faults, get_error_status, goes_on, is_fault, is_waiting, raise_application_error, raises, raises_application_error, starts_handler, takes_error, then_clears}
+use Rattle.kernel_meaning.specs.HealthServices.{action_of, acts_on_error, begins_if_dormant, breaks, create_error_handler, creates_found, enters_mode as enters_mode_of_action, faults, get_error_status, ignores, is_fault, is_waiting, raise_application_error, raises, raises_application_error, starts_handler, takes_error, then_clears}
 use Rattle.kernel_meaning.specs.Kernel.{Kernel, of_processes, with_errors}
 use Rattle.kernel_meaning.specs.PartitionServices.{clears, cleared_processes, ends_body, enters_mode, forgotten, is_cold, is_warm, mode_of, next_release_of, ready_init, set_partition_mode, started_rows, starts_normally, wants}
 use Rattle.kernel_meaning.specs.ProcessServices.{is_ready_state}
@@ -151,13 +151,13 @@ module _ (b : Sharing Errors) (h : RecordsAgree b.processes) (p : Runner) where
   pub error_status_agrees : (array : ArrayPlace) → IsKept (get_error_status b p array)
   error_status_agrees array = search (either_shared, takes_error_agrees array b.shared.waiting)
 
-goes_on_agrees : (k : Kernel) (p : Runner) (e : ErrorKind) → KernelAgrees k → Kept (goes_on k p e)
-goes_on_agrees k runner.Init e h = either_kernel (is_fault e) _ _ (clears_agrees k mode.Idle condition.HmPartitionRestart h) h
-goes_on_agrees k runner.Handler e h = h
-goes_on_agrees k (runner.Process q) e h = h
+ignores_agrees : (k : Kernel) (p : Runner) (e : ErrorKind) → KernelAgrees k → Kept (ignores k p e)
+ignores_agrees k runner.Init e h = either_kernel (is_fault e) _ _ (clears_agrees k mode.Idle condition.HmPartitionRestart h) h
+ignores_agrees k runner.Handler e h = h
+ignores_agrees k (runner.Process q) e h = h
 
 enters_of_action_agrees : (k : Kernel) (p : Runner) (e : ErrorKind) (o : Option Mode) → KernelAgrees k → Kept (enters_mode_of_action k p e o)
-enters_of_action_agrees k p e None h = goes_on_agrees k p e h
+enters_of_action_agrees k p e None h = ignores_agrees k p e h
 enters_of_action_agrees k p e (Some m) h = clears_agrees k m condition.HmPartitionRestart h
 
 acts_agrees : (k : Kernel) (p : Runner) (e : ErrorKind) (o : Option PartitionAction) → KernelAgrees k → Kept (acts_on_error k p e o)

@@ -18,7 +18,7 @@ use Rattle.kernel_meaning.specs.BlackboardServices as blackboards
 use Rattle.kernel_meaning.specs.BufferServices as buffers
 use Rattle.kernel_meaning.specs.EventServices as events
 use Rattle.kernel_meaning.specs.ObjectServices.{serves_objects}
-use Rattle.kernel_meaning.specs.Objects.{Objects, Blackboard, Buffer, Semaphore, Event}
+use Rattle.kernel_meaning.specs.Objects.{Objects, Blackboard, Buffer, Semaphore, ApexEvent}
 use Rattle.kernel_meaning.specs.PortServices as ports
 use Rattle.kernel_meaning.specs.Objects.{Port, Ports, is_full, is_sampling, port_at}
 use Rattle.kernel_meaning.specs.Processes.{row_of, numbered}
@@ -95,13 +95,13 @@ module _ (b : Sharing Objects) (h : RecordsAgree b.processes) (p : Runner) where
   takes_agrees : (at : At) (limit : ℤ) (place : ℕ) (x : Semaphore) → IsKept (semaphores.takes at b p limit place x)
   takes_agrees at limit place x = either (nat_lt 0 x.value) _ _ h (waits_agrees at limit (semaphores.waiting_for place x) (message []))
 
-  awaits_agrees : (at : At) (limit : ℤ) (place : ℕ) (x : Event) → IsKept (events.awaits at b p limit place x)
+  awaits_agrees : (at : At) (limit : ℤ) (place : ℕ) (x : ApexEvent) → IsKept (events.awaits at b p limit place x)
   awaits_agrees at limit place x = either x.up _ _ h (waits_agrees at limit (events.waiting_for place) (message []))
 
   sends_agrees : (at : At) (limit : ℤ) (m : ArrayVec ℤ) (place : ℕ) (x : Buffer) → IsKept (buffers.sends at b p limit m place x)
   sends_agrees at limit m place x = either (buffers.is_full x) _ _ (waits_agrees at limit (buffers.sender place x) m) (takes_message_agrees place x m)
 
-  raises_agrees : (place : ℕ) (x : Event) → IsKept (events.raises b place x)
+  raises_agrees : (place : ℕ) (x : ApexEvent) → IsKept (events.raises b place x)
   raises_agrees place x = all_released_agree (waiting b.processes (events.list place)) b.processes h
 
   displays_agrees : (m : ArrayVec ℤ) (place : ℕ) (x : Blackboard) → IsKept (blackboards.displays b m place x)

@@ -29,41 +29,65 @@ ghost use Rattle.order.specs.RunLaw.{HasOrder, HoldsReady, MoveGoes, RunGoes};
 /// A tick of a partition whose lists are in order goes on with its numbers, on any engine: on the
 /// machine as on the sources.
 pub fn tick_goes_on()
-    ensures machine { (disciplines : ListKey → Discipline) (names : ℕ → List ℕ) (n : Numbers) (e : Engine MachineControl) (at : At) (w : World MachineControl) → IsOrdered disciplines names n w.kernel → TickGoes disciplines names n e at w }
-    ensures source { (disciplines : ListKey → Discipline) (names : ℕ → List ℕ) (n : Numbers) (e : Engine SourceControl) (at : At) (w : World SourceControl) → IsOrdered disciplines names n w.kernel → TickGoes disciplines names n e at w }
+    ensures machine { (disciplines : ListKey → Discipline) (names : ℕ → List ℕ) (n : Numbers)
+        (e : Engine MachineControl) (at : At) (w : World MachineControl)
+        → IsOrdered disciplines names n w.kernel → TickGoes disciplines names n e at w }
+    ensures source { (disciplines : ListKey → Discipline) (names : ℕ → List ℕ) (n : Numbers)
+        (e : Engine SourceControl) (at : At) (w : World SourceControl)
+        → IsOrdered disciplines names n w.kernel → TickGoes disciplines names n e at w }
 {}
 
 /// So does each step that a module makes of a partition: beside its ticks its starts, a fault of its
 /// hardware, and what comes to its ports and leaves them.
 pub fn steps_go_on()
-    ensures machine { (disciplines : ListKey → Discipline) (names : ℕ → List ℕ) (n : Numbers) (step : Move) (x : Member MachineControl) → IsOrdered disciplines names n x.world.kernel → MoveGoes disciplines names n step x }
-    ensures source { (disciplines : ListKey → Discipline) (names : ℕ → List ℕ) (n : Numbers) (step : Move) (x : Member SourceControl) → IsOrdered disciplines names n x.world.kernel → MoveGoes disciplines names n step x }
+    ensures machine { (disciplines : ListKey → Discipline) (names : ℕ → List ℕ) (n : Numbers)
+        (step : Move) (x : Member MachineControl) → IsOrdered disciplines names n x.world.kernel
+        → MoveGoes disciplines names n step x }
+    ensures source { (disciplines : ListKey → Discipline) (names : ℕ → List ℕ) (n : Numbers)
+        (step : Move) (x : Member SourceControl) → IsOrdered disciplines names n x.world.kernel
+        → MoveGoes disciplines names n step x }
 {}
 
 /// In every state of every run, of every image and of all sources, the ready list and the waiting
 /// lists of each partition have the order of its numbers, which go on from each step to the next. So
 /// in each tick the one that is chosen is the one whom the numbers allow, and there is no other.
 pub fn order_in_every_run()
-    ensures machine { (image : Image) (devices : List DeviceLine) (n : ℕ) → RunGoes (machine_module image) devices n }
-    ensures source { (t : Table) (sources : List Program) (devices : List DeviceLine) (n : ℕ) → RunGoes (source_module t sources) devices n }
+    ensures machine { (image : Image) (devices : List DeviceLine) (n : ℕ)
+        → RunGoes (machine_module image) devices n }
+    ensures source { (t : Table) (sources : List Program) (devices : List DeviceLine) (n : ℕ)
+        → RunGoes (source_module t sources) devices n }
 {}
 
 /// So in the state after any number of ticks there are numbers by which the lists of each partition
 /// are in order.
 pub fn order_in_every_state()
-    ensures machine { (image : Image) (devices : List DeviceLine) (n p : ℕ) (x : Member MachineControl) → at_number (members_after (machine_module image) devices n) p ≡ Some x → HasOrder (machine_module image) p x }
-    ensures source { (t : Table) (sources : List Program) (devices : List DeviceLine) (n p : ℕ) (x : Member SourceControl) → at_number (members_after (source_module t sources) devices n) p ≡ Some x → HasOrder (source_module t sources) p x }
+    ensures machine { (image : Image) (devices : List DeviceLine) (n p : ℕ)
+        (x : Member MachineControl)
+        → at_number (members_after (machine_module image) devices n) p ≡ Some x
+        → HasOrder (machine_module image) p x }
+    ensures source { (t : Table) (sources : List Program) (devices : List DeviceLine) (n p : ℕ)
+        (x : Member SourceControl)
+        → at_number (members_after (source_module t sources) devices n) p ≡ Some x
+        → HasOrder (source_module t sources) p x }
 {}
 
 /// In such a state the ready list of a partition holds just those processes whose records are READY or
 /// RUNNING, each with its current priority.
 pub fn ready_ones_are_listed()
-    ensures machine { (image : Image) (devices : List DeviceLine) (n p : ℕ) (x : Member MachineControl) → at_number (members_after (machine_module image) devices n) p ≡ Some x → HoldsReady x }
-    ensures source { (t : Table) (sources : List Program) (devices : List DeviceLine) (n p : ℕ) (x : Member SourceControl) → at_number (members_after (source_module t sources) devices n) p ≡ Some x → HoldsReady x }
+    ensures machine { (image : Image) (devices : List DeviceLine) (n p : ℕ)
+        (x : Member MachineControl)
+        → at_number (members_after (machine_module image) devices n) p ≡ Some x → HoldsReady x }
+    ensures source { (t : Table) (sources : List Program) (devices : List DeviceLine) (n p : ℕ)
+        (x : Member SourceControl)
+        → at_number (members_after (source_module t sources) devices n) p ≡ Some x → HoldsReady x }
 {}
 
 /// Where the lists are in order, the one at the head of a waiting list is the one that is to be
 /// released first, and there is no other.
 pub fn head_is_released_first()
-    ensures { (disciplines : ListKey → Discipline) (names : ℕ → List ℕ) (n : Numbers) (k : Kernel) (list : ListKey) (e : Entry) → IsOrdered disciplines names n k → (slice_get (waiting k.processes list) 0 ≡ Some e ↔ IsReleasedFirst (disciplines list) n.waiting (waiting k.processes list) e) }
+    ensures { (disciplines : ListKey → Discipline) (names : ℕ → List ℕ) (n : Numbers) (k : Kernel)
+        (list : ListKey) (e : Entry)
+        → IsOrdered disciplines names n k
+        → (slice_get (waiting k.processes list) 0 ≡ Some e
+        ↔ IsReleasedFirst (disciplines list) n.waiting (waiting k.processes list) e) }
 {}

@@ -27,7 +27,10 @@ pub fn check_kinds(
     declared: &NameTable,
     program: &Program,
 ) -> Result<Check, AllocError>
-    ensures { IfOk result (λ checked. is_ok checked ≡ holds_of_bodies (kinds_hold_in_body (entries_of declared.now)) (program_of program.now)) }
+    ensures { IfOk result
+        (λ checked. is_ok checked
+        ≡ holds_of_bodies (kinds_hold_in_body (entries_of declared.now))
+        (program_of program.now)) }
 {
     let names = &program.names;
     let init = check_body(alloc, names, declared, false, &[], &program.init.body)?;
@@ -43,7 +46,10 @@ fn check_handler(
     declared: &NameTable,
     handler: &Option<StackBody>,
 ) -> Result<Check, AllocError>
-    ensures { IfOk result (λ checked. is_ok checked ≡ holds_of_handler (kinds_hold_in_body (entries_of declared.now)) (option_map (view.stack_body_of (texts names.now.keys)) handler.now)) }
+    ensures { IfOk result
+        (λ checked. is_ok checked
+        ≡ holds_of_handler (kinds_hold_in_body (entries_of declared.now))
+        (option_map (view.stack_body_of (texts names.now.keys)) handler.now)) }
 {
     match handler {
         Some(handler) => check_body(alloc, names, declared, false, &[], &handler.body),
@@ -57,7 +63,10 @@ fn check_processes(
     declared: &NameTable,
     processes: &[Process],
 ) -> Result<Check, AllocError>
-    ensures { IfOk result (λ checked. is_ok checked ≡ list_all (λ q. kinds_hold_in_body (entries_of declared.now) false [] q.body) (map (view.process_of (texts names.now.keys)) processes.now)) }
+    ensures { IfOk result
+        (λ checked. is_ok checked
+        ≡ list_all (λ q. kinds_hold_in_body (entries_of declared.now) false [] q.body)
+        (map (view.process_of (texts names.now.keys)) processes.now)) }
 {
     let mut checked = Ok(());
     for process in processes {
@@ -75,7 +84,10 @@ fn check_procedures(
     declared: &NameTable,
     declarations: &[Declaration],
 ) -> Result<Check, AllocError>
-    ensures { IfOk result (λ checked. is_ok checked ≡ list_all (λ d. holds_of_procedure (kinds_hold_in_body (entries_of declared.now)) d.kind) (map (view.declaration_of (texts names.now.keys)) declarations.now)) }
+    ensures { IfOk result
+        (λ checked. is_ok checked
+        ≡ list_all (λ d. holds_of_procedure (kinds_hold_in_body (entries_of declared.now)) d.kind)
+        (map (view.declaration_of (texts names.now.keys)) declarations.now)) }
 {
     let mut checked = Ok(());
     for declaration in declarations {
@@ -93,7 +105,10 @@ fn check_procedure(
     declared: &NameTable,
     kind: &DeclarationKind,
 ) -> Result<Check, AllocError>
-    ensures { IfOk result (λ checked. is_ok checked ≡ holds_of_procedure (kinds_hold_in_body (entries_of declared.now)) (view.declared_of (texts names.now.keys) kind.now)) }
+    ensures { IfOk result
+        (λ checked. is_ok checked
+        ≡ holds_of_procedure (kinds_hold_in_body (entries_of declared.now))
+        (view.declared_of (texts names.now.keys) kind.now)) }
 {
     match kind {
         DeclarationKind::Procedure { parameters, body } => {
@@ -111,7 +126,11 @@ fn check_body(
     parameters: &[Identifier],
     body: &Body,
 ) -> Result<Check, AllocError>
-    ensures { IfOk result (λ checked. is_ok checked ≡ kinds_hold_in_body (entries_of declared.now) returns (map (name_of (texts names.now.keys)) parameters.now) (body_of (texts names.now.keys) body.now)) }
+    ensures { IfOk result
+        (λ checked. is_ok checked
+        ≡ kinds_hold_in_body (entries_of declared.now) returns
+        (map (name_of (texts names.now.keys)) parameters.now)
+        (body_of (texts names.now.keys) body.now)) }
 {
     let entered = enter_body(alloc, names, declared, parameters, &body.locals)?;
     Ok(check_block(&entered.scope, returns, &body.statements))
@@ -119,7 +138,8 @@ fn check_body(
 
 #[cycle(kinds_statement)]
 fn check_block(scope: &Scope, returns: bool, block: &[Stmt]) -> Check
-    ensures { is_ok result ≡ fits_block (sees scope.now) returns (block_of (names_of scope.now) block.now) }
+    ensures { is_ok result
+        ≡ fits_block (sees scope.now) returns (block_of (names_of scope.now) block.now) }
 {
     for statement in block {
         check_statement(scope, returns, statement.line, &statement.kind)?;
@@ -129,7 +149,8 @@ fn check_block(scope: &Scope, returns: bool, block: &[Stmt]) -> Check
 
 #[cycle(kinds_statement)]
 fn check_statement(scope: &Scope, returns: bool, line: u32, statement: &StmtKind) -> Check
-    ensures { is_ok result ≡ fits_stmt (sees scope.now) returns (view.kind_of (names_of scope.now) statement.now) }
+    ensures { is_ok result
+        ≡ fits_stmt (sees scope.now) returns (view.kind_of (names_of scope.now) statement.now) }
 {
     match statement {
         StmtKind::Assign(target, value) => {
@@ -172,7 +193,8 @@ fn check_statement(scope: &Scope, returns: bool, line: u32, statement: &StmtKind
 /// Checks the number and the kinds of a service's arguments. A wrong number is an error of the
 /// line of the call.
 fn check_arguments(scope: &Scope, line: u32, kinds: &[ArgumentKind], arguments: &[Expr]) -> Check
-    ensures { is_ok result ≡ fits_arguments (sees scope.now) kinds.now (exprs_of (names_of scope.now) arguments.now) }
+    ensures { is_ok result
+        ≡ fits_arguments (sees scope.now) kinds.now (exprs_of (names_of scope.now) arguments.now) }
 {
     match (kinds.split_first(), arguments.split_first()) {
         (None, None) => Ok(()),
@@ -185,7 +207,8 @@ fn check_arguments(scope: &Scope, line: u32, kinds: &[ArgumentKind], arguments: 
 }
 
 fn check_argument(scope: &Scope, line: u32, kind: ArgumentKind, argument: &Expr) -> Check
-    ensures { is_ok result ≡ fits_argument (sees scope.now) kind (expr_of (names_of scope.now) argument.now) }
+    ensures { is_ok result
+        ≡ fits_argument (sees scope.now) kind (expr_of (names_of scope.now) argument.now) }
 {
     match (kind, argument) {
         (ArgumentKind::Word, _) => check_expression(scope, argument),
@@ -196,7 +219,9 @@ fn check_argument(scope: &Scope, line: u32, kind: ArgumentKind, argument: &Expr)
 }
 
 fn check_targets(scope: &Scope, targets: &[Identifier]) -> Check
-    ensures { is_ok result ≡ list_all (λ x. is_scalar (sees scope.now x)) (map (name_of (names_of scope.now)) targets.now) }
+    ensures { is_ok result
+        ≡ list_all (λ x. is_scalar (sees scope.now x))
+        (map (name_of (names_of scope.now)) targets.now) }
 {
     for target in targets {
         scope.check_scalar(*target)?;
@@ -206,7 +231,8 @@ fn check_targets(scope: &Scope, targets: &[Identifier]) -> Check
 
 #[cycle(kinds_expression)]
 fn check_expression(scope: &Scope, expression: &Expr) -> Check
-    ensures { is_ok result ≡ fits_expr (sees scope.now) (expr_of (names_of scope.now) expression.now) }
+    ensures { is_ok result
+        ≡ fits_expr (sees scope.now) (expr_of (names_of scope.now) expression.now) }
 {
     match expression {
         Expr::Number(_) => Ok(()),
@@ -231,7 +257,8 @@ fn check_expression(scope: &Scope, expression: &Expr) -> Check
 
 #[cycle(kinds_expression)]
 fn check_expressions(scope: &Scope, expressions: &[Expr]) -> Check
-    ensures { is_ok result ≡ fits_exprs (sees scope.now) (exprs_of (names_of scope.now) expressions.now) }
+    ensures { is_ok result
+        ≡ fits_exprs (sees scope.now) (exprs_of (names_of scope.now) expressions.now) }
 {
     for expression in expressions {
         check_expression(scope, expression)?;

@@ -38,7 +38,9 @@ pub fn check_limits(
     declared: &NameTable,
     program: &Program,
 ) -> Result<Check, AllocError>
-    ensures { IfOk result (λ checked. is_ok checked ≡ limits_hold_among (entries_of declared.now) (program_of program.now)) }
+    ensures { IfOk result
+        (λ checked.
+        is_ok checked ≡ limits_hold_among (entries_of declared.now) (program_of program.now)) }
 {
     let names = &program.names;
     let counts = check_counts(&program.declarations);
@@ -54,7 +56,8 @@ pub fn check_limits(
 /// Checks the words of data and how many there are of each kind. The error is the line of the first
 /// declaration that makes too many.
 fn check_counts(declarations: &[Declaration]) -> Check
-    ensures { (names : List (List ℕ)) → is_ok result ≡ keeps_counts no_counts (map (view.declaration_of names) declarations.now) }
+    ensures { (names : List (List ℕ))
+        → is_ok result ≡ keeps_counts no_counts (map (view.declaration_of names) declarations.now) }
 {
     let mut counts = Counts::NONE;
     for declaration in declarations {
@@ -141,7 +144,8 @@ fn check_name_form(names: &IndexSet<String>, name: Identifier) -> Check
 }
 
 fn check_name_forms(names: &IndexSet<String>, identifiers: &[Identifier]) -> Check
-    ensures { is_ok result ≡ list_all name_text.is_name (map (name_of (texts names.now.keys)) identifiers.now) }
+    ensures { is_ok result
+        ≡ list_all name_text.is_name (map (name_of (texts names.now.keys)) identifiers.now) }
 {
     for name in identifiers {
         check_name_form(names, *name)?;
@@ -164,7 +168,10 @@ fn check_declarations(
     declared: &NameTable,
     declarations: &[Declaration],
 ) -> Result<Check, AllocError>
-    ensures { IfOk result (λ checked. is_ok checked ≡ list_all (keeps_declaration (entries_of declared.now)) (map (view.declaration_of (texts names.now.keys)) declarations.now)) }
+    ensures { IfOk result
+        (λ checked. is_ok checked
+        ≡ list_all (keeps_declaration (entries_of declared.now))
+        (map (view.declaration_of (texts names.now.keys)) declarations.now)) }
 {
     let mut checked = Ok(());
     for declaration in declarations {
@@ -183,7 +190,10 @@ fn check_kind(
     line: u32,
     kind: &DeclarationKind,
 ) -> Result<Check, AllocError>
-    ensures { IfOk result (λ checked. is_ok checked ≡ keeps_kind (entries_of declared.now) (view.declared_of (texts names.now.keys) kind.now)) }
+    ensures { IfOk result
+        (λ checked. is_ok checked
+        ≡ keeps_kind (entries_of declared.now)
+        (view.declared_of (texts names.now.keys) kind.now)) }
 {
     Ok(match kind {
         DeclarationKind::Variable(None) | DeclarationKind::Event | DeclarationKind::Port => Ok(()),
@@ -218,7 +228,11 @@ fn check_procedure(
     parameters: &[Identifier],
     body: &Body,
 ) -> Result<Check, AllocError>
-    ensures { IfOk result (λ checked. is_ok checked ≡ keeps_kind (entries_of declared.now) (tree.Procedure (map (name_of (texts names.now.keys)) parameters.now) (body_of (texts names.now.keys) body.now))) }
+    ensures { IfOk result
+        (λ checked. is_ok checked
+        ≡ keeps_kind (entries_of declared.now)
+        (tree.Procedure (map (name_of (texts names.now.keys)) parameters.now)
+        (body_of (texts names.now.keys) body.now))) }
 {
     let count = check_that(parameters.len() <= MOST_PARAMETERS as usize, line);
     let inside = check_body(names, body);
@@ -239,7 +253,10 @@ fn check_stack_body(
     declared: &NameTable,
     body: &StackBody,
 ) -> Result<Check, AllocError>
-    ensures { IfOk result (λ checked. is_ok checked ≡ keeps_stack_body (entries_of declared.now) (number_of body.now.stack) (body_of (texts names.now.keys) body.now.body)) }
+    ensures { IfOk result
+        (λ checked. is_ok checked
+        ≡ keeps_stack_body (entries_of declared.now) (number_of body.now.stack)
+        (body_of (texts names.now.keys) body.now.body)) }
 {
     check_stack(alloc, names, declared, body.line, &body.stack, &body.body)
 }
@@ -250,7 +267,10 @@ fn check_handler(
     declared: &NameTable,
     handler: &Option<StackBody>,
 ) -> Result<Check, AllocError>
-    ensures { IfOk result (λ checked. is_ok checked ≡ keeps_handler (entries_of declared.now) (option_map (view.stack_body_of (texts names.now.keys)) handler.now)) }
+    ensures { IfOk result
+        (λ checked. is_ok checked
+        ≡ keeps_handler (entries_of declared.now)
+        (option_map (view.stack_body_of (texts names.now.keys)) handler.now)) }
 {
     match handler {
         Some(handler) => check_stack_body(alloc, names, declared, handler),
@@ -267,7 +287,10 @@ fn check_stack(
     stack: &Numeral,
     body: &Body,
 ) -> Result<Check, AllocError>
-    ensures { IfOk result (λ checked. is_ok checked ≡ keeps_stack_body (entries_of declared.now) (number_of stack.now) (body_of (texts names.now.keys) body.now)) }
+    ensures { IfOk result
+        (λ checked. is_ok checked
+        ≡ keeps_stack_body (entries_of declared.now) (number_of stack.now)
+        (body_of (texts names.now.keys) body.now)) }
 {
     let frame = check_frame(alloc, names, declared, line, stack, body)?;
     Ok(earliest(frame, check_body(names, body)))
@@ -282,7 +305,11 @@ fn check_frame(
     stack: &Numeral,
     body: &Body,
 ) -> Result<Check, AllocError>
-    ensures { IfOk result (λ checked. is_ok checked ≡ (is_between LEAST_STACK_WORDS MOST_STACK_WORDS (number_of stack.now) && well_formed.fits_stack (entries_of declared.now) (number_of stack.now) (body_of (texts names.now.keys) body.now))) }
+    ensures { IfOk result
+        (λ checked. is_ok checked
+        ≡ (is_between LEAST_STACK_WORDS MOST_STACK_WORDS (number_of stack.now)
+        && well_formed.fits_stack (entries_of declared.now) (number_of stack.now)
+        (body_of (texts names.now.keys) body.now))) }
 {
     let Some(words) = value_of(stack) else {
         return Ok(Err(Line(stack.line)));
@@ -300,7 +327,10 @@ fn check_processes(
     declared: &NameTable,
     processes: &[Process],
 ) -> Result<Check, AllocError>
-    ensures { IfOk result (λ checked. is_ok checked ≡ list_all (keeps_process (entries_of declared.now)) (map (view.process_of (texts names.now.keys)) processes.now)) }
+    ensures { IfOk result
+        (λ checked. is_ok checked
+        ≡ list_all (keeps_process (entries_of declared.now))
+        (map (view.process_of (texts names.now.keys)) processes.now)) }
 {
     let mut checked = Ok(());
     for process in processes {
@@ -315,7 +345,10 @@ fn check_process(
     declared: &NameTable,
     process: &Process,
 ) -> Result<Check, AllocError>
-    ensures { IfOk result (λ checked. is_ok checked ≡ keeps_process (entries_of declared.now) (view.process_of (texts names.now.keys) process.now)) }
+    ensures { IfOk result
+        (λ checked. is_ok checked
+        ≡ keeps_process (entries_of declared.now)
+        (view.process_of (texts names.now.keys) process.now)) }
 {
     let line = process.line;
     let row = earliest(

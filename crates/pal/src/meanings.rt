@@ -100,7 +100,10 @@ impl Counts {
 
     /// What a name so declared stands for, where so much is declared before it.
     fn meaning(&self, kind: &DeclarationKind, ports: &[PortRow], name: &str) -> Denotation
-        ensures { (names : List (List ℕ)) → result ≡ declared_meaning ports.now (counts_of self.now) name.now (declared_of names kind.now) }
+        ensures { (names : List (List ℕ))
+            → result
+            ≡ declared_meaning ports.now (counts_of self.now) name.now
+            (declared_of names kind.now) }
     {
         match kind {
             DeclarationKind::Variable(_) => Denotation::Scalar(Place::Data(self.words)),
@@ -129,7 +132,9 @@ impl Counts {
 
     /// The counts after one more declaration; none if one is above its limit.
     pub fn after(self, kind: &DeclarationKind) -> Option<Counts>
-        ensures { (names : List (List ℕ)) → option_map counts_of result ≡ meant.after (counts_of self) (declared_of names kind.now) }
+        ensures { (names : List (List ℕ))
+            → option_map counts_of result
+            ≡ meant.after (counts_of self) (declared_of names kind.now) }
     {
         let mut counts = self;
         match kind {
@@ -171,8 +176,11 @@ pub fn declared_names<'a>(
     program: &'a Program,
     ports: &[PortRow],
 ) -> Result<Declared<'a>, AllocError>
-    ensures fresh { IfOk result (λ d. is_ok d.fresh ≡ are_new [] [] (declared_entries ports.now (program_of program.now))) }
-    ensures behind { IfOk result (λ d. is_ok d.fresh ≡ true → entries_of d.table ≡ declared_entries ports.now (program_of program.now)) }
+    ensures fresh { IfOk result
+        (λ d. is_ok d.fresh ≡ are_new [] [] (declared_entries ports.now (program_of program.now))) }
+    ensures behind { IfOk result
+        (λ d. is_ok d.fresh ≡ true
+        → entries_of d.table ≡ declared_entries ports.now (program_of program.now)) }
 {
     let names = &program.names;
     let mut table = NameTable::new(alloc);
@@ -190,8 +198,19 @@ fn enter_declarations<'a>(
     declarations: &[Declaration],
     ports: &[PortRow],
 ) -> Result<Check, AllocError>
-    ensures fresh { IfOk result (λ checked. (rest : List Entry) → (is_ok checked && are_new [] (entries_of table.new) rest) ≡ are_new [] (entries_of table.old) (declaration_entries ports.now no_counts (map (declaration_of (texts names.now.keys)) declarations.now) ++ rest)) }
-    ensures behind { IfOk result (λ checked. is_ok checked ≡ true → entries_of table.new ≡ entries_of table.old ++ declaration_entries ports.now no_counts (map (declaration_of (texts names.now.keys)) declarations.now)) }
+    ensures fresh { IfOk result
+        (λ checked. (rest : List Entry)
+        → (is_ok checked && are_new [] (entries_of table.new) rest)
+        ≡ are_new [] (entries_of table.old)
+        (declaration_entries ports.now no_counts
+        (map (declaration_of (texts names.now.keys)) declarations.now)
+        ++ rest)) }
+    ensures behind { IfOk result
+        (λ checked. is_ok checked ≡ true
+        → entries_of table.new
+        ≡ entries_of table.old
+        ++ declaration_entries ports.now no_counts
+        (map (declaration_of (texts names.now.keys)) declarations.now)) }
 {
     let mut counts = Counts::NONE;
     let mut checked = Ok(());
@@ -210,8 +229,16 @@ fn enter_processes<'a>(
     table: &mut NameTable<'a>,
     processes: &[Process],
 ) -> Result<Check, AllocError>
-    ensures fresh { IfOk result (λ checked. (rest : List Entry) → (is_ok checked && are_new [] (entries_of table.new) rest) ≡ are_new [] (entries_of table.old) (process_entries 0 (map (process_of (texts names.now.keys)) processes.now) ++ rest)) }
-    ensures behind { IfOk result (λ checked. is_ok checked ≡ true → entries_of table.new ≡ entries_of table.old ++ process_entries 0 (map (process_of (texts names.now.keys)) processes.now)) }
+    ensures fresh { IfOk result
+        (λ checked. (rest : List Entry)
+        → (is_ok checked && are_new [] (entries_of table.new) rest)
+        ≡ are_new [] (entries_of table.old)
+        (process_entries 0 (map (process_of (texts names.now.keys)) processes.now) ++ rest)) }
+    ensures behind { IfOk result
+        (λ checked. is_ok checked ≡ true
+        → entries_of table.new
+        ≡ entries_of table.old
+        ++ process_entries 0 (map (process_of (texts names.now.keys)) processes.now)) }
 {
     let mut count = 0;
     let mut checked = Ok(());

@@ -26,7 +26,9 @@ pub fn check_names(
     declared: &NameTable,
     program: &Program,
 ) -> Result<Check, AllocError>
-    ensures { IfOk result (λ checked. is_ok checked ≡ holds_of_bodies (names_hold_of (entries_of declared.now)) (program_of program.now)) }
+    ensures { IfOk result
+        (λ checked. is_ok checked
+        ≡ holds_of_bodies (names_hold_of (entries_of declared.now)) (program_of program.now)) }
 {
     let names = &program.names;
     let init = check_body(alloc, names, declared, &[], &program.init.body)?;
@@ -42,7 +44,10 @@ fn check_handler(
     declared: &NameTable,
     handler: &Option<StackBody>,
 ) -> Result<Check, AllocError>
-    ensures { IfOk result (λ checked. is_ok checked ≡ holds_of_handler (names_hold_of (entries_of declared.now)) (option_map (view.stack_body_of (texts names.now.keys)) handler.now)) }
+    ensures { IfOk result
+        (λ checked. is_ok checked
+        ≡ holds_of_handler (names_hold_of (entries_of declared.now))
+        (option_map (view.stack_body_of (texts names.now.keys)) handler.now)) }
 {
     match handler {
         Some(handler) => check_body(alloc, names, declared, &[], &handler.body),
@@ -56,7 +61,10 @@ fn check_processes(
     declared: &NameTable,
     processes: &[Process],
 ) -> Result<Check, AllocError>
-    ensures { IfOk result (λ checked. is_ok checked ≡ list_all (λ q. names_hold_in_body (entries_of declared.now) [] q.body) (map (view.process_of (texts names.now.keys)) processes.now)) }
+    ensures { IfOk result
+        (λ checked. is_ok checked
+        ≡ list_all (λ q. names_hold_in_body (entries_of declared.now) [] q.body)
+        (map (view.process_of (texts names.now.keys)) processes.now)) }
 {
     let mut checked = Ok(());
     for process in processes {
@@ -74,7 +82,10 @@ fn check_procedures(
     declared: &NameTable,
     declarations: &[Declaration],
 ) -> Result<Check, AllocError>
-    ensures { IfOk result (λ checked. is_ok checked ≡ list_all (λ d. holds_of_procedure (names_hold_of (entries_of declared.now)) d.kind) (map (view.declaration_of (texts names.now.keys)) declarations.now)) }
+    ensures { IfOk result
+        (λ checked. is_ok checked
+        ≡ list_all (λ d. holds_of_procedure (names_hold_of (entries_of declared.now)) d.kind)
+        (map (view.declaration_of (texts names.now.keys)) declarations.now)) }
 {
     let mut checked = Ok(());
     for declaration in declarations {
@@ -92,7 +103,10 @@ fn check_procedure(
     declared: &NameTable,
     kind: &DeclarationKind,
 ) -> Result<Check, AllocError>
-    ensures { IfOk result (λ checked. is_ok checked ≡ holds_of_procedure (names_hold_of (entries_of declared.now)) (view.declared_of (texts names.now.keys) kind.now)) }
+    ensures { IfOk result
+        (λ checked. is_ok checked
+        ≡ holds_of_procedure (names_hold_of (entries_of declared.now))
+        (view.declared_of (texts names.now.keys) kind.now)) }
 {
     match kind {
         DeclarationKind::Procedure { parameters, body } => {
@@ -109,7 +123,11 @@ fn check_body(
     parameters: &[Identifier],
     body: &Body,
 ) -> Result<Check, AllocError>
-    ensures { IfOk result (λ checked. is_ok checked ≡ names_hold_in_body (entries_of declared.now) (map (name_of (texts names.now.keys)) parameters.now) (body_of (texts names.now.keys) body.now)) }
+    ensures { IfOk result
+        (λ checked. is_ok checked
+        ≡ names_hold_in_body (entries_of declared.now)
+        (map (name_of (texts names.now.keys)) parameters.now)
+        (body_of (texts names.now.keys) body.now)) }
 {
     let entered = enter_body(alloc, names, declared, parameters, &body.locals)?;
     let inside = check_block(&entered.scope, &body.statements);
@@ -118,7 +136,8 @@ fn check_body(
 
 #[cycle(names_statement)]
 fn check_block(scope: &Scope, block: &[Stmt]) -> Check
-    ensures { is_ok result ≡ knows_block (sees scope.now) (block_of (names_of scope.now) block.now) }
+    ensures { is_ok result
+        ≡ knows_block (sees scope.now) (block_of (names_of scope.now) block.now) }
 {
     for statement in block {
         check_statement(scope, &statement.kind)?;
@@ -128,7 +147,8 @@ fn check_block(scope: &Scope, block: &[Stmt]) -> Check
 
 #[cycle(names_statement)]
 fn check_statement(scope: &Scope, statement: &StmtKind) -> Check
-    ensures { is_ok result ≡ knows_stmt (sees scope.now) (view.kind_of (names_of scope.now) statement.now) }
+    ensures { is_ok result
+        ≡ knows_stmt (sees scope.now) (view.kind_of (names_of scope.now) statement.now) }
 {
     match statement {
         StmtKind::Assign(target, value) => {
@@ -163,7 +183,9 @@ fn check_statement(scope: &Scope, statement: &StmtKind) -> Check
 }
 
 fn check_targets(scope: &Scope, targets: &[Identifier]) -> Check
-    ensures { is_ok result ≡ list_all (λ x. is_some (sees scope.now x)) (map (name_of (names_of scope.now)) targets.now) }
+    ensures { is_ok result
+        ≡ list_all (λ x. is_some (sees scope.now x))
+        (map (name_of (names_of scope.now)) targets.now) }
 {
     for target in targets {
         scope.check_known(*target)?;
@@ -173,7 +195,8 @@ fn check_targets(scope: &Scope, targets: &[Identifier]) -> Check
 
 #[cycle(names_expression)]
 fn check_expression(scope: &Scope, expression: &Expr) -> Check
-    ensures { is_ok result ≡ knows_expr (sees scope.now) (expr_of (names_of scope.now) expression.now) }
+    ensures { is_ok result
+        ≡ knows_expr (sees scope.now) (expr_of (names_of scope.now) expression.now) }
 {
     match expression {
         Expr::Number(_) => Ok(()),
@@ -197,7 +220,8 @@ fn check_expression(scope: &Scope, expression: &Expr) -> Check
 
 #[cycle(names_expression)]
 fn check_expressions(scope: &Scope, expressions: &[Expr]) -> Check
-    ensures { is_ok result ≡ knows_exprs (sees scope.now) (exprs_of (names_of scope.now) expressions.now) }
+    ensures { is_ok result
+        ≡ knows_exprs (sees scope.now) (exprs_of (names_of scope.now) expressions.now) }
 {
     for expression in expressions {
         check_expression(scope, expression)?;
@@ -207,7 +231,8 @@ fn check_expressions(scope: &Scope, expressions: &[Expr]) -> Check
 
 #[cycle(names_expression)]
 fn check_links(scope: &Scope, links: &[Link]) -> Check
-    ensures { is_ok result ≡ knows_links (sees scope.now) (links_of (names_of scope.now) links.now) }
+    ensures { is_ok result
+        ≡ knows_links (sees scope.now) (links_of (names_of scope.now) links.now) }
 {
     for link in links {
         check_expression(scope, &link.operand)?;

@@ -13,7 +13,9 @@ use pal_base::syntax::{Numeral, Process};
 /// Checks that each finite period is a multiple of the partition's. The error is the line of the
 /// first process for which it is not.
 pub fn check_periods(processes: &[Process], partition: u32) -> Check
-    ensures { (names : List (List ℕ)) → is_ok result ≡ list_all (keeps_period partition) (map (view.process_of names) processes.now) }
+    ensures { (names : List (List ℕ))
+        → is_ok result
+        ≡ list_all (keeps_period partition) (map (view.process_of names) processes.now) }
 {
     for process in processes {
         check_that(is_aligned(partition, &process.period), process.line)?;
@@ -23,7 +25,9 @@ pub fn check_periods(processes: &[Process], partition: u32) -> Check
 
 /// Whether a period is infinite or a multiple of the partition's.
 fn is_aligned(partition: u32, period: &Numeral) -> bool
-    ensures { result ≡ (if period.now.negative then true else is_written_multiple partition (number_of period.now)) }
+    ensures { result
+        ≡ (if period.now.negative then true else is_written_multiple partition
+        (number_of period.now)) }
 {
     period.negative || is_written_multiple(partition, period)
 }

@@ -72,7 +72,8 @@ fn report_handler(
     handler: &Option<Body>,
 ) -> Result<(), AllocError>
     requires { IsHandlerHeld costs.now (option_map body_of handler.now) }
-    ensures { OnOk result (report.new.items ≡ report.old.items ++ cost_of_handler costs.now handler.now) }
+    ensures { OnOk result
+        (report.new.items ≡ report.old.items ++ cost_of_handler costs.now handler.now) }
 {
     if let Some(handler) = handler {
         report.push(body_cost(costs, BodyName::Handler, handler))?;
@@ -87,7 +88,8 @@ fn report_processes(
     processes: &[Process],
 ) -> Result<(), AllocError>
     requires { AreProcessesHeld costs.now (map process_of processes.now) }
-    ensures { OnOk result (report.new.items ≡ report.old.items ++ map (cost_of_process costs.now) processes.now) }
+    ensures { OnOk result
+        (report.new.items ≡ report.old.items ++ map (cost_of_process costs.now) processes.now) }
 {
     for process in processes {
         report.push(body_cost(costs, BodyName::Process(process.name), &process.body))?;
@@ -102,7 +104,8 @@ fn report_procedures(
     procedures: &[Procedure],
 ) -> Result<(), AllocError>
     requires { AreProceduresHeld costs.now (map procedure_of procedures.now) }
-    ensures { OnOk result (report.new.items ≡ report.old.items ++ map (cost_of_procedure costs.now) procedures.now) }
+    ensures { OnOk result
+        (report.new.items ≡ report.old.items ++ map (cost_of_procedure costs.now) procedures.now) }
 {
     for procedure in procedures {
         let name = BodyName::Procedure(procedure.name);

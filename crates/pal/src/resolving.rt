@@ -44,8 +44,12 @@ pub fn resolve(
     program: &Program,
 ) -> Result<program::Program, AllocError>
     requires { limits_hold_among (entries_of declared.now) (written.program_of program.now) ≡ true }
-    ensures resolved { IfOk result (λ resolved. shown.program_of resolved ≡ resolve_among (entries_of declared.now) (written.program_of program.now)) }
-    ensures named { IfOk result (λ resolved. names_of_procedures resolved.procedures.items ≡ procedure_names (written.program_of program.now).declarations) }
+    ensures resolved { IfOk result
+        (λ resolved. shown.program_of resolved
+        ≡ resolve_among (entries_of declared.now) (written.program_of program.now)) }
+    ensures named { IfOk result
+        (λ resolved. names_of_procedures resolved.procedures.items
+        ≡ procedure_names (written.program_of program.now).declarations) }
 {
     let names = &program.names;
     let declarations = &program.declarations;
@@ -70,7 +74,10 @@ pub fn resolve(
 
 /// The words of the variables and arrays in the order of declaration.
 fn initial_of(alloc: Global, declarations: &[Declaration]) -> Result<Vec<i64>, AllocError>
-    ensures { IfOk result (λ words. (names : List (List ℕ)) → words.items ≡ flat_map (λ d. words_of d.kind) (map (view.declaration_of names) declarations.now)) }
+    ensures { IfOk result
+        (λ words. (names : List (List ℕ))
+        → words.items
+        ≡ flat_map (λ d. words_of d.kind) (map (view.declaration_of names) declarations.now)) }
 {
     let mut words = Vec::new(alloc);
     for declaration in declarations {
@@ -81,7 +88,9 @@ fn initial_of(alloc: Global, declarations: &[Declaration]) -> Result<Vec<i64>, A
 
 /// The words that a declaration makes.
 fn push_words(words: &mut Vec<i64>, kind: &DeclarationKind) -> Result<(), AllocError>
-    ensures { OnOk result ((names : List (List ℕ)) → words.new.items ≡ words.old.items ++ words_of (view.declared_of names kind.now)) }
+    ensures { OnOk result
+        ((names : List (List ℕ))
+        → words.new.items ≡ words.old.items ++ words_of (view.declared_of names kind.now)) }
 {
     match kind {
         DeclarationKind::Variable(Some(value)) => words.push(signed_word_of(value))?,
@@ -97,7 +106,8 @@ fn push_words(words: &mut Vec<i64>, kind: &DeclarationKind) -> Result<(), AllocE
 }
 
 fn push_values(words: &mut Vec<i64>, values: &[Numeral]) -> Result<(), AllocError>
-    ensures { OnOk result (words.new.items ≡ words.old.items ++ map meant.signed_word (map integer_of values.now)) }
+    ensures { OnOk result
+        (words.new.items ≡ words.old.items ++ map meant.signed_word (map integer_of values.now)) }
 {
     for value in values {
         words.push(signed_word_of(value))?;
@@ -129,7 +139,11 @@ fn semaphores_of(
     alloc: Global,
     declarations: &[Declaration],
 ) -> Result<Vec<SemaphoreRow>, AllocError>
-    ensures { IfOk result (λ rows. (names : List (List ℕ)) → rows.items ≡ filter_map (λ d. semaphore_of d.kind) (map (view.declaration_of names) declarations.now)) }
+    ensures { IfOk result
+        (λ rows. (names : List (List ℕ))
+        → rows.items
+        ≡ filter_map (λ d. semaphore_of d.kind)
+        (map (view.declaration_of names) declarations.now)) }
 {
     let mut rows = Vec::new(alloc);
     for declaration in declarations {
@@ -147,7 +161,8 @@ fn semaphores_of(
 
 /// How many events are declared, up to the most.
 fn events_of(declarations: &[Declaration]) -> u8
-    ensures { (names : List (List ℕ)) → result ≡ (counts_of no_counts (map (view.declaration_of names) declarations.now)).events }
+    ensures { (names : List (List ℕ))
+        → result ≡ (counts_of no_counts (map (view.declaration_of names) declarations.now)).events }
 {
     let mut counts = Counts::NONE;
     for declaration in declarations {
@@ -157,7 +172,11 @@ fn events_of(declarations: &[Declaration]) -> u8
 }
 
 fn buffers_of(alloc: Global, declarations: &[Declaration]) -> Result<Vec<BufferRow>, AllocError>
-    ensures { IfOk result (λ rows. (names : List (List ℕ)) → rows.items ≡ filter_map (λ d. buffer_of d.kind) (map (view.declaration_of names) declarations.now)) }
+    ensures { IfOk result
+        (λ rows. (names : List (List ℕ))
+        → rows.items
+        ≡ filter_map (λ d. buffer_of d.kind)
+        (map (view.declaration_of names) declarations.now)) }
 {
     let mut rows = Vec::new(alloc);
     for declaration in declarations {
@@ -181,7 +200,11 @@ fn blackboards_of(
     alloc: Global,
     declarations: &[Declaration],
 ) -> Result<Vec<BlackboardRow>, AllocError>
-    ensures { IfOk result (λ rows. (names : List (List ℕ)) → rows.items ≡ filter_map (λ d. blackboard_of d.kind) (map (view.declaration_of names) declarations.now)) }
+    ensures { IfOk result
+        (λ rows. (names : List (List ℕ))
+        → rows.items
+        ≡ filter_map (λ d. blackboard_of d.kind)
+        (map (view.declaration_of names) declarations.now)) }
 {
     let mut rows = Vec::new(alloc);
     for declaration in declarations {
@@ -219,9 +242,16 @@ fn resolve_procedures(
     declared: &NameTable,
     declarations: &[Declaration],
 ) -> Result<Vec<program::Procedure>, AllocError>
-    requires { list_all (keeps_declaration (entries_of declared.now)) (map (view.declaration_of (texts names.now.keys)) declarations.now) ≡ true }
-    ensures procedures { IfOk result (λ procedures. map shown.procedure_of procedures.items ≡ filter_map (λ d. meant.procedure_of (entries_of declared.now) d.kind) (map (view.declaration_of (texts names.now.keys)) declarations.now)) }
-    ensures named { IfOk result (λ procedures. names_of_procedures procedures.items ≡ procedure_names (map (view.declaration_of (texts names.now.keys)) declarations.now)) }
+    requires { list_all (keeps_declaration (entries_of declared.now))
+        (map (view.declaration_of (texts names.now.keys)) declarations.now)
+        ≡ true }
+    ensures procedures { IfOk result
+        (λ procedures. map shown.procedure_of procedures.items
+        ≡ filter_map (λ d. meant.procedure_of (entries_of declared.now) d.kind)
+        (map (view.declaration_of (texts names.now.keys)) declarations.now)) }
+    ensures named { IfOk result
+        (λ procedures. names_of_procedures procedures.items
+        ≡ procedure_names (map (view.declaration_of (texts names.now.keys)) declarations.now)) }
 {
     let mut procedures = Vec::new(alloc);
     for declaration in declarations {
@@ -246,7 +276,10 @@ pub fn resolve_body(
     stack: &Numeral,
     body: &Body,
 ) -> Result<program::Body, AllocError>
-    ensures { IfOk result (λ resolved. shown.body_of resolved ≡ meant.resolve_body (entries_of declared.now) (number_of stack.now) (view.body_of (texts names.now.keys) body.now)) }
+    ensures { IfOk result
+        (λ resolved. shown.body_of resolved
+        ≡ meant.resolve_body (entries_of declared.now) (number_of stack.now)
+        (view.body_of (texts names.now.keys) body.now)) }
 {
     Ok(program::Body {
         stack: limited(MOST_STACK_WORDS as u64, stack) as u16,
@@ -261,7 +294,10 @@ fn resolve_handler(
     declared: &NameTable,
     handler: &Option<StackBody>,
 ) -> Result<Option<program::Body>, AllocError>
-    ensures { IfOk result (λ resolved. option_map shown.body_of resolved ≡ option_map (meant.resolve_stack_body (entries_of declared.now)) (option_map (view.stack_body_of (texts names.now.keys)) handler.now)) }
+    ensures { IfOk result
+        (λ resolved. option_map shown.body_of resolved
+        ≡ option_map (meant.resolve_stack_body (entries_of declared.now))
+        (option_map (view.stack_body_of (texts names.now.keys)) handler.now)) }
 {
     match handler {
         Some(handler) => {
@@ -278,8 +314,13 @@ fn resolve_processes(
     declared: &NameTable,
     processes: &[Process],
 ) -> Result<Vec<program::Process>, AllocError>
-    requires { list_all (keeps_process (entries_of declared.now)) (map (view.process_of (texts names.now.keys)) processes.now) ≡ true }
-    ensures { IfOk result (λ resolved. map shown.process_of resolved.items ≡ map (meant.resolve_process (entries_of declared.now)) (map (view.process_of (texts names.now.keys)) processes.now)) }
+    requires { list_all (keeps_process (entries_of declared.now))
+        (map (view.process_of (texts names.now.keys)) processes.now)
+        ≡ true }
+    ensures { IfOk result
+        (λ resolved. map shown.process_of resolved.items
+        ≡ map (meant.resolve_process (entries_of declared.now))
+        (map (view.process_of (texts names.now.keys)) processes.now)) }
 {
     let mut resolved = Vec::new(alloc);
     for process in processes {
@@ -294,8 +335,12 @@ fn resolve_process(
     declared: &NameTable,
     process: &Process,
 ) -> Result<program::Process, AllocError>
-    requires { keeps_process (entries_of declared.now) (view.process_of (texts names.now.keys) process.now) ≡ true }
-    ensures { IfOk result (λ resolved. shown.process_of resolved ≡ meant.resolve_process (entries_of declared.now) (view.process_of (texts names.now.keys) process.now)) }
+    requires { keeps_process (entries_of declared.now)
+        (view.process_of (texts names.now.keys) process.now) ≡ true }
+    ensures { IfOk result
+        (λ resolved. shown.process_of resolved
+        ≡ meant.resolve_process (entries_of declared.now)
+        (view.process_of (texts names.now.keys) process.now)) }
 {
     Ok(program::Process {
         name: name_at(names, process.name),
@@ -325,7 +370,11 @@ pub fn resolve_statements(
     parameters: &[Identifier],
     body: &Body,
 ) -> Result<Vec<program::Stmt>, AllocError>
-    ensures { IfOk result (λ block. shown.block_of block.items ≡ meant.resolve_body_block (entries_of declared.now) (map (name_of (texts names.now.keys)) parameters.now) (view.body_of (texts names.now.keys) body.now)) }
+    ensures { IfOk result
+        (λ block. shown.block_of block.items
+        ≡ meant.resolve_body_block (entries_of declared.now)
+        (map (name_of (texts names.now.keys)) parameters.now)
+        (view.body_of (texts names.now.keys) body.now)) }
 {
     let entered = enter_body(alloc, names, declared, parameters, &body.locals)?;
     resolve_block(alloc, &entered.scope, &body.statements)
@@ -337,7 +386,9 @@ fn resolve_block(
     scope: &Scope,
     block: &[Stmt],
 ) -> Result<Vec<program::Stmt>, AllocError>
-    ensures { IfOk result (λ resolved. shown.block_of resolved.items ≡ resolve_block (sees scope.now) (view.block_of (names_of scope.now) block.now)) }
+    ensures { IfOk result
+        (λ resolved. shown.block_of resolved.items
+        ≡ resolve_block (sees scope.now) (view.block_of (names_of scope.now) block.now)) }
 {
     let mut statements = Vec::new(alloc);
     for statement in block {
@@ -352,7 +403,9 @@ fn resolve_statement(
     scope: &Scope,
     statement: &StmtKind,
 ) -> Result<program::Stmt, AllocError>
-    ensures { IfOk result (λ resolved. shown.stmt_of resolved ≡ resolve_stmt (sees scope.now) (view.kind_of (names_of scope.now) statement.now)) }
+    ensures { IfOk result
+        (λ resolved. shown.stmt_of resolved
+        ≡ resolve_stmt (sees scope.now) (view.kind_of (names_of scope.now) statement.now)) }
 {
     match statement {
         StmtKind::Assign(target, value) => {
@@ -402,7 +455,10 @@ fn resolve_targets(
     scope: &Scope,
     targets: &[Identifier],
 ) -> Result<Vec<Place>, AllocError>
-    ensures { IfOk result (λ places. places.items ≡ map (λ x. meant.place_of (sees scope.now x)) (map (name_of (names_of scope.now)) targets.now)) }
+    ensures { IfOk result
+        (λ places. places.items
+        ≡ map (λ x. meant.place_of (sees scope.now x))
+        (map (name_of (names_of scope.now)) targets.now)) }
 {
     let mut places = Vec::new(alloc);
     for target in targets {
@@ -418,7 +474,10 @@ fn resolve_arguments(
     kinds: &[ArgumentKind],
     arguments: &[Expr],
 ) -> Result<Vec<program::Expr>, AllocError>
-    ensures { IfOk result (λ words. shown.exprs_of words.items ≡ meant.resolve_arguments (sees scope.now) kinds.now (view.exprs_of (names_of scope.now) arguments.now)) }
+    ensures { IfOk result
+        (λ words. shown.exprs_of words.items
+        ≡ meant.resolve_arguments (sees scope.now) kinds.now
+        (view.exprs_of (names_of scope.now) arguments.now)) }
 {
     let mut words = Vec::new(alloc);
     push_arguments(alloc, &mut words, scope, kinds, arguments)?;
@@ -432,7 +491,11 @@ fn push_arguments(
     kinds: &[ArgumentKind],
     arguments: &[Expr],
 ) -> Result<(), AllocError>
-    ensures { OnOk result (shown.exprs_of words.new.items ≡ exprs_onto words.old.items (meant.resolve_arguments (sees scope.now) kinds.now (view.exprs_of (names_of scope.now) arguments.now))) }
+    ensures { OnOk result
+        (shown.exprs_of words.new.items
+        ≡ exprs_onto words.old.items
+        (meant.resolve_arguments (sees scope.now) kinds.now
+        (view.exprs_of (names_of scope.now) arguments.now))) }
 {
     match (kinds.split_first(), arguments.split_first()) {
         (Some((kind, kinds)), Some((argument, arguments))) => {
@@ -450,7 +513,12 @@ fn push_argument(
     kind: ArgumentKind,
     argument: &Expr,
 ) -> Result<(), AllocError>
-    ensures { OnOk result ((rest : tree.Exprs) → exprs_onto words.new.items rest ≡ exprs_onto words.old.items (meant.resolve_argument (sees scope.now) kind (view.expr_of (names_of scope.now) argument.now) rest)) }
+    ensures { OnOk result
+        ((rest : tree.Exprs)
+        → exprs_onto words.new.items rest
+        ≡ exprs_onto words.old.items
+        (meant.resolve_argument (sees scope.now) kind
+        (view.expr_of (names_of scope.now) argument.now) rest)) }
 {
     match kind {
         ArgumentKind::Word => words.push(resolve_expression(alloc, scope, argument)?)?,
@@ -465,27 +533,40 @@ fn push_argument(
 
 /// The place of the array that an argument names, as a word.
 fn array_place(scope: &Scope, argument: &Expr) -> program::Expr
-    ensures { shown.expr_of result ≡ tree.Literal (pos (meant.array_place_of (meant.named (sees scope.now) (view.expr_of (names_of scope.now) argument.now)))) }
+    ensures { shown.expr_of result
+        ≡ tree.Literal
+        (pos
+        (meant.array_place_of
+        (meant.named (sees scope.now) (view.expr_of (names_of scope.now) argument.now)))) }
 {
     program::Expr::Literal(named_array_place(scope, argument) as i64)
 }
 
 /// The size of the array that an argument names.
 fn array_size(scope: &Scope, argument: &Expr) -> program::Expr
-    ensures { shown.expr_of result ≡ tree.Literal (meant.array_size_of (meant.named (sees scope.now) (view.expr_of (names_of scope.now) argument.now))) }
+    ensures { shown.expr_of result
+        ≡ tree.Literal
+        (meant.array_size_of
+        (meant.named (sees scope.now) (view.expr_of (names_of scope.now) argument.now))) }
 {
     program::Expr::Literal(named_array_size(scope, argument))
 }
 
 /// The number of the object that an argument names, as a word.
 fn object_number(scope: &Scope, argument: &Expr) -> program::Expr
-    ensures { shown.expr_of result ≡ tree.Literal (pos (meant.object_number_of (meant.named (sees scope.now) (view.expr_of (names_of scope.now) argument.now)))) }
+    ensures { shown.expr_of result
+        ≡ tree.Literal
+        (pos
+        (meant.object_number_of
+        (meant.named (sees scope.now) (view.expr_of (names_of scope.now) argument.now)))) }
 {
     program::Expr::Literal(named_number(scope, argument) as i64)
 }
 
 fn named_array_place(scope: &Scope, argument: &Expr) -> u32
-    ensures { result ≡ meant.array_place_of (meant.named (sees scope.now) (view.expr_of (names_of scope.now) argument.now)) }
+    ensures { result
+        ≡ meant.array_place_of
+        (meant.named (sees scope.now) (view.expr_of (names_of scope.now) argument.now)) }
 {
     match argument {
         Expr::Name(name) => scope.array(*name).0,
@@ -494,7 +575,9 @@ fn named_array_place(scope: &Scope, argument: &Expr) -> u32
 }
 
 fn named_array_size(scope: &Scope, argument: &Expr) -> i64
-    ensures { result ≡ meant.array_size_of (meant.named (sees scope.now) (view.expr_of (names_of scope.now) argument.now)) }
+    ensures { result
+        ≡ meant.array_size_of
+        (meant.named (sees scope.now) (view.expr_of (names_of scope.now) argument.now)) }
 {
     match argument {
         Expr::Name(name) => scope.array(*name).1,
@@ -503,7 +586,9 @@ fn named_array_size(scope: &Scope, argument: &Expr) -> i64
 }
 
 fn named_number(scope: &Scope, argument: &Expr) -> u32
-    ensures { result ≡ meant.object_number_of (meant.named (sees scope.now) (view.expr_of (names_of scope.now) argument.now)) }
+    ensures { result
+        ≡ meant.object_number_of
+        (meant.named (sees scope.now) (view.expr_of (names_of scope.now) argument.now)) }
 {
     match argument {
         Expr::Name(name) => scope.number(*name),
@@ -517,7 +602,9 @@ fn resolve_expression(
     scope: &Scope,
     expression: &Expr,
 ) -> Result<program::Expr, AllocError>
-    ensures { IfOk result (λ resolved. shown.expr_of resolved ≡ resolve_expr (sees scope.now) (view.expr_of (names_of scope.now) expression.now)) }
+    ensures { IfOk result
+        (λ resolved. shown.expr_of resolved
+        ≡ resolve_expr (sees scope.now) (view.expr_of (names_of scope.now) expression.now)) }
 {
     match expression {
         Expr::Number(number) => Ok(program::Expr::Literal(word_of(number))),
@@ -550,7 +637,9 @@ fn resolve_expressions(
     scope: &Scope,
     expressions: &[Expr],
 ) -> Result<Vec<program::Expr>, AllocError>
-    ensures { IfOk result (λ resolved. shown.exprs_of resolved.items ≡ resolve_exprs (sees scope.now) (view.exprs_of (names_of scope.now) expressions.now)) }
+    ensures { IfOk result
+        (λ resolved. shown.exprs_of resolved.items
+        ≡ resolve_exprs (sees scope.now) (view.exprs_of (names_of scope.now) expressions.now)) }
 {
     let mut resolved = Vec::new(alloc);
     for expression in expressions {
@@ -565,7 +654,9 @@ fn resolve_links(
     scope: &Scope,
     links: &[Link],
 ) -> Result<Vec<program::Link>, AllocError>
-    ensures { IfOk result (λ resolved. shown.links_of resolved.items ≡ resolve_links (sees scope.now) (view.links_of (names_of scope.now) links.now)) }
+    ensures { IfOk result
+        (λ resolved. shown.links_of resolved.items
+        ≡ resolve_links (sees scope.now) (view.links_of (names_of scope.now) links.now)) }
 {
     let mut resolved = Vec::new(alloc);
     for link in links {

@@ -42,8 +42,19 @@ pub fn enter_body<'a>(
     locals: &[Identifier],
 ) -> Result<Entered<'a>, AllocError>
     ensures names { IfOk result (λ e. names_of e.scope ≡ texts names.now.keys) }
-    ensures sees { IfOk result (λ e. sees e.scope ≡ scope_of (own_entries 0 (map (name_of (texts names.now.keys)) parameters.now ++ map (name_of (texts names.now.keys)) locals.now)) (entries_of declared.now)) }
-    ensures fresh { IfOk result (λ e. is_ok e.fresh ≡ are_new (entries_of declared.now) [] (own_entries 0 (map (name_of (texts names.now.keys)) parameters.now ++ map (name_of (texts names.now.keys)) locals.now))) }
+    ensures sees { IfOk result
+        (λ e. sees e.scope
+        ≡ scope_of
+        (own_entries 0
+        (map (name_of (texts names.now.keys)) parameters.now
+        ++ map (name_of (texts names.now.keys)) locals.now))
+        (entries_of declared.now)) }
+    ensures fresh { IfOk result
+        (λ e. is_ok e.fresh
+        ≡ are_new (entries_of declared.now) []
+        (own_entries 0
+        (map (name_of (texts names.now.keys)) parameters.now
+        ++ map (name_of (texts names.now.keys)) locals.now))) }
 {
     let mut own = NameTable::new(alloc);
     let one = enter_names(names, declared, &mut own, 0, parameters)?;
@@ -67,8 +78,18 @@ fn enter_names<'a>(
     before: usize,
     identifiers: &[Identifier],
 ) -> Result<Check, AllocError>
-    ensures sees { OnOk result ((name : List ℕ) (rest : List Entry) → find name (entries_of own.new ++ rest) ≡ find name (entries_of own.old ++ (own_entries before (map (name_of (texts names.now.keys)) identifiers.now) ++ rest))) }
-    ensures fresh { IfOk result (λ checked. (rest : List Entry) → (is_ok checked && are_new (entries_of declared.now) (entries_of own.new) rest) ≡ are_new (entries_of declared.now) (entries_of own.old) (own_entries before (map (name_of (texts names.now.keys)) identifiers.now) ++ rest)) }
+    ensures sees { OnOk result
+        ((name : List ℕ) (rest : List Entry)
+        → find name (entries_of own.new ++ rest)
+        ≡ find name
+        (entries_of own.old
+        ++ (own_entries before (map (name_of (texts names.now.keys)) identifiers.now)
+        ++ rest))) }
+    ensures fresh { IfOk result
+        (λ checked. (rest : List Entry)
+        → (is_ok checked && are_new (entries_of declared.now) (entries_of own.new) rest)
+        ≡ are_new (entries_of declared.now) (entries_of own.old)
+        (own_entries before (map (name_of (texts names.now.keys)) identifiers.now) ++ rest)) }
 {
     let mut checked = Ok(());
     for (index, identifier) in identifiers.iter().enumerate() {
@@ -106,7 +127,8 @@ impl<'a> Scope<'a> {
 
     /// Checks that the name is that of a scalar. The error is its line.
     pub fn check_scalar(&self, name: Identifier) -> Check
-        ensures { is_ok result ≡ well_formed.is_scalar (sees self.now (name_of (names_of self.now) name)) }
+        ensures { is_ok result
+            ≡ well_formed.is_scalar (sees self.now (name_of (names_of self.now) name)) }
     {
         match self.get(name) {
             Some(Denotation::Scalar(_)) => Ok(()),
@@ -116,7 +138,8 @@ impl<'a> Scope<'a> {
 
     /// Checks that the name is that of an array. The error is its line.
     pub fn check_array(&self, name: Identifier) -> Check
-        ensures { is_ok result ≡ well_formed.is_array (sees self.now (name_of (names_of self.now) name)) }
+        ensures { is_ok result
+            ≡ well_formed.is_array (sees self.now (name_of (names_of self.now) name)) }
     {
         match self.get(name) {
             Some(Denotation::Array(_, _)) => Ok(()),
@@ -126,7 +149,9 @@ impl<'a> Scope<'a> {
 
     /// Checks that the name is that of a procedure with this many parameters. The error is its line.
     pub fn check_procedure(&self, name: Identifier, arguments: usize) -> Check
-        ensures { is_ok result ≡ well_formed.is_procedure arguments (sees self.now (name_of (names_of self.now) name)) }
+        ensures { is_ok result
+            ≡ well_formed.is_procedure arguments
+            (sees self.now (name_of (names_of self.now) name)) }
     {
         match self.get(name) {
             Some(Denotation::Procedure(_, parameters)) => check_that(
@@ -140,7 +165,8 @@ impl<'a> Scope<'a> {
     /// Checks that the name is that of an object, a port or a process of this kind. The error is
     /// its line.
     pub fn check_object(&self, name: Identifier, kind: ObjectKind) -> Check
-        ensures { is_ok result ≡ well_formed.is_object kind (sees self.now (name_of (names_of self.now) name)) }
+        ensures { is_ok result
+            ≡ well_formed.is_object kind (sees self.now (name_of (names_of self.now) name)) }
     {
         match self.get(name) {
             Some(Denotation::Object(found, _)) => check_that(is_same_kind(found, kind), name.line),
@@ -160,7 +186,8 @@ impl<'a> Scope<'a> {
 
     /// The place and the size of an array; for any other name 0 and 0.
     pub fn array(&self, name: Identifier) -> (u32, i64)
-        ensures place { result.0 ≡ array_place_of (sees self.now (name_of (names_of self.now) name)) }
+        ensures place { result.0
+            ≡ array_place_of (sees self.now (name_of (names_of self.now) name)) }
         ensures size { result.1 ≡ array_size_of (sees self.now (name_of (names_of self.now) name)) }
     {
         match self.get(name) {

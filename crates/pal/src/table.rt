@@ -37,9 +37,21 @@ impl<'a> NameTable<'a> {
     /// Lets the name stand for a meaning, unless it stands for one already; answers whether it is
     /// new.
     pub fn enter(&mut self, text: &'a str, meaning: Denotation) -> Result<bool, AllocError>
-        ensures sees { OnOk result ((name : List ℕ) (rest : List Entry) → find name (entries_of self.new ++ rest) ≡ find name (entries_of self.old ++ record { name = text.now; meaning = meaning } ∷ rest)) }
-        ensures fresh { IfOk result (λ is_new. (declared rest : List Entry) → (is_new && not (is_some (find text.now declared)) && are_new declared (entries_of self.new) rest) ≡ are_new declared (entries_of self.old) (record { name = text.now; meaning = meaning } ∷ rest)) }
-        ensures behind { IfOk result (λ is_new. is_new ≡ true → entries_of self.new ≡ entries_of self.old ++ record { name = text.now; meaning = meaning } ∷ []) }
+        ensures sees { OnOk result
+            ((name : List ℕ) (rest : List Entry)
+            → find name (entries_of self.new ++ rest)
+            ≡ find name
+            (entries_of self.old ++ record { name = text.now; meaning = meaning } ∷ rest)) }
+        ensures fresh { IfOk result
+            (λ is_new. (declared rest : List Entry)
+            → (is_new && not (is_some (find text.now declared)) && are_new declared
+            (entries_of self.new) rest)
+            ≡ are_new declared (entries_of self.old)
+            (record { name = text.now; meaning = meaning } ∷ rest)) }
+        ensures behind { IfOk result
+            (λ is_new. is_new ≡ true
+            → entries_of self.new
+            ≡ entries_of self.old ++ record { name = text.now; meaning = meaning } ∷ []) }
     {
         if self.get(text).is_some() {
             return Ok(false);

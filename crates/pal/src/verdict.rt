@@ -26,8 +26,11 @@ use window_table::PartitionRow;
 /// with the lowest number, and the first line that breaks this rule. The procedures stand in the order
 /// of their declarations, and keep their names.
 pub fn check(alloc: Global, program: Program, row: &PartitionRow) -> Result<Checked, PalFault>
-    ensures verdict { Answers result (well_formed.verdict row.now.ports.items row.now.period (program_of program)) }
-    ensures named { IfOk result (λ checked. names_of_procedures checked.program.procedures.items ≡ procedure_names (program_of program).declarations) }
+    ensures verdict { Answers result
+        (well_formed.verdict row.now.ports.items row.now.period (program_of program)) }
+    ensures named { IfOk result
+        (λ checked. names_of_procedures checked.program.procedures.items
+        ≡ procedure_names (program_of program).declarations) }
 {
     let resolved = judged(alloc, &program, row)?;
     Ok(Checked { program: resolved })
@@ -39,8 +42,11 @@ fn judged(
     program: &Program,
     row: &PartitionRow,
 ) -> Result<program::Program, PalFault>
-    ensures verdict { AnswersWith result (well_formed.verdict row.now.ports.items row.now.period (program_of program.now)) }
-    ensures named { IfOk result (λ resolved. names_of_procedures resolved.procedures.items ≡ procedure_names (program_of program.now).declarations) }
+    ensures verdict { AnswersWith result
+        (well_formed.verdict row.now.ports.items row.now.period (program_of program.now)) }
+    ensures named { IfOk result
+        (λ resolved. names_of_procedures resolved.procedures.items
+        ≡ procedure_names (program_of program.now).declarations) }
 {
     let declared = declared_names(alloc, program, &row.ports)?;
     let names = check_names(alloc, &declared.table, program)?;
@@ -55,8 +61,11 @@ fn well_formed(
     program: &Program,
     period: u32,
 ) -> Result<program::Program, PalFault>
-    ensures verdict { AnswersWith result (verdict_among (entries_of declared.now) period (program_of program.now)) }
-    ensures named { IfOk result (λ resolved. names_of_procedures resolved.procedures.items ≡ procedure_names (program_of program.now).declarations) }
+    ensures verdict { AnswersWith result
+        (verdict_among (entries_of declared.now) period (program_of program.now)) }
+    ensures named { IfOk result
+        (λ resolved. names_of_procedures resolved.procedures.items
+        ≡ procedure_names (program_of program.now).declarations) }
 {
     let kinds = check_kinds(alloc, declared, program)?;
     refused_by(Refusal::Kind, kinds)?;

@@ -32,7 +32,8 @@ impl Cost {
 
     /// What these constructs and others behind them come to.
     fn plus(self, others: Cost) -> Self
-        ensures { (xs ys : List ℕ) → self ≡ comes_to xs → others ≡ comes_to ys → result ≡ comes_to (xs ++ ys) }
+        ensures { (xs ys : List ℕ) → self ≡ comes_to xs → others ≡ comes_to ys
+            → result ≡ comes_to (xs ++ ys) }
     {
         Cost {
             ticks: self.ticks.saturating_add(others.ticks),
@@ -41,7 +42,8 @@ impl Cost {
 
     /// What these constructs, one of so many ticks, and others behind it come to.
     fn joined_by(self, ticks: u32, others: Cost) -> Self
-        ensures { (xs ys : List ℕ) → self ≡ comes_to xs → others ≡ comes_to ys → result ≡ comes_to (xs ++ ticks ∷ ys) }
+        ensures { (xs ys : List ℕ) → self ≡ comes_to xs → others ≡ comes_to ys
+            → result ≡ comes_to (xs ++ ticks ∷ ys) }
     {
         self.plus(Cost::one(ticks).plus(others))
     }
@@ -72,7 +74,11 @@ pub fn cost_of_expr(costs: &Costs, expr: &Expr) -> Cost
 /// An operator with its right operand.
 #[cycle(cost_of_expr)]
 fn cost_of_link(costs: &Costs, link: &Link) -> Cost
-    ensures { result ≡ comes_to (cost.costs_of_expr costs.now (expr_of link.now.operand) ++ operators.cost_of_binary costs.now link.now.operator ∷ []) }
+    ensures { result
+        ≡ comes_to
+        (cost.costs_of_expr costs.now (expr_of link.now.operand)
+        ++ operators.cost_of_binary costs.now link.now.operator
+        ∷ []) }
 {
     cost_of_expr(costs, &link.operand).and(link.operator.cost(costs))
 }
@@ -113,7 +119,11 @@ fn cost_of_targets(costs: &Costs, targets: &[Place]) -> Cost
 
 /// A call of a service with its arguments, and the writes of its targets.
 fn cost_of_service(costs: &Costs, service: Service, arguments: &[Expr], targets: &[Place]) -> Cost
-    ensures { result ≡ comes_to (cost.costs_of_exprs costs.now (exprs_of arguments.now) ++ (services.cost_of_service costs.now service ∷ map (λ _. costs.now.scalar) targets.now)) }
+    ensures { result
+        ≡ comes_to
+        (cost.costs_of_exprs costs.now (exprs_of arguments.now)
+        ++ (services.cost_of_service costs.now service
+        ∷ map (λ _. costs.now.scalar) targets.now)) }
 {
     cost_of_exprs(costs, arguments).joined_by(service.cost(costs), cost_of_targets(costs, targets))
 }

@@ -16,7 +16,10 @@ impl Source {
     /// The declarations up to the word `init`.
     pub fn declarations<'a>(&self, alloc: Global, tokens: &'a [Token]) -> Read<'a, Vec<Declaration>>
         ensures shorter { IfOk result (λ x. length x.1.now ≤ length tokens.now) }
-        ensures exact { Gives (λ x. (map (declaration_of (names_of self.now)) x.0.items, seen self.now x.1.now)) result (reading.declarations_at (seen self.now tokens.now)) }
+        ensures exact { Gives
+            (λ x.
+            (map (declaration_of (names_of self.now)) x.0.items, seen self.now x.1.now))
+            result (reading.declarations_at (seen self.now tokens.now)) }
     {
         let mut declarations = Vec::new(alloc);
         let mut rest = tokens;
@@ -32,7 +35,8 @@ impl Source {
     /// A declaration.
     fn declaration<'a>(&self, alloc: Global, tokens: &'a [Token]) -> Read<'a, Declaration>
         ensures shorter { IfOk result (λ x. length x.1.now < length tokens.now) }
-        ensures exact { Gives (λ x. (declaration_of (names_of self.now) x.0, seen self.now x.1.now)) result (reading.declaration_at (seen self.now tokens.now)) }
+        ensures exact { Gives (λ x. (declaration_of (names_of self.now) x.0, seen self.now x.1.now))
+            result (reading.declaration_at (seen self.now tokens.now)) }
     {
         let line = self.line_of(tokens);
         if let Some(rest) = self.behind(tokens, Mark::Var) {
@@ -64,7 +68,8 @@ impl Source {
     /// What follows the word `var` of that line.
     fn variable<'a>(&self, line: u32, tokens: &'a [Token]) -> Read<'a, Declaration>
         ensures shorter { IfOk result (λ x. length x.1.now < length tokens.now) }
-        ensures exact { Gives (λ x. (declaration_of (names_of self.now) x.0, seen self.now x.1.now)) result (reading.variable_at (seen self.now tokens.now)) }
+        ensures exact { Gives (λ x. (declaration_of (names_of self.now) x.0, seen self.now x.1.now))
+            result (reading.variable_at (seen self.now tokens.now)) }
     {
         let (name, rest) = self.name(tokens)?;
         let (value, rest) = self.first_value(rest)?;
@@ -77,7 +82,8 @@ impl Source {
     /// An equals sign and a number, or nothing.
     fn first_value<'a>(&self, tokens: &'a [Token]) -> Read<'a, Option<Numeral>>
         ensures shorter { IfOk result (λ x. length x.1.now ≤ length tokens.now) }
-        ensures exact { Gives (λ x. (option_map integer_of x.0, seen self.now x.1.now)) result (reading.first_value_at (seen self.now tokens.now)) }
+        ensures exact { Gives (λ x. (option_map integer_of x.0, seen self.now x.1.now)) result
+            (reading.first_value_at (seen self.now tokens.now)) }
     {
         match self.behind(tokens, Mark::Equal) {
             Some(rest) => {
@@ -92,7 +98,8 @@ impl Source {
     /// What follows the word `array` of that line.
     fn array<'a>(&self, alloc: Global, line: u32, tokens: &'a [Token]) -> Read<'a, Declaration>
         ensures shorter { IfOk result (λ x. length x.1.now < length tokens.now) }
-        ensures exact { Gives (λ x. (declaration_of (names_of self.now) x.0, seen self.now x.1.now)) result (reading.array_at (seen self.now tokens.now)) }
+        ensures exact { Gives (λ x. (declaration_of (names_of self.now) x.0, seen self.now x.1.now))
+            result (reading.array_at (seen self.now tokens.now)) }
     {
         let (name, rest) = self.name(tokens)?;
         let rest = self.expect(rest, Mark::BracketOpens)?;
@@ -107,7 +114,8 @@ impl Source {
     /// An equals sign and one or more numbers, or nothing, and a semicolon.
     fn first_values<'a>(&self, alloc: Global, tokens: &'a [Token]) -> Read<'a, Vec<Numeral>>
         ensures shorter { IfOk result (λ x. length x.1.now < length tokens.now) }
-        ensures exact { Gives (λ x. (map integer_of x.0.items, seen self.now x.1.now)) result (reading.first_values_at (seen self.now tokens.now)) }
+        ensures exact { Gives (λ x. (map integer_of x.0.items, seen self.now x.1.now)) result
+            (reading.first_values_at (seen self.now tokens.now)) }
     {
         match self.behind(tokens, Mark::Equal) {
             Some(rest) => self.integers(alloc, rest),
@@ -122,7 +130,8 @@ impl Source {
     /// One or more numbers, and a semicolon.
     fn integers<'a>(&self, alloc: Global, tokens: &'a [Token]) -> Read<'a, Vec<Numeral>>
         ensures shorter { IfOk result (λ x. length x.1.now < length tokens.now) }
-        ensures exact { Gives (λ x. (map integer_of x.0.items, seen self.now x.1.now)) result (integers_read (seen self.now tokens.now)) }
+        ensures exact { Gives (λ x. (map integer_of x.0.items, seen self.now x.1.now)) result
+            (integers_read (seen self.now tokens.now)) }
     {
         let (first, rest) = self.integer(tokens)?;
         let (values, rest) = self.more_integers(alloc, first, rest)?;
@@ -138,7 +147,9 @@ impl Source {
         tokens: &'a [Token],
     ) -> Read<'a, Vec<Numeral>>
         ensures shorter { IfOk result (λ x. length x.1.now ≤ length tokens.now) }
-        ensures exact { Gives (λ x. (map integer_of x.0.items, seen self.now x.1.now)) result (and_more (integer_of first) (up_to (codes ";") reading.integer_at (seen self.now tokens.now))) }
+        ensures exact { Gives (λ x. (map integer_of x.0.items, seen self.now x.1.now)) result
+            (and_more (integer_of first)
+            (up_to (codes ";") reading.integer_at (seen self.now tokens.now))) }
     {
         let mut values = Vec::new(alloc);
         values.push(first)?;
@@ -155,7 +166,8 @@ impl Source {
     /// What follows the word `semaphore` of that line.
     fn semaphore<'a>(&self, line: u32, tokens: &'a [Token]) -> Read<'a, Declaration>
         ensures shorter { IfOk result (λ x. length x.1.now < length tokens.now) }
-        ensures exact { Gives (λ x. (declaration_of (names_of self.now) x.0, seen self.now x.1.now)) result (reading.semaphore_at (seen self.now tokens.now)) }
+        ensures exact { Gives (λ x. (declaration_of (names_of self.now) x.0, seen self.now x.1.now))
+            result (reading.semaphore_at (seen self.now tokens.now)) }
     {
         let (name, rest) = self.name(tokens)?;
         let (first, rest) = self.number(rest)?;
@@ -174,7 +186,8 @@ impl Source {
     /// What follows the word `event` of that line.
     fn event<'a>(&self, line: u32, tokens: &'a [Token]) -> Read<'a, Declaration>
         ensures shorter { IfOk result (λ x. length x.1.now < length tokens.now) }
-        ensures exact { Gives (λ x. (declaration_of (names_of self.now) x.0, seen self.now x.1.now)) result (reading.event_at (seen self.now tokens.now)) }
+        ensures exact { Gives (λ x. (declaration_of (names_of self.now) x.0, seen self.now x.1.now))
+            result (reading.event_at (seen self.now tokens.now)) }
     {
         let (name, rest) = self.name(tokens)?;
         let rest = self.expect(rest, Mark::Semicolon)?;
@@ -186,7 +199,8 @@ impl Source {
     /// What follows the word `buffer` of that line.
     fn buffer<'a>(&self, line: u32, tokens: &'a [Token]) -> Read<'a, Declaration>
         ensures shorter { IfOk result (λ x. length x.1.now < length tokens.now) }
-        ensures exact { Gives (λ x. (declaration_of (names_of self.now) x.0, seen self.now x.1.now)) result (reading.buffer_at (seen self.now tokens.now)) }
+        ensures exact { Gives (λ x. (declaration_of (names_of self.now) x.0, seen self.now x.1.now))
+            result (reading.buffer_at (seen self.now tokens.now)) }
     {
         let (name, rest) = self.name(tokens)?;
         let (words, rest) = self.number(rest)?;
@@ -205,7 +219,8 @@ impl Source {
     /// What follows the word `blackboard` of that line.
     fn blackboard<'a>(&self, line: u32, tokens: &'a [Token]) -> Read<'a, Declaration>
         ensures shorter { IfOk result (λ x. length x.1.now < length tokens.now) }
-        ensures exact { Gives (λ x. (declaration_of (names_of self.now) x.0, seen self.now x.1.now)) result (reading.blackboard_at (seen self.now tokens.now)) }
+        ensures exact { Gives (λ x. (declaration_of (names_of self.now) x.0, seen self.now x.1.now))
+            result (reading.blackboard_at (seen self.now tokens.now)) }
     {
         let (name, rest) = self.name(tokens)?;
         let (words, rest) = self.number(rest)?;
@@ -218,7 +233,8 @@ impl Source {
     /// What follows the word `port` of that line.
     fn port<'a>(&self, line: u32, tokens: &'a [Token]) -> Read<'a, Declaration>
         ensures shorter { IfOk result (λ x. length x.1.now < length tokens.now) }
-        ensures exact { Gives (λ x. (declaration_of (names_of self.now) x.0, seen self.now x.1.now)) result (reading.port_at (seen self.now tokens.now)) }
+        ensures exact { Gives (λ x. (declaration_of (names_of self.now) x.0, seen self.now x.1.now))
+            result (reading.port_at (seen self.now tokens.now)) }
     {
         let (name, rest) = self.name(tokens)?;
         let rest = self.expect(rest, Mark::Semicolon)?;
@@ -230,7 +246,8 @@ impl Source {
     /// What follows the word `proc` of that line.
     fn procedure<'a>(&self, alloc: Global, line: u32, tokens: &'a [Token]) -> Read<'a, Declaration>
         ensures shorter { IfOk result (λ x. length x.1.now < length tokens.now) }
-        ensures exact { Gives (λ x. (declaration_of (names_of self.now) x.0, seen self.now x.1.now)) result (reading.procedure_at (seen self.now tokens.now)) }
+        ensures exact { Gives (λ x. (declaration_of (names_of self.now) x.0, seen self.now x.1.now))
+            result (reading.procedure_at (seen self.now tokens.now)) }
     {
         let (name, rest) = self.name(tokens)?;
         let rest = self.expect(rest, Mark::ParenthesisOpens)?;
@@ -244,7 +261,9 @@ impl Source {
     /// The parameters up to the closing parenthesis, and that parenthesis.
     fn parameters<'a>(&self, alloc: Global, tokens: &'a [Token]) -> Read<'a, Vec<Identifier>>
         ensures shorter { IfOk result (λ x. length x.1.now < length tokens.now) }
-        ensures exact { Gives (λ x. (map (name_of (names_of self.now)) x.0.items, seen self.now x.1.now)) result (reading.parameters_at (seen self.now tokens.now)) }
+        ensures exact { Gives
+            (λ x. (map (name_of (names_of self.now)) x.0.items, seen self.now x.1.now)) result
+            (reading.parameters_at (seen self.now tokens.now)) }
     {
         if let Some(rest) = self.behind(tokens, Mark::ParenthesisCloses) {
             return Ok((Vec::new(alloc), rest));

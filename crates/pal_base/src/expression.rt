@@ -19,7 +19,8 @@ impl Source {
     /// The expression at the front.
     pub fn expression<'a>(&self, alloc: Global, levels: u32, tokens: &'a [Token]) -> Read<'a, Expr>
         ensures shorter { IfOk result (λ x. length x.1.now < length tokens.now) }
-        ensures exact { Gives (λ x. (expr_of (names_of self.now) x.0, seen self.now x.1.now)) result (reading.expr_at levels (seen self.now tokens.now)) }
+        ensures exact { Gives (λ x. (expr_of (names_of self.now) x.0, seen self.now x.1.now)) result
+            (reading.expr_at levels (seen self.now tokens.now)) }
     {
         self.chain(alloc, Rank::Disjunction, levels, tokens)
     }
@@ -35,7 +36,8 @@ impl Source {
         tokens: &'a [Token],
     ) -> Read<'a, Expr>
         ensures shorter { IfOk result (λ x. length x.1.now < length tokens.now) }
-        ensures exact { Gives (λ x. (expr_of (names_of self.now) x.0, seen self.now x.1.now)) result (reading.ranked (reading.unary_at levels) (rank_of rank) (seen self.now tokens.now)) }
+        ensures exact { Gives (λ x. (expr_of (names_of self.now) x.0, seen self.now x.1.now)) result
+            (reading.ranked (reading.unary_at levels) (rank_of rank) (seen self.now tokens.now)) }
     {
         let (first, rest) = self.operand(alloc, rank, levels, tokens)?;
         let (links, rest) = self.links(alloc, rank, levels, rest)?;
@@ -56,7 +58,9 @@ impl Source {
         tokens: &'a [Token],
     ) -> Read<'a, Expr>
         ensures shorter { IfOk result (λ x. length x.1.now < length tokens.now) }
-        ensures exact { Gives (λ x. (expr_of (names_of self.now) x.0, seen self.now x.1.now)) result (reading.operand_with (reading.unary_at levels) (rank_of rank) (seen self.now tokens.now)) }
+        ensures exact { Gives (λ x. (expr_of (names_of self.now) x.0, seen self.now x.1.now)) result
+            (reading.operand_with (reading.unary_at levels) (rank_of rank)
+            (seen self.now tokens.now)) }
     {
         match rank {
             Rank::Disjunction => self.chain(alloc, Rank::Conjunction, levels, tokens),
@@ -77,7 +81,10 @@ impl Source {
         tokens: &'a [Token],
     ) -> Read<'a, Vec<Link>>
         ensures shorter { IfOk result (λ x. length x.1.now ≤ length tokens.now) }
-        ensures exact { Gives (λ x. (links_of (names_of self.now) x.0.items, seen self.now x.1.now)) result (reading.links_at (reading.operand_with (reading.unary_at levels) (rank_of rank)) (rank_of rank) (seen self.now tokens.now)) }
+        ensures exact { Gives (λ x. (links_of (names_of self.now) x.0.items, seen self.now x.1.now))
+            result
+            (reading.links_at (reading.operand_with (reading.unary_at levels) (rank_of rank))
+            (rank_of rank) (seen self.now tokens.now)) }
     {
         match rank {
             Rank::Comparison => self.one_link(alloc, levels, tokens),
@@ -90,7 +97,10 @@ impl Source {
     #[cycle(expression)]
     fn one_link<'a>(&self, alloc: Global, levels: u32, tokens: &'a [Token]) -> Read<'a, Vec<Link>>
         ensures shorter { IfOk result (λ x. length x.1.now ≤ length tokens.now) }
-        ensures exact { Gives (λ x. (links_of (names_of self.now) x.0.items, seen self.now x.1.now)) result (reading.links_at (reading.operand_with (reading.unary_at levels) reading.Comparison) reading.Comparison (seen self.now tokens.now)) }
+        ensures exact { Gives (λ x. (links_of (names_of self.now) x.0.items, seen self.now x.1.now))
+            result
+            (reading.links_at (reading.operand_with (reading.unary_at levels) reading.Comparison)
+            reading.Comparison (seen self.now tokens.now)) }
     {
         let mut links = Vec::new(alloc);
         match self.operator_at(tokens, Rank::Comparison) {
@@ -113,7 +123,12 @@ impl Source {
         tokens: &'a [Token],
     ) -> Read<'a, Vec<Link>>
         ensures shorter { IfOk result (λ x. length x.1.now ≤ length tokens.now) }
-        ensures exact { Gives (λ x. (map (pair_of (names_of self.now)) x.0.items, seen self.now x.1.now)) result (reading.repeat (reading.link_at (reading.operand_with (reading.unary_at levels) (rank_of rank)) (rank_of rank)) (seen self.now tokens.now)) }
+        ensures exact { Gives
+            (λ x. (map (pair_of (names_of self.now)) x.0.items, seen self.now x.1.now)) result
+            (reading.repeat
+            (reading.link_at (reading.operand_with (reading.unary_at levels) (rank_of rank))
+            (rank_of rank))
+            (seen self.now tokens.now)) }
     {
         let mut links = Vec::new(alloc);
         let mut rest = tokens;
@@ -130,7 +145,8 @@ impl Source {
     #[cycle(expression)]
     fn unary<'a>(&self, alloc: Global, levels: u32, tokens: &'a [Token]) -> Read<'a, Expr>
         ensures shorter { IfOk result (λ x. length x.1.now < length tokens.now) }
-        ensures exact { Gives (λ x. (expr_of (names_of self.now) x.0, seen self.now x.1.now)) result (reading.unary_read levels (seen self.now tokens.now)) }
+        ensures exact { Gives (λ x. (expr_of (names_of self.now) x.0, seen self.now x.1.now)) result
+            (reading.unary_read levels (seen self.now tokens.now)) }
     {
         if let Some(rest) = self.behind(tokens, Mark::Minus) {
             return self.operated(alloc, UnaryOperator::Negate, levels, rest);
@@ -161,7 +177,8 @@ impl Source {
         tokens: &'a [Token],
     ) -> Read<'a, Expr>
         ensures shorter { IfOk result (λ x. length x.1.now < length tokens.now) }
-        ensures exact { Gives (λ x. (expr_of (names_of self.now) x.0, seen self.now x.1.now)) result (reading.operated_at operator levels (seen self.now tokens.now)) }
+        ensures exact { Gives (λ x. (expr_of (names_of self.now) x.0, seen self.now x.1.now)) result
+            (reading.operated_at operator levels (seen self.now tokens.now)) }
     {
         if levels == 0 {
             return Err(self.too_deep(tokens));
@@ -175,7 +192,8 @@ impl Source {
     #[cycle(expression)]
     pub fn nested<'a>(&self, alloc: Global, levels: u32, tokens: &'a [Token]) -> Read<'a, Expr>
         ensures shorter { IfOk result (λ x. length x.1.now < length tokens.now) }
-        ensures exact { Gives (λ x. (expr_of (names_of self.now) x.0, seen self.now x.1.now)) result (reading.nested_at levels (seen self.now tokens.now)) }
+        ensures exact { Gives (λ x. (expr_of (names_of self.now) x.0, seen self.now x.1.now)) result
+            (reading.nested_at levels (seen self.now tokens.now)) }
     {
         if levels == 0 {
             return Err(self.too_deep(tokens));
@@ -194,7 +212,9 @@ impl Source {
         tokens: &'a [Token],
     ) -> Read<'a, Expr>
         ensures shorter { IfOk result (λ x. length x.1.now ≤ length tokens.now) }
-        ensures exact { Gives (λ x. (expr_of (names_of self.now) x.0, seen self.now x.1.now)) result (reading.named_with (reading.nested_at levels) (reading.arguments_at levels) (name_of (names_of self.now) name) (seen self.now tokens.now)) }
+        ensures exact { Gives (λ x. (expr_of (names_of self.now) x.0, seen self.now x.1.now)) result
+            (reading.named_with (reading.nested_at levels) (reading.arguments_at levels)
+            (name_of (names_of self.now) name) (seen self.now tokens.now)) }
     {
         if let Some(rest) = self.behind(tokens, Mark::BracketOpens) {
             let (index, rest) = self.nested(alloc, levels, rest)?;
@@ -218,7 +238,8 @@ impl Source {
         tokens: &'a [Token],
     ) -> Read<'a, Vec<Expr>>
         ensures shorter { IfOk result (λ x. length x.1.now < length tokens.now) }
-        ensures exact { Gives (λ x. (exprs_of (names_of self.now) x.0.items, seen self.now x.1.now)) result (arguments_read levels (seen self.now tokens.now)) }
+        ensures exact { Gives (λ x. (exprs_of (names_of self.now) x.0.items, seen self.now x.1.now))
+            result (arguments_read levels (seen self.now tokens.now)) }
     {
         if levels == 0 {
             return Err(self.too_deep(tokens));
@@ -243,7 +264,10 @@ impl Source {
         tokens: &'a [Token],
     ) -> Read<'a, Vec<Expr>>
         ensures shorter { IfOk result (λ x. length x.1.now ≤ length tokens.now) }
-        ensures exact { Gives (λ x. (map (expr_of (names_of self.now)) x.0.items, seen self.now x.1.now)) result (and_more (expr_of (names_of self.now) first) (listed (codes ",") (reading.expr_at levels) (seen self.now tokens.now))) }
+        ensures exact { Gives
+            (λ x. (map (expr_of (names_of self.now)) x.0.items, seen self.now x.1.now)) result
+            (and_more (expr_of (names_of self.now) first)
+            (listed (codes ",") (reading.expr_at levels) (seen self.now tokens.now))) }
     {
         let mut arguments = Vec::new(alloc);
         arguments.push(first)?;

@@ -20,7 +20,11 @@ pub fn frame_of_body(body: &Body) -> u64
 
 /// The frame of a procedure: its parameters too, and the 0 with which it closes is an operand.
 pub fn frame_of_procedure(parameters: u8, locals: u8, block: &[Stmt]) -> u64
-    ensures { result ≡ min (cost.frame_of_procedure (record { parameters = parameters; locals = locals; block = block_of block.now })) u64.MAX }
+    ensures { result
+        ≡ min
+        (cost.frame_of_procedure
+        (record { parameters = parameters; locals = locals; block = block_of block.now }))
+        u64.MAX }
 {
     (parameters as u64)
         .saturating_add(locals as u64)

@@ -150,7 +150,9 @@ impl Source {
     ) -> Result<LookedFor, AllocError>
         ensures place { IfOk result (λ it. it.place ≡ length before.now) }
         ensures line { IfOk result (λ it. it.line ≡ first_line self.now.last_line behind.now) }
-        ensures next { IfOk result (λ it. AreTried (first_name (names_of self.now)) (seen self.now before.now) it.words.items) }
+        ensures next { IfOk result
+            (λ it.
+            AreTried (first_name (names_of self.now)) (seen self.now before.now) it.words.items) }
     {
         let mut words = Vec::new(alloc);
         let mut deeper = Vec::new(alloc);
@@ -171,7 +173,8 @@ impl Source {
 
     /// How a word of this kind fits behind those, or the end.
     fn fit(&self, alloc: Global, before: &[Token], kind: WordKind) -> Result<Fit, AllocError>
-        ensures { IfOk result (λ fit. IsFit (first_name (names_of self.now)) (seen self.now before.now) kind fit) }
+        ensures { IfOk result
+            (λ fit. IsFit (first_name (names_of self.now)) (seen self.now before.now) kind fit) }
     {
         match kind {
             WordKind::Name => self.fit_of_word(alloc, before, Word::Name(NameId(0))),
@@ -192,7 +195,9 @@ impl Source {
     /// How this word fits behind those: it does not where the words leave the grammar before their
     /// end.
     fn fit_of_word(&self, alloc: Global, before: &[Token], word: Word) -> Result<Fit, AllocError>
-        ensures { IfOk result (λ fit. IsWordFit (seen self.now before.now ++ word_of (names_of self.now) word ∷ []) fit) }
+        ensures { IfOk result
+            (λ fit.
+            IsWordFit (seen self.now before.now ++ word_of (names_of self.now) word ∷ []) fit) }
     {
         let mut tokens = Vec::from_slice(alloc, before)?;
         tokens.push(Token { word, line: 0 })?;

@@ -113,7 +113,8 @@ impl Source {
     #[tactic(auto, unfolding(pal_laws::specs::GrammarReading::program_at))]
     /// The program that these words spell, all of them.
     pub fn program(&self, alloc: Global, tokens: &[Token]) -> Result<Parts, ReadError>
-        ensures exact { Gives (parts_of (names_of self.now)) result (reading.program_at (seen self.now tokens.now)) }
+        ensures exact { Gives (parts_of (names_of self.now)) result
+            (reading.program_at (seen self.now tokens.now)) }
     {
         let (declarations, rest) = self.declarations(alloc, tokens)?;
         let (init, rest) = self.stack_body(alloc, Mark::Init, rest)?;
@@ -134,7 +135,8 @@ impl Source {
     /// The body of INIT or of the handler, behind its word.
     fn stack_body<'a>(&self, alloc: Global, mark: Mark, tokens: &'a [Token]) -> Read<'a, StackBody>
         ensures shorter { IfOk result (λ x. length x.1.now < length tokens.now) }
-        ensures exact { Gives (λ x. (stack_body_of (names_of self.now) x.0, seen self.now x.1.now)) result (reading.stack_body_at (mark_text mark) (seen self.now tokens.now)) }
+        ensures exact { Gives (λ x. (stack_body_of (names_of self.now) x.0, seen self.now x.1.now))
+            result (reading.stack_body_at (mark_text mark) (seen self.now tokens.now)) }
     {
         let line = self.line_of(tokens);
         let rest = self.expect(tokens, mark)?;
@@ -148,7 +150,10 @@ impl Source {
     /// The handler, if it is there.
     fn handler<'a>(&self, alloc: Global, tokens: &'a [Token]) -> Read<'a, Option<StackBody>>
         ensures shorter { IfOk result (λ x. length x.1.now ≤ length tokens.now) }
-        ensures exact { Gives (λ x. (option_map (stack_body_of (names_of self.now)) x.0, seen self.now x.1.now)) result (reading.handler_at (seen self.now tokens.now)) }
+        ensures exact { Gives
+            (λ x.
+            (option_map (stack_body_of (names_of self.now)) x.0, seen self.now x.1.now))
+            result (reading.handler_at (seen self.now tokens.now)) }
     {
         if self.behind(tokens, Mark::Handler).is_none() {
             return Ok((None, tokens));
@@ -160,7 +165,9 @@ impl Source {
     /// The processes.
     fn processes<'a>(&self, alloc: Global, tokens: &'a [Token]) -> Read<'a, Vec<Process>>
         ensures shorter { IfOk result (λ x. length x.1.now ≤ length tokens.now) }
-        ensures exact { Gives (λ x. (map (process_of (names_of self.now)) x.0.items, seen self.now x.1.now)) result (reading.processes_at (seen self.now tokens.now)) }
+        ensures exact { Gives
+            (λ x. (map (process_of (names_of self.now)) x.0.items, seen self.now x.1.now)) result
+            (reading.processes_at (seen self.now tokens.now)) }
     {
         let mut processes = Vec::new(alloc);
         let mut rest = tokens;
@@ -176,7 +183,8 @@ impl Source {
     /// What follows the word `process` of that line.
     fn process<'a>(&self, alloc: Global, line: u32, tokens: &'a [Token]) -> Read<'a, Process>
         ensures shorter { IfOk result (λ x. length x.1.now < length tokens.now) }
-        ensures exact { Gives (λ x. (process_of (names_of self.now) x.0, seen self.now x.1.now)) result (reading.process_at (seen self.now tokens.now)) }
+        ensures exact { Gives (λ x. (process_of (names_of self.now) x.0, seen self.now x.1.now))
+            result (reading.process_at (seen self.now tokens.now)) }
     {
         let (name, rest) = self.name(tokens)?;
         let rest = self.expect(rest, Mark::Priority)?;

@@ -183,7 +183,8 @@ impl Source {
     /// The words behind this mark, if it stands at the front.
     pub fn behind<'a>(&self, tokens: &'a [Token], mark: Mark) -> Option<&'a [Token]>
         ensures shorter { IfSome result (λ r. length r.now < length tokens.now) }
-        ensures exact { Finds (λ r. seen self.now r.now) (seen self.now tokens.now) result (reading.expect (mark_text mark) (seen self.now tokens.now)) }
+        ensures exact { Finds (λ r. seen self.now r.now) (seen self.now tokens.now) result
+            (reading.expect (mark_text mark) (seen self.now tokens.now)) }
     {
         let (token, rest) = tokens.split_first()?;
         match token.word {
@@ -211,7 +212,8 @@ impl Source {
     /// The words behind this mark, which has to stand at the front.
     pub fn expect<'a>(&self, tokens: &'a [Token], mark: Mark) -> Result<&'a [Token], ReadError>
         ensures shorter { IfOk result (λ r. length r.now < length tokens.now) }
-        ensures exact { Gives (λ r. seen self.now r.now) result (reading.expect (mark_text mark) (seen self.now tokens.now)) }
+        ensures exact { Gives (λ r. seen self.now r.now) result
+            (reading.expect (mark_text mark) (seen self.now tokens.now)) }
     {
         match self.behind(tokens, mark) {
             Some(rest) => Ok(rest),
@@ -223,7 +225,8 @@ impl Source {
     /// The name at the front, if one is there.
     pub fn name_at<'a>(&self, tokens: &'a [Token]) -> Option<(Identifier, &'a [Token])>
         ensures shorter { IfSome result (λ x. length x.1.now < length tokens.now) }
-        ensures exact { Finds (λ x. (name_of (names_of self.now) x.0, seen self.now x.1.now)) (seen self.now tokens.now) result (reading.name_at (seen self.now tokens.now)) }
+        ensures exact { Finds (λ x. (name_of (names_of self.now) x.0, seen self.now x.1.now))
+            (seen self.now tokens.now) result (reading.name_at (seen self.now tokens.now)) }
     {
         let (token, rest) = tokens.split_first()?;
         match token.word {
@@ -241,7 +244,8 @@ impl Source {
     /// The name that has to stand at the front.
     pub fn name<'a>(&self, tokens: &'a [Token]) -> Read<'a, Identifier>
         ensures shorter { IfOk result (λ x. length x.1.now < length tokens.now) }
-        ensures exact { Gives (λ x. (name_of (names_of self.now) x.0, seen self.now x.1.now)) result (reading.name_at (seen self.now tokens.now)) }
+        ensures exact { Gives (λ x. (name_of (names_of self.now) x.0, seen self.now x.1.now)) result
+            (reading.name_at (seen self.now tokens.now)) }
     {
         match self.name_at(tokens) {
             Some(found) => Ok(found),
@@ -254,7 +258,8 @@ impl Source {
     pub fn number_at<'a>(&self, tokens: &'a [Token]) -> Option<(Numeral, &'a [Token])>
         ensures shorter { IfSome result (λ x. length x.1.now < length tokens.now) }
         ensures plain { IfSome result (λ x. x.0.negative ≡ false) }
-        ensures exact { Finds (λ x. (number_of x.0, seen self.now x.1.now)) (seen self.now tokens.now) result (reading.number_at (seen self.now tokens.now)) }
+        ensures exact { Finds (λ x. (number_of x.0, seen self.now x.1.now))
+            (seen self.now tokens.now) result (reading.number_at (seen self.now tokens.now)) }
     {
         let (token, rest) = tokens.split_first()?;
         match token.word {
@@ -274,7 +279,8 @@ impl Source {
     pub fn number<'a>(&self, tokens: &'a [Token]) -> Read<'a, Numeral>
         ensures shorter { IfOk result (λ x. length x.1.now < length tokens.now) }
         ensures plain { IfOk result (λ x. x.0.negative ≡ false) }
-        ensures exact { Gives (λ x. (number_of x.0, seen self.now x.1.now)) result (reading.number_at (seen self.now tokens.now)) }
+        ensures exact { Gives (λ x. (number_of x.0, seen self.now x.1.now)) result
+            (reading.number_at (seen self.now tokens.now)) }
     {
         match self.number_at(tokens) {
             Some(found) => Ok(found),
@@ -286,7 +292,8 @@ impl Source {
     /// The number that has to stand at the front, with or without a minus sign.
     pub fn integer<'a>(&self, tokens: &'a [Token]) -> Read<'a, Numeral>
         ensures shorter { IfOk result (λ x. length x.1.now < length tokens.now) }
-        ensures exact { Gives (λ x. (integer_of x.0, seen self.now x.1.now)) result (reading.integer_at (seen self.now tokens.now)) }
+        ensures exact { Gives (λ x. (integer_of x.0, seen self.now x.1.now)) result
+            (reading.integer_at (seen self.now tokens.now)) }
     {
         match self.behind(tokens, Mark::Minus) {
             Some(rest) => {
@@ -308,7 +315,8 @@ impl Source {
     /// The discipline that has to stand at the front.
     pub fn discipline<'a>(&self, tokens: &'a [Token]) -> Read<'a, Discipline>
         ensures shorter { IfOk result (λ x. length x.1.now < length tokens.now) }
-        ensures exact { Gives (λ x. (x.0, seen self.now x.1.now)) result (reading.discipline_at (seen self.now tokens.now)) }
+        ensures exact { Gives (λ x. (x.0, seen self.now x.1.now)) result
+            (reading.discipline_at (seen self.now tokens.now)) }
     {
         if let Some(rest) = self.behind(tokens, Mark::Fifo) {
             return Ok((Discipline::Fifo, rest));
@@ -321,7 +329,8 @@ impl Source {
     /// The service at the front, if one is there.
     pub fn service_at<'a>(&self, tokens: &'a [Token]) -> Option<(Service, &'a [Token])>
         ensures shorter { IfSome result (λ x. length x.1.now < length tokens.now) }
-        ensures exact { Finds (λ x. (x.0, seen self.now x.1.now)) (seen self.now tokens.now) result (reading.service_at (seen self.now tokens.now)) }
+        ensures exact { Finds (λ x. (x.0, seen self.now x.1.now)) (seen self.now tokens.now) result
+            (reading.service_at (seen self.now tokens.now)) }
     {
         let (token, rest) = tokens.split_first()?;
         match token.word {
@@ -338,7 +347,8 @@ impl Source {
         rank: Rank,
     ) -> Option<(BinaryOperator, &'a [Token])>
         ensures shorter { IfSome result (λ x. length x.1.now < length tokens.now) }
-        ensures exact { Finds (λ x. (x.0, seen self.now x.1.now)) (seen self.now tokens.now) result (reading.operator_at (rank_of rank) (seen self.now tokens.now)) }
+        ensures exact { Finds (λ x. (x.0, seen self.now x.1.now)) (seen self.now tokens.now) result
+            (reading.operator_at (rank_of rank) (seen self.now tokens.now)) }
     {
         let mut operators = operators_of(rank);
         while let Some((operator, others)) = operators.split_first() {

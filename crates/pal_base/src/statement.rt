@@ -22,7 +22,8 @@ impl Source {
     /// A body: its locals, then its statements, within braces.
     pub fn body<'a>(&self, alloc: Global, tokens: &'a [Token]) -> Read<'a, Body>
         ensures shorter { IfOk result (λ x. length x.1.now < length tokens.now) }
-        ensures exact { Gives (λ x. (body_of (names_of self.now) x.0, seen self.now x.1.now)) result (reading.body_at (seen self.now tokens.now)) }
+        ensures exact { Gives (λ x. (body_of (names_of self.now) x.0, seen self.now x.1.now)) result
+            (reading.body_at (seen self.now tokens.now)) }
     {
         let line = self.line_of(tokens);
         let rest = self.expect(tokens, Mark::BraceOpens)?;
@@ -39,7 +40,9 @@ impl Source {
     /// The declarations of locals at the front.
     fn locals<'a>(&self, alloc: Global, tokens: &'a [Token]) -> Read<'a, Vec<Identifier>>
         ensures shorter { IfOk result (λ x. length x.1.now ≤ length tokens.now) }
-        ensures exact { Gives (λ x. (map (name_of (names_of self.now)) x.0.items, seen self.now x.1.now)) result (reading.locals_at (seen self.now tokens.now)) }
+        ensures exact { Gives
+            (λ x. (map (name_of (names_of self.now)) x.0.items, seen self.now x.1.now)) result
+            (reading.locals_at (seen self.now tokens.now)) }
     {
         let mut locals = Vec::new(alloc);
         let mut rest = tokens;
@@ -55,7 +58,8 @@ impl Source {
     /// The name of a local and its semicolon.
     fn local<'a>(&self, tokens: &'a [Token]) -> Read<'a, Identifier>
         ensures shorter { IfOk result (λ x. length x.1.now < length tokens.now) }
-        ensures exact { Gives (λ x. (name_of (names_of self.now) x.0, seen self.now x.1.now)) result (reading.local_at (seen self.now tokens.now)) }
+        ensures exact { Gives (λ x. (name_of (names_of self.now) x.0, seen self.now x.1.now)) result
+            (reading.local_at (seen self.now tokens.now)) }
     {
         let (name, rest) = self.name(tokens)?;
         let rest = self.expect(rest, Mark::Semicolon)?;
@@ -67,7 +71,8 @@ impl Source {
     #[cycle(statement)]
     fn block<'a>(&self, alloc: Global, levels: u32, tokens: &'a [Token]) -> Read<'a, Vec<Stmt>>
         ensures shorter { IfOk result (λ x. length x.1.now < length tokens.now) }
-        ensures exact { Gives (λ x. (block_of (names_of self.now) x.0.items, seen self.now x.1.now)) result (reading.block_read levels (seen self.now tokens.now)) }
+        ensures exact { Gives (λ x. (block_of (names_of self.now) x.0.items, seen self.now x.1.now))
+            result (reading.block_read levels (seen self.now tokens.now)) }
     {
         if levels == 0 {
             return Err(self.refused(tokens));
@@ -80,7 +85,8 @@ impl Source {
     #[cycle(statement)]
     fn statements<'a>(&self, alloc: Global, levels: u32, tokens: &'a [Token]) -> Read<'a, Vec<Stmt>>
         ensures shorter { IfOk result (λ x. length x.1.now < length tokens.now) }
-        ensures exact { Gives (λ x. (block_of (names_of self.now) x.0.items, seen self.now x.1.now)) result (reading.statements_at levels (seen self.now tokens.now)) }
+        ensures exact { Gives (λ x. (block_of (names_of self.now) x.0.items, seen self.now x.1.now))
+            result (reading.statements_at levels (seen self.now tokens.now)) }
     {
         let mut statements = Vec::new(alloc);
         let mut rest = tokens;
@@ -97,7 +103,8 @@ impl Source {
     #[cycle(statement)]
     fn statement<'a>(&self, alloc: Global, levels: u32, tokens: &'a [Token]) -> Read<'a, Stmt>
         ensures shorter { IfOk result (λ x. length x.1.now < length tokens.now) }
-        ensures exact { Gives (λ x. (stmt_of (names_of self.now) x.0, seen self.now x.1.now)) result (stmt_read levels (seen self.now tokens.now)) }
+        ensures exact { Gives (λ x. (stmt_of (names_of self.now) x.0, seen self.now x.1.now)) result
+            (stmt_read levels (seen self.now tokens.now)) }
     {
         let line = self.line_of(tokens);
         let (kind, rest) = self.statement_kind(alloc, levels, tokens)?;
@@ -113,7 +120,8 @@ impl Source {
         tokens: &'a [Token],
     ) -> Read<'a, StmtKind>
         ensures shorter { IfOk result (λ x. length x.1.now < length tokens.now) }
-        ensures exact { Gives (λ x. (kind_of (names_of self.now) x.0, seen self.now x.1.now)) result (stmt_read levels (seen self.now tokens.now)) }
+        ensures exact { Gives (λ x. (kind_of (names_of self.now) x.0, seen self.now x.1.now)) result
+            (stmt_read levels (seen self.now tokens.now)) }
     {
         if let Some((name, rest)) = self.name_at(tokens) {
             return self.assignment(alloc, name, levels, rest);
@@ -154,7 +162,8 @@ impl Source {
     #[cycle(statement)]
     fn repetition<'a>(&self, alloc: Global, levels: u32, tokens: &'a [Token]) -> Read<'a, StmtKind>
         ensures shorter { IfOk result (λ x. length x.1.now < length tokens.now) }
-        ensures exact { Gives (λ x. (kind_of (names_of self.now) x.0, seen self.now x.1.now)) result (reading.while_with (reading.block_read levels) levels (seen self.now tokens.now)) }
+        ensures exact { Gives (λ x. (kind_of (names_of self.now) x.0, seen self.now x.1.now)) result
+            (reading.while_with (reading.block_read levels) levels (seen self.now tokens.now)) }
     {
         let (test, rest) = self.expression(alloc, levels, tokens)?;
         let (block, rest) = self.block(alloc, levels, rest)?;
@@ -166,7 +175,8 @@ impl Source {
     #[cycle(statement)]
     fn branch<'a>(&self, alloc: Global, levels: u32, tokens: &'a [Token]) -> Read<'a, StmtKind>
         ensures shorter { IfOk result (λ x. length x.1.now < length tokens.now) }
-        ensures exact { Gives (λ x. (kind_of (names_of self.now) x.0, seen self.now x.1.now)) result (reading.branch_with (reading.block_read levels) levels (seen self.now tokens.now)) }
+        ensures exact { Gives (λ x. (kind_of (names_of self.now) x.0, seen self.now x.1.now)) result
+            (reading.branch_with (reading.block_read levels) levels (seen self.now tokens.now)) }
     {
         let (test, rest) = self.expression(alloc, levels, tokens)?;
         let (then, rest) = self.block(alloc, levels, rest)?;
@@ -183,7 +193,8 @@ impl Source {
     /// What follows the word `work`.
     fn work<'a>(&self, tokens: &'a [Token]) -> Read<'a, StmtKind>
         ensures shorter { IfOk result (λ x. length x.1.now < length tokens.now) }
-        ensures exact { Gives (λ x. (kind_of (names_of self.now) x.0, seen self.now x.1.now)) result (reading.work_at (seen self.now tokens.now)) }
+        ensures exact { Gives (λ x. (kind_of (names_of self.now) x.0, seen self.now x.1.now)) result
+            (reading.work_at (seen self.now tokens.now)) }
     {
         let (ticks, rest) = self.number(tokens)?;
         let rest = self.expect(rest, Mark::Semicolon)?;
@@ -194,7 +205,8 @@ impl Source {
     /// What follows the word `return`.
     fn returned<'a>(&self, alloc: Global, levels: u32, tokens: &'a [Token]) -> Read<'a, StmtKind>
         ensures shorter { IfOk result (λ x. length x.1.now < length tokens.now) }
-        ensures exact { Gives (λ x. (kind_of (names_of self.now) x.0, seen self.now x.1.now)) result (reading.return_at levels (seen self.now tokens.now)) }
+        ensures exact { Gives (λ x. (kind_of (names_of self.now) x.0, seen self.now x.1.now)) result
+            (reading.return_at levels (seen self.now tokens.now)) }
     {
         let (value, rest) = self.expression(alloc, levels, tokens)?;
         let rest = self.expect(rest, Mark::Semicolon)?;
@@ -211,7 +223,9 @@ impl Source {
         tokens: &'a [Token],
     ) -> Read<'a, StmtKind>
         ensures shorter { IfOk result (λ x. length x.1.now < length tokens.now) }
-        ensures exact { Gives (λ x. (kind_of (names_of self.now) x.0, seen self.now x.1.now)) result (reading.assignment_at levels (name_of (names_of self.now) name) (seen self.now tokens.now)) }
+        ensures exact { Gives (λ x. (kind_of (names_of self.now) x.0, seen self.now x.1.now)) result
+            (reading.assignment_at levels (name_of (names_of self.now) name)
+            (seen self.now tokens.now)) }
     {
         if let Some(rest) = self.behind(tokens, Mark::BracketOpens) {
             let (index, rest) = self.nested(alloc, levels, rest)?;
@@ -237,7 +251,8 @@ impl Source {
         tokens: &'a [Token],
     ) -> Read<'a, StmtKind>
         ensures shorter { IfOk result (λ x. length x.1.now < length tokens.now) }
-        ensures exact { Gives (λ x. (kind_of (names_of self.now) x.0, seen self.now x.1.now)) result (service_call_read levels service (seen self.now tokens.now)) }
+        ensures exact { Gives (λ x. (kind_of (names_of self.now) x.0, seen self.now x.1.now)) result
+            (service_call_read levels service (seen self.now tokens.now)) }
     {
         if levels == 0 {
             return Err(self.too_deep(tokens));
@@ -253,7 +268,9 @@ impl Source {
     /// An arrow and the names behind it, or nothing.
     fn targets<'a>(&self, alloc: Global, tokens: &'a [Token]) -> Read<'a, Vec<Identifier>>
         ensures shorter { IfOk result (λ x. length x.1.now ≤ length tokens.now) }
-        ensures exact { Gives (λ x. (map (name_of (names_of self.now)) x.0.items, seen self.now x.1.now)) result (reading.targets_at (seen self.now tokens.now)) }
+        ensures exact { Gives
+            (λ x. (map (name_of (names_of self.now)) x.0.items, seen self.now x.1.now)) result
+            (reading.targets_at (seen self.now tokens.now)) }
     {
         match self.behind(tokens, Mark::Arrow) {
             Some(rest) => self.names(alloc, rest),
@@ -265,7 +282,9 @@ impl Source {
     /// One or more names, with commas between them.
     pub fn names<'a>(&self, alloc: Global, tokens: &'a [Token]) -> Read<'a, Vec<Identifier>>
         ensures shorter { IfOk result (λ x. length x.1.now < length tokens.now) }
-        ensures exact { Gives (λ x. (map (name_of (names_of self.now)) x.0.items, seen self.now x.1.now)) result (reading.names_at (seen self.now tokens.now)) }
+        ensures exact { Gives
+            (λ x. (map (name_of (names_of self.now)) x.0.items, seen self.now x.1.now)) result
+            (reading.names_at (seen self.now tokens.now)) }
     {
         let (first, rest) = self.name(tokens)?;
         self.more_names(alloc, first, rest)
@@ -279,7 +298,10 @@ impl Source {
         tokens: &'a [Token],
     ) -> Read<'a, Vec<Identifier>>
         ensures shorter { IfOk result (λ x. length x.1.now ≤ length tokens.now) }
-        ensures exact { Gives (λ x. (map (name_of (names_of self.now)) x.0.items, seen self.now x.1.now)) result (and_more (name_of (names_of self.now) first) (listed (codes ",") reading.name_at (seen self.now tokens.now))) }
+        ensures exact { Gives
+            (λ x. (map (name_of (names_of self.now)) x.0.items, seen self.now x.1.now)) result
+            (and_more (name_of (names_of self.now) first)
+            (listed (codes ",") reading.name_at (seen self.now tokens.now))) }
     {
         let mut names = Vec::new(alloc);
         names.push(first)?;

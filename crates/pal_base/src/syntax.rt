@@ -146,5 +146,6 @@ pub struct Program {
     pub init: StackBody,
     pub handler: Option<StackBody>,
     pub processes: Vec<Process>,
-    pub ghost written: { ∥ HasText (program_from names.keys declarations.items init handler processes.items) ∥₁ },
+    pub ghost written: { ∥ HasText
+        (program_from names.keys declarations.items init handler processes.items) ∥₁ },
 }

@@ -53,8 +53,12 @@ pub struct Words {
 
 /// The words of a source text, in their order: each is the longest that begins where it stands.
 pub fn words_of(alloc: Global, text: &[u8]) -> Result<Words, PalFault>
-    ensures words { IfOk result (λ w. map (token_of (texts w.names.keys)) w.tokens.items ≡ grammar.words_of text.now) }
-    ensures lines { IfOk result (λ w. HasFewLines text.now → AreLined text.now 0 w.tokens.items × (w.last_line ≡ word_line text.now (length w.tokens.items))) }
+    ensures words { IfOk result
+        (λ w. map (token_of (texts w.names.keys)) w.tokens.items ≡ grammar.words_of text.now) }
+    ensures lines { IfOk result
+        (λ w. HasFewLines text.now
+        → AreLined text.now 0 w.tokens.items
+        × (w.last_line ≡ word_line text.now (length w.tokens.items))) }
     ensures memory { IfErr result (λ e. e.refusal ≡ Memory) }
 {
     let mut names = IndexSet::new(alloc);
@@ -77,7 +81,8 @@ pub fn words_of(alloc: Global, text: &[u8]) -> Result<Words, PalFault>
 fn behind_blanks(text: &[u8], line: u32) -> (&[u8], u32)
     ensures text { result.0.now ≡ behind_blanks false text.now }
     ensures few { result.1 + length result.0.now ≤ line + length text.now }
-    ensures line { line + length text.now < 4294967296 → result.1 + feeds result.0.now ≡ line + feeds text.now }
+    ensures line { line + length text.now < 4294967296
+        → result.1 + feeds result.0.now ≡ line + feeds text.now }
 {
     let mut rest = text;
     let mut line = line;
@@ -147,7 +152,8 @@ fn word_at<'a>(
     text: &'a [u8],
 ) -> Result<(Word, &'a [u8]), PalFault>
     ensures rest { IfOk result (λ x. x.1.now ≡ (grammar.word_at text.now).1) }
-    ensures word { IfOk result (λ x. word_of (texts names.new.keys) x.0 ≡ (grammar.word_at text.now).0) }
+    ensures word { IfOk result
+        (λ x. word_of (texts names.new.keys) x.0 ≡ (grammar.word_at text.now).0) }
     ensures grows { OnOk result (Extends (texts names.old.keys) (texts names.new.keys)) }
     ensures known { IfOk result (λ x. IsKnown (texts names.new.keys) x.0) }
     ensures memory { IfErr result (λ e. e.refusal ≡ Memory) }
@@ -242,7 +248,8 @@ fn service_of(run: &[u8]) -> Option<Service>
 
 /// The longest sign at the front, and what follows it.
 fn sign_at(text: &[u8]) -> Option<(Mark, &[u8])>
-    ensures sign { option_map (λ x. mark_text x.0) result ≡ find (λ sign. starts_with nat_eq text.now sign) grammar.signs }
+    ensures sign { option_map (λ x. mark_text x.0) result
+        ≡ find (λ sign. starts_with nat_eq text.now sign) grammar.signs }
     ensures rest { IfSome result (λ x. x.1.now ≡ drop (length (mark_text x.0)) text.now) }
 {
     let mut marks: &[Mark] = &SIGNS;

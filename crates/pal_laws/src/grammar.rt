@@ -11,28 +11,35 @@ ghost use Rattle.pal_meaning.specs.Syntax.{Program};
 /// What is read as a program is written so: the words are those of the program, its operators stand
 /// in the order of their ranks, and it opens at most 64 levels.
 pub fn program_is_written_so()
-    ensures { (words : List Word) (program : Program) → program_at words ≡ Ok program → IsWritten words program }
+    ensures { (words : List Word) (program : Program) → program_at words ≡ Ok program
+        → IsWritten words program }
 {}
 
 /// What is written as a program is read as it.
 pub fn written_program_is_read()
-    ensures { (words : List Word) (program : Program) → IsWritten words program → program_at words ≡ Ok program }
+    ensures { (words : List Word) (program : Program) → IsWritten words program
+        → program_at words ≡ Ok program }
 {}
 
 /// Words are written as one program at most.
 pub fn words_are_of_one_program()
-    ensures { (words : List Word) (first second : Program) → IsWritten words first → IsWritten words second → first ≡ second }
+    ensures { (words : List Word) (first second : Program) → IsWritten words first
+        → IsWritten words second → first ≡ second }
 {}
 
 /// What is refused leaves the grammar there: the words before the place begin a program, and with
 /// the word at the place none does.
 pub fn refused_words_leave_the_grammar()
-    ensures { (words : List Word) (left : ℕ) → program_at words ≡ Err left → (left ≤ length words) × LeavesAt words (length words - left) }
+    ensures { (words : List Word) (left : ℕ) → program_at words ≡ Err left
+        → (left ≤ length words) × LeavesAt words (length words - left) }
 {}
 
 /// The grammar never asks which name, which number or which service stands at a place.
 pub fn words_of_a_kind_are_alike()
-    ensures names { (before : List Word) (x y : List ℕ) → IsBeginning (before ++ Name x ∷ []) → IsBeginning (before ++ Name y ∷ []) }
-    ensures numbers { (before : List Word) (m n : Option ℕ) → IsBeginning (before ++ Number m ∷ []) → IsBeginning (before ++ Number n ∷ []) }
-    ensures services { (before : List Word) (s t : Service) → IsBeginning (before ++ ServiceWord s ∷ []) → IsBeginning (before ++ ServiceWord t ∷ []) }
+    ensures names { (before : List Word) (x y : List ℕ) → IsBeginning (before ++ Name x ∷ [])
+        → IsBeginning (before ++ Name y ∷ []) }
+    ensures numbers { (before : List Word) (m n : Option ℕ) → IsBeginning (before ++ Number m ∷ [])
+        → IsBeginning (before ++ Number n ∷ []) }
+    ensures services { (before : List Word) (s t : Service)
+        → IsBeginning (before ++ ServiceWord s ∷ []) → IsBeginning (before ++ ServiceWord t ∷ []) }
 {}

@@ -12,7 +12,8 @@ use partition_base::Executor;
 fn act<E: Executor>(kernel: &mut Kernel, executor: &mut E, mem: &mut E::Mem, action: &Action)
     requires { E.laid mem.old ≡ E.layout executor.old }
     ensures fits { E.laid mem.new ≡ E.layout executor.new }
-    ensures member { member_at E.Executor kernel.new executor.new mem.new ≡ acts action.now (member_at E.Executor kernel.old executor.old mem.old) }
+    ensures member { member_at E.Executor kernel.new executor.new mem.new
+        ≡ acts action.now (member_at E.Executor kernel.old executor.old mem.old) }
 {
     match action {
         Action::Begin(runner) => executor.start(mem, *runner),
@@ -34,7 +35,8 @@ pub(crate) fn act_all<E: Executor>(
 )
     requires { E.laid mem.old ≡ E.layout executor.old }
     ensures fits { E.laid mem.new ≡ E.layout executor.new }
-    ensures member { member_at E.Executor kernel.new executor.new mem.new ≡ acts_all actions.now (member_at E.Executor kernel.old executor.old mem.old) }
+    ensures member { member_at E.Executor kernel.new executor.new mem.new
+        ≡ acts_all actions.now (member_at E.Executor kernel.old executor.old mem.old) }
 {
     for action in actions {
         act(kernel, executor, mem, action);

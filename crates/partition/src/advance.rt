@@ -26,9 +26,14 @@ impl<E: Executor> Partition<E> {
         requires idle { IsEmpty self.old.out }
         ensures fits { E.laid mem.new ≡ E.layout self.new.executor }
         ensures idle { IsEmpty self.new.out }
-        ensures world { let x = member_of E.Executor self.old mem.old in let b = burst_of x.engine k runner x.world in member_of E.Executor self.new mem.new ≡ meaning.with_world x (with_control x.world runner b.control b.words) }
-        ensures told { let x = member_of E.Executor self.old mem.old in asks_of result.outcome ≡ (burst_of x.engine k runner x.world).told }
-        ensures ticks { let x = member_of E.Executor self.old mem.old in result.ticks ≡ (burst_of x.engine k runner x.world).ticks }
+        ensures world { let x = member_of E.Executor self.old mem.old in
+            let b = burst_of x.engine k runner x.world in
+            member_of E.Executor self.new mem.new
+            ≡ meaning.with_world x (with_control x.world runner b.control b.words) }
+        ensures told { let x = member_of E.Executor self.old mem.old in
+            asks_of result.outcome ≡ (burst_of x.engine k runner x.world).told }
+        ensures ticks { let x = member_of E.Executor self.old mem.old in
+            result.ticks ≡ (burst_of x.engine k runner x.world).ticks }
         ensures within { result.ticks ≤ k }
         ensures some { 0 < result.ticks }
     {
@@ -49,7 +54,13 @@ impl<E: Executor> Partition<E> {
         requires room { LINES_TO_SERVE ≤ L.room log.old }
         ensures fits { E.laid mem.new ≡ E.layout self.new.executor }
         ensures idle { IsEmpty self.new.out }
-        ensures moved { let x = member_of E.Executor self.old mem.old in IsMoved (meaning.moved moment.at x.engine (meaning.treats_asked moment.at x.world.kernel runner (asks_of outcome) (meaning.given (asks_of outcome) x.world.words)) x.world) x (member_of E.Executor self.new mem.new) (IsTold L.EventLog log.old log.new) }
+        ensures moved { let x = member_of E.Executor self.old mem.old in
+            IsMoved
+            (meaning.moved moment.at x.engine
+            (meaning.treats_asked moment.at x.world.kernel runner (asks_of outcome)
+            (meaning.given (asks_of outcome) x.world.words))
+            x.world)
+            x (member_of E.Executor self.new mem.new) (IsTold L.EventLog log.old log.new) }
     {
         let name = self.kernel.name();
         let words = self.given(mem, &outcome);
@@ -75,12 +86,15 @@ impl<E: Executor> Partition<E> {
         requires room { LINES_TO_SERVE ≤ L.room log.old }
         requires runs { self.old.kernel.processes.running ≡ Some runner }
         requires choice { meaning.chooses_with_handler self.old.kernel ≡ nothing self.old.kernel }
-        requires due { (i : ℕ) → i < k → HasNothingDue (tick_from moment.at.origin.0 (moment.at.now.0 + i)) self.old.kernel }
+        requires due { (i : ℕ) → i < k
+            → HasNothingDue (tick_from moment.at.origin.0 (moment.at.now.0 + i)) self.old.kernel }
         ensures fits { E.laid mem.new ≡ E.layout self.new.executor }
         ensures idle { IsEmpty self.new.out }
         ensures within { result ≤ k }
         ensures some { 0 < result }
-        ensures gone { TellsSome L.EventLog log.old log.new (λ told. HasGone moment.at (member_of E.Executor self.old mem.old) (member_of E.Executor self.new mem.new) told result) }
+        ensures gone { TellsSome L.EventLog log.old log.new
+            (λ told. HasGone moment.at (member_of E.Executor self.old mem.old)
+            (member_of E.Executor self.new mem.new) told result) }
     {
         let burst = self.run_for(mem, runner, k);
         let last = Moment {
@@ -108,7 +122,9 @@ impl<E: Executor> Partition<E> {
         ensures idle { IsEmpty self.new.out }
         ensures within { result ≤ k }
         ensures some { 0 < result }
-        ensures gone { TellsSome L.EventLog log.old log.new (λ told. HasGone moment.at (member_of E.Executor self.old mem.old) (member_of E.Executor self.new mem.new) told result) }
+        ensures gone { TellsSome L.EventLog log.old log.new
+            (λ told. HasGone moment.at (member_of E.Executor self.old mem.old)
+            (member_of E.Executor self.new mem.new) told result) }
     {
         let quiet = self.kernel.quiet_ticks(moment, k);
         if quiet == 0 {
@@ -136,7 +152,9 @@ impl<E: Executor> Partition<E> {
         requires empty { L.held log.old ≡ [] }
         ensures fits { E.laid mem.new ≡ E.layout self.new.executor }
         ensures within { result ≤ k }
-        ensures advanced { TellsSome L.EventLog log.old log.new (λ told. HasAdvanced moment.at k (member_of E.Executor self.old mem.old) (member_of E.Executor self.new mem.new) told result) }
+        ensures advanced { TellsSome L.EventLog log.old log.new
+            (λ told. HasAdvanced moment.at k (member_of E.Executor self.old mem.old)
+            (member_of E.Executor self.new mem.new) told result) }
     {
         self.out.clear();
         let mut left = k;

@@ -9,14 +9,14 @@ ghost use Rattle.partition.specs.declared.rooms.TheConstants.{ACTIONS_TO_CLEAR, 
 
 use crate::kernel::Kernel;
 use apex_types::{
-    ArrayPlace, ErrorKind, EventKind, Mode, Out, PartitionAction, Response, Runner, StartCondition,
-    Words,
+    ArrayPlace, ErrorKind, EventKind, Mode, Moment, Out, PartitionAction, Response, Runner,
+    StartCondition, Words,
 };
 use health::{
-    action_of, create_error_handler, get_error_status, raise_application_error, raise_error,
-    report_application_message,
+    Raised, action_of, create_error_handler, get_error_status, raise_application_error,
+    raise_error, report_application_message,
 };
-use process_table_base::mode_of_action;
+use process_table_base::{Handed, mode_of_action};
 
 impl Kernel {
     /// The partition's action for an error.
@@ -27,9 +27,9 @@ impl Kernel {
     }
 
     /// An ignored fault of INIT leaves the partition idle.
-    fn go_on(&mut self, runner: Runner, error: ErrorKind, out: &mut Out)
+    fn ignore(&mut self, runner: Runner, error: ErrorKind, out: &mut Out)
         requires { HasRoom LINES_TO_CLEAR ACTIONS_TO_CLEAR out.old }
-        ensures step { IsMade (meaning.goes_on self.old runner error) self.new out.old out.new }
+        ensures step { IsMade (meaning.ignores self.old runner error) self.new out.old out.new }
         ensures grows { Grows LINES_TO_CLEAR ACTIONS_TO_CLEAR out.old out.new }
     {
         if let Runner::Init = runner {
@@ -42,12 +42,13 @@ impl Kernel {
     /// The partition enters the mode that its action for the error leads to, if it leads to one.
     fn enter_mode(&mut self, runner: Runner, error: ErrorKind, mode: Option<Mode>, out: &mut Out)
         requires { HasRoom LINES_TO_CLEAR ACTIONS_TO_CLEAR out.old }
-        ensures step { IsMade (meaning.enters_mode self.old runner error mode) self.new out.old out.new }
+        ensures step { IsMade (meaning.enters_mode self.old runner error mode)
+            self.new out.old out.new }
         ensures grows { Grows LINES_TO_CLEAR ACTIONS_TO_CLEAR out.old out.new }
     {
         match mode {
             Some(mode) => self.clear(mode, StartCondition::HmPartitionRestart, out),
-            None => self.go_on(runner, error, out),
+            None => self.ignore(runner, error, out),
         }
     }
 
@@ -60,7 +61,8 @@ impl Kernel {
         out: &mut Out,
     )
         requires { HasRoom LINES_TO_CLEAR ACTIONS_TO_CLEAR out.old }
-        ensures step { IsMade (meaning.acts_on_error self.old runner error left) self.new out.old out.new }
+        ensures step { IsMade (meaning.acts_on_error self.old runner error left)
+            self.new out.old out.new }
         ensures grows { Grows LINES_TO_CLEAR ACTIONS_TO_CLEAR out.old out.new }
     {
         if let Some(action) = left {
@@ -71,21 +73,19 @@ impl Kernel {
     /// The line of an error with how it is handled, then what is done. `words` are its message.
     fn handle(&mut self, runner: Runner, error: ErrorKind, words: Words, out: &mut Out)
         requires { HasRoom (1 + LINES_TO_CLEAR) (1 + ACTIONS_TO_CLEAR) out.old }
-        ensures step { IsMade (meaning.handles self.old runner error words.items) self.new out.old out.new }
+        ensures step { IsMade (meaning.handles self.old runner error words.items)
+            self.new out.old out.new }
         ensures grows { Grows (1 + LINES_TO_CLEAR) (1 + ACTIONS_TO_CLEAR) out.old out.new }
     {
         let health = self.fixed.health;
         let table = &self.processes;
-        let left = raise_error(
-            health,
-            self.mode,
-            table,
-            &self.errors,
+        let raised = Raised {
             runner,
+            who: table.subject(runner),
             error,
             words,
-            out,
-        );
+        };
+        let left = raise_error(health, self.mode, table, &self.errors, raised, out);
         self.act_on_error(runner, error, left, out);
     }
 
@@ -126,64 +126,83 @@ impl Kernel {
     /// REPORT_APPLICATION_MESSAGE (ARINC 653 Part 1, health monitoring).
     pub(crate) fn report(
         &mut self,
+        moment: Moment,
         caller: Runner,
-        array: ArrayPlace,
-        length: i64,
-        words: Words,
+        handed: Handed,
+        words: &Words,
         out: &mut Out,
     )
         requires { HasRoom 2 1 out.old }
-        ensures step { IsMade (of_processes self.old (meaning.report self.old.processes caller array length words.items)) self.new out.old out.new }
+        ensures step { IsMade
+            (of_processes self.old
+            (meaning.report self.old.processes caller handed.array
+            handed.length words.now.items))
+            self.new out.old out.new }
         ensures grows { Grows 2 1 out.old out.new }
     {
-        report_application_message(&self.processes, caller, array, length, words, out);
+        let request = self.request(moment, caller);
+        report_application_message(&self.processes, request, handed, words, out);
     }
 
     /// CREATE_ERROR_HANDLER (ARINC 653 Part 1, health monitoring).
-    pub(crate) fn create_error_handler(&mut self, caller: Runner, out: &mut Out)
+    pub(crate) fn create_error_handler(&mut self, moment: Moment, caller: Runner, out: &mut Out)
         requires { HasRoom 1 1 out.old }
-        ensures step { IsMade (of_errors self.old (meaning.create_error_handler self.old.mode (with_errors self.old) caller)) self.new out.old out.new }
+        ensures step { IsMade
+            (of_errors self.old
+            (meaning.create_error_handler self.old.mode (with_errors self.old) caller))
+            self.new out.old out.new }
         ensures grows { Grows 1 1 out.old out.new }
     {
-        let mode = self.mode;
-        create_error_handler(&mut self.processes, &self.errors, mode, caller, out);
+        let request = self.request(moment, caller);
+        create_error_handler(&mut self.processes, &self.errors, request, out);
     }
 
     /// GET_ERROR_STATUS (ARINC 653 Part 1, health monitoring).
-    pub(crate) fn get_error_status(&mut self, caller: Runner, array: ArrayPlace, out: &mut Out)
+    pub(crate) fn get_error_status(
+        &mut self,
+        moment: Moment,
+        caller: Runner,
+        array: ArrayPlace,
+        out: &mut Out,
+    )
         requires { HasRoom 1 2 out.old }
-        ensures step { IsMade (of_errors self.old (meaning.get_error_status (with_errors self.old) caller array)) self.new out.old out.new }
+        ensures step { IsMade
+            (of_errors self.old (meaning.get_error_status (with_errors self.old) caller array))
+            self.new out.old out.new }
         ensures grows { Grows 1 2 out.old out.new }
     {
-        get_error_status(&self.processes, &mut self.errors, caller, array, out);
+        let request = self.request(moment, caller);
+        get_error_status(&self.processes, &mut self.errors, request, array, out);
     }
 
     /// RAISE_APPLICATION_ERROR (ARINC 653 Part 1, health monitoring), with the partition's action that it
     /// leaves to be done.
     pub(crate) fn raise_application_error(
         &mut self,
+        moment: Moment,
         caller: Runner,
         error: i64,
-        array: ArrayPlace,
-        length: i64,
-        words: Words,
+        handed: Handed,
+        words: &Words,
         out: &mut Out,
     )
-        requires { HasRoom (2 + LINES_TO_CLEAR) (2 + ACTIONS_TO_CLEAR) out.old }
-        ensures step { IsMade (meaning.raises_application_error self.old caller error array length words.items) self.new out.old out.new }
+        requires room { HasRoom (2 + LINES_TO_CLEAR) (2 + ACTIONS_TO_CLEAR) out.old }
+        ensures step { IsMade
+            (meaning.raises_application_error self.old caller error handed.array
+            handed.length words.now.items)
+            self.new out.old out.new }
         ensures grows { Grows (2 + LINES_TO_CLEAR) (2 + ACTIONS_TO_CLEAR) out.old out.new }
     {
         let health = self.fixed.health;
+        let request = self.request(moment, caller);
         let table = &self.processes;
         let left = raise_application_error(
             health,
-            self.mode,
             table,
             &self.errors,
-            caller,
+            request,
             error,
-            array,
-            length,
+            handed,
             words,
             out,
         );

@@ -52,7 +52,9 @@ impl Kernel {
     /// The kernel of a section's partition with these ports, in idle mode: no process, object or port is
     /// created, no message is there, and no error waits. An error is one of memory.
     pub fn new(alloc: Global, fixed: Fixed, rows: PartitionRows<'_>) -> Result<Kernel, AllocError>
-        ensures { IfOk result (λ kernel. kernel ≡ idle_kernel (fixed_of fixed) rows.entry.ports.now rows.entry.section.now) }
+        ensures { IfOk result
+            (λ kernel.
+            kernel ≡ idle_kernel (fixed_of fixed) rows.entry.ports.now rows.entry.section.now) }
     {
         let section = rows.section;
         let processes = ProcessRows {
@@ -121,7 +123,8 @@ impl Kernel {
     pub(crate) fn quiet_ticks(&self, moment: Moment, k: u32) -> u32
         ensures within { result ≤ k }
         ensures choice { 0 < result → tick.chooses_with_handler self.now ≡ nothing self.now }
-        ensures due { (i : ℕ) → i < result → HasNothingDue (tick_from moment.at.origin.0 (moment.at.now.0 + i)) self.now }
+        ensures due { (i : ℕ) → i < result
+            → HasNothingDue (tick_from moment.at.origin.0 (moment.at.now.0 + i)) self.now }
     {
         let mode = self.mode;
         if !handler_stays(&self.processes, &self.errors, mode) {
@@ -137,7 +140,8 @@ impl Kernel {
     /// leads to one.
     pub(crate) fn treat_due(&mut self, moment: Moment, out: &mut Out) -> Option<Mode>
         requires room { HasRoom LINES_TO_TREAT_DUE ACTIONS_TO_TREAT_DUE out.old }
-        ensures step { IsMade (of_processes self.old (tick.treats_due moment.at self.old).step) self.new out.old out.new }
+        ensures step { IsMade (of_processes self.old (tick.treats_due moment.at self.old).step)
+            self.new out.old out.new }
         ensures clears { result ≡ (tick.treats_due moment.at self.old).clears }
         ensures grows { Grows LINES_TO_TREAT_DUE ACTIONS_TO_TREAT_DUE out.old out.new }
     {

@@ -29,7 +29,10 @@ impl Kernel {
     /// A message arrives at a port.
     fn arrive(&mut self, moment: Moment, port: PortId, message: Words, out: &mut Out)
         requires { HasRoom 3 2 out.old }
-        ensures step { IsMade (of_ports self.old (arrival.arrives moment.at (with_ports self.old) (meaning.place_of_port port) message)) self.new out.old out.new }
+        ensures step { IsMade
+            (of_ports self.old
+            (arrival.arrives moment.at (with_ports self.old) (meaning.place_of_port port) message))
+            self.new out.old out.new }
         ensures grows { Grows 3 2 out.old out.new }
     {
         let table = &mut self.processes;
@@ -39,8 +42,11 @@ impl Kernel {
     /// The first message of a port leaves it, if it holds one.
     fn move_one(&mut self, port: PortId, out: &mut Out) -> Option<Words>
         requires { HasRoom 1 0 out.old }
-        ensures message { result ≡ arrival.first_message (port_at self.old.ports (meaning.place_of_port port)) }
-        ensures step { IsMade (of_ports_alone self.old (arrival.leaves self.old.ports (meaning.place_of_port port))) self.new out.old out.new }
+        ensures message { result
+            ≡ arrival.first_message (port_at self.old.ports (meaning.place_of_port port)) }
+        ensures step { IsMade
+            (of_ports_alone self.old (arrival.leaves self.old.ports (meaning.place_of_port port)))
+            self.new out.old out.new }
         ensures grows { Grows 1 0 out.old out.new }
     {
         self.ports.move_one(place_of(port), out)
@@ -49,7 +55,9 @@ impl Kernel {
     /// The senders that wait at a port enter it in their order, as long as there is room.
     fn admit(&mut self, port: PortId, out: &mut Out)
         requires { HasRoom LINES_TO_RELEASE_ALL ACTIONS_TO_RELEASE_ALL out.old }
-        ensures step { IsMade (of_ports self.old (arrival.admits (with_ports self.old) (meaning.place_of_port port))) self.new out.old out.new }
+        ensures step { IsMade
+            (of_ports self.old (arrival.admits (with_ports self.old) (meaning.place_of_port port)))
+            self.new out.old out.new }
         ensures grows { Grows LINES_TO_RELEASE_ALL ACTIONS_TO_RELEASE_ALL out.old out.new }
     {
         admit(&mut self.processes, &mut self.ports, place_of(port), out);
@@ -72,7 +80,8 @@ impl Kernel {
 
     /// How many messages a port holds, if there is one of this number.
     pub fn message_count(&self, port: PortId) -> Option<u8>
-        ensures { result ≡ option_map (λ x. length x.messages) (at_number self.now.ports.ports port.0) }
+        ensures { result
+            ≡ option_map (λ x. length x.messages) (at_number self.now.ports.ports port.0) }
     {
         let place = port.place()?;
         self.ports.message_count(place)
@@ -100,7 +109,9 @@ impl<E: Executor> Partition<E> {
         requires fits { E.laid mem.old ≡ E.layout self.old.executor }
         requires empty { L.held log.old ≡ [] }
         ensures fits { E.laid mem.new ≡ E.layout self.new.executor }
-        ensures moved { let x = member_of E.Executor self.old mem.old in IsMoved (meaning.arrives moment.at port message x) x (member_of E.Executor self.new mem.new) (IsTold L.EventLog log.old log.new) }
+        ensures moved { let x = member_of E.Executor self.old mem.old in
+            IsMoved (meaning.arrives moment.at port message x) x
+            (member_of E.Executor self.new mem.new) (IsTold L.EventLog log.old log.new) }
     {
         let name = self.kernel.name();
         self.out.clear();
@@ -121,7 +132,9 @@ impl<E: Executor> Partition<E> {
         requires empty { L.held log.old ≡ [] }
         ensures fits { E.laid mem.new ≡ E.layout self.new.executor }
         ensures message { result ≡ meaning.leaving port (member_of E.Executor self.old mem.old) }
-        ensures moved { let x = member_of E.Executor self.old mem.old in IsMoved (meaning.leaves moment.at port x) x (member_of E.Executor self.new mem.new) (IsTold L.EventLog log.old log.new) }
+        ensures moved { let x = member_of E.Executor self.old mem.old in
+            IsMoved (meaning.leaves moment.at port x) x (member_of E.Executor self.new mem.new)
+            (IsTold L.EventLog log.old log.new) }
     {
         let name = self.kernel.name();
         self.out.clear();
@@ -142,7 +155,9 @@ impl<E: Executor> Partition<E> {
         requires fits { E.laid mem.old ≡ E.layout self.old.executor }
         requires empty { L.held log.old ≡ [] }
         ensures fits { E.laid mem.new ≡ E.layout self.new.executor }
-        ensures moved { let x = member_of E.Executor self.old mem.old in IsMoved (meaning.admits moment.at port x) x (member_of E.Executor self.new mem.new) (IsTold L.EventLog log.old log.new) }
+        ensures moved { let x = member_of E.Executor self.old mem.old in
+            IsMoved (meaning.admits moment.at port x) x (member_of E.Executor self.new mem.new)
+            (IsTold L.EventLog log.old log.new) }
     {
         let name = self.kernel.name();
         self.out.clear();
@@ -160,7 +175,9 @@ impl<E: Executor> Partition<E> {
         log: &mut L,
     )
         requires room { 0 < L.room log.old }
-        ensures moved { let x = member_of E.Executor self.now mem.now in IsMoved (meaning.goes_out moment.at channel message x) x x (IsTold L.EventLog log.old log.new) }
+        ensures moved { let x = member_of E.Executor self.now mem.now in
+            IsMoved (meaning.goes_out moment.at channel message x) x x
+            (IsTold L.EventLog log.old log.new) }
     {
         let name = Some(self.kernel.name());
         log.tell(moment.at.now, &name, &EventKind::Out(channel, message));

@@ -44,10 +44,15 @@ impl Kernel {
     /// This one becomes dormant.
     pub(crate) fn rest(&mut self, runner: Runner, out: &mut Out)
         requires { HasRoom 1 1 out.old }
-        ensures step { IsMade (of_processes self.old (rests_found self.old.processes runner (row_of self.old.processes runner))) self.new out.old out.new }
+        ensures step { IsMade
+            (of_processes self.old
+            (rests_found self.old.processes runner (row_of self.old.processes runner)))
+            self.new out.old out.new }
         ensures grows { Grows 1 1 out.old out.new }
     {
-        self.processes.rest(runner, out);
+        if let Some(found) = self.processes.found(runner) {
+            self.processes.rest(&found, out);
+        }
     }
 
     fn enter_normal(&mut self, out: &mut Out)
@@ -62,7 +67,8 @@ impl Kernel {
     /// INIT becomes dormant, the mode normal, then those that wait for it start in number order.
     fn start_normally(&mut self, moment: Moment, out: &mut Out)
         requires room { HasRoom LINES_TO_START_NORMALLY ACTIONS_TO_START_NORMALLY out.old }
-        ensures step { IsMade (meaning.starts_normally moment.at self.old) self.new out.old out.new }
+        ensures step { IsMade (meaning.starts_normally moment.at self.old)
+            self.new out.old out.new }
         ensures grows { Grows LINES_TO_START_NORMALLY ACTIONS_TO_START_NORMALLY out.old out.new }
     {
         let points = self.points(moment);
@@ -105,7 +111,8 @@ impl Kernel {
     /// warm start in a cold start.
     pub fn set_partition_mode(&mut self, moment: Moment, caller: Runner, mode: i64, out: &mut Out)
         requires room { HasRoom LINES_TO_SET_MODE ACTIONS_TO_SET_MODE out.old }
-        ensures step { IsMade (meaning.set_partition_mode moment.at self.old caller mode) self.new out.old out.new }
+        ensures step { IsMade (meaning.set_partition_mode moment.at self.old caller mode)
+            self.new out.old out.new }
         ensures grows { Grows LINES_TO_SET_MODE ACTIONS_TO_SET_MODE out.old out.new }
     {
         let service = Service::SetPartitionMode;

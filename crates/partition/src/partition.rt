@@ -39,7 +39,9 @@ impl<E: Executor + Drop> Partition<E> {
         rows: PartitionRows<'_>,
         executor: E,
     ) -> Result<Partition<E>, AllocError>
-        ensures kernel { IfOk result (λ partition. partition.kernel ≡ idle_kernel (fixed_of fixed) rows.entry.ports.now rows.entry.section.now) }
+        ensures kernel { IfOk result
+            (λ partition. partition.kernel
+            ≡ idle_kernel (fixed_of fixed) rows.entry.ports.now rows.entry.section.now) }
         ensures executor { IfOk result (λ partition. partition.executor ≡ executor) }
     {
         Ok(Partition {

@@ -16,7 +16,8 @@ impl Kernel {
     #[tactic(auto, using(crate::proofs::AtRest::nobody_enters))]
     fn nobody_waits(&self, place: u8) -> bool
         requires { place < MOST_OBJECTS }
-        ensures { result ≡ true → arrival.admits (with_ports self.now) place ≡ nothing (with_ports self.now) }
+        ensures { result ≡ true
+            → arrival.admits (with_ports self.now) place ≡ nothing (with_ports self.now) }
     {
         self.processes.waiting_count(ListKey::Port(place)) == 0
     }
@@ -49,7 +50,8 @@ impl Kernel {
     /// port can enter it. None where something may happen at this tick.
     pub fn still_ticks(&self, moment: Moment, k: u32) -> u32
         ensures within { result ≤ k }
-        ensures still { 0 < result → IsStill moment.at.origin.0 moment.at.now.0 (moment.at.now.0 + result) self.now }
+        ensures still { 0 < result
+            → IsStill moment.at.origin.0 moment.at.now.0 (moment.at.now.0 + result) self.now }
     {
         if self.running().is_some() {
             return 0;

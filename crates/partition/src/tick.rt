@@ -29,8 +29,10 @@ impl<E: Executor> Partition<E> {
         requires fits { E.laid mem.old ≡ E.layout self.old.executor }
         requires room { length self.old.out.lines.items ≤ L.room log.old }
         ensures fits { E.laid mem.new ≡ E.layout self.new.executor }
-        ensures member { member_of E.Executor self.new mem.new ≡ acts_all self.old.out.actions.items (member_of E.Executor self.old mem.old) }
-        ensures told { IsTold L.EventLog log.old log.new (meaning.told name moment.at self.old.out.lines.items) }
+        ensures member { member_of E.Executor self.new mem.new
+            ≡ acts_all self.old.out.actions.items (member_of E.Executor self.old mem.old) }
+        ensures told { IsTold L.EventLog log.old log.new
+            (meaning.told name moment.at self.old.out.lines.items) }
         ensures few { L.room log.old ≤ L.room log.new + length self.old.out.lines.items }
         ensures empty { IsEmpty self.new.out }
     {
@@ -58,7 +60,10 @@ impl<E: Executor> Partition<E> {
         requires fits { E.laid mem.old ≡ E.layout self.old.executor }
         requires empty { L.held log.old ≡ [] }
         ensures fits { E.laid mem.new ≡ E.layout self.new.executor }
-        ensures moved { IsMoved (meaning.cold_start moment.at condition (member_of E.Executor self.old mem.old)) (member_of E.Executor self.old mem.old) (member_of E.Executor self.new mem.new) (IsTold L.EventLog log.old log.new) }
+        ensures moved { IsMoved
+            (meaning.cold_start moment.at condition (member_of E.Executor self.old mem.old))
+            (member_of E.Executor self.old mem.old) (member_of E.Executor self.new mem.new)
+            (IsTold L.EventLog log.old log.new) }
     {
         let name = self.kernel.name();
         self.out.clear();
@@ -72,7 +77,9 @@ impl<E: Executor> Partition<E> {
         requires fits { E.laid mem.old ≡ E.layout self.old.executor }
         requires empty { L.held log.old ≡ [] }
         ensures fits { E.laid mem.new ≡ E.layout self.new.executor }
-        ensures moved { let x = member_of E.Executor self.old mem.old in IsMoved (meaning.breaks_down moment.at x) x (member_of E.Executor self.new mem.new) (IsTold L.EventLog log.old log.new) }
+        ensures moved { let x = member_of E.Executor self.old mem.old in
+            IsMoved (meaning.breaks_down moment.at x) x (member_of E.Executor self.new mem.new)
+            (IsTold L.EventLog log.old log.new) }
     {
         let name = self.kernel.name();
         self.out.clear();
@@ -88,8 +95,12 @@ impl<E: Executor> Partition<E> {
         requires room { LINES_TO_TREAT_DUE ≤ L.room log.old }
         ensures fits { E.laid mem.new ≡ E.layout self.new.executor }
         ensures idle { IsEmpty self.new.out }
-        ensures clears { result ≡ (meaning.treats_due moment.at (member_of E.Executor self.old mem.old).world.kernel).clears }
-        ensures moved { let x = member_of E.Executor self.old mem.old in IsMoved (meaning.treating_phase x.engine moment.at x.world) x (member_of E.Executor self.new mem.new) (IsTold L.EventLog log.old log.new) }
+        ensures clears { result
+            ≡ (meaning.treats_due moment.at
+            (member_of E.Executor self.old mem.old).world.kernel).clears }
+        ensures moved { let x = member_of E.Executor self.old mem.old in
+            IsMoved (meaning.treating_phase x.engine moment.at x.world) x
+            (member_of E.Executor self.new mem.new) (IsTold L.EventLog log.old log.new) }
         ensures few { L.room log.old ≤ L.room log.new + LINES_TO_TREAT_DUE }
     {
         let name = self.kernel.name();
@@ -111,7 +122,9 @@ impl<E: Executor> Partition<E> {
         requires room { LINES_TO_CLEAR ≤ L.room log.old }
         ensures fits { E.laid mem.new ≡ E.layout self.new.executor }
         ensures idle { IsEmpty self.new.out }
-        ensures moved { let x = member_of E.Executor self.old mem.old in IsMoved (meaning.clearing_phase x.engine moment.at clears x.world) x (member_of E.Executor self.new mem.new) (IsTold L.EventLog log.old log.new) }
+        ensures moved { let x = member_of E.Executor self.old mem.old in
+            IsMoved (meaning.clearing_phase x.engine moment.at clears x.world) x
+            (member_of E.Executor self.new mem.new) (IsTold L.EventLog log.old log.new) }
         ensures few { L.room log.old ≤ L.room log.new + LINES_TO_CLEAR }
     {
         if clears.is_some() {
@@ -128,7 +141,9 @@ impl<E: Executor> Partition<E> {
         requires room { LINES_FOR_DUE ≤ L.room log.old }
         ensures fits { E.laid mem.new ≡ E.layout self.new.executor }
         ensures idle { IsEmpty self.new.out }
-        ensures moved { let x = member_of E.Executor self.old mem.old in IsMoved (meaning.due_phase x.engine moment.at x.world) x (member_of E.Executor self.new mem.new) (IsTold L.EventLog log.old log.new) }
+        ensures moved { let x = member_of E.Executor self.old mem.old in
+            IsMoved (meaning.due_phase x.engine moment.at x.world) x
+            (member_of E.Executor self.new mem.new) (IsTold L.EventLog log.old log.new) }
         ensures few { L.room log.old ≤ L.room log.new + LINES_FOR_DUE }
     {
         let clears = self.treat(mem, moment, log);
@@ -142,7 +157,9 @@ impl<E: Executor> Partition<E> {
         requires room { LINES_TO_CHOOSE ≤ L.room log.old }
         ensures fits { E.laid mem.new ≡ E.layout self.new.executor }
         ensures idle { IsEmpty self.new.out }
-        ensures moved { let x = member_of E.Executor self.old mem.old in IsMoved (meaning.choice_phase x.engine moment.at x.world) x (member_of E.Executor self.new mem.new) (IsTold L.EventLog log.old log.new) }
+        ensures moved { let x = member_of E.Executor self.old mem.old in
+            IsMoved (meaning.choice_phase x.engine moment.at x.world) x
+            (member_of E.Executor self.new mem.new) (IsTold L.EventLog log.old log.new) }
         ensures few { L.room log.old ≤ L.room log.new + LINES_TO_CHOOSE }
     {
         let name = self.kernel.name();
@@ -157,7 +174,9 @@ impl<E: Executor> Partition<E> {
         requires room { LINES_TO_PREPARE ≤ L.room log.old }
         ensures fits { E.laid mem.new ≡ E.layout self.new.executor }
         ensures idle { IsEmpty self.new.out }
-        ensures moved { let x = member_of E.Executor self.old mem.old in IsMoved (meaning.prepares x.engine moment.at x.world) x (member_of E.Executor self.new mem.new) (IsTold L.EventLog log.old log.new) }
+        ensures moved { let x = member_of E.Executor self.old mem.old in
+            IsMoved (meaning.prepares x.engine moment.at x.world) x
+            (member_of E.Executor self.new mem.new) (IsTold L.EventLog log.old log.new) }
         ensures few { L.room log.old ≤ L.room log.new + LINES_TO_PREPARE }
     {
         self.treat_due(mem, moment, log);
@@ -171,7 +190,9 @@ impl<E: Executor> Partition<E> {
         requires room { LINES_TO_SERVE ≤ L.room log.old }
         ensures fits { E.laid mem.new ≡ E.layout self.new.executor }
         ensures idle { IsEmpty self.new.out }
-        ensures moved { let x = member_of E.Executor self.old mem.old in IsMoved (meaning.spends x.engine moment.at runner x.world) x (member_of E.Executor self.new mem.new) (IsTold L.EventLog log.old log.new) }
+        ensures moved { let x = member_of E.Executor self.old mem.old in
+            IsMoved (meaning.spends x.engine moment.at runner x.world) x
+            (member_of E.Executor self.new mem.new) (IsTold L.EventLog log.old log.new) }
     {
         let name = self.kernel.name();
         let outcome = self.executor.tick(mem, runner);
@@ -188,7 +209,9 @@ impl<E: Executor> Partition<E> {
         requires room { LINES_TO_SERVE ≤ L.room log.old }
         ensures fits { E.laid mem.new ≡ E.layout self.new.executor }
         ensures idle { IsEmpty self.new.out }
-        ensures moved { let x = member_of E.Executor self.old mem.old in IsMoved (meaning.spending_phase x.engine moment.at x.world) x (member_of E.Executor self.new mem.new) (IsTold L.EventLog log.old log.new) }
+        ensures moved { let x = member_of E.Executor self.old mem.old in
+            IsMoved (meaning.spending_phase x.engine moment.at x.world) x
+            (member_of E.Executor self.new mem.new) (IsTold L.EventLog log.old log.new) }
     {
         if let Some(runner) = self.kernel.running() {
             self.spend(mem, moment, runner, log);
@@ -215,7 +238,9 @@ impl<E: Executor> Partition<E> {
         requires empty { L.held log.old ≡ [] }
         ensures fits { E.laid mem.new ≡ E.layout self.new.executor }
         ensures idle { IsEmpty self.new.out }
-        ensures moved { let x = member_of E.Executor self.old mem.old in IsMoved (meaning.advances moment.at x) x (member_of E.Executor self.new mem.new) (IsTold L.EventLog log.old log.new) }
+        ensures moved { let x = member_of E.Executor self.old mem.old in
+            IsMoved (meaning.advances moment.at x) x (member_of E.Executor self.new mem.new)
+            (IsTold L.EventLog log.old log.new) }
     {
         self.out.clear();
         self.whole_tick(mem, moment, log);
@@ -228,7 +253,9 @@ impl<E: Executor> Partition<E> {
         requires room { LINES_FOR_TICK ≤ L.room log.old }
         ensures fits { E.laid mem.new ≡ E.layout self.new.executor }
         ensures idle { IsEmpty self.new.out }
-        ensures moved { let x = member_of E.Executor self.old mem.old in IsMoved (meaning.advances moment.at x) x (member_of E.Executor self.new mem.new) (IsTold L.EventLog log.old log.new) }
+        ensures moved { let x = member_of E.Executor self.old mem.old in
+            IsMoved (meaning.advances moment.at x) x (member_of E.Executor self.new mem.new)
+            (IsTold L.EventLog log.old log.new) }
     {
         self.prepare(mem, moment, log);
         self.spend_chosen(mem, moment, log);

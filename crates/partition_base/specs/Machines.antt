@@ -6,25 +6,25 @@ use Rattle.machine_meaning.specs.MachineControl.{MachineControl, machine_engine}
 use Rattle.engine_meaning.specs.Engine.{body_at, or_init}
 use Rattle.regions.specs.Space.{Space, stacks_of}
 use Rattle.partition_base.specs.Slots.{controls_from, stack_lengths, stack_of_body}
-use Rattle.partition_base.specs.declared.machine.Machine.{Machine}
+use Rattle.partition_base.specs.declared.machine.PartitionProcessor.{PartitionProcessor}
 
 -- The engine that it is: its code, its routines, and the body of each that may run.
-abbrev pub engine_of : Machine → Engine MachineControl
+abbrev pub engine_of : PartitionProcessor → Engine MachineControl
 engine_of m = machine_engine m.code.costs m.code.instructions.items m.code.routines.items (body_at m.init m.handler m.processes.items)
 
 -- the control of INIT, of the handler and of each process, where it has something left to do
-abbrev pub controls_of : Machine → Space → List (Option MachineControl)
+abbrev pub controls_of : PartitionProcessor → Space → List (Option MachineControl)
 controls_of m s = controls_from m.slots.items (stacks_of s)
 
-abbrev pub initial_of : Machine → List ℤ
+abbrev pub initial_of : PartitionProcessor → List ℤ
 initial_of m = m.initial.items
 
 -- the bodies of INIT, of the handler and of the processes, in order
-abbrev pub bodies_in : Machine → List BodyRow
+abbrev pub bodies_in : PartitionProcessor → List BodyRow
 bodies_in m = m.init ∷ or_init m.init m.handler ∷ m.processes.items
 
 -- how many words a machine wants of the data and of each stack
-abbrev pub layout_of : Machine → List ℕ
+abbrev pub layout_of : PartitionProcessor → List ℕ
 layout_of m = length m.initial.items ∷ map stack_of_body (bodies_in m)
 
 -- how many words the data of a memory have, and each stack

@@ -41,7 +41,9 @@ pub trait Executor {
         ensures fits { laid mem.new ≡ layout self.new }
         ensures engine { engine self.new ≡ engine self.old }
         ensures initial { initial self.new ≡ initial self.old }
-        ensures controls { controls self.new mem.new ≡ slice_set (controls self.old mem.old) (place_of runner) (Some ((engine self.old).start runner)) }
+        ensures controls { controls self.new mem.new
+            ≡ slice_set (controls self.old mem.old) (place_of runner)
+            (Some ((engine self.old).start runner)) }
         ensures words { words mem.new ≡ words mem.old };
 
     /// The runner has nothing left to do.
@@ -66,8 +68,13 @@ pub trait Executor {
         ensures fits { laid mem.new ≡ layout self.new }
         ensures engine { engine self.new ≡ engine self.old }
         ensures initial { initial self.new ≡ initial self.old }
-        ensures controls { controls self.new mem.new ≡ slice_set (controls self.old mem.old) (place_of runner) (ticked (engine self.old) (control_at (controls self.old mem.old) (place_of runner)) (words mem.old)).control }
-        ensures words { words mem.new ≡ (ticked (engine self.old) (control_at (controls self.old mem.old) (place_of runner)) (words mem.old)).words }
+        ensures controls { controls self.new mem.new
+            ≡ slice_set (controls self.old mem.old) (place_of runner)
+            (ticked (engine self.old) (control_at (controls self.old mem.old) (place_of runner))
+            (words mem.old)).control }
+        ensures words { words mem.new
+            ≡ (ticked (engine self.old) (control_at (controls self.old mem.old) (place_of runner))
+            (words mem.old)).words }
         ensures asks { asks_of result ≡ (ticked (engine self.old) (control_at (controls self.old mem.old) (place_of runner)) (words mem.old)).asks };
 
     /// So many ticks of the runner, or those up to the first in which it asks for something: how many
@@ -77,7 +84,14 @@ pub trait Executor {
         ensures fits { laid mem.new ≡ layout self.new }
         ensures engine { engine self.new ≡ engine self.old }
         ensures initial { initial self.new ≡ initial self.old }
-        ensures burst { record { control = controls self.new mem.new; words = words mem.new; told = asks_of result.outcome; ticks = result.ticks } ≡ burst_at (engine self.old) k (place_of runner) (controls self.old mem.old) (words mem.old) }
+        ensures burst { record {
+          control = controls self.new mem.new;
+          words = words mem.new;
+          told = asks_of result.outcome;
+          ticks = result.ticks;
+        }
+            ≡ burst_at (engine self.old) k (place_of runner) (controls self.old mem.old)
+            (words mem.old) }
         ensures whole { is_nothing (asks_of result.outcome) ≡ true → result.ticks ≡ k };
 
     /// The answer to the runner's service call: the code, then the outputs.
@@ -86,7 +100,10 @@ pub trait Executor {
         ensures fits { laid mem.new ≡ layout self.new }
         ensures engine { engine self.new ≡ engine self.old }
         ensures initial { initial self.new ≡ initial self.old }
-        ensures controls { controls self.new mem.new ≡ slice_set (controls self.old mem.old) (place_of runner) (replied (engine self.old) (control_at (controls self.old mem.old) (place_of runner)) answer.now.items) }
+        ensures controls { controls self.new mem.new
+            ≡ slice_set (controls self.old mem.old) (place_of runner)
+            (replied (engine self.old) (control_at (controls self.old mem.old) (place_of runner))
+            answer.now.items) }
         ensures words { words mem.new ≡ words mem.old };
 
     /// At most 16 words of the data, from a place on.

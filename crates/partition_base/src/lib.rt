@@ -3,7 +3,7 @@
 //! [`Executor`] is all that a kernel asks of it. A contract sees an executor as an engine, as the
 //! controls of those that have something left to do, and as the words of the data. Each call but
 //! `read` asks that the lent memory has the layout that the executor was made for, and keeps it.
-//! [`Machine`] is the processor as an executor.
+//! [`PartitionProcessor`] is the processor as an executor.
 #![tactic(auto)]
 
 pub mod executor;
@@ -11,4 +11,4 @@ mod machine;
 mod slot;
 
 pub use executor::Executor;
-pub use machine::{FittingSection, Machine, memory_plan, message, put};
+pub use machine::{FittingSection, PartitionProcessor, memory_plan, message, put};

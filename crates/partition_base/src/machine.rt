@@ -22,7 +22,7 @@ use std::alloc::{AllocError, Global};
 /// handler and one for each process, and the initial data. Without a handler its slot has INIT's
 /// body.
 #[derive(Drop)]
-pub struct Machine {
+pub struct PartitionProcessor {
     code: Code,
     init: BodyRow,
     handler: Option<BodyRow>,
@@ -49,7 +49,8 @@ fn fresh_slots(
     handler: &BodyRow,
     processes: &[BodyRow],
 ) -> Result<Vec<Slot>, AllocError>
-    ensures { IfOk result (λ slots. map is_begun slots.items ≡ replicate (2 + length processes.now) false) }
+    ensures { IfOk result
+        (λ slots. map is_begun slots.items ≡ replicate (2 + length processes.now) false) }
 {
     let mut slots = Vec::with_capacity(alloc, processes.len() + 2)?;
     slots.push(Slot::new(init))?;
@@ -67,7 +68,9 @@ fn stack_sizes(
     handler: &BodyRow,
     processes: &[ProcessRow],
 ) -> Result<Vec<u16>, AllocError>
-    ensures { IfOk result (λ sizes. sizes.items ≡ map stack_of_body (init.now ∷ handler.now ∷ map body_of_row processes.now)) }
+    ensures { IfOk result
+        (λ sizes.
+        sizes.items ≡ map stack_of_body (init.now ∷ handler.now ∷ map body_of_row processes.now)) }
 {
     let mut sizes = Vec::with_capacity(alloc, processes.len() + 2)?;
     sizes.push(init.stack)?;
@@ -108,7 +111,8 @@ pub fn message(words: &[i64], place: i64, count: u8) -> Words
 /// Writes words into the data one after the other from a place on, as far as there are places.
 pub fn put(memory: &mut PartitionMem, place: usize, array: &[i64])
     requires { place < 2 ^ 63 }
-    ensures { memory.new ≡ put memory.old memory.old.stack (put_words memory.old.words place array.now) }
+    ensures { memory.new
+        ≡ put memory.old memory.old.stack (put_words memory.old.words place array.now) }
 {
     let mut next = place;
     for word in array {
@@ -125,18 +129,23 @@ pub struct FittingSection<'a> {
     pub ghost fitting: { IsFittingSection section.now },
 }
 
-impl Machine {
+impl PartitionProcessor {
     ghost use Rattle.std.specs.Prelude.{None};
     ghost use Rattle.engine_meaning.specs.Engine.{body_at};
     ghost use Rattle.partition_base.specs.Machines.{engine_of, controls_of, initial_of, bodies_in, layout_of, laid_of};
     ghost use Rattle.partition_base.specs.Sections.{engine_of_section, fresh_memory};
 
     /// The processor of a partition's section, with nothing begun. An error is one of memory.
-    pub fn new(alloc: Global, fitting: FittingSection<'_>) -> Result<Machine, AllocError>
-        ensures engine { IfOk result (λ machine. engine_of machine ≡ engine_of_section fitting.entry.section.now) }
-        ensures controls { IfOk result (λ machine. controls_of machine (fresh_memory fitting.entry.section.now) ≡ replicate (2 + length fitting.entry.section.now.processes.items) None) }
-        ensures fits { IfOk result (λ machine. laid_of (fresh_memory fitting.entry.section.now) ≡ layout_of machine) }
-        ensures initial { IfOk result (λ machine. initial_of machine ≡ fitting.entry.section.now.initial.items) }
+    pub fn new(alloc: Global, fitting: FittingSection<'_>) -> Result<PartitionProcessor, AllocError>
+        ensures engine { IfOk result
+            (λ machine. engine_of machine ≡ engine_of_section fitting.entry.section.now) }
+        ensures controls { IfOk result
+            (λ machine. controls_of machine (fresh_memory fitting.entry.section.now)
+            ≡ replicate (2 + length fitting.entry.section.now.processes.items) None) }
+        ensures fits { IfOk result
+            (λ machine. laid_of (fresh_memory fitting.entry.section.now) ≡ layout_of machine) }
+        ensures initial { IfOk result
+            (λ machine. initial_of machine ≡ fitting.entry.section.now.initial.items) }
     {
         let section = fitting.section;
         let rows = CodeRows {
@@ -145,7 +154,7 @@ impl Machine {
         };
         let processes = bodies(alloc, &section.processes)?;
         let handler = section.handler.unwrap_or(section.init);
-        Ok(Machine {
+        Ok(PartitionProcessor {
             code: Code::read(alloc, &Costs::written(), rows)?,
             init: section.init,
             handler: section.handler,
@@ -157,8 +166,11 @@ impl Machine {
 
     /// The body of INIT, of the handler or of a process; INIT's where there is none.
     fn body(&self, runner: Runner) -> BodyRow
-        ensures body { result ≡ body_at self.now.init self.now.handler self.now.processes.items runner }
-        ensures stack { place_of runner < length (bodies_in self.now) → slice_get (map stack_of_body (bodies_in self.now)) (place_of runner) ≡ Some result.stack }
+        ensures body { result
+            ≡ body_at self.now.init self.now.handler self.now.processes.items runner }
+        ensures stack { place_of runner < length (bodies_in self.now)
+            → slice_get (map stack_of_body (bodies_in self.now)) (place_of runner)
+            ≡ Some result.stack }
     {
         match runner {
             Runner::Init => self.init,
@@ -171,7 +183,7 @@ impl Machine {
     }
 }
 
-impl Executor for Machine {
+impl Executor for PartitionProcessor {
     ghost use Rattle.machine_meaning.specs.MachineControl.{MachineControl};
     ghost use Rattle.partition_base.specs.Machines.{engine_of, controls_of, initial_of, layout_of, laid_of};
 

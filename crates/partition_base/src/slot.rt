@@ -36,7 +36,8 @@ impl Slot {
     /// Begins a body afresh on the own stack.
     fn begin(&mut self, memory: &mut PartitionMem, body: &BodyRow)
         requires { length memory.old.stack ≡ body.now.stack }
-        ensures control { control_of_slot self.new memory.new.stack ≡ Some (machine_start body.now) }
+        ensures control { control_of_slot self.new memory.new.stack
+            ≡ Some (machine_start body.now) }
         ensures memory { memory.new ≡ put memory.old (zeros body.now.stack) memory.old.words }
     {
         self.context.start(memory, body);
@@ -52,10 +53,25 @@ impl Slot {
 
     /// One tick on the own stack, where something is left to do.
     fn tick(&mut self, memory: &mut PartitionMem, code: &Code) -> Outcome
-        ensures control { (bodies : Runner → BodyRow) → control_of_slot self.new memory.new.stack ≡ (ticked (machine_engine code.now.costs code.now.instructions.items code.now.routines.items bodies) (control_of_slot self.old memory.old.stack) memory.old.words).control }
+        ensures control { (bodies : Runner → BodyRow)
+            → control_of_slot self.new memory.new.stack
+            ≡ (ticked
+            (machine_engine code.now.costs code.now.instructions.items
+            code.now.routines.items bodies)
+            (control_of_slot self.old memory.old.stack) memory.old.words).control }
         ensures memory { memory.new ≡ put memory.old memory.new.stack memory.new.words }
-        ensures words { (bodies : Runner → BodyRow) → memory.new.words ≡ (ticked (machine_engine code.now.costs code.now.instructions.items code.now.routines.items bodies) (control_of_slot self.old memory.old.stack) memory.old.words).words }
-        ensures asks { (bodies : Runner → BodyRow) → asks_of result ≡ (ticked (machine_engine code.now.costs code.now.instructions.items code.now.routines.items bodies) (control_of_slot self.old memory.old.stack) memory.old.words).asks }
+        ensures words { (bodies : Runner → BodyRow)
+            → memory.new.words
+            ≡ (ticked
+            (machine_engine code.now.costs code.now.instructions.items
+            code.now.routines.items bodies)
+            (control_of_slot self.old memory.old.stack) memory.old.words).words }
+        ensures asks { (bodies : Runner → BodyRow)
+            → asks_of result
+            ≡ (ticked
+            (machine_engine code.now.costs code.now.instructions.items
+            code.now.routines.items bodies)
+            (control_of_slot self.old memory.old.stack) memory.old.words).asks }
         ensures stack { length memory.new.stack ≡ length memory.old.stack }
         ensures length { length memory.new.words ≡ length memory.old.words }
     {
@@ -68,7 +84,18 @@ impl Slot {
     /// So many ticks on the own stack, or those up to the first in which something is asked, where
     /// something is left to do.
     fn advance(&mut self, memory: &mut PartitionMem, code: &Code, k: u32) -> Burst
-        ensures burst { (bodies : Runner → BodyRow) → record { control = control_of_slot self.new memory.new.stack; words = memory.new.words; told = asks_of result.outcome; ticks = result.ticks } ≡ burst (ticked (machine_engine code.now.costs code.now.instructions.items code.now.routines.items bodies)) k (control_of_slot self.old memory.old.stack) memory.old.words }
+        ensures burst { (bodies : Runner → BodyRow)
+            → record {
+              control = control_of_slot self.new memory.new.stack;
+              words = memory.new.words;
+              told = asks_of result.outcome;
+              ticks = result.ticks;
+            }
+            ≡ burst
+            (ticked
+            (machine_engine code.now.costs code.now.instructions.items
+            code.now.routines.items bodies))
+            k (control_of_slot self.old memory.old.stack) memory.old.words }
         ensures memory { memory.new ≡ put memory.old memory.new.stack memory.new.words }
         ensures stack { length memory.new.stack ≡ length memory.old.stack }
         ensures length { length memory.new.words ≡ length memory.old.words }
@@ -85,7 +112,10 @@ impl Slot {
 
     /// The answer to a service call, where something is left to do.
     fn reply(&mut self, memory: &mut PartitionMem, answer: &[i64])
-        ensures control { (costs : _) (code : _) (routines : _) (bodies : Runner → BodyRow) → control_of_slot self.new memory.new.stack ≡ replied (machine_engine costs code routines bodies) (control_of_slot self.old memory.old.stack) answer.now }
+        ensures control { (costs : _) (code : _) (routines : _) (bodies : Runner → BodyRow)
+            → control_of_slot self.new memory.new.stack
+            ≡ replied (machine_engine costs code routines bodies)
+            (control_of_slot self.old memory.old.stack) answer.now }
         ensures memory { memory.new ≡ put memory.old memory.new.stack memory.old.words }
         ensures stack { length memory.new.stack ≡ length memory.old.stack }
     {
@@ -103,8 +133,11 @@ pub(crate) fn begin_at(
     memory: &mut PartitionMem,
     body: &BodyRow,
 )
-    requires { place < length (stacks_of memory.old) → slice_get (stack_lengths memory.old) place ≡ Some body.now.stack }
-    ensures controls { controls_from slots.new.items (stacks_of memory.new) ≡ slice_set (controls_from slots.old.items (stacks_of memory.old)) place (Some (machine_start body.now)) }
+    requires { place < length (stacks_of memory.old)
+        → slice_get (stack_lengths memory.old) place ≡ Some body.now.stack }
+    ensures controls { controls_from slots.new.items (stacks_of memory.new)
+        ≡ slice_set (controls_from slots.old.items (stacks_of memory.old)) place
+        (Some (machine_start body.now)) }
     ensures words { memory.new.words ≡ memory.old.words }
     ensures stacks { stack_lengths memory.new ≡ stack_lengths memory.old }
 {
@@ -118,7 +151,9 @@ pub(crate) fn begin_at(
 
 /// The runner of a place has nothing left to do.
 pub(crate) fn stop_at(slots: &mut Vec<Slot>, place: usize)
-    ensures { (stacks : List (List ℤ)) → controls_from slots.new.items stacks ≡ slice_set (controls_from slots.old.items stacks) place None }
+    ensures { (stacks : List (List ℤ))
+        → controls_from slots.new.items stacks
+        ≡ slice_set (controls_from slots.old.items stacks) place None }
 {
     if let Some(slot) = slots.get_mut(place) {
         slot.stop();
@@ -136,7 +171,9 @@ fn stop_each(slots: &mut Vec<Slot>)
 
 /// No runner has anything left to do.
 pub(crate) fn stop_all(slots: &mut Vec<Slot>)
-    ensures { (stacks : List (List ℤ)) → controls_from slots.new.items stacks ≡ map no_control (controls_from slots.old.items stacks) }
+    ensures { (stacks : List (List ℤ))
+        → controls_from slots.new.items stacks
+        ≡ map no_control (controls_from slots.old.items stacks) }
 {
     stop_each(slots);
 }
@@ -149,9 +186,28 @@ pub(crate) fn tick_at(
     memory: &mut PartitionMem,
     code: &Code,
 ) -> Outcome
-    ensures controls { (bodies : Runner → BodyRow) → controls_from slots.new.items (stacks_of memory.new) ≡ slice_set (controls_from slots.old.items (stacks_of memory.old)) place (ticked (machine_engine code.now.costs code.now.instructions.items code.now.routines.items bodies) (control_at (controls_from slots.old.items (stacks_of memory.old)) place) memory.old.words).control }
-    ensures words { (bodies : Runner → BodyRow) → memory.new.words ≡ (ticked (machine_engine code.now.costs code.now.instructions.items code.now.routines.items bodies) (control_at (controls_from slots.old.items (stacks_of memory.old)) place) memory.old.words).words }
-    ensures asks { (bodies : Runner → BodyRow) → asks_of result ≡ (ticked (machine_engine code.now.costs code.now.instructions.items code.now.routines.items bodies) (control_at (controls_from slots.old.items (stacks_of memory.old)) place) memory.old.words).asks }
+    ensures controls { (bodies : Runner → BodyRow)
+        → controls_from slots.new.items (stacks_of memory.new)
+        ≡ slice_set (controls_from slots.old.items (stacks_of memory.old)) place
+        (ticked
+        (machine_engine code.now.costs code.now.instructions.items
+        code.now.routines.items bodies)
+        (control_at (controls_from slots.old.items (stacks_of memory.old)) place)
+        memory.old.words).control }
+    ensures words { (bodies : Runner → BodyRow)
+        → memory.new.words
+        ≡ (ticked
+        (machine_engine code.now.costs code.now.instructions.items
+        code.now.routines.items bodies)
+        (control_at (controls_from slots.old.items (stacks_of memory.old)) place)
+        memory.old.words).words }
+    ensures asks { (bodies : Runner → BodyRow)
+        → asks_of result
+        ≡ (ticked
+        (machine_engine code.now.costs code.now.instructions.items
+        code.now.routines.items bodies)
+        (control_at (controls_from slots.old.items (stacks_of memory.old)) place)
+        memory.old.words).asks }
     ensures stacks { stack_lengths memory.new ≡ stack_lengths memory.old }
     ensures length { length memory.new.words ≡ length memory.old.words }
 {
@@ -173,7 +229,17 @@ pub(crate) fn advance_at(
     code: &Code,
     k: u32,
 ) -> Burst
-    ensures burst { (bodies : Runner → BodyRow) → record { control = controls_from slots.new.items (stacks_of memory.new); words = memory.new.words; told = asks_of result.outcome; ticks = result.ticks } ≡ burst_at (machine_engine code.now.costs code.now.instructions.items code.now.routines.items bodies) k place (controls_from slots.old.items (stacks_of memory.old)) memory.old.words }
+    ensures burst { (bodies : Runner → BodyRow)
+        → record {
+          control = controls_from slots.new.items (stacks_of memory.new);
+          words = memory.new.words;
+          told = asks_of result.outcome;
+          ticks = result.ticks;
+        }
+        ≡ burst_at
+        (machine_engine code.now.costs code.now.instructions.items
+        code.now.routines.items bodies)
+        k place (controls_from slots.old.items (stacks_of memory.old)) memory.old.words }
     ensures stacks { stack_lengths memory.new ≡ stack_lengths memory.old }
     ensures length { length memory.new.words ≡ length memory.old.words }
     ensures whole { is_nothing (asks_of result.outcome) ≡ true → result.ticks ≡ k }
@@ -201,7 +267,11 @@ pub(crate) fn reply_at(
     memory: &mut PartitionMem,
     answer: &[i64],
 )
-    ensures controls { (costs : _) (code : _) (routines : _) (bodies : Runner → BodyRow) → controls_from slots.new.items (stacks_of memory.new) ≡ slice_set (controls_from slots.old.items (stacks_of memory.old)) place (replied (machine_engine costs code routines bodies) (control_at (controls_from slots.old.items (stacks_of memory.old)) place) answer.now) }
+    ensures controls { (costs : _) (code : _) (routines : _) (bodies : Runner → BodyRow)
+        → controls_from slots.new.items (stacks_of memory.new)
+        ≡ slice_set (controls_from slots.old.items (stacks_of memory.old)) place
+        (replied (machine_engine costs code routines bodies)
+        (control_at (controls_from slots.old.items (stacks_of memory.old)) place) answer.now) }
     ensures words { memory.new.words ≡ memory.old.words }
     ensures stacks { stack_lengths memory.new ≡ stack_lengths memory.old }
 {

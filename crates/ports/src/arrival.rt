@@ -30,7 +30,10 @@ fn arrive_sampling(
     requires status { port ≡ port_status (placed_port ports.old place) }
     requires kind { is_sampling (placed_port ports.old place) ≡ true }
     requires room { HasRoom 1 0 out.old }
-    ensures step { IsMade (meaning.arrives_sampling moment.at (both table.now ports.old) place (placed_port ports.old place) message) (both table.now ports.new) out.old out.new }
+    ensures step { IsMade
+        (meaning.arrives_sampling moment.at (both table.now ports.old) place
+        (placed_port ports.old place) message)
+        (both table.now ports.new) out.old out.new }
     ensures grows { Grows 1 0 out.old out.new }
 {
     let line = EventKind::Arrive(port.row.name, copied(&message));
@@ -49,7 +52,10 @@ fn store(
 )
     requires status { port ≡ port_status (placed_port ports.old place) }
     requires room { HasRoom 1 0 out.old }
-    ensures step { IsMade (meaning.arrives_queuing (both table.now ports.old) place (placed_port ports.old place) message None) (both table.now ports.new) out.old out.new }
+    ensures step { IsMade
+        (meaning.arrives_queuing (both table.now ports.old) place (placed_port ports.old place)
+        message None)
+        (both table.now ports.new) out.old out.new }
     ensures grows { Grows 1 0 out.old out.new }
 {
     if !port.is_full() {
@@ -75,14 +81,17 @@ fn arrive_queuing(
     requires place { place < MOST_OBJECTS }
     requires status { port ≡ port_status (placed_port ports.old place) }
     requires room { HasRoom 3 2 out.old }
-    ensures step { IsMade (meaning.arrives_queuing (both table.old ports.old) place (placed_port ports.old place) message (first_waiting table.old (list place))) (both table.new ports.new) out.old out.new }
+    ensures step { IsMade
+        (meaning.arrives_queuing (both table.old ports.old) place (placed_port ports.old place)
+        message (first_waiting table.old (list place)))
+        (both table.new ports.new) out.old out.new }
     ensures grows { Grows 3 2 out.old out.new }
 {
     match table.first_waiting(ListKey::Port(place)) {
-        Some((receiver, _)) => {
+        Some(receiver) => {
             let line = EventKind::Arrive(port.row.name, copied(&message));
             out.lines.push(line);
-            table.give(receiver, &message, out);
+            table.give(&receiver, message, out);
         }
         None => store(table, ports, place, port, message, out),
     }
@@ -101,7 +110,8 @@ pub fn arrive(
     out: &mut Out,
 )
     requires { HasRoom 3 2 out.old }
-    ensures step { IsMade (meaning.arrives moment.at (both table.old ports.old) place message) (both table.new ports.new) out.old out.new }
+    ensures step { IsMade (meaning.arrives moment.at (both table.old ports.old) place message)
+        (both table.new ports.new) out.old out.new }
     ensures grows { Grows 3 2 out.old out.new }
 {
     let Some(port) = ports.status(place) else {
@@ -117,7 +127,9 @@ pub fn arrive(
 /// The message of a sender comes behind the others if there is room, and the sender is released.
 fn admit_one(table: &mut ProcessTable, ports: &mut Ports, entry: Entry, place: u8, out: &mut Out)
     requires { HasRoom 2 1 out.old }
-    ensures step { IsMade (meaning.enters_port (both table.old ports.old) place entry (port_at ports.old place)) (both table.new ports.new) out.old out.new }
+    ensures step { IsMade
+        (meaning.enters_port (both table.old ports.old) place entry (port_at ports.old place))
+        (both table.new ports.new) out.old out.new }
     ensures grows { Grows 2 1 out.old out.new }
 {
     let Some(port) = ports.status(place) else {
@@ -126,9 +138,9 @@ fn admit_one(table: &mut ProcessTable, ports: &mut Ports, entry: Entry, place: u
     if port.is_full() {
         return;
     }
-    if let Some((sender, _)) = table.numbered(entry.process) {
-        ports.push_message(place, table.handed_by(sender));
-        table.release(sender, ReturnCode::NoError, out);
+    if let Some(sender) = table.numbered(entry.process) {
+        ports.push_message(place, table.handed_by(sender.runner));
+        table.release(&sender, ReturnCode::NoError, out);
     }
 }
 
@@ -141,7 +153,8 @@ fn admit_each(
     out: &mut Out,
 )
     requires { HasRoom (2 * length entries.now) (length entries.now) out.old }
-    ensures step { IsMade (meaning.all_enter entries.now place (both table.old ports.old)) (both table.new ports.new) out.old out.new }
+    ensures step { IsMade (meaning.all_enter entries.now place (both table.old ports.old))
+        (both table.new ports.new) out.old out.new }
     ensures grows { Grows (2 * length entries.now) (length entries.now) out.old out.new }
 {
     if let Some((entry, rest)) = entries.split_first() {
@@ -154,7 +167,8 @@ fn admit_each(
 #[tactic(auto, using(crate::proofs::Entering::entering))]
 pub fn admit(table: &mut ProcessTable, ports: &mut Ports, place: u8, out: &mut Out)
     requires { HasRoom LINES_TO_RELEASE_ALL ACTIONS_TO_RELEASE_ALL out.old }
-    ensures step { IsMade (meaning.admits (both table.old ports.old) place) (both table.new ports.new) out.old out.new }
+    ensures step { IsMade (meaning.admits (both table.old ports.old) place)
+        (both table.new ports.new) out.old out.new }
     ensures grows { Grows LINES_TO_RELEASE_ALL ACTIONS_TO_RELEASE_ALL out.old out.new }
 {
     if place < ports.count() {

@@ -5,13 +5,13 @@ ghost use Rattle.apex_types.specs.Room.{HasRoom, Grows};
 ghost use Rattle.kernel_meaning.specs.Made.{IsTold};
 ghost use Rattle.ports.specs.Delivering.{delivers};
 
-use apex_types::{Action, ArrayPlace, Out, ReturnCode, Runner, Service, Words};
-use process_table_base::ProcessTable;
+use apex_types::{Action, ArrayPlace, Out, ReturnCode, Service, Words};
+use process_table_base::{ProcessTable, Request};
 
 /// The service ends with a code and its outputs, and the message goes into the caller's array.
 pub(crate) fn deliver(
     table: &ProcessTable,
-    caller: Runner,
+    request: Request,
     service: Service,
     code: ReturnCode,
     outputs: &[i64],
@@ -21,9 +21,10 @@ pub(crate) fn deliver(
 )
     requires outputs { length outputs.now ≤ 6 }
     requires room { HasRoom 1 2 out.old }
-    ensures step { IsTold (delivers table.now caller service code outputs.now array message) out.old out.new }
+    ensures step { IsTold (delivers table.now request.caller service code outputs.now array message)
+        out.old out.new }
     ensures grows { Grows 1 2 out.old out.new }
 {
-    table.answer(caller, service, code, outputs, out);
+    table.answer(request.caller, service, code, outputs, out);
     out.actions.push(Action::Write(array.base, message));
 }

@@ -120,7 +120,8 @@ impl PortStatus {
 
     /// Source 0, destination 1.
     pub(crate) fn direction_number(&self) -> i64
-        ensures { result ≡ pos (if meaning.is_source_direction self.now.row.direction then 0 else 1) }
+        ensures { result
+            ≡ pos (if meaning.is_source_direction self.now.row.direction then 0 else 1) }
     {
         if self.is_source() { 0 } else { 1 }
     }

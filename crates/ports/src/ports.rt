@@ -127,7 +127,8 @@ impl Ports {
     #[tactic(auto, using(crate::proofs::Finding::finding))]
     fn numbered(&self, id: i64) -> Option<(u8, PortStatus)>
         ensures found { numbered_in self.now.ports id ≡ port_of_status self.now result }
-        ensures status { IfSome result (λ found. found.1 ≡ port_status (placed_port self.now found.0)) }
+        ensures status { IfSome result
+            (λ found. found.1 ≡ port_status (placed_port self.now found.0)) }
         ensures within { IfSome result (λ found. found.0 < MOST_OBJECTS) }
         ensures short { IfSome result (λ found. meaning.refresh_of found.1.row.kind ≤ MOST_TICKS) }
     {
@@ -138,10 +139,12 @@ impl Ports {
     /// How the sampling port with a number stands, with its place.
     pub(crate) fn sampling(&self, id: i64) -> Option<(u8, PortStatus)>
         ensures found { meaning.sampling self.now id ≡ port_of_status self.now result }
-        ensures status { IfSome result (λ found. found.1 ≡ port_status (placed_port self.now found.0)) }
+        ensures status { IfSome result
+            (λ found. found.1 ≡ port_status (placed_port self.now found.0)) }
         ensures within { IfSome result (λ found. found.0 < MOST_OBJECTS) }
         ensures short { IfSome result (λ found. meaning.refresh_of found.1.row.kind ≤ MOST_TICKS) }
-        ensures kind { IfSome result (λ found. meaning.is_sampling (placed_port self.now found.0) ≡ true) }
+        ensures kind { IfSome result
+            (λ found. meaning.is_sampling (placed_port self.now found.0) ≡ true) }
     {
         let (place, port) = self.numbered(id)?;
         if port.is_sampling() {
@@ -154,7 +157,8 @@ impl Ports {
     /// How the queuing port with a number stands, with its place.
     pub(crate) fn queuing(&self, id: i64) -> Option<(u8, PortStatus)>
         ensures found { meaning.queuing self.now id ≡ port_of_status self.now result }
-        ensures status { IfSome result (λ found. found.1 ≡ port_status (placed_port self.now found.0)) }
+        ensures status { IfSome result
+            (λ found. found.1 ≡ port_status (placed_port self.now found.0)) }
         ensures within { IfSome result (λ found. found.0 < MOST_OBJECTS) }
     {
         let (place, port) = self.numbered(id)?;
@@ -167,7 +171,9 @@ impl Ports {
 
     /// A port is created.
     pub(crate) fn create(&mut self, place: u8)
-        ensures { self.new ≡ meaning.put_port self.old place (record (placed_port self.old place) { created = true }) }
+        ensures { self.new
+            ≡ meaning.put_port self.old place
+            (record (placed_port self.old place) { created = true }) }
     {
         if let Some(port) = self.ports.get_mut(usize::from(place)) {
             port.create();
@@ -178,7 +184,9 @@ impl Ports {
     #[tactic(auto, using(crate::proofs::Depth::depths))]
     pub(crate) fn put_sample(&mut self, place: u8, message: Words)
         requires { meaning.is_sampling (placed_port self.old place) ≡ true }
-        ensures { self.new ≡ meaning.put_port self.old place (meaning.with_sample (placed_port self.old place) message) }
+        ensures { self.new
+            ≡ meaning.put_port self.old place
+            (meaning.with_sample (placed_port self.old place) message) }
     {
         if let Some(port) = self.ports.get_mut(usize::from(place)) {
             port.put_sample(message);
@@ -189,7 +197,10 @@ impl Ports {
     #[tactic(auto, using(crate::proofs::Depth::depths))]
     pub(crate) fn put_arrived(&mut self, place: u8, message: Words, now: Ticks)
         requires { meaning.is_sampling (placed_port self.old place) ≡ true }
-        ensures { self.new ≡ meaning.put_port self.old place (record (meaning.with_sample (placed_port self.old place) message) { arrival = now }) }
+        ensures { self.new
+            ≡ meaning.put_port self.old place
+            (record (meaning.with_sample (placed_port self.old place) message)
+            { arrival = now }) }
     {
         if let Some(port) = self.ports.get_mut(usize::from(place)) {
             port.put_sample(message);
@@ -200,10 +211,15 @@ impl Ports {
     /// Reads the message of a sampling port: a copy, and whether it is valid, which the port remembers.
     pub(crate) fn read_message(&mut self, place: u8, moment: Moment) -> Option<(Words, bool)>
         ensures none { IsNone result → slice_get (placed_port self.old place).messages 0 ≡ None }
-        ensures first { IfSome result (λ read. slice_get (placed_port self.old place).messages 0 ≡ Some read.0) }
-        ensures valid { IfSome result (λ read. read.1 ≡ services.is_valid moment.at (placed_port self.old place)) }
+        ensures first { IfSome result
+            (λ read. slice_get (placed_port self.old place).messages 0 ≡ Some read.0) }
+        ensures valid { IfSome result
+            (λ read. read.1 ≡ services.is_valid moment.at (placed_port self.old place)) }
         ensures empty { IsNone result → self.new ≡ self.old }
-        ensures rest { IfSome result (λ read. self.new ≡ meaning.put_port self.old place (record (placed_port self.old place) { valid = read.1 })) }
+        ensures rest { IfSome result
+            (λ read. self.new
+            ≡ meaning.put_port self.old place
+            (record (placed_port self.old place) { valid = read.1 })) }
     {
         let port = self.ports.get_mut(usize::from(place))?;
         let message = port.first()?;
@@ -214,8 +230,11 @@ impl Ports {
 
     /// A message goes behind the others of a port.
     pub(crate) fn push_message(&mut self, place: u8, message: Words)
-        requires { let x = placed_port self.old place in length x.messages < meaning.depth_of x.row.kind }
-        ensures { self.new ≡ meaning.put_port self.old place (meaning.with_message (placed_port self.old place) message) }
+        requires { let x = placed_port self.old place in
+            length x.messages < meaning.depth_of x.row.kind }
+        ensures { self.new
+            ≡ meaning.put_port self.old place
+            (meaning.with_message (placed_port self.old place) message) }
     {
         if let Some(port) = self.ports.get_mut(usize::from(place)) {
             port.push(message);
@@ -224,7 +243,9 @@ impl Ports {
 
     /// A message was lost at a port.
     pub(crate) fn lose_message(&mut self, place: u8)
-        ensures { self.new ≡ meaning.put_port self.old place (record (placed_port self.old place) { overflowed = true }) }
+        ensures { self.new
+            ≡ meaning.put_port self.old place
+            (record (placed_port self.old place) { overflowed = true }) }
     {
         if let Some(port) = self.ports.get_mut(usize::from(place)) {
             port.set_overflowed(true);
@@ -234,10 +255,15 @@ impl Ports {
     /// Takes the first message of a port, and tells whether one was lost before, which the port forgets.
     pub(crate) fn receive_message(&mut self, place: u8) -> Option<(Words, bool)>
         ensures none { IsNone result → slice_get (placed_port self.old place).messages 0 ≡ None }
-        ensures first { IfSome result (λ read. slice_get (placed_port self.old place).messages 0 ≡ Some read.0) }
-        ensures overflowed { IfSome result (λ read. read.1 ≡ (placed_port self.old place).overflowed) }
+        ensures first { IfSome result
+            (λ read. slice_get (placed_port self.old place).messages 0 ≡ Some read.0) }
+        ensures overflowed { IfSome result
+            (λ read. read.1 ≡ (placed_port self.old place).overflowed) }
         ensures empty { IsNone result → self.new ≡ self.old }
-        ensures rest { OnSome result (self.new ≡ meaning.put_port self.old place (record (without_first (placed_port self.old place)) { overflowed = false })) }
+        ensures rest { OnSome result
+            (self.new
+            ≡ meaning.put_port self.old place
+            (record (without_first (placed_port self.old place)) { overflowed = false })) }
     {
         let port = self.ports.get_mut(usize::from(place))?;
         let message = port.pop()?;
@@ -248,7 +274,9 @@ impl Ports {
 
     /// The messages of a port are gone, and that one was lost is forgotten.
     pub(crate) fn empty(&mut self, place: u8)
-        ensures { self.new ≡ meaning.put_port self.old place (record (placed_port self.old place) { messages = []; overflowed = false }) }
+        ensures { self.new
+            ≡ meaning.put_port self.old place
+            (record (placed_port self.old place) { messages = []; overflowed = false }) }
     {
         if let Some(port) = self.ports.get_mut(usize::from(place)) {
             port.empty();
@@ -260,7 +288,9 @@ impl Ports {
     fn take_first(&mut self, place: u8) -> Option<Words>
         ensures first { result ≡ slice_get (placed_port self.old place).messages 0 }
         ensures empty { IsNone result → self.new ≡ self.old }
-        ensures rest { OnSome result (self.new ≡ meaning.put_port self.old place (without_first (placed_port self.old place))) }
+        ensures rest { OnSome result
+            (self.new
+            ≡ meaning.put_port self.old place (without_first (placed_port self.old place))) }
     {
         let port = self.ports.get_mut(usize::from(place))?;
         port.pop()

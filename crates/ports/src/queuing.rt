@@ -13,10 +13,10 @@ ghost use Rattle.ports.specs.Status.{placed_port, port_status};
 use crate::deliver::deliver;
 use crate::port::PortStatus;
 use crate::ports::Ports;
-use apex_types::{
-    ArrayPlace, Discipline, ListKey, Mode, Moment, Out, ReturnCode, Runner, Service, Waiting, Words,
+use apex_types::{ArrayPlace, Discipline, ListKey, Mode, Out, ReturnCode, Service, Waiting, Words};
+use process_table_base::{
+    Handed, ProcessTable, Request, first_words, is_duration, is_large_enough, is_length,
 };
-use process_table_base::{ProcessTable, first_words, is_duration, is_large_enough, is_length};
 
 /// CREATE_QUEUING_PORT (ARINC 653 Part 1, interpartition communication): the queuing port of that
 /// number exists, and its output is its number. INVALID_MODE: in normal mode; INVALID_CONFIG: the
@@ -24,26 +24,27 @@ use process_table_base::{ProcessTable, first_words, is_duration, is_large_enough
 pub fn create_queuing_port(
     table: &ProcessTable,
     ports: &mut Ports,
-    mode: Mode,
-    caller: Runner,
+    request: Request,
     name: i64,
     out: &mut Out,
 )
     requires { HasRoom 1 1 out.old }
-    ensures step { IsMade (meaning.create_queuing_port mode (both table.now ports.old) caller name) (both table.now ports.new) out.old out.new }
+    ensures step { IsMade
+        (meaning.create_queuing_port request.mode (both table.now ports.old) request.caller name)
+        (both table.now ports.new) out.old out.new }
     ensures grows { Grows 1 1 out.old out.new }
 {
     let service = Service::CreateQueuingPort;
-    if mode == Mode::Normal {
-        return table.refuse(caller, service, ReturnCode::InvalidMode, out);
+    if request.mode == Mode::Normal {
+        return table.refuse(request.caller, service, ReturnCode::InvalidMode, out);
     }
     let Some((place, port)) = ports.queuing(name) else {
-        return table.refuse(caller, service, ReturnCode::InvalidConfig, out);
+        return table.refuse(request.caller, service, ReturnCode::InvalidConfig, out);
     };
     if port.created {
-        return table.refuse(caller, service, ReturnCode::NoAction, out);
+        return table.refuse(request.caller, service, ReturnCode::NoAction, out);
     }
-    table.answer(caller, service, ReturnCode::NoError, &[name], out);
+    table.answer(request.caller, service, ReturnCode::NoError, &[name], out);
     ports.create(place);
 }
 
@@ -52,20 +53,22 @@ pub fn create_queuing_port(
 pub fn get_queuing_port_id(
     table: &ProcessTable,
     ports: &Ports,
-    caller: Runner,
+    request: Request,
     name: i64,
     out: &mut Out,
 )
     requires { HasRoom 1 1 out.old }
-    ensures step { IsMade (meaning.get_queuing_port_id (both table.now ports.now) caller name) (both table.now ports.now) out.old out.new }
+    ensures step { IsMade
+        (meaning.get_queuing_port_id (both table.now ports.now) request.caller name)
+        (both table.now ports.now) out.old out.new }
     ensures grows { Grows 1 1 out.old out.new }
 {
     let service = Service::GetQueuingPortId;
     match ports.queuing(name) {
         Some((_, port)) if port.created => {
-            table.answer(caller, service, ReturnCode::NoError, &[name], out)
+            table.answer(request.caller, service, ReturnCode::NoError, &[name], out)
         }
-        _ => table.refuse(caller, service, ReturnCode::InvalidConfig, out),
+        _ => table.refuse(request.caller, service, ReturnCode::InvalidConfig, out),
     }
 }
 
@@ -73,8 +76,7 @@ pub fn get_queuing_port_id(
 fn send(
     table: &mut ProcessTable,
     ports: &mut Ports,
-    moment: Moment,
-    caller: Runner,
+    request: Request,
     limit: i64,
     message: Words,
     place: u8,
@@ -85,7 +87,10 @@ fn send(
     requires place { place < MOST_OBJECTS }
     requires status { port ≡ port_status (placed_port ports.old place) }
     requires room { HasRoom 1 1 out.old }
-    ensures step { IsMade (meaning.sends moment.at (both table.old ports.old) caller limit message place (placed_port ports.old place)) (both table.new ports.new) out.old out.new }
+    ensures step { IsMade
+        (meaning.sends request.moment.at (both table.old ports.old)
+        request.caller limit message place (placed_port ports.old place))
+        (both table.new ports.new) out.old out.new }
     ensures grows { Grows 1 1 out.old out.new }
 {
     let service = Service::SendQueuingMessage;
@@ -96,9 +101,9 @@ fn send(
             discipline: port.discipline(),
             array: None,
         };
-        return table.block(moment, caller, limit, waiting, message, out);
+        return table.block(request, limit, waiting, message, out);
     }
-    table.answer(caller, service, ReturnCode::NoError, &[], out);
+    table.answer(request.caller, service, ReturnCode::NoError, &[], out);
     ports.push_message(place, message);
 }
 
@@ -112,36 +117,36 @@ fn send(
 pub fn send_queuing_message(
     table: &mut ProcessTable,
     ports: &mut Ports,
-    moment: Moment,
-    caller: Runner,
+    request: Request,
     id: i64,
-    array: ArrayPlace,
-    length: i64,
-    limit: i64,
+    handed: Handed,
     words: &Words,
+    limit: i64,
     out: &mut Out,
 )
     requires room { HasRoom 1 1 out.old }
-    ensures step { IsMade (meaning.send_queuing_message moment.at (both table.old ports.old) caller id array length limit words.now.items) (both table.new ports.new) out.old out.new }
+    ensures step { IsMade
+        (meaning.send_queuing_message request.moment.at (both table.old ports.old)
+        request.caller id handed.array handed.length limit
+        words.now.items)
+        (both table.new ports.new) out.old out.new }
     ensures grows { Grows 1 1 out.old out.new }
 {
     let service = Service::SendQueuingMessage;
     let Some((place, port)) = ports.queuing(id) else {
-        return table.refuse(caller, service, ReturnCode::InvalidParam, out);
+        return table.refuse(request.caller, service, ReturnCode::InvalidParam, out);
     };
     if !port.created || !is_duration(limit) {
-        return table.refuse(caller, service, ReturnCode::InvalidParam, out);
+        return table.refuse(request.caller, service, ReturnCode::InvalidParam, out);
     }
     if !port.is_source() {
-        return table.refuse(caller, service, ReturnCode::InvalidMode, out);
+        return table.refuse(request.caller, service, ReturnCode::InvalidMode, out);
     }
-    if !is_length(port.row.words, array, length) {
-        return table.refuse(caller, service, ReturnCode::InvalidParam, out);
+    if !is_length(port.row.words, handed.array, handed.length) {
+        return table.refuse(request.caller, service, ReturnCode::InvalidParam, out);
     }
-    let message = first_words(length, words);
-    send(
-        table, ports, moment, caller, limit, message, place, port, out,
-    );
+    let message = first_words(handed.length, words);
+    send(table, ports, request, limit, message, place, port, out);
 }
 
 /// The code of a receive. The first after an overflow tells of it.
@@ -159,8 +164,7 @@ fn code_of_receive(overflowed: bool) -> ReturnCode
 fn receive(
     table: &mut ProcessTable,
     ports: &mut Ports,
-    moment: Moment,
-    caller: Runner,
+    request: Request,
     array: ArrayPlace,
     limit: i64,
     place: u8,
@@ -171,14 +175,18 @@ fn receive(
     requires place { place < MOST_OBJECTS }
     requires discipline { discipline ≡ discipline_of (placed_port ports.old place).row.kind }
     requires room { HasRoom 1 2 out.old }
-    ensures step { let x = placed_port ports.old place in IsMade (meaning.receives moment.at (both table.old ports.old) caller array limit place x x.messages) (both table.new ports.new) out.old out.new }
+    ensures step { let x = placed_port ports.old place in
+        IsMade
+        (meaning.receives request.moment.at (both table.old ports.old)
+        request.caller array limit place x x.messages)
+        (both table.new ports.new) out.old out.new }
     ensures grows { Grows 1 2 out.old out.new }
 {
     let service = Service::ReceiveQueuingMessage;
     if let Some((message, overflowed)) = ports.receive_message(place) {
         let code = code_of_receive(overflowed);
         let count = message.len() as i64;
-        return deliver(table, caller, service, code, &[count], array, message, out);
+        return deliver(table, request, service, code, &[count], array, message, out);
     }
     let waiting = Waiting {
         service,
@@ -186,7 +194,7 @@ fn receive(
         discipline,
         array: Some(array),
     };
-    table.block(moment, caller, limit, waiting, Words::new(), out);
+    table.block(request, limit, waiting, Words::new(), out);
 }
 
 /// RECEIVE_QUEUING_MESSAGE (ARINC 653 Part 1, interpartition communication): the first message of the
@@ -199,34 +207,34 @@ fn receive(
 pub fn receive_queuing_message(
     table: &mut ProcessTable,
     ports: &mut Ports,
-    moment: Moment,
-    caller: Runner,
+    request: Request,
     id: i64,
     array: ArrayPlace,
     limit: i64,
     out: &mut Out,
 )
     requires room { HasRoom 1 2 out.old }
-    ensures step { IsMade (meaning.receive_queuing_message moment.at (both table.old ports.old) caller id array limit) (both table.new ports.new) out.old out.new }
+    ensures step { IsMade
+        (meaning.receive_queuing_message request.moment.at (both table.old ports.old)
+        request.caller id array limit)
+        (both table.new ports.new) out.old out.new }
     ensures grows { Grows 1 2 out.old out.new }
 {
     let service = Service::ReceiveQueuingMessage;
     let Some((place, port)) = ports.queuing(id) else {
-        return table.refuse(caller, service, ReturnCode::InvalidParam, out);
+        return table.refuse(request.caller, service, ReturnCode::InvalidParam, out);
     };
     if !port.created || !is_duration(limit) {
-        return table.refuse(caller, service, ReturnCode::InvalidParam, out);
+        return table.refuse(request.caller, service, ReturnCode::InvalidParam, out);
     }
     if port.is_source() {
-        return table.refuse(caller, service, ReturnCode::InvalidMode, out);
+        return table.refuse(request.caller, service, ReturnCode::InvalidMode, out);
     }
     if !is_large_enough(port.row.words, array) {
-        return table.refuse(caller, service, ReturnCode::InvalidParam, out);
+        return table.refuse(request.caller, service, ReturnCode::InvalidParam, out);
     }
     let discipline = port.discipline();
-    receive(
-        table, ports, moment, caller, array, limit, place, discipline, out,
-    );
+    receive(table, ports, request, array, limit, place, discipline, out);
 }
 
 /// Tells how a port stands: its messages, its room for messages, the most words of one, the direction,
@@ -234,7 +242,7 @@ pub fn receive_queuing_message(
 fn tell_status(
     table: &ProcessTable,
     ports: &Ports,
-    caller: Runner,
+    request: Request,
     place: u8,
     port: PortStatus,
     out: &mut Out,
@@ -242,7 +250,11 @@ fn tell_status(
     requires place { place < MOST_OBJECTS }
     requires status { port ≡ port_status (placed_port ports.now place) }
     requires room { HasRoom 1 1 out.old }
-    ensures step { let b = both table.now ports.now in IsTold (answers b caller Service.GetQueuingPortStatus ReturnCode.NoError (meaning.queuing_status b place (placed_port ports.now place))) out.old out.new }
+    ensures step { let b = both table.now ports.now in
+        IsTold
+        (answers b request.caller Service.GetQueuingPortStatus ReturnCode.NoError
+        (meaning.queuing_status b place (placed_port ports.now place)))
+        out.old out.new }
     ensures grows { Grows 1 1 out.old out.new }
 {
     let waiting = table.waiting_count(ListKey::Port(place));
@@ -254,7 +266,7 @@ fn tell_status(
         i64::from(waiting),
     ];
     let service = Service::GetQueuingPortStatus;
-    table.answer(caller, service, ReturnCode::NoError, &outputs, out);
+    table.answer(request.caller, service, ReturnCode::NoError, &outputs, out);
 }
 
 /// GET_QUEUING_PORT_STATUS (ARINC 653 Part 1, interpartition communication): how many messages the
@@ -263,22 +275,24 @@ fn tell_status(
 pub fn get_queuing_port_status(
     table: &ProcessTable,
     ports: &Ports,
-    caller: Runner,
+    request: Request,
     id: i64,
     out: &mut Out,
 )
     requires { HasRoom 1 1 out.old }
-    ensures step { IsMade (meaning.get_queuing_port_status (both table.now ports.now) caller id) (both table.now ports.now) out.old out.new }
+    ensures step { IsMade
+        (meaning.get_queuing_port_status (both table.now ports.now) request.caller id)
+        (both table.now ports.now) out.old out.new }
     ensures grows { Grows 1 1 out.old out.new }
 {
     let service = Service::GetQueuingPortStatus;
     let Some((place, port)) = ports.queuing(id) else {
-        return table.refuse(caller, service, ReturnCode::InvalidParam, out);
+        return table.refuse(request.caller, service, ReturnCode::InvalidParam, out);
     };
     if !port.created {
-        return table.refuse(caller, service, ReturnCode::InvalidParam, out);
+        return table.refuse(request.caller, service, ReturnCode::InvalidParam, out);
     }
-    tell_status(table, ports, caller, place, port, out);
+    tell_status(table, ports, request, place, port, out);
 }
 
 /// CLEAR_QUEUING_PORT (ARINC 653 Part 1, interpartition communication): the messages of the port are
@@ -287,24 +301,25 @@ pub fn get_queuing_port_status(
 pub fn clear_queuing_port(
     table: &ProcessTable,
     ports: &mut Ports,
-    caller: Runner,
+    request: Request,
     id: i64,
     out: &mut Out,
 )
     requires { HasRoom 1 1 out.old }
-    ensures step { IsMade (meaning.clear_queuing_port (both table.now ports.old) caller id) (both table.now ports.new) out.old out.new }
+    ensures step { IsMade (meaning.clear_queuing_port (both table.now ports.old) request.caller id)
+        (both table.now ports.new) out.old out.new }
     ensures grows { Grows 1 1 out.old out.new }
 {
     let service = Service::ClearQueuingPort;
     let Some((place, port)) = ports.queuing(id) else {
-        return table.refuse(caller, service, ReturnCode::InvalidParam, out);
+        return table.refuse(request.caller, service, ReturnCode::InvalidParam, out);
     };
     if !port.created {
-        return table.refuse(caller, service, ReturnCode::InvalidParam, out);
+        return table.refuse(request.caller, service, ReturnCode::InvalidParam, out);
     }
     if port.is_source() {
-        return table.refuse(caller, service, ReturnCode::InvalidMode, out);
+        return table.refuse(request.caller, service, ReturnCode::InvalidMode, out);
     }
-    table.answer(caller, service, ReturnCode::NoError, &[], out);
+    table.answer(request.caller, service, ReturnCode::NoError, &[], out);
     ports.empty(place);
 }

@@ -10,8 +10,8 @@ ghost use Rattle.ports.specs.Status.{placed_port};
 use crate::deliver::deliver;
 use crate::port::validity_number;
 use crate::ports::Ports;
-use apex_types::{ArrayPlace, Mode, Moment, Out, ReturnCode, Runner, Service, Words};
-use process_table_base::{ProcessTable, first_words, is_large_enough, is_length};
+use apex_types::{ArrayPlace, Mode, Out, ReturnCode, Service, Words};
+use process_table_base::{Handed, ProcessTable, Request, first_words, is_large_enough, is_length};
 
 /// CREATE_SAMPLING_PORT (ARINC 653 Part 1, interpartition communication): the sampling port of that
 /// number exists, and its output is its number. INVALID_MODE: in normal mode; INVALID_CONFIG: the
@@ -19,26 +19,27 @@ use process_table_base::{ProcessTable, first_words, is_large_enough, is_length};
 pub fn create_sampling_port(
     table: &ProcessTable,
     ports: &mut Ports,
-    mode: Mode,
-    caller: Runner,
+    request: Request,
     name: i64,
     out: &mut Out,
 )
     requires { HasRoom 1 1 out.old }
-    ensures step { IsMade (meaning.create_sampling_port mode (both table.now ports.old) caller name) (both table.now ports.new) out.old out.new }
+    ensures step { IsMade
+        (meaning.create_sampling_port request.mode (both table.now ports.old) request.caller name)
+        (both table.now ports.new) out.old out.new }
     ensures grows { Grows 1 1 out.old out.new }
 {
     let service = Service::CreateSamplingPort;
-    if mode == Mode::Normal {
-        return table.refuse(caller, service, ReturnCode::InvalidMode, out);
+    if request.mode == Mode::Normal {
+        return table.refuse(request.caller, service, ReturnCode::InvalidMode, out);
     }
     let Some((place, port)) = ports.sampling(name) else {
-        return table.refuse(caller, service, ReturnCode::InvalidConfig, out);
+        return table.refuse(request.caller, service, ReturnCode::InvalidConfig, out);
     };
     if port.created {
-        return table.refuse(caller, service, ReturnCode::NoAction, out);
+        return table.refuse(request.caller, service, ReturnCode::NoAction, out);
     }
-    table.answer(caller, service, ReturnCode::NoError, &[name], out);
+    table.answer(request.caller, service, ReturnCode::NoError, &[name], out);
     ports.create(place);
 }
 
@@ -47,20 +48,22 @@ pub fn create_sampling_port(
 pub fn get_sampling_port_id(
     table: &ProcessTable,
     ports: &Ports,
-    caller: Runner,
+    request: Request,
     name: i64,
     out: &mut Out,
 )
     requires { HasRoom 1 1 out.old }
-    ensures step { IsMade (meaning.get_sampling_port_id (both table.now ports.now) caller name) (both table.now ports.now) out.old out.new }
+    ensures step { IsMade
+        (meaning.get_sampling_port_id (both table.now ports.now) request.caller name)
+        (both table.now ports.now) out.old out.new }
     ensures grows { Grows 1 1 out.old out.new }
 {
     let service = Service::GetSamplingPortId;
     match ports.sampling(name) {
         Some((_, port)) if port.created => {
-            table.answer(caller, service, ReturnCode::NoError, &[name], out)
+            table.answer(request.caller, service, ReturnCode::NoError, &[name], out)
         }
-        _ => table.refuse(caller, service, ReturnCode::InvalidConfig, out),
+        _ => table.refuse(request.caller, service, ReturnCode::InvalidConfig, out),
     }
 }
 
@@ -71,32 +74,34 @@ pub fn get_sampling_port_id(
 pub fn write_sampling_message(
     table: &ProcessTable,
     ports: &mut Ports,
-    caller: Runner,
+    request: Request,
     id: i64,
-    array: ArrayPlace,
-    length: i64,
+    handed: Handed,
     words: &Words,
     out: &mut Out,
 )
     requires { HasRoom 1 1 out.old }
-    ensures step { IsMade (meaning.write_sampling_message (both table.now ports.old) caller id array length words.now.items) (both table.now ports.new) out.old out.new }
+    ensures step { IsMade
+        (meaning.write_sampling_message (both table.now ports.old)
+        request.caller id handed.array handed.length words.now.items)
+        (both table.now ports.new) out.old out.new }
     ensures grows { Grows 1 1 out.old out.new }
 {
     let service = Service::WriteSamplingMessage;
     let Some((place, port)) = ports.sampling(id) else {
-        return table.refuse(caller, service, ReturnCode::InvalidParam, out);
+        return table.refuse(request.caller, service, ReturnCode::InvalidParam, out);
     };
     if !port.created {
-        return table.refuse(caller, service, ReturnCode::InvalidParam, out);
+        return table.refuse(request.caller, service, ReturnCode::InvalidParam, out);
     }
     if !port.is_source() {
-        return table.refuse(caller, service, ReturnCode::InvalidMode, out);
+        return table.refuse(request.caller, service, ReturnCode::InvalidMode, out);
     }
-    if !is_length(port.row.words, array, length) {
-        return table.refuse(caller, service, ReturnCode::InvalidParam, out);
+    if !is_length(port.row.words, handed.array, handed.length) {
+        return table.refuse(request.caller, service, ReturnCode::InvalidParam, out);
     }
-    table.answer(caller, service, ReturnCode::NoError, &[], out);
-    ports.put_sample(place, first_words(length, words));
+    table.answer(request.caller, service, ReturnCode::NoError, &[], out);
+    ports.put_sample(place, first_words(handed.length, words));
 }
 
 /// The port's message goes into the array, and stays in the port. Where there is none nothing is done.
@@ -104,23 +109,26 @@ pub fn write_sampling_message(
 fn read(
     table: &ProcessTable,
     ports: &mut Ports,
-    moment: Moment,
-    caller: Runner,
+    request: Request,
     array: ArrayPlace,
     place: u8,
     out: &mut Out,
 )
     requires { HasRoom 1 2 out.old }
-    ensures step { let x = placed_port ports.old place in IsMade (meaning.reads_sample moment.at (both table.now ports.old) caller array place x x.messages) (both table.now ports.new) out.old out.new }
+    ensures step { let x = placed_port ports.old place in
+        IsMade
+        (meaning.reads_sample request.moment.at (both table.now ports.old)
+        request.caller array place x x.messages)
+        (both table.now ports.new) out.old out.new }
     ensures grows { Grows 1 2 out.old out.new }
 {
     let service = Service::ReadSamplingMessage;
-    match ports.read_message(place, moment) {
+    match ports.read_message(place, request.moment) {
         Some((message, valid)) => {
             let outputs = [message.len() as i64, validity_number(valid)];
             deliver(
                 table,
-                caller,
+                request,
                 service,
                 ReturnCode::NoError,
                 &outputs,
@@ -129,7 +137,7 @@ fn read(
                 out,
             );
         }
-        None => table.refuse(caller, service, ReturnCode::NoAction, out),
+        None => table.refuse(request.caller, service, ReturnCode::NoAction, out),
     }
 }
 
@@ -141,30 +149,32 @@ fn read(
 pub fn read_sampling_message(
     table: &ProcessTable,
     ports: &mut Ports,
-    moment: Moment,
-    caller: Runner,
+    request: Request,
     id: i64,
     array: ArrayPlace,
     out: &mut Out,
 )
     requires room { HasRoom 1 2 out.old }
-    ensures step { IsMade (meaning.read_sampling_message moment.at (both table.now ports.old) caller id array) (both table.now ports.new) out.old out.new }
+    ensures step { IsMade
+        (meaning.read_sampling_message request.moment.at (both table.now ports.old)
+        request.caller id array)
+        (both table.now ports.new) out.old out.new }
     ensures grows { Grows 1 2 out.old out.new }
 {
     let service = Service::ReadSamplingMessage;
     let Some((place, port)) = ports.sampling(id) else {
-        return table.refuse(caller, service, ReturnCode::InvalidParam, out);
+        return table.refuse(request.caller, service, ReturnCode::InvalidParam, out);
     };
     if !port.created {
-        return table.refuse(caller, service, ReturnCode::InvalidParam, out);
+        return table.refuse(request.caller, service, ReturnCode::InvalidParam, out);
     }
     if port.is_source() {
-        return table.refuse(caller, service, ReturnCode::InvalidMode, out);
+        return table.refuse(request.caller, service, ReturnCode::InvalidMode, out);
     }
     if !is_large_enough(port.row.words, array) {
-        return table.refuse(caller, service, ReturnCode::InvalidParam, out);
+        return table.refuse(request.caller, service, ReturnCode::InvalidParam, out);
     }
-    read(table, ports, moment, caller, array, place, out);
+    read(table, ports, request, array, place, out);
 }
 
 /// GET_SAMPLING_PORT_STATUS (ARINC 653 Part 1, interpartition communication): the most words of a
@@ -173,12 +183,14 @@ pub fn read_sampling_message(
 pub fn get_sampling_port_status(
     table: &ProcessTable,
     ports: &Ports,
-    caller: Runner,
+    request: Request,
     id: i64,
     out: &mut Out,
 )
     requires { HasRoom 1 1 out.old }
-    ensures step { IsMade (meaning.get_sampling_port_status (both table.now ports.now) caller id) (both table.now ports.now) out.old out.new }
+    ensures step { IsMade
+        (meaning.get_sampling_port_status (both table.now ports.now) request.caller id)
+        (both table.now ports.now) out.old out.new }
     ensures grows { Grows 1 1 out.old out.new }
 {
     let service = Service::GetSamplingPortStatus;
@@ -188,8 +200,8 @@ pub fn get_sampling_port_status(
             let direction = port.direction_number();
             let refresh = port.refresh() as i64;
             let outputs = [words, direction, refresh, validity_number(port.valid)];
-            table.answer(caller, service, ReturnCode::NoError, &outputs, out)
+            table.answer(request.caller, service, ReturnCode::NoError, &outputs, out)
         }
-        _ => table.refuse(caller, service, ReturnCode::InvalidParam, out),
+        _ => table.refuse(request.caller, service, ReturnCode::InvalidParam, out),
     }
 }

@@ -8,15 +8,15 @@ ghost use Rattle.kernel_meaning.specs.Made.{IsMade, IsTold};
 
 use apex_types::limits::MOST_LOCK_LEVEL;
 use apex_types::{Lock, Mode, Out, ReturnCode, Runner, Service};
-use process_table_base::ProcessTable;
+use process_table_base::{ProcessTable, Request};
 
 /// The handler, and anyone before normal mode, may neither lock nor unlock.
-pub(crate) fn may_not_lock(mode: Mode, caller: Runner) -> bool
-    ensures { result ≡ meaning.may_not_lock mode caller }
+pub(crate) fn may_not_lock(request: Request) -> bool
+    ensures { result ≡ meaning.may_not_lock request.mode request.caller }
 {
-    match caller {
+    match request.caller {
         Runner::Handler => true,
-        _ => mode != Mode::Normal,
+        _ => request.mode != Mode::Normal,
     }
 }
 
@@ -62,55 +62,59 @@ fn unlocked(lock: Lock) -> Lock
 /// LOCK_PREEMPTION (ARINC 653 Part 1, process management): no other process runs until the lock is
 /// free again; the level is its output. NO_ACTION: the caller is the handler, or the mode is not
 /// normal; INVALID_CONFIG: the level is 16.
-pub fn lock_preemption(table: &mut ProcessTable, mode: Mode, caller: Runner, out: &mut Out)
+pub fn lock_preemption(table: &mut ProcessTable, request: Request, out: &mut Out)
     requires { HasRoom 1 1 out.old }
-    ensures step { IsMade (meaning.lock_preemption mode table.old caller) table.new out.old out.new }
+    ensures step { IsMade (meaning.lock_preemption request.mode table.old request.caller)
+        table.new out.old out.new }
     ensures grows { Grows 1 1 out.old out.new }
 {
     let service = Service::LockPreemption;
-    if may_not_lock(mode, caller) {
-        return table.refuse(caller, service, ReturnCode::NoAction, out);
+    if may_not_lock(request) {
+        return table.refuse(request.caller, service, ReturnCode::NoAction, out);
     }
     if level_of(table.lock()) >= MOST_LOCK_LEVEL {
-        return table.refuse(caller, service, ReturnCode::InvalidConfig, out);
+        return table.refuse(request.caller, service, ReturnCode::InvalidConfig, out);
     }
-    let lock = locked_by(caller, table.lock());
+    let lock = locked_by(request.caller, table.lock());
     let level = i64::from(level_of(lock));
-    table.answer(caller, service, ReturnCode::NoError, &[level], out);
+    table.answer(request.caller, service, ReturnCode::NoError, &[level], out);
     table.set_lock(lock);
 }
 
 /// UNLOCK_PREEMPTION (ARINC 653 Part 1, process management): the lock loses a level, which is its
 /// output; at 0 it is free. NO_ACTION: the caller is the handler, the mode is not normal, or the
 /// level is 0.
-pub fn unlock_preemption(table: &mut ProcessTable, mode: Mode, caller: Runner, out: &mut Out)
+pub fn unlock_preemption(table: &mut ProcessTable, request: Request, out: &mut Out)
     requires { HasRoom 1 1 out.old }
-    ensures step { IsMade (meaning.unlock_preemption mode table.old caller) table.new out.old out.new }
+    ensures step { IsMade (meaning.unlock_preemption request.mode table.old request.caller)
+        table.new out.old out.new }
     ensures grows { Grows 1 1 out.old out.new }
 {
     let service = Service::UnlockPreemption;
-    if may_not_lock(mode, caller) || table.lock() == Lock::Free {
-        return table.refuse(caller, service, ReturnCode::NoAction, out);
+    if may_not_lock(request) || table.lock() == Lock::Free {
+        return table.refuse(request.caller, service, ReturnCode::NoAction, out);
     }
     let lock = unlocked(table.lock());
     let level = i64::from(level_of(lock));
-    table.answer(caller, service, ReturnCode::NoError, &[level], out);
+    table.answer(request.caller, service, ReturnCode::NoError, &[level], out);
     table.set_lock(lock);
 }
 
 /// GET_MY_ID (ARINC 653 Part 1, process management): the number of the caller, as its output.
 /// INVALID_MODE: the caller is INIT or the handler.
-pub fn get_my_id(table: &ProcessTable, caller: Runner, out: &mut Out)
+pub fn get_my_id(table: &ProcessTable, request: Request, out: &mut Out)
     requires { HasRoom 1 1 out.old }
-    ensures step { IsTold (meaning.get_my_id table.now caller (meaning.number_of caller)) out.old out.new }
+    ensures step { IsTold
+        (meaning.get_my_id table.now request.caller (meaning.number_of request.caller))
+        out.old out.new }
     ensures grows { Grows 1 1 out.old out.new }
 {
     let service = Service::GetMyId;
-    match caller {
+    match request.caller {
         Runner::Process(process) => {
             let number = i64::from(process.0) + 1;
-            table.answer(caller, service, ReturnCode::NoError, &[number], out)
+            table.answer(request.caller, service, ReturnCode::NoError, &[number], out)
         }
-        _ => table.refuse(caller, service, ReturnCode::InvalidMode, out),
+        _ => table.refuse(request.caller, service, ReturnCode::InvalidMode, out),
     }
 }

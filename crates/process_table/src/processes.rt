@@ -10,7 +10,7 @@ ghost use Rattle.kernel_meaning.specs.Made.{IsMade, IsTold};
 
 use apex_types::limits::GREATEST_PRIORITY;
 use apex_types::{Mode, Out, Priority, ProcessStatus, ReturnCode, Runner, Service, Ticks};
-use process_table_base::{Points, ProcessTable, is_delay, is_dormant, is_same};
+use process_table_base::{Points, ProcessTable, Request, is_delay, is_dormant, is_same};
 
 /// The number of a deadline's tick, -1 for none.
 fn word_of_deadline(deadline: Option<Ticks>) -> i64
@@ -25,110 +25,112 @@ fn word_of_deadline(deadline: Option<Ticks>) -> i64
 
 /// GET_PROCESS_ID (ARINC 653 Part 1, process management): the number of a process, as its output.
 /// INVALID_CONFIG: no process of this number was created.
-pub fn get_process_id(table: &ProcessTable, caller: Runner, name: i64, out: &mut Out)
+pub fn get_process_id(table: &ProcessTable, request: Request, name: i64, out: &mut Out)
     requires { HasRoom 1 1 out.old }
-    ensures step { IsTold (meaning.get_process_id table.now caller name) out.old out.new }
+    ensures step { IsTold (meaning.get_process_id table.now request.caller name) out.old out.new }
     ensures grows { Grows 1 1 out.old out.new }
 {
     let service = Service::GetProcessId;
     match table.process_at(name) {
-        Some((_, row)) if row.created => {
-            table.answer(caller, service, ReturnCode::NoError, &[name], out)
+        Some(found) if found.row.created => {
+            table.answer(request.caller, service, ReturnCode::NoError, &[name], out)
         }
-        _ => table.refuse(caller, service, ReturnCode::InvalidConfig, out),
+        _ => table.refuse(request.caller, service, ReturnCode::InvalidConfig, out),
     }
 }
 
 /// GET_PROCESS_STATUS (ARINC 653 Part 1, process management): the state of a process, its current
 /// priority, and the tick of its deadline, -1 for none. INVALID_PARAM: no process of this number was
 /// created.
-pub fn get_process_status(table: &ProcessTable, caller: Runner, id: i64, out: &mut Out)
+pub fn get_process_status(table: &ProcessTable, request: Request, id: i64, out: &mut Out)
     requires { HasRoom 1 1 out.old }
-    ensures step { IsTold (meaning.get_process_status table.now caller id) out.old out.new }
+    ensures step { IsTold (meaning.get_process_status table.now request.caller id) out.old out.new }
     ensures grows { Grows 1 1 out.old out.new }
 {
     let service = Service::GetProcessStatus;
     match table.process_at(id) {
-        Some((_, row)) if row.created => {
-            let state = row.state as i64;
-            let priority = i64::from(row.current_priority.0);
-            let deadline = word_of_deadline(row.deadline);
+        Some(found) if found.row.created => {
+            let state = found.row.state as i64;
+            let priority = i64::from(found.row.current_priority.0);
+            let deadline = word_of_deadline(found.row.deadline);
             let outputs = [state, priority, deadline];
-            table.answer(caller, service, ReturnCode::NoError, &outputs, out)
+            table.answer(request.caller, service, ReturnCode::NoError, &outputs, out)
         }
-        _ => table.refuse(caller, service, ReturnCode::InvalidParam, out),
+        _ => table.refuse(request.caller, service, ReturnCode::InvalidParam, out),
     }
 }
 
 /// CREATE_PROCESS (ARINC 653 Part 1, process management): the process of that number exists, and its
 /// output is its number. INVALID_MODE: in normal mode; INVALID_CONFIG: no such process is declared;
 /// NO_ACTION: it exists.
-pub fn create_process(
-    table: &mut ProcessTable,
-    mode: Mode,
-    caller: Runner,
-    name: i64,
-    out: &mut Out,
-)
+pub fn create_process(table: &mut ProcessTable, request: Request, name: i64, out: &mut Out)
     requires { HasRoom 1 1 out.old }
-    ensures step { IsMade (meaning.create_process mode table.old caller name) table.new out.old out.new }
+    ensures step { IsMade (meaning.create_process request.mode table.old request.caller name)
+        table.new out.old out.new }
     ensures grows { Grows 1 1 out.old out.new }
 {
     let service = Service::CreateProcess;
-    if mode == Mode::Normal {
-        return table.refuse(caller, service, ReturnCode::InvalidMode, out);
+    if request.mode == Mode::Normal {
+        return table.refuse(request.caller, service, ReturnCode::InvalidMode, out);
     }
-    let Some((process, row)) = table.process_at(name) else {
-        return table.refuse(caller, service, ReturnCode::InvalidConfig, out);
+    let Some(found) = table.process_at(name) else {
+        return table.refuse(request.caller, service, ReturnCode::InvalidConfig, out);
     };
-    if row.created {
-        return table.refuse(caller, service, ReturnCode::NoAction, out);
+    if found.row.created {
+        return table.refuse(request.caller, service, ReturnCode::NoAction, out);
     }
-    table.answer(caller, service, ReturnCode::NoError, &[name], out);
-    table.create(process);
+    table.answer(request.caller, service, ReturnCode::NoError, &[name], out);
+    table.create(&found);
 }
 
 /// SET_PRIORITY (ARINC 653 Part 1, process management): another current priority of a process. A
 /// ready process goes last among those that have it. INVALID_PARAM: no process of this number was
 /// created, or a priority below 1 or above 239; INVALID_MODE: it is dormant.
-pub fn set_priority(table: &mut ProcessTable, caller: Runner, id: i64, priority: i64, out: &mut Out)
+pub fn set_priority(
+    table: &mut ProcessTable,
+    request: Request,
+    id: i64,
+    priority: i64,
+    out: &mut Out,
+)
     requires { HasRoom 1 1 out.old }
-    ensures step { IsMade (meaning.set_priority table.old caller id priority) table.new out.old out.new }
+    ensures step { IsMade (meaning.set_priority table.old request.caller id priority)
+        table.new out.old out.new }
     ensures grows { Grows 1 1 out.old out.new }
 {
     let service = Service::SetPriority;
-    let Some((process, row)) = table.process_at(id) else {
-        return table.refuse(caller, service, ReturnCode::InvalidParam, out);
+    let Some(found) = table.process_at(id) else {
+        return table.refuse(request.caller, service, ReturnCode::InvalidParam, out);
     };
-    if !row.created || priority < 1 || priority > GREATEST_PRIORITY as i64 {
-        return table.refuse(caller, service, ReturnCode::InvalidParam, out);
+    if !found.row.created || priority < 1 || priority > GREATEST_PRIORITY as i64 {
+        return table.refuse(request.caller, service, ReturnCode::InvalidParam, out);
     }
-    if is_dormant(&row) {
-        return table.refuse(caller, service, ReturnCode::InvalidMode, out);
+    if is_dormant(&found.row) {
+        return table.refuse(request.caller, service, ReturnCode::InvalidMode, out);
     }
-    table.answer(caller, service, ReturnCode::NoError, &[], out);
-    table.take_priority(process, Priority(priority as u8));
+    table.answer(request.caller, service, ReturnCode::NoError, &[], out);
+    table.take_priority(&found, Priority(priority as u8));
 }
 
 /// STOP (ARINC 653 Part 1, process management): another process becomes dormant. INVALID_PARAM: no
 /// process of this number was created, or the caller's own; NO_ACTION: it is dormant.
-pub fn stop(table: &mut ProcessTable, caller: Runner, id: i64, out: &mut Out)
+pub fn stop(table: &mut ProcessTable, request: Request, id: i64, out: &mut Out)
     requires { HasRoom 2 2 out.old }
-    ensures step { IsMade (meaning.stop table.old caller id) table.new out.old out.new }
+    ensures step { IsMade (meaning.stop table.old request.caller id) table.new out.old out.new }
     ensures grows { Grows 2 2 out.old out.new }
 {
     let service = Service::Stop;
-    let Some((process, row)) = table.process_at(id) else {
-        return table.refuse(caller, service, ReturnCode::InvalidParam, out);
+    let Some(found) = table.process_at(id) else {
+        return table.refuse(request.caller, service, ReturnCode::InvalidParam, out);
     };
-    if !row.created || is_same(caller, process) {
-        return table.refuse(caller, service, ReturnCode::InvalidParam, out);
+    if !found.row.created || is_same(request.caller, found.runner) {
+        return table.refuse(request.caller, service, ReturnCode::InvalidParam, out);
     }
-    if is_dormant(&row) {
-        return table.refuse(caller, service, ReturnCode::NoAction, out);
+    if is_dormant(&found.row) {
+        return table.refuse(request.caller, service, ReturnCode::NoAction, out);
     }
-    table.answer(caller, service, ReturnCode::NoError, &[], out);
-    table.rest(process, out);
+    table.answer(request.caller, service, ReturnCode::NoError, &[], out);
+    table.rest(&found, out);
 }
 
 /// STOP_SELF (ARINC 653 Part 1, process management), and the end of a body: the caller becomes dormant,
@@ -141,36 +143,33 @@ pub fn stop_self(table: &mut ProcessTable, caller: Runner, out: &mut Out)
     if let Runner::Init = caller {
         return;
     }
-    table.rest(caller, out);
+    if let Some(caller) = table.found(caller) {
+        table.rest(&caller, out);
+    }
 }
 
 /// START (ARINC 653 Part 1, process management): a dormant process starts its body with a fresh stack
 /// and its base priority; before normal mode it waits for it. INVALID_PARAM: no process of this
 /// number was created; NO_ACTION: it is not dormant.
-pub fn start(
-    table: &mut ProcessTable,
-    mode: Mode,
-    points: Points,
-    caller: Runner,
-    id: i64,
-    out: &mut Out,
-)
+pub fn start(table: &mut ProcessTable, request: Request, points: Points, id: i64, out: &mut Out)
     requires room { HasRoom 2 2 out.old }
-    ensures step { IsMade (meaning.start mode points.moment.at points.next.0 table.old caller id) table.new out.old out.new }
+    ensures step { IsMade
+        (meaning.start request.mode points.moment.at points.next.0 table.old request.caller id)
+        table.new out.old out.new }
     ensures grows { Grows 2 2 out.old out.new }
 {
     let service = Service::Start;
-    let Some((process, row)) = table.process_at(id) else {
-        return table.refuse(caller, service, ReturnCode::InvalidParam, out);
+    let Some(found) = table.process_at(id) else {
+        return table.refuse(request.caller, service, ReturnCode::InvalidParam, out);
     };
-    if !row.created {
-        return table.refuse(caller, service, ReturnCode::InvalidParam, out);
+    if !found.row.created {
+        return table.refuse(request.caller, service, ReturnCode::InvalidParam, out);
     }
-    if !is_dormant(&row) {
-        return table.refuse(caller, service, ReturnCode::NoAction, out);
+    if !is_dormant(&found.row) {
+        return table.refuse(request.caller, service, ReturnCode::NoAction, out);
     }
-    table.answer(caller, service, ReturnCode::NoError, &[], out);
-    table.start(mode, points, process, Ticks(0), out);
+    table.answer(request.caller, service, ReturnCode::NoError, &[], out);
+    table.start(request.mode, points, &found, Ticks(0), out);
 }
 
 /// Whether a delay is at least a period, where there is one.
@@ -189,27 +188,29 @@ fn is_beyond(delay: i64, period: Option<Ticks>) -> bool
 /// not dormant.
 pub fn delayed_start(
     table: &mut ProcessTable,
-    mode: Mode,
+    request: Request,
     points: Points,
-    caller: Runner,
     id: i64,
     delay: i64,
     out: &mut Out,
 )
     requires room { HasRoom 2 2 out.old }
-    ensures step { IsMade (meaning.delayed_start mode points.moment.at points.next.0 table.old caller id delay) table.new out.old out.new }
+    ensures step { IsMade
+        (meaning.delayed_start request.mode points.moment.at points.next.0 table.old
+        request.caller id delay)
+        table.new out.old out.new }
     ensures grows { Grows 2 2 out.old out.new }
 {
     let service = Service::DelayedStart;
-    let Some((process, row)) = table.process_at(id) else {
-        return table.refuse(caller, service, ReturnCode::InvalidParam, out);
+    let Some(found) = table.process_at(id) else {
+        return table.refuse(request.caller, service, ReturnCode::InvalidParam, out);
     };
-    if !row.created || !is_delay(delay) || is_beyond(delay, row.period) {
-        return table.refuse(caller, service, ReturnCode::InvalidParam, out);
+    if !found.row.created || !is_delay(delay) || is_beyond(delay, found.row.period) {
+        return table.refuse(request.caller, service, ReturnCode::InvalidParam, out);
     }
-    if !is_dormant(&row) {
-        return table.refuse(caller, service, ReturnCode::NoAction, out);
+    if !is_dormant(&found.row) {
+        return table.refuse(request.caller, service, ReturnCode::NoAction, out);
     }
-    table.answer(caller, service, ReturnCode::NoError, &[], out);
-    table.start(mode, points, process, Ticks(delay as u64), out);
+    table.answer(request.caller, service, ReturnCode::NoError, &[], out);
+    table.start(request.mode, points, &found, Ticks(delay as u64), out);
 }

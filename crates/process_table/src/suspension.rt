@@ -6,16 +6,19 @@ ghost use Rattle.kernel_meaning.specs.Times.{is_duration};
 ghost use Rattle.kernel_meaning.specs.Processes.{is_periodic};
 ghost use Rattle.kernel_meaning.specs.ProcessServices as meaning;
 ghost use Rattle.kernel_meaning.specs.Made.{IsMade};
+ghost use Rattle.process_table_base.specs.FoundView.{record_of};
 
-use apex_types::{Lock, Moment, Out, ProcessStatus, ReturnCode, Runner, Service};
-use process_table_base::{ProcessTable, is_dormant, is_duration, is_same};
+use apex_types::{Lock, Out, ReturnCode, Runner, Service};
+use process_table_base::{
+    Found, ProcessTable, Request, answer, is_dormant, is_duration, is_same, name_of, refuse,
+};
 
-/// Whether there is a record, and it is of a periodic process.
-fn is_periodic(row: &Option<ProcessStatus>) -> bool
-    ensures { result ≡ meaning.of_row is_periodic row.now }
+/// Whether someone was found who is a periodic process.
+fn is_periodic(found: &Option<Found>) -> bool
+    ensures { result ≡ meaning.of_row is_periodic (record_of found.now) }
 {
-    match row {
-        Some(row) => row.period.is_some(),
+    match found {
+        Some(found) => found.row.period.is_some(),
         None => false,
     }
 }
@@ -23,31 +26,30 @@ fn is_periodic(row: &Option<ProcessStatus>) -> bool
 /// SUSPEND_SELF (ARINC 653 Part 1, process management): the caller waits until it is resumed, or for
 /// so many ticks; -1 is without limit, and at 0 nothing happens. INVALID_MODE: the caller may not
 /// wait, or is periodic; INVALID_PARAM: a time-out below -1 or above 2^40 ticks.
-pub fn suspend_self(
-    table: &mut ProcessTable,
-    moment: Moment,
-    caller: Runner,
-    limit: i64,
-    out: &mut Out,
-)
+pub fn suspend_self(table: &mut ProcessTable, request: Request, limit: i64, out: &mut Out)
     requires room { HasRoom 1 1 out.old }
-    ensures step { IsMade (meaning.suspend_self moment.at table.old caller limit) table.new out.old out.new }
+    ensures step { IsMade (meaning.suspend_self request.moment.at table.old request.caller limit)
+        table.new out.old out.new }
     ensures grows { Grows 1 1 out.old out.new }
 {
     let service = Service::SuspendSelf;
+    let caller = request.caller;
     if table.is_busy(caller) {
         return table.refuse(caller, service, ReturnCode::InvalidMode, out);
     }
     if !is_duration(limit) {
         return table.refuse(caller, service, ReturnCode::InvalidParam, out);
     }
-    if is_periodic(&table.row(caller)) {
-        return table.refuse(caller, service, ReturnCode::InvalidMode, out);
+    let found = table.found(caller);
+    let who = name_of(&found);
+    if is_periodic(&found) {
+        return refuse(caller, who, service, ReturnCode::InvalidMode, out);
     }
     if limit == 0 {
-        table.answer(caller, service, ReturnCode::NoError, &[], out);
-    } else {
-        table.suspend_self(moment, caller, limit, out);
+        return answer(caller, who, service, ReturnCode::NoError, &[], out);
+    }
+    if let Some(found) = &found {
+        table.suspend_self(request.moment, found, limit, out);
     }
 }
 
@@ -64,50 +66,50 @@ fn holds(lock: Lock, process: Runner) -> bool
 /// SUSPEND (ARINC 653 Part 1, process management): another process waits until it is resumed.
 /// INVALID_PARAM: no process of this number was created, or the caller's own; INVALID_MODE: it is
 /// dormant or periodic, or holds the preemption lock; NO_ACTION: it is suspended.
-pub fn suspend(table: &mut ProcessTable, caller: Runner, id: i64, out: &mut Out)
+pub fn suspend(table: &mut ProcessTable, request: Request, id: i64, out: &mut Out)
     requires { HasRoom 2 1 out.old }
-    ensures step { IsMade (meaning.suspend table.old caller id) table.new out.old out.new }
+    ensures step { IsMade (meaning.suspend table.old request.caller id) table.new out.old out.new }
     ensures grows { Grows 2 1 out.old out.new }
 {
     let service = Service::Suspend;
-    let Some((process, row)) = table.process_at(id) else {
-        return table.refuse(caller, service, ReturnCode::InvalidParam, out);
+    let Some(found) = table.process_at(id) else {
+        return table.refuse(request.caller, service, ReturnCode::InvalidParam, out);
     };
-    if !row.created || is_same(caller, process) {
-        return table.refuse(caller, service, ReturnCode::InvalidParam, out);
+    if !found.row.created || is_same(request.caller, found.runner) {
+        return table.refuse(request.caller, service, ReturnCode::InvalidParam, out);
     }
-    if is_dormant(&row) || row.period.is_some() || holds(table.lock(), process) {
-        return table.refuse(caller, service, ReturnCode::InvalidMode, out);
+    if is_dormant(&found.row) || found.row.period.is_some() || holds(table.lock(), found.runner) {
+        return table.refuse(request.caller, service, ReturnCode::InvalidMode, out);
     }
-    if row.suspended {
-        return table.refuse(caller, service, ReturnCode::NoAction, out);
+    if found.row.suspended {
+        return table.refuse(request.caller, service, ReturnCode::NoAction, out);
     }
-    table.answer(caller, service, ReturnCode::NoError, &[], out);
-    table.suspend(process, out);
+    table.answer(request.caller, service, ReturnCode::NoError, &[], out);
+    table.suspend(&found, out);
 }
 
 /// RESUME (ARINC 653 Part 1, process management): another process is suspended no longer. Its
 /// SUSPEND_SELF ends; if it waits for nothing else it is ready. INVALID_PARAM: no process of this
 /// number was created, or the caller's own; INVALID_MODE: it is dormant or periodic; NO_ACTION: it is
 /// not suspended.
-pub fn resume(table: &mut ProcessTable, caller: Runner, id: i64, out: &mut Out)
+pub fn resume(table: &mut ProcessTable, request: Request, id: i64, out: &mut Out)
     requires { HasRoom 3 2 out.old }
-    ensures step { IsMade (meaning.resume table.old caller id) table.new out.old out.new }
+    ensures step { IsMade (meaning.resume table.old request.caller id) table.new out.old out.new }
     ensures grows { Grows 3 2 out.old out.new }
 {
     let service = Service::Resume;
-    let Some((process, row)) = table.process_at(id) else {
-        return table.refuse(caller, service, ReturnCode::InvalidParam, out);
+    let Some(found) = table.process_at(id) else {
+        return table.refuse(request.caller, service, ReturnCode::InvalidParam, out);
     };
-    if !row.created || is_same(caller, process) {
-        return table.refuse(caller, service, ReturnCode::InvalidParam, out);
+    if !found.row.created || is_same(request.caller, found.runner) {
+        return table.refuse(request.caller, service, ReturnCode::InvalidParam, out);
     }
-    if is_dormant(&row) || row.period.is_some() {
-        return table.refuse(caller, service, ReturnCode::InvalidMode, out);
+    if is_dormant(&found.row) || found.row.period.is_some() {
+        return table.refuse(request.caller, service, ReturnCode::InvalidMode, out);
     }
-    if !row.suspended {
-        return table.refuse(caller, service, ReturnCode::NoAction, out);
+    if !found.row.suspended {
+        return table.refuse(request.caller, service, ReturnCode::NoAction, out);
     }
-    table.answer(caller, service, ReturnCode::NoError, &[], out);
-    table.resume(process, out);
+    table.answer(request.caller, service, ReturnCode::NoError, &[], out);
+    table.resume(&found, out);
 }

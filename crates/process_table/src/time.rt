@@ -6,79 +6,94 @@ ghost use Rattle.apex_types.specs.Room.{HasRoom, Grows};
 ghost use Rattle.kernel_meaning.specs.Made.{IsMade, IsTold};
 ghost use Rattle.kernel_meaning.specs.Times.{is_delay, is_duration};
 ghost use Rattle.kernel_meaning.specs.ProcessServices as meaning;
-ghost use Rattle.process_table_base.specs.Bounds.{IsAtMost, IsBounded};
+ghost use Rattle.process_table_base.specs.Bounds.{IsAtMost};
 
 use crate::lock::may_not_lock;
-use apex_types::{Due, Mode, Moment, Out, ProcessStatus, ReturnCode, Runner, Service, Ticks};
-use process_table_base::{ProcessTable, is_delay, is_duration};
+use apex_types::{Due, Moment, Out, ReturnCode, Service, Ticks};
+use process_table_base::{
+    Found, ProcessTable, Request, answer, is_delay, is_duration, name_of, refuse,
+};
 
 /// GET_TIME (ARINC 653 Part 1, time management): the current tick.
-pub fn get_time(table: &ProcessTable, moment: Moment, caller: Runner, out: &mut Out)
+pub fn get_time(table: &ProcessTable, request: Request, out: &mut Out)
     requires room { HasRoom 1 1 out.old }
-    ensures step { IsTold (meaning.get_time moment.at table.now caller) out.old out.new }
+    ensures step { IsTold (meaning.get_time request.moment.at table.now request.caller)
+        out.old out.new }
     ensures grows { Grows 1 1 out.old out.new }
 {
-    let now = moment.at.now.0 as i64;
-    table.answer(caller, Service::GetTime, ReturnCode::NoError, &[now], out);
+    let now = request.moment.at.now.0 as i64;
+    let service = Service::GetTime;
+    table.answer(request.caller, service, ReturnCode::NoError, &[now], out);
 }
 
 /// TIMED_WAIT (ARINC 653 Part 1, time management): without a delay the caller goes last among those
 /// of its priority, else it waits for so many ticks. INVALID_MODE: the caller may not wait;
 /// INVALID_PARAM: a delay below 0 or above 2^40 ticks.
-pub fn timed_wait(
-    table: &mut ProcessTable,
-    moment: Moment,
-    caller: Runner,
-    delay: i64,
-    out: &mut Out,
-)
+pub fn timed_wait(table: &mut ProcessTable, request: Request, delay: i64, out: &mut Out)
     requires room { HasRoom 1 1 out.old }
-    ensures step { IsMade (meaning.timed_wait moment.at table.old caller delay) table.new out.old out.new }
+    ensures step { IsMade (meaning.timed_wait request.moment.at table.old request.caller delay)
+        table.new out.old out.new }
     ensures grows { Grows 1 1 out.old out.new }
 {
     let service = Service::TimedWait;
-    if table.is_busy(caller) {
-        return table.refuse(caller, service, ReturnCode::InvalidMode, out);
+    if table.is_busy(request.caller) {
+        return table.refuse(request.caller, service, ReturnCode::InvalidMode, out);
     }
     if !is_delay(delay) {
-        return table.refuse(caller, service, ReturnCode::InvalidParam, out);
+        return table.refuse(request.caller, service, ReturnCode::InvalidParam, out);
     }
-    wait_for(table, moment, caller, delay, out);
+    wait_for(table, request, delay, out);
 }
 
-fn wait_for(table: &mut ProcessTable, moment: Moment, caller: Runner, delay: i64, out: &mut Out)
+fn wait_for(table: &mut ProcessTable, request: Request, delay: i64, out: &mut Out)
     requires delay { is_delay delay ≡ true }
     requires room { HasRoom 1 1 out.old }
-    ensures step { IsMade (meaning.delays moment.at table.old caller delay) table.new out.old out.new }
+    ensures step { IsMade (meaning.delays request.moment.at table.old request.caller delay)
+        table.new out.old out.new }
     ensures grows { Grows 1 1 out.old out.new }
 {
     let service = Service::TimedWait;
+    let caller = request.caller;
     if delay == 0 {
-        table.answer(caller, service, ReturnCode::NoError, &[], out);
-        table.go_last(caller);
+        let found = table.found(caller);
+        answer(
+            caller,
+            name_of(&found),
+            service,
+            ReturnCode::NoError,
+            &[],
+            out,
+        );
+        if let Some(found) = &found {
+            table.go_last(found);
+        }
     } else {
-        let due = Due::Delay(Ticks(moment.at.now.0 + delay as u64));
-        table.wait(caller, service, Some(due), out);
+        let found = table.found(caller);
+        let due = Due::Delay(Ticks(request.moment.at.now.0 + delay as u64));
+        if let Some(found) = &found {
+            table.wait(found, service, Some(due), out);
+        }
     }
 }
 
 /// PERIODIC_WAIT (ARINC 653 Part 1, time management): the caller waits for its next release, a period
 /// after the last; it has kept its deadline. INVALID_MODE: the caller may not wait, or is aperiodic.
-pub fn periodic_wait(table: &mut ProcessTable, caller: Runner, out: &mut Out)
+pub fn periodic_wait(table: &mut ProcessTable, request: Request, out: &mut Out)
     requires { HasRoom 1 1 out.old }
-    ensures step { IsMade (meaning.periodic_wait table.old caller) table.new out.old out.new }
+    ensures step { IsMade (meaning.periodic_wait table.old request.caller)
+        table.new out.old out.new }
     ensures grows { Grows 1 1 out.old out.new }
 {
     let service = Service::PeriodicWait;
+    let caller = request.caller;
     if table.is_busy(caller) {
         return table.refuse(caller, service, ReturnCode::InvalidMode, out);
     }
-    let Some(row) = table.row(caller) else {
-        return table.refuse(caller, service, ReturnCode::InvalidMode, out);
-    };
-    match row.period {
-        Some(period) => table.wait_for_period(caller, period, out),
-        None => table.refuse(caller, service, ReturnCode::InvalidMode, out),
+    let found = table.found(caller);
+    let who = name_of(&found);
+    match &found {
+        Some(found) if found.row.period.is_some() => table.wait_for_period(found, out),
+        _ => refuse(caller, who, service, ReturnCode::InvalidMode, out),
     }
 }
 
@@ -96,15 +111,14 @@ fn deadline_in(moment: Moment, budget: i64) -> Option<Ticks>
 }
 
 /// Whether a budget reaches past the next release of a periodic process.
-fn reaches_past(moment: Moment, budget: i64, row: &ProcessStatus) -> bool
+fn reaches_past(moment: Moment, budget: i64, found: &Found) -> bool
     requires budget { is_duration budget ≡ true }
-    requires bounded { IsBounded row.now }
-    ensures { result ≡ meaning.reaches_past moment.at budget row.now row.now.period }
+    ensures { result ≡ meaning.reaches_past moment.at budget found.now.row found.now.row.period }
 {
-    match row.period {
+    match found.row.period {
         None => false,
         Some(_) if budget < 0 => true,
-        Some(period) => moment.at.now.0 + budget as u64 > row.release.0 + period.0,
+        Some(period) => moment.at.now.0 + budget as u64 > found.row.release.0 + period.0,
     }
 }
 
@@ -112,34 +126,30 @@ fn reaches_past(moment: Moment, budget: i64, row: &ProcessStatus) -> bool
 /// -1 is without limit. NO_ACTION: the caller is the handler, the mode is not normal, or its time
 /// capacity is without limit; INVALID_PARAM: a budget below -1 or above 2^40 ticks; INVALID_MODE: the
 /// new deadline of a periodic process is past its next release.
-pub fn replenish(
-    table: &mut ProcessTable,
-    mode: Mode,
-    moment: Moment,
-    caller: Runner,
-    budget: i64,
-    out: &mut Out,
-)
+pub fn replenish(table: &mut ProcessTable, request: Request, budget: i64, out: &mut Out)
     requires room { HasRoom 1 1 out.old }
-    ensures step { IsMade (meaning.replenish mode moment.at table.old caller budget) table.new out.old out.new }
+    ensures step { IsMade
+        (meaning.replenish request.mode request.moment.at table.old request.caller budget)
+        table.new out.old out.new }
     ensures grows { Grows 1 1 out.old out.new }
 {
     let service = Service::Replenish;
-    if may_not_lock(mode, caller) {
+    let caller = request.caller;
+    if may_not_lock(request) {
         return table.refuse(caller, service, ReturnCode::NoAction, out);
     }
     if !is_duration(budget) {
         return table.refuse(caller, service, ReturnCode::InvalidParam, out);
     }
-    let Some(row) = table.row(caller) else {
+    let Some(found) = table.found(caller) else {
         return table.answer(caller, service, ReturnCode::NoError, &[], out);
     };
-    if row.capacity.is_none() {
-        return table.refuse(caller, service, ReturnCode::NoAction, out);
+    if found.row.capacity.is_none() {
+        return refuse(caller, found.name(), service, ReturnCode::NoAction, out);
     }
-    if reaches_past(moment, budget, &row) {
-        return table.refuse(caller, service, ReturnCode::InvalidMode, out);
+    if reaches_past(request.moment, budget, &found) {
+        return refuse(caller, found.name(), service, ReturnCode::InvalidMode, out);
     }
-    table.answer(caller, service, ReturnCode::NoError, &[], out);
-    table.set_deadline(caller, deadline_in(moment, budget));
+    answer(caller, found.name(), service, ReturnCode::NoError, &[], out);
+    table.set_deadline(&found, deadline_in(request.moment, budget));
 }

@@ -6,7 +6,7 @@ use Rattle.apex_types.specs.declared.codes.PartitionAction.{PartitionAction}
 use Rattle.apex_types.specs.declared.identity.At.{At}
 use Rattle.apex_types.specs.declared.identity.Ticks.{Ticks}
 use Rattle.apex_types.specs.declared.process.ProcessStatus.{ProcessStatus}
-use Rattle.kernel_meaning.specs.Times.{due, goes_on}
+use Rattle.kernel_meaning.specs.Times.{due, without_clear}
 use Rattle.kernel_meaning.specs.Processes.{Processes}
 use Rattle.kernel_meaning.specs.Step.{nothing}
 use Rattle.links.specs.Timers.{IsLeastTick, IsNextDue, earlier, has_come, number_of}
@@ -58,5 +58,5 @@ pub quiet_before : (rows : List ProcessStatus) (tick : Ticks) (now : ℕ) → Is
 quiet_before rows tick now h before = quiet_until rows (Some tick.0) now h before
 
 -- The treatment of what is due changes nothing, and no Clear follows.
-pub none_due : (at : At) (free : ℕ) (action : PartitionAction) (s : Processes) → AreQuiet at.now.0 s.rows → due at free action s ≡ goes_on free (nothing s)
+pub none_due : (at : At) (free : ℕ) (action : PartitionAction) (s : Processes) → AreQuiet at.now.0 s.rows → due at free action s ≡ without_clear free (nothing s)
 none_due at free action s h = skips_rest at action (length s.rows - 2) 0 free s (λ q least. h q)

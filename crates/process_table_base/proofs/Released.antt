@@ -17,7 +17,6 @@ use Rattle.kernel_meaning.specs.Step.{Step, nothing}
 use Rattle.kernel_laws.specs.WaitingOrder.{AreQueues}
 use Rattle.kernel_laws.proofs.WaitingOrder.{leaves, released_first}
 use Rattle.process_table_base.specs.LeastNumber.{IsLeast}
-use Rattle.process_table_base.specs.Own.{with_record}
 
 pub first_is_least : (disciplines : ListKey → Discipline) (number : ℕ → ℕ) (next : ℕ) (k : ListKey) (queues : Queues) (e : Entry) (o : Option ProcessStatus) → slice_get (list_at queues k) 0 ≡ Some e → AreQueues disciplines number next queues → IfSome (numbered e.process o) (λ found. IsLeast (disciplines k) number (list_at queues k) found.0)
 first_is_least disciplines number next k queues e None is h = tt
@@ -37,6 +36,5 @@ module _ (disciplines : ListKey → Discipline) (number : ℕ → ℕ) (next : �
       let ready = record r { state = Ready; wait = wait.Nothing; due = None } in
       elim r.suspended as (λ b. AreQueues disciplines number next (if b then nothing (put_unready s p (record r { wait = wait.Nothing; due = None })) else record { part = put_ready s p ready; lines = event.State r.who Ready ∷ []; actions = [] }).part.queues) [ true ↦ h | false ↦ h ]
 
-  pub release_keeps : (s : Processes) (p : Runner) (c : ReturnCode) (o : Option ProcessStatus) → Keeps s (with_record o (nothing s) (λ r. released s p r c))
-  release_keeps s p c None h = h
-  release_keeps s p c (Some r) h = wakes_keeps (no_longer_waits s p) p r (left p s.queues h)
+  pub release_keeps : (s : Processes) (p : Runner) (r : ProcessStatus) (c : ReturnCode) → Keeps s (released s p r c)
+  release_keeps s p r c h = wakes_keeps (no_longer_waits s p) p r (left p s.queues h)

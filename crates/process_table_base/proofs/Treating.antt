@@ -19,7 +19,7 @@ use Rattle.apex_types.specs.declared.process.Due.{Due}
 use Rattle.apex_types.specs.declared.process.Due.TheVariants as due_time
 use Rattle.apex_types.specs.declared.process.ProcessStatus.{ProcessStatus}
 use Rattle.apex_types.specs.declared.limits.TheConstants.{MOST_PROCESSES}
-use Rattle.kernel_meaning.specs.Times.{Treated, due_from, ends_wait, goes_on, is_past, misses, then_others, tick_of, timed_out, treated_after, treats, treats_deadline, treats_due}
+use Rattle.kernel_meaning.specs.Times.{Treated, due_from, ends_wait, without_clear, is_past, misses, then_others, tick_of, timed_out, treated_after, treats, treats_deadline, treats_due}
 use Rattle.kernel_meaning.specs.Processes.{Processes, index, no_longer_waits, released, row_of, wakes}
 use Rattle.kernel_meaning.specs.Times.{released_at}
 use Rattle.kernel_meaning.specs.Step.{Step, nothing}
@@ -38,10 +38,10 @@ not_past : (now : ℕ) (tick : Option Ticks) → has_come now (number_of tick) �
 not_past now None h = refl
 not_past now (Some tick) h = h
 
-quiet_deadline : (at : At) (free : ℕ) (action : PartitionAction) (s : Processes) (p : ProcessIndex) (r : ProcessStatus) → is_past at.now.0 r.deadline ≡ false → treats_deadline at free action s p (Some r) ≡ goes_on free (nothing s)
-quiet_deadline at free action s p r h = ap (λ b. if b then misses free action s p r else goes_on free (nothing s)) h
+quiet_deadline : (at : At) (free : ℕ) (action : PartitionAction) (s : Processes) (p : ProcessIndex) (r : ProcessStatus) → is_past at.now.0 r.deadline ≡ false → treats_deadline at free action s p (Some r) ≡ without_clear free (nothing s)
+quiet_deadline at free action s p r h = ap (λ b. if b then misses free action s p r else without_clear free (nothing s)) h
 
-quiet_treats : (at : At) (free : ℕ) (action : PartitionAction) (s : Processes) (p : ProcessIndex) (o : Option ProcessStatus) → row_of s (runner.Process p) ≡ o → IsQuiet at.now.0 o → treats at free action s p o ≡ goes_on free (nothing s)
+quiet_treats : (at : At) (free : ℕ) (action : PartitionAction) (s : Processes) (p : ProcessIndex) (o : Option ProcessStatus) → row_of s (runner.Process p) ≡ o → IsQuiet at.now.0 o → treats at free action s p o ≡ without_clear free (nothing s)
 quiet_treats at free action s p None e q = refl
 quiet_treats at free action s p (Some r) e q =
     ap (λ (d : Step Processes). treated_after d (treats_deadline at free action d.part p (row_of d.part (runner.Process p)))) (quiet_due at s (runner.Process p) r r.due q.due) ∙ (ap (λ o. treated_after (nothing s) (treats_deadline at free action s p o)) e ∙ ap (treated_after (nothing s)) (quiet_deadline at free action s p r (not_past at.now.0 r.deadline q.missed)))
@@ -63,7 +63,7 @@ skips at action (suc k) n place free s h =
     ap (λ m. due_from at action m place free s) one ∙ (skips_one at action (k + n) place free s (h place (omega arith) (omega arith)) ∙ (skips at action k n (place + 1) free s (λ q least most. h q (omega (arith, least)) (omega (arith, most))) ∙ ap (λ q. due_from at action n q free s) other))
 
 -- Where nothing more is due the treatment ends.
-pub skips_rest : (at : At) (action : PartitionAction) (n place free : ℕ) (s : Processes) → ((q : ℕ) → place ≤ q → IsQuiet at.now.0 (record_of s.rows q)) → due_from at action n place free s ≡ goes_on free (nothing s)
+pub skips_rest : (at : At) (action : PartitionAction) (n place free : ℕ) (s : Processes) → ((q : ℕ) → place ≤ q → IsQuiet at.now.0 (record_of s.rows q)) → due_from at action n place free s ≡ without_clear free (nothing s)
 skips_rest at action zero place free s h = refl
 skips_rest at action (suc n) place free s h = skips_one at action n place free s (h place (omega arith)) ∙ skips_rest at action n (place + 1) free s (λ q least. h q (omega (arith, least)))
 
@@ -104,7 +104,7 @@ module _ (p : ProcessIndex) (q : ℕ) (other : suc (suc q) ≡ suc (suc p.0) →
   deadline_same at free action s None = refl
   deadline_same at free action s (Some r) = by_test (is_past at.now.0 r.deadline)
     where
-      by_test : (b : Bool) → Same s (if b then misses free action s p r else goes_on free (nothing s)).step
+      by_test : (b : Bool) → Same s (if b then misses free action s p r else without_clear free (nothing s)).step
       by_test true = misses_same free action s r
       by_test false = refl
 
@@ -199,7 +199,7 @@ module _ (at : At) (action : PartitionAction) (mask place count free p rest : �
           subst (λ (o : Option ProcessStatus). IsQuiet at.now.0 o) (sym (treats_same (index p) q apart at free action s (row_of s (runner.Process (index p))))) (h.quiet q least (sym (f.others q other) ∙ none))
 
 -- nobody has a bit: the treatment ends
-pub none_left : (at : At) (action : PartitionAction) (place count free : ℕ) (s : Processes) → IsLeft at.now.0 0 s.rows place count → due_from at action count place free s ≡ goes_on free (nothing s)
+pub none_left : (at : At) (action : PartitionAction) (place count free : ℕ) (s : Processes) → IsLeft at.now.0 0 s.rows place count → due_from at action count place free s ≡ without_clear free (nothing s)
 none_left at action place count free s h = skips_rest at action count place free s (λ q from. h.quiet q from (bit_at-zero q))
 
 -- ---- the treatment under way

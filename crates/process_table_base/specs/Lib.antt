@@ -1,8 +1,9 @@
 pub mod Bounds
+pub mod BoundedFact
+pub mod FoundView
 pub mod ShortFact
 pub mod DueMask
 pub mod LeastNumber
-pub mod Own
 pub mod RecordView
 pub mod States
 pub mod Timed

@@ -26,12 +26,29 @@ pub fn answer(
 )
     requires outputs { length outputs.now ≤ 6 }
     requires room { HasRoom 1 1 out.old }
-    ensures lines { out.new.lines.items ≡ out.old.lines.items ++ EventKind.Return who service code ∷ [] }
-    ensures actions { out.new.actions.items ≡ out.old.actions.items ++ Action.Reply runner (message (pos (code_number code) ∷ outputs.now)) ∷ [] }
+    ensures lines { out.new.lines.items
+        ≡ out.old.lines.items ++ EventKind.Return who service code ∷ [] }
+    ensures actions { out.new.actions.items
+        ≡ out.old.actions.items
+        ++ Action.Reply runner (message (pos (code_number code) ∷ outputs.now))
+        ∷ [] }
 {
     out.lines.push(EventKind::Return(who, service, code));
     out.actions
         .push(Action::Reply(runner, answer_of(code, outputs)));
+}
+
+/// A service of someone is refused: its outputs are 0.
+pub fn refuse(runner: Runner, who: Subject, service: Service, code: ReturnCode, out: &mut Out)
+    requires room { HasRoom 1 1 out.old }
+    ensures lines { out.new.lines.items
+        ≡ out.old.lines.items ++ EventKind.Return who service code ∷ [] }
+    ensures actions { out.new.actions.items
+        ≡ out.old.actions.items
+        ++ Action.Reply runner (message (pos (code_number code) ∷ step.zeros service))
+        ∷ [] }
+{
+    answer(runner, who, service, code, zeros(service), out);
 }
 
 /// The words of an answer: the code, then the outputs.
@@ -75,7 +92,8 @@ fn zeros_of_wait(wait: Wait) -> &'static [i64]
 /// The line of one that begins to wait; there is none where it waited before.
 fn tell_waiting(row: &ProcessStatus, out: &mut Out)
     requires { HasRoom 1 0 out.old }
-    ensures lines { out.new.lines.items ≡ out.old.lines.items ++ meaning.waiting_lines row.now.who row.now.state }
+    ensures lines { out.new.lines.items
+        ≡ out.old.lines.items ++ meaning.waiting_lines row.now.who row.now.state }
     ensures actions { out.new.actions.items ≡ out.old.actions.items }
     ensures grows { Grows 1 0 out.old out.new }
 {
@@ -100,29 +118,30 @@ impl ProcessTable {
 
     /// With this record it becomes ready and goes last. One that is suspended waits on until it is resumed.
     #[tactic(auto, using(crate::proofs::Bounds::bounds))]
-    pub(crate) fn wake_as(&mut self, runner: Runner, row: ProcessStatus, out: &mut Out)
+    pub(crate) fn wake_as(&mut self, runner: Runner, row: &ProcessStatus, out: &mut Out)
         requires runner { place_of runner < MOST_RUNNERS }
-        requires bounded { IsBounded row }
+        requires bounded { IsBounded row.now }
         requires room { HasRoom 1 0 out.old }
-        ensures step { IsMade (meaning.wakes self.old runner row) self.new out.old out.new }
+        ensures step { IsMade (meaning.wakes self.old runner row.now) self.new out.old out.new }
         ensures grows { Grows 1 0 out.old out.new }
     {
-        let awake = ProcessStatus {
-            wait: Wait::Nothing,
-            due: None,
-            ..row
-        };
         if row.suspended {
-            self.put_unready(runner, awake);
-            return;
+            let suspended = ProcessStatus {
+                wait: Wait::Nothing,
+                due: None,
+                ..*row
+            };
+            return self.put_unready(runner, &suspended);
         }
         out.lines
             .push(EventKind::State(row.who, ProcessState::Ready));
         let ready = ProcessStatus {
             state: ProcessState::Ready,
-            ..awake
+            wait: Wait::Nothing,
+            due: None,
+            ..*row
         };
-        self.put_ready(runner, ready);
+        self.put_ready(runner, &ready);
     }
 
     /// With this record it waits, until its due time if it has one. There is no line where it waited before.
@@ -130,34 +149,35 @@ impl ProcessTable {
     pub(crate) fn wait_as(
         &mut self,
         runner: Runner,
-        row: ProcessStatus,
+        row: &ProcessStatus,
         reason: Wait,
         due: Option<Due>,
         out: &mut Out,
     )
-        requires bounded { IsBounded row }
+        requires bounded { IsBounded row.now }
         requires reason { IsDelayed reason }
         requires room { HasRoom 1 0 out.old }
-        ensures step { IsMade (meaning.waits self.old runner row reason due) self.new out.old out.new }
+        ensures step { IsMade (meaning.waits self.old runner row.now reason due)
+            self.new out.old out.new }
         ensures grows { Grows 1 0 out.old out.new }
     {
-        tell_waiting(&row, out);
+        tell_waiting(row, out);
         let waiting = ProcessStatus {
             state: ProcessState::Waiting,
             wait: reason,
             due,
-            ..row
+            ..*row
         };
-        self.put_unready(runner, waiting);
+        self.put_unready(runner, &waiting);
     }
 
     /// With this record it becomes dormant: it is in no list, has no due time, no deadline and nothing
     /// left to do, and the lock is free if it held it.
     #[tactic(auto, using(crate::proofs::Bounds::bounds))]
-    pub(crate) fn rest_as(&mut self, runner: Runner, row: ProcessStatus, out: &mut Out)
-        requires bounded { IsBounded row }
+    pub(crate) fn rest_as(&mut self, runner: Runner, row: &ProcessStatus, out: &mut Out)
+        requires bounded { IsBounded row.now }
         requires room { HasRoom 1 1 out.old }
-        ensures step { IsMade (meaning.rests self.old runner row) self.new out.old out.new }
+        ensures step { IsMade (meaning.rests self.old runner row.now) self.new out.old out.new }
         ensures grows { Grows 1 1 out.old out.new }
     {
         out.lines
@@ -168,9 +188,9 @@ impl ProcessTable {
             wait: Wait::Nothing,
             due: None,
             deadline: None,
-            ..row
+            ..*row
         };
-        self.put_dormant(runner, dormant);
+        self.put_dormant(runner, &dormant);
         out.actions.push(Action::Stop(runner));
     }
 
@@ -186,7 +206,8 @@ impl ProcessTable {
     )
         requires outputs { length outputs.now ≤ 6 }
         requires room { HasRoom 1 1 out.old }
-        ensures step { IsTold (meaning.answers_wait self.now runner row.now code outputs.now wait) out.old out.new }
+        ensures step { IsTold (meaning.answers_wait self.now runner row.now code outputs.now wait)
+            out.old out.new }
         ensures grows { Grows 1 1 out.old out.new }
     {
         match wait {
@@ -202,19 +223,20 @@ impl ProcessTable {
     pub(crate) fn release_with(
         &mut self,
         runner: Runner,
-        row: ProcessStatus,
+        row: &ProcessStatus,
         code: ReturnCode,
         outputs: &[i64],
         out: &mut Out,
     )
         requires runner { place_of runner < MOST_RUNNERS }
-        requires bounded { IsBounded row }
+        requires bounded { IsBounded row.now }
         requires outputs { length outputs.now ≤ 6 }
         requires room { HasRoom 2 1 out.old }
-        ensures step { IsMade (meaning.released_with self.old runner row code outputs.now) self.new out.old out.new }
+        ensures step { IsMade (meaning.released_with self.old runner row.now code outputs.now)
+            self.new out.old out.new }
         ensures grows { Grows 2 1 out.old out.new }
     {
-        self.answer_wait(runner, &row, code, outputs, row.wait, out);
+        self.answer_wait(runner, row, code, outputs, row.wait, out);
         self.leave_queues(runner);
         self.wake_as(runner, row, out);
     }
@@ -224,14 +246,15 @@ impl ProcessTable {
     pub(crate) fn release_as(
         &mut self,
         runner: Runner,
-        row: ProcessStatus,
+        row: &ProcessStatus,
         code: ReturnCode,
         out: &mut Out,
     )
         requires runner { place_of runner < MOST_RUNNERS }
-        requires bounded { IsBounded row }
+        requires bounded { IsBounded row.now }
         requires room { HasRoom 2 1 out.old }
-        ensures step { IsMade (meaning.released self.old runner row code) self.new out.old out.new }
+        ensures step { IsMade (meaning.released self.old runner row.now code)
+            self.new out.old out.new }
         ensures grows { Grows 2 1 out.old out.new }
     {
         self.release_with(runner, row, code, zeros_of_wait(row.wait), out);
@@ -248,7 +271,8 @@ impl ProcessTable {
     )
         requires outputs { length outputs.now ≤ 6 }
         requires room { HasRoom 1 1 out.old }
-        ensures step { IsTold (meaning.answers self.now runner service code outputs.now) out.old out.new }
+        ensures step { IsTold (meaning.answers self.now runner service code outputs.now)
+            out.old out.new }
         ensures grows { Grows 1 1 out.old out.new }
     {
         answer(runner, self.subject(runner), service, code, outputs, out);
@@ -260,6 +284,6 @@ impl ProcessTable {
         ensures step { IsTold (meaning.refuses self.now runner service code) out.old out.new }
         ensures grows { Grows 1 1 out.old out.new }
     {
-        self.answer(runner, service, code, zeros(service), out);
+        refuse(runner, self.subject(runner), service, code, out);
     }
 }

@@ -20,7 +20,9 @@ impl ProcessTable {
     pub fn pick(&self, mode: Mode, reads: &mut u64) -> Option<Runner>
         requires { reads.old ≤ 2 ^ 32 }
         ensures chosen { result ≡ meaning.pick mode self.now }
-        ensures picks { (number : ℕ → ℕ) (next : ℕ) (runner : Process) → IsNumbered number next self.now.ready → (result ≡ Some runner ↔ Picks number mode self.now runner) }
+        ensures picks { (number : ℕ → ℕ) (next : ℕ) (runner : Process)
+            → IsNumbered number next self.now.ready
+            → (result ≡ Some runner ↔ Picks number mode self.now runner) }
         ensures reads { reads.new ≤ reads.old + 3 }
     {
         match mode {

@@ -30,28 +30,30 @@ pub struct Treated {
 
 impl ProcessTable {
     /// A release point is reached, a delay is over, or a wait was in vain.
-    fn end_wait(&mut self, runner: Runner, row: ProcessStatus, due: Due, out: &mut Out)
+    fn end_wait(&mut self, runner: Runner, row: &ProcessStatus, due: Due, out: &mut Out)
         requires runner { place_of runner < MOST_RUNNERS }
-        requires bounded { IsBounded row }
+        requires bounded { IsBounded row.now }
         requires past { meaning.tick_of due ≤ MOST_TICKS }
         requires room { HasRoom 2 1 out.old }
-        ensures step { IsMade (meaning.ends_wait self.old runner row due) self.new out.old out.new }
+        ensures step { IsMade (meaning.ends_wait self.old runner row.now due)
+            self.new out.old out.new }
         ensures grows { Grows 2 1 out.old out.new }
     {
         match due {
             Due::Release(tick) => {
-                self.release_as(runner, released_at(tick, row), ReturnCode::NoError, out);
+                self.release_as(runner, &released_at(tick, row), ReturnCode::NoError, out);
             }
             Due::Delay(_) => self.release_as(runner, row, ReturnCode::NoError, out),
-            Due::TimeOut(_) => self.release_as(runner, timed_out(row), ReturnCode::TimedOut, out),
+            Due::TimeOut(_) => self.release_as(runner, &timed_out(row), ReturnCode::TimedOut, out),
         }
     }
 
-    fn treat_due(&mut self, moment: Moment, runner: Runner, row: ProcessStatus, out: &mut Out)
+    fn treat_due(&mut self, moment: Moment, runner: Runner, row: &ProcessStatus, out: &mut Out)
         requires runner { place_of runner < MOST_RUNNERS }
-        requires bounded { IsBounded row }
+        requires bounded { IsBounded row.now }
         requires room { HasRoom 2 1 out.old }
-        ensures step { IsMade (meaning.treats_due moment.at self.old runner row row.due) self.new out.old out.new }
+        ensures step { IsMade (meaning.treats_due moment.at self.old runner row.now row.now.due)
+            self.new out.old out.new }
         ensures grows { Grows 2 1 out.old out.new }
     {
         if let Some(due) = row.due {
@@ -68,19 +70,20 @@ impl ProcessTable {
         free: u8,
         action: PartitionAction,
         process: ProcessIndex,
-        row: ProcessStatus,
+        row: &ProcessStatus,
         out: &mut Out,
     ) -> Treated
-        requires bounded { IsBounded row }
+        requires bounded { IsBounded row.now }
         requires room { HasRoom 1 1 out.old }
-        ensures treated { IsTreated (meaning.misses free action self.old process row) self.new out.old out.new result }
+        ensures treated { IsTreated (meaning.misses free action self.old process row.now)
+            self.new out.old out.new result }
         ensures grows { Grows 1 1 out.old out.new }
     {
         let row_now = ProcessStatus {
             deadline: None,
-            ..row
+            ..*row
         };
-        self.put_row(Runner::Process(process), row_now);
+        self.put_row(Runner::Process(process), &row_now);
         let error = ErrorKind::DeadlineMissed;
         if free > 0 {
             out.lines
@@ -112,12 +115,15 @@ impl ProcessTable {
         out: &mut Out,
     ) -> Treated
         requires { HasRoom 1 1 out.old }
-        ensures treated { IsTreated (meaning.treats_deadline moment.at free action self.old process (row_of self.old (Runner.Process process))) self.new out.old out.new result }
+        ensures treated { IsTreated
+            (meaning.treats_deadline moment.at free action self.old process
+            (row_of self.old (Runner.Process process)))
+            self.new out.old out.new result }
         ensures grows { Grows 1 1 out.old out.new }
     {
         if let Some(row) = self.row(Runner::Process(process)) {
             if is_past(moment.at.now, row.deadline) {
-                return self.miss(free, action, process, row, out);
+                return self.miss(free, action, process, &row, out);
             }
         }
         Treated { free, clears: None }
@@ -133,14 +139,17 @@ impl ProcessTable {
         out: &mut Out,
     ) -> Treated
         requires room { HasRoom 3 2 out.old }
-        ensures treated { IsTreated (meaning.treats moment.at free action self.old process (row_of self.old (Runner.Process process))) self.new out.old out.new result }
+        ensures treated { IsTreated
+            (meaning.treats moment.at free action self.old process
+            (row_of self.old (Runner.Process process)))
+            self.new out.old out.new result }
         ensures grows { Grows 3 2 out.old out.new }
     {
         let runner = Runner::Process(process);
         let Some(row) = self.row(runner) else {
             return Treated { free, clears: None };
         };
-        self.treat_due(moment, runner, row, out);
+        self.treat_due(moment, runner, &row, out);
         self.treat_deadline(moment, free, action, process, out)
     }
 
@@ -155,7 +164,8 @@ impl ProcessTable {
         out: &mut Out,
     ) -> Treated
         requires room { HasRoom LINES_TO_TREAT_DUE ACTIONS_TO_TREAT_DUE out.old }
-        ensures treated { IsTreated (meaning.due moment.at free action self.old) self.new out.old out.new result }
+        ensures treated { IsTreated (meaning.due moment.at free action self.old)
+            self.new out.old out.new result }
         ensures grows { Grows LINES_TO_TREAT_DUE ACTIONS_TO_TREAT_DUE out.old out.new }
     {
         let mut left = self.due_mask(moment.at.now);
@@ -185,17 +195,17 @@ fn split_first(mask: u64) -> Option<(ProcessIndex, u64)>
 }
 
 /// One that suspended itself is suspended no longer at its time-out; any other stays suspended.
-fn timed_out(row: ProcessStatus) -> ProcessStatus
-    requires { IsBounded row }
-    ensures row { result ≡ meaning.timed_out row row.wait }
+fn timed_out(row: &ProcessStatus) -> ProcessStatus
+    requires { IsBounded row.now }
+    ensures row { result ≡ meaning.timed_out row.now row.now.wait }
     ensures bounded { IsBounded result }
 {
     match row.wait {
         Wait::Service(Service::SuspendSelf) => ProcessStatus {
             suspended: false,
-            ..row
+            ..*row
         },
-        _ => row,
+        _ => *row,
     }
 }
 

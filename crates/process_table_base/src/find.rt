@@ -1,31 +1,50 @@
 //! Processes by the numbers that programs give.
 
 ghost use Rattle.std.specs.Prelude.{◌≡◌, ◌<◌, IfSome, Some, true};
-ghost use Rattle.apex_types.specs.Runners.{place_of};
 ghost use Rattle.kernel_meaning.specs.Processes as meaning;
-ghost use Rattle.process_table_base.specs.Bounds.{IsBounded};
-ghost use Rattle.process_table_base.specs.Own.{own_change};
+ghost use Rattle.process_table_base.specs.FoundView.{pair_of, record_of};
 
+use crate::found::Found;
 use crate::table::ProcessTable;
-use apex_types::{Lock, MOST_RUNNERS, ProcessIndex, ProcessState, ProcessStatus, Runner};
+use apex_types::{Lock, ProcessIndex, ProcessState, ProcessStatus, Runner, Subject};
+
+impl Found {
+    /// Its name in lines.
+    pub fn name(&self) -> Subject
+        ensures { result ≡ self.now.row.who }
+    {
+        self.row.who
+    }
+}
+
+/// The name of someone in lines; of nobody it is that of INIT.
+pub fn name_of(found: &Option<Found>) -> Subject
+    ensures { result ≡ meaning.who_of (record_of found.now) }
+{
+    match found {
+        Some(found) => found.name(),
+        None => Subject::Init,
+    }
+}
 
 impl ProcessTable {
     /// The process with a number, with its record.
     #[tactic(auto, using(kernel_laws::proofs::Numbers::numbers))]
-    pub fn process_at(&self, id: i64) -> Option<(Runner, ProcessStatus)>
-        ensures found { result ≡ meaning.process_at self.now id }
-        ensures own { IfSome result (λ found. meaning.row_of self.now found.0 ≡ Some found.1) }
-        ensures within { IfSome result (λ found. place_of found.0 < MOST_RUNNERS) }
-        ensures bounded { IfSome result (λ found. IsBounded found.1) }
+    pub fn process_at(&self, id: i64) -> Option<Found>
+        ensures found { pair_of result ≡ meaning.process_at self.now id }
     {
         if id < 1 || id > i64::from(self.count()) {
             return None;
         }
-        let runner = Runner::Process(ProcessIndex(id as u8 - 1));
-        match self.row(runner) {
-            Some(row) => Some((runner, row)),
-            None => None,
-        }
+        self.numbered(ProcessIndex(id as u8 - 1))
+    }
+
+    /// The process of an entry of a list, with its record.
+    pub fn numbered(&self, process: ProcessIndex) -> Option<Found>
+        ensures found { pair_of result
+            ≡ meaning.numbered process (meaning.row_of self.now (Runner.Process process)) }
+    {
+        self.found(Runner::Process(process))
     }
 
     /// The caller may not wait: it is INIT or the handler, or preemption is locked.
@@ -42,16 +61,15 @@ impl ProcessTable {
     }
 
     /// A process is created in its record.
-    pub fn create(&mut self, process: Runner)
-        ensures { self.new ≡ own_change self.old process (λ r. meaning.put_row self.old process (record r { created = true })) }
+    pub fn create(&mut self, found: &Found)
+        ensures { self.new
+            ≡ meaning.put_row self.old found.now.runner (record found.now.row { created = true }) }
     {
-        if let Some(row) = self.row(process) {
-            let created = ProcessStatus {
-                created: true,
-                ..row
-            };
-            self.put_row(process, created);
-        }
+        let created = ProcessStatus {
+            created: true,
+            ..found.row
+        };
+        self.put_row(found.runner, &created);
     }
 }
 

@@ -3,8 +3,8 @@
 //!
 //! A contract says that a call makes the step of its definition (`IsMade`), or tells it where
 //! nothing changes (`IsTold`), and how many lines and actions it adds at most (`Grows`). A call
-//! that changes a process is handed the process, and takes the record that the table has of it;
-//! where there is no such process nothing happens.
+//! that changes a process is handed the process with its record, as it was looked up ([`Found`]): a
+//! service looks each record up once.
 #![tactic(auto)]
 
 mod change;
@@ -12,9 +12,11 @@ mod choice;
 mod due;
 mod duration;
 mod find;
+mod found;
 mod message;
 mod own;
 mod records;
+mod request;
 mod rooms;
 mod serve;
 mod start;
@@ -22,12 +24,14 @@ mod table;
 mod timers;
 mod waiting;
 
-pub use change::answer;
+pub use change::{answer, refuse};
 pub use due::{Treated, mode_of_action};
 pub use duration::{is_delay, is_duration, time_out};
-pub use find::is_dormant;
+pub use find::{is_dormant, name_of};
+pub use found::Found;
 pub use message::{first_words, is_large_enough, is_length};
 pub use records::ProcessRows;
+pub use request::{Handed, Request};
 pub use rooms::{
     ACTIONS_TO_GIVE_ALL, ACTIONS_TO_RELEASE_ALL, ACTIONS_TO_TREAT_DUE, LINES_TO_GIVE_ALL,
     LINES_TO_RELEASE_ALL, LINES_TO_TREAT_DUE,

@@ -9,10 +9,12 @@ ghost use Rattle.kernel_meaning.specs.Times.{ticks};
 ghost use Rattle.links.specs.Timers.{IsDueMask, IsNextDue, number_of};
 ghost use Rattle.apex_types.specs.declared.limits.TheConstants.{MOST_PROCESSES};
 ghost use Rattle.process_table_base.specs.Bounds.{AreAllBounded, AreShort, IsBounded};
+ghost use Rattle.process_table_base.specs.FoundView.{record_of};
 ghost use Rattle.process_table_base.specs.ShortFact.{shorts_prop};
 ghost use Rattle.process_table_base.specs.States.{put_state};
 ghost use Rattle.process_table_base.specs.Timed.{AreTimed, deadlines, due_times};
 
+use crate::found::Found;
 use crate::timers::Timers;
 use apex_types::{
     MOST_PROCESSES, MOST_RUNNERS, Mode, Priority, ProcessRow, ProcessState, ProcessStatus, Runner,
@@ -79,7 +81,8 @@ fn fresh_row(
 
 /// INIT, the handler and the processes, none of them created.
 fn fresh_rows(alloc: Global, processes: &[ProcessRow]) -> Result<Vec<ProcessStatus>, AllocError>
-    ensures { IfOk result (λ rows. rows.items ≡ init_row ∷ handler_row ∷ map machine_row processes.now) }
+    ensures { IfOk result
+        (λ rows. rows.items ≡ init_row ∷ handler_row ∷ map machine_row processes.now) }
 {
     let mut rows = Vec::with_capacity(alloc, processes.len())?;
     rows.push(fresh_row(Subject::Init, Priority(0), None, None))?;
@@ -104,7 +107,9 @@ impl Records {
     /// No process is created. An error is one of memory.
     #[tactic(auto, using(crate::proofs::Bounds::bounds))]
     pub(crate) fn new(alloc: Global, processes: ProcessRows<'_>) -> Result<Records, AllocError>
-        ensures { IfOk result (λ records. records ≡ init_row ∷ handler_row ∷ map machine_row processes.entry.rows.now) }
+        ensures { IfOk result
+            (λ records.
+            records ≡ init_row ∷ handler_row ∷ map machine_row processes.entry.rows.now) }
     {
         Ok(Records {
             rows: fresh_rows(alloc, processes.rows)?,
@@ -134,17 +139,27 @@ impl Records {
         record_at(&self.rows, runner.place())
     }
 
+    /// The record of INIT, of the handler or of a process, with whose it is, where there is such a process.
+    #[tactic(auto, using(crate::proofs::Bounds::bounds))]
+    pub(crate) fn find(&self, runner: Runner) -> Option<Found>
+        ensures found { record_of result ≡ slice_get self.now (place_of runner) }
+        ensures own { IfSome result (λ found. found.runner ≡ runner) }
+    {
+        found_at(&self.rows, runner)
+    }
+
     /// Puts a record in its place, where there is one.
-    pub(crate) fn put(&mut self, runner: Runner, row: ProcessStatus)
-        requires { IsBounded row }
-        ensures { self.new ≡ slice_set self.old (place_of runner) row }
+    pub(crate) fn put(&mut self, runner: Runner, row: &ProcessStatus)
+        requires { IsBounded row.now }
+        ensures { self.new ≡ slice_set self.old (place_of runner) row.now }
     {
         put_at(&mut self.rows, &mut self.timers, runner, row);
     }
 
     /// Another state in the record of a runner, where there is one.
     pub(crate) fn set_state(&mut self, runner: Runner, state: ProcessState)
-        ensures { self.new ≡ put_state state (place_of runner) (slice_get self.old (place_of runner)) self.old }
+        ensures { self.new
+            ≡ put_state state (place_of runner) (slice_get self.old (place_of runner)) self.old }
     {
         set_state_at(&mut self.rows, runner.place(), state);
     }
@@ -213,9 +228,24 @@ fn record_at(rows: &[ProcessStatus], place: usize) -> Option<ProcessStatus>
     rows.get(place).copied()
 }
 
+/// The record of a runner in its place, with whose it is, where there is one.
+#[tactic(auto, using(crate::proofs::Bounds::bounded_at))]
+fn found_at(rows: &[ProcessStatus], runner: Runner) -> Option<Found>
+    requires few { length rows.now ≤ MOST_RUNNERS }
+    requires bounded { AreAllBounded rows.now }
+    ensures found { record_of result ≡ slice_get rows.now (place_of runner) }
+    ensures own { IfSome result (λ found. found.runner ≡ runner) }
+{
+    match rows.get(runner.place()) {
+        Some(row) => Some(Found { runner, row: *row }),
+        None => None,
+    }
+}
+
 /// Another state in the record at a place, where there is one.
 fn set_state_at(rows: &mut Vec<ProcessStatus>, place: usize, state: ProcessState)
-    ensures { rows.new.items ≡ put_state state place (slice_get rows.old.items place) rows.old.items }
+    ensures { rows.new.items
+        ≡ put_state state place (slice_get rows.old.items place) rows.old.items }
 {
     if let Some(row) = rows.get_mut(place) {
         row.state = state;
@@ -233,14 +263,14 @@ fn restart_all(rows: &mut Vec<ProcessStatus>, mode: Mode)
 }
 
 /// Puts a record in its place, where there is one, with its timers.
-fn put_at(rows: &mut Vec<ProcessStatus>, timers: &mut Timers, runner: Runner, row: ProcessStatus)
+fn put_at(rows: &mut Vec<ProcessStatus>, timers: &mut Timers, runner: Runner, row: &ProcessStatus)
     requires few { length rows.old.items ≤ MOST_RUNNERS }
     requires timed { AreTimed rows.old.items timers.old }
-    ensures rows { rows.new.items ≡ slice_set rows.old.items (place_of runner) row }
+    ensures rows { rows.new.items ≡ slice_set rows.old.items (place_of runner) row.now }
     ensures timed { AreTimed rows.new.items timers.new }
 {
     if let Some(place) = rows.get_mut(runner.place()) {
-        timers.renew(runner, place, &row);
-        *place = row;
+        timers.renew(runner, place, row);
+        *place = *row;
     }
 }

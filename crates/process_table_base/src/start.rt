@@ -8,8 +8,8 @@ ghost use Rattle.kernel_meaning.specs.Processes.{row_of};
 ghost use Rattle.kernel_meaning.specs.Times as meaning;
 ghost use Rattle.kernel_meaning.specs.Made.{IsMade};
 ghost use Rattle.process_table_base.specs.Bounds.{IsAtMost, IsBounded};
-ghost use Rattle.process_table_base.specs.Own.{own_step};
 
+use crate::found::Found;
 use crate::table::ProcessTable;
 use apex_types::{
     Action, Due, MOST_PROCESSES, MOST_RUNNERS, Mode, Moment, Out, ProcessIndex, ProcessStatus,
@@ -30,16 +30,16 @@ fn later(tick: Ticks, count: Option<Ticks>) -> Option<Ticks>
 
 /// The record of one that is released at a tick: its deadline is its time capacity later.
 #[tactic(auto, using(crate::proofs::Bounds::bounds))]
-pub(crate) fn released_at(tick: Ticks, row: ProcessStatus) -> ProcessStatus
+pub(crate) fn released_at(tick: Ticks, row: &ProcessStatus) -> ProcessStatus
     requires tick { tick.0 ≤ MOST_TICKS }
-    requires bounded { IsBounded row }
-    ensures row { result ≡ meaning.released_at tick row }
+    requires bounded { IsBounded row.now }
+    ensures row { result ≡ meaning.released_at tick row.now }
     ensures bounded { IsBounded result }
 {
     ProcessStatus {
         release: tick,
         deadline: later(tick, row.capacity),
-        ..row
+        ..*row
     }
 }
 
@@ -54,38 +54,33 @@ pub struct Points {
 impl ProcessTable {
     /// A process starts its body with a fresh stack and its base priority. In normal mode it is
     /// released at its release point, before that it waits for the normal start with its delay.
-    pub fn start(
-        &mut self,
-        mode: Mode,
-        points: Points,
-        process: Runner,
-        delay: Ticks,
-        out: &mut Out,
-    )
+    pub fn start(&mut self, mode: Mode, points: Points, found: &Found, delay: Ticks, out: &mut Out)
         requires delay { delay.0 ≤ MOST_TICKS }
         requires room { HasRoom 1 1 out.old }
-        ensures step { IsMade (own_step self.old process (meaning.starts mode points.moment.at points.next.0 self.old process delay)) self.new out.old out.new }
+        ensures step { IsMade
+            (meaning.starts mode points.moment.at points.next.0 self.old found.now.runner
+            delay found.now.row)
+            self.new out.old out.new }
         ensures grows { Grows 1 1 out.old out.new }
     {
-        let Some(row) = self.row(process) else {
-            return;
-        };
+        let process = found.runner;
         let fresh = ProcessStatus {
-            current_priority: row.base_priority,
-            ..row
+            current_priority: found.row.base_priority,
+            ..found.row
         };
         out.actions.push(Action::Begin(process));
         if mode == Mode::Normal {
-            self.start_in_normal(points, process, delay, fresh, out);
+            self.start_in_normal(points, process, delay, &fresh, out);
         } else {
-            self.wait_as(process, fresh, Wait::NormalStart(delay), None, out);
+            self.wait_as(process, &fresh, Wait::NormalStart(delay), None, out);
         }
     }
 
-    fn wait_for_release(&mut self, process: Runner, row: ProcessStatus, tick: Ticks, out: &mut Out)
-        requires bounded { IsBounded row }
+    fn wait_for_release(&mut self, process: Runner, row: &ProcessStatus, tick: Ticks, out: &mut Out)
+        requires bounded { IsBounded row.now }
         requires room { HasRoom 1 0 out.old }
-        ensures step { IsMade (meaning.waits_for_release self.old process row tick.0) self.new out.old out.new }
+        ensures step { IsMade (meaning.waits_for_release self.old process row.now tick.0)
+            self.new out.old out.new }
         ensures grows { Grows 1 0 out.old out.new }
     {
         self.wait_as(
@@ -104,21 +99,23 @@ impl ProcessTable {
         points: Points,
         process: Runner,
         delay: Ticks,
-        row: ProcessStatus,
+        row: &ProcessStatus,
         out: &mut Out,
     )
         requires delay { delay.0 ≤ MOST_TICKS }
         requires process { place_of process < MOST_RUNNERS }
-        requires bounded { IsBounded row }
+        requires bounded { IsBounded row.now }
         requires room { HasRoom 1 0 out.old }
-        ensures step { IsMade (meaning.starts_in_normal points.moment.at points.next.0 self.old process delay row) self.new out.old out.new }
+        ensures step { IsMade
+            (meaning.starts_in_normal points.moment.at points.next.0 self.old process delay row.now)
+            self.new out.old out.new }
         ensures grows { Grows 1 0 out.old out.new }
     {
         let now = points.moment.at.now;
         if row.period.is_some() {
             self.wait_for_release(process, row, Ticks(points.next.0 + delay.0), out);
         } else if delay.0 == 0 {
-            self.wake_as(process, released_at(now, row), out);
+            self.wake_as(process, &released_at(now, row), out);
         } else {
             self.wait_for_release(process, row, Ticks(now.0 + delay.0), out);
         }
@@ -127,12 +124,15 @@ impl ProcessTable {
     /// A process that was started before normal mode takes the normal case of its start.
     fn start_waiting(&mut self, points: Points, process: Runner, out: &mut Out)
         requires room { HasRoom 1 0 out.old }
-        ensures step { IsMade (meaning.starts_waiting points.moment.at points.next.0 self.old process (row_of self.old process)) self.new out.old out.new }
+        ensures step { IsMade
+            (meaning.starts_waiting points.moment.at points.next.0 self.old process
+            (row_of self.old process))
+            self.new out.old out.new }
         ensures grows { Grows 1 0 out.old out.new }
     {
         if let Some(row) = self.row(process) {
             if let Wait::NormalStart(delay) = row.wait {
-                self.start_in_normal(points, process, delay, row, out);
+                self.start_in_normal(points, process, delay, &row, out);
             }
         }
     }
@@ -141,7 +141,8 @@ impl ProcessTable {
     /// number order.
     pub fn start_all_waiting(&mut self, points: Points, out: &mut Out)
         requires room { HasRoom MOST_PROCESSES 0 out.old }
-        ensures step { IsMade (meaning.start_all_waiting points.moment.at points.next.0 self.old) self.new out.old out.new }
+        ensures step { IsMade (meaning.start_all_waiting points.moment.at points.next.0 self.old)
+            self.new out.old out.new }
         ensures grows { Grows MOST_PROCESSES 0 out.old out.new }
     {
         let mut left = self.count().saturating_sub(2);

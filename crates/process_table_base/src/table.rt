@@ -10,9 +10,11 @@ ghost use Rattle.kernel_meaning.specs.Fresh.{fresh_processes, no_message};
 ghost use Rattle.machine_meaning.specs.MachineMeaning.{machine_row};
 ghost use Rattle.links.specs.Timers.{IsDueMask, IsNextDue, number_of};
 ghost use Rattle.process_table_base.specs.Bounds.{IsBounded};
+ghost use Rattle.process_table_base.specs.FoundView.{record_of};
 ghost use Rattle.process_table_base.specs.States.{put_state};
 ghost use Rattle.process_table_base.specs.Timed.{AreQuiet, deadlines, due_times};
 
+use crate::found::Found;
 use crate::records::{ProcessRows, Records};
 use apex_types::{
     Entry, Lock, MOST_RUNNERS, Mode, ProcessRow, ProcessState, ProcessStatus, Runner, Ticks, Words,
@@ -47,7 +49,8 @@ impl Model for ProcessTable {
 
 /// No process has handed in a message.
 fn no_messages(alloc: Global, processes: &[ProcessRow]) -> Result<Vec<Words>, AllocError>
-    ensures { IfOk result (λ handed. handed.items ≡ map no_message (map machine_row processes.now)) }
+    ensures { IfOk result
+        (λ handed. handed.items ≡ map no_message (map machine_row processes.now)) }
 {
     let mut handed = Vec::with_capacity(alloc, processes.len())?;
     for _ in processes {
@@ -59,7 +62,8 @@ fn no_messages(alloc: Global, processes: &[ProcessRow]) -> Result<Vec<Words>, Al
 impl ProcessTable {
     /// No process is created, and none runs or waits. An error is one of memory.
     pub fn new(alloc: Global, processes: ProcessRows<'_>) -> Result<ProcessTable, AllocError>
-        ensures { IfOk result (λ table. table ≡ fresh_processes (map machine_row processes.entry.rows.now)) }
+        ensures { IfOk result
+            (λ table. table ≡ fresh_processes (map machine_row processes.entry.rows.now)) }
     {
         Ok(ProcessTable {
             records: Records::new(alloc, processes)?,
@@ -79,6 +83,14 @@ impl ProcessTable {
     {
         let mut reads = 0;
         self.read(runner, &mut reads)
+    }
+
+    /// INIT, the handler or a process with its record, where there is such a process.
+    pub fn found(&self, runner: Runner) -> Option<Found>
+        ensures found { record_of result ≡ meaning.row_of self.now runner }
+        ensures own { IfSome result (λ found. found.runner ≡ runner) }
+    {
+        self.records.find(runner)
     }
 
     /// The same; each reading is counted.
@@ -159,24 +171,28 @@ impl ProcessTable {
         }
     }
 
-    pub(crate) fn put_row(&mut self, runner: Runner, row: ProcessStatus)
-        requires { IsBounded row }
-        ensures { self.new ≡ meaning.put_row self.old runner row }
+    pub(crate) fn put_row(&mut self, runner: Runner, row: &ProcessStatus)
+        requires { IsBounded row.now }
+        ensures { self.new ≡ meaning.put_row self.old runner row.now }
     {
         self.records.put(runner, row);
     }
 
     /// Another state in the record of a runner, where there is one. Its place in every list stays.
     pub(crate) fn set_state(&mut self, runner: Runner, state: ProcessState)
-        ensures { self.new ≡ record self.old { rows = put_state state (place_of runner) (meaning.row_of self.old runner) self.old.rows } }
+        ensures { self.new
+            ≡ record self.old {
+              rows = put_state state (place_of runner) (meaning.row_of self.old runner)
+                  self.old.rows;
+            } }
     {
         self.records.set_state(runner, state);
     }
 
-    pub(crate) fn put_ready(&mut self, runner: Runner, row: ProcessStatus)
+    pub(crate) fn put_ready(&mut self, runner: Runner, row: &ProcessStatus)
         requires runner { place_of runner < MOST_RUNNERS }
-        requires bounded { IsBounded row }
-        ensures { self.new ≡ meaning.put_ready self.old runner row }
+        requires bounded { IsBounded row.now }
+        ensures { self.new ≡ meaning.put_ready self.old runner row.now }
     {
         let priority = row.current_priority;
         self.records.put(runner, row);
@@ -185,9 +201,9 @@ impl ProcessTable {
         }
     }
 
-    pub(crate) fn put_unready(&mut self, runner: Runner, row: ProcessStatus)
-        requires { IsBounded row }
-        ensures { self.new ≡ meaning.put_unready self.old runner row }
+    pub(crate) fn put_unready(&mut self, runner: Runner, row: &ProcessStatus)
+        requires { IsBounded row.now }
+        ensures { self.new ≡ meaning.put_unready self.old runner row.now }
     {
         self.records.put(runner, row);
         if let Runner::Process(process) = runner {
@@ -196,9 +212,9 @@ impl ProcessTable {
         self.running = not_running(runner, self.running);
     }
 
-    pub(crate) fn put_dormant(&mut self, runner: Runner, row: ProcessStatus)
-        requires { IsBounded row }
-        ensures { self.new ≡ meaning.put_dormant self.old runner row }
+    pub(crate) fn put_dormant(&mut self, runner: Runner, row: &ProcessStatus)
+        requires { IsBounded row.now }
+        ensures { self.new ≡ meaning.put_dormant self.old runner row.now }
     {
         self.put_unready(runner, row);
         self.lock = without_holder(runner, self.lock);

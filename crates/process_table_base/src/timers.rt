@@ -39,7 +39,8 @@ fn are_same(one: Option<Ticks>, other: Option<Ticks>) -> bool
 #[tactic(auto, using(crate::proofs::Timed::unchanged))]
 fn renew(list: &mut DueList, process: ProcessIndex, old: Option<Ticks>, next: Option<Ticks>)
     requires { process.0 < MOST_PROCESSES }
-    ensures { (ticks : ℕ → Option ℕ) → ticks process.0 ≡ number_of old → IsExact ticks list.old → IsExact (ticks_with process.0 (number_of next) ticks) list.new }
+    ensures { (ticks : ℕ → Option ℕ) → ticks process.0 ≡ number_of old → IsExact ticks list.old
+        → IsExact (ticks_with process.0 (number_of next) ticks) list.new }
 {
     if !are_same(old, next) {
         set_timer(list, process, next);
@@ -61,7 +62,9 @@ impl Timers {
     /// This record takes the place of the old one.
     pub(crate) fn renew(&mut self, runner: Runner, old: &ProcessStatus, row: &ProcessStatus)
         requires { place_of runner < MOST_RUNNERS }
-        ensures { (rows : List Row) → slice_get rows (place_of runner) ≡ Some old.now → AreTimed rows self.old → AreTimed (slice_set rows (place_of runner) row.now) self.new }
+        ensures { (rows : List Row) → slice_get rows (place_of runner) ≡ Some old.now
+            → AreTimed rows self.old
+            → AreTimed (slice_set rows (place_of runner) row.now) self.new }
     {
         if let Runner::Process(process) = runner {
             renew(
@@ -76,7 +79,8 @@ impl Timers {
 
     /// The least due time or deadline, or none.
     pub(crate) fn next_due(&self) -> Option<Ticks>
-        ensures { (rows : List Row) → AreTimed rows self.now → IsNextDue (due_times rows) (deadlines rows) (number_of result) }
+        ensures { (rows : List Row) → AreTimed rows self.now
+            → IsNextDue (due_times rows) (deadlines rows) (number_of result) }
     {
         next_due(&self.dues, &self.deadlines)
     }
@@ -84,7 +88,8 @@ impl Timers {
     /// A bit for each process whose due time or deadline is not later than now: bit 0 is that of
     /// process 0.
     pub(crate) fn due_mask(&self, now: Ticks) -> u64
-        ensures { (rows : List Row) → AreTimed rows self.now → IsDueMask now.0 (due_times rows) (deadlines rows) result }
+        ensures { (rows : List Row) → AreTimed rows self.now
+            → IsDueMask now.0 (due_times rows) (deadlines rows) result }
     {
         due_mask(&self.dues, &self.deadlines, now)
     }

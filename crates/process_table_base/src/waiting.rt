@@ -12,15 +12,18 @@ ghost use Rattle.kernel_meaning.specs.Made.{IsMade};
 ghost use Rattle.kernel_meaning.specs.Sharing as meaning;
 ghost use Rattle.kernel_laws.specs.WaitingOrder.{AreQueues};
 ghost use Rattle.process_table_base.specs.Bounds.{IsBounded};
+ghost use Rattle.process_table_base.specs.FoundView.{pair_of};
 ghost use Rattle.process_table_base.specs.declared.rooms.TheConstants.{ACTIONS_TO_GIVE_ALL, ACTIONS_TO_RELEASE_ALL, LINES_TO_GIVE_ALL, LINES_TO_RELEASE_ALL};
 ghost use Rattle.process_table_base.specs.LeastNumber.{IsLeast};
 
 use crate::change::zeros;
 use crate::duration::time_out;
+use crate::found::Found;
+use crate::request::Request;
 use crate::table::ProcessTable;
 use apex_types::{
-    Action, ArrayPlace, Entry, ListKey, MOST_RUNNERS, Moment, Out, ProcessIndex, ProcessStatus,
-    ReturnCode, Runner, Wait, Waiting, Words, copied,
+    Action, ArrayPlace, Entry, ListKey, MOST_RUNNERS, Out, ProcessIndex, ProcessStatus, ReturnCode,
+    Runner, Wait, Waiting, Words, copied,
 };
 use links::Entries;
 
@@ -34,14 +37,15 @@ fn put_message(handed: &mut Vec<Words>, process: ProcessIndex, message: Words)
 }
 
 /// The words go into an array, if there is one.
-pub fn fill(array: Option<ArrayPlace>, message: &Words, out: &mut Out)
+pub fn fill(array: Option<ArrayPlace>, message: Words, out: &mut Out)
     requires { HasRoom 0 1 out.old }
     ensures lines { out.new.lines.items ≡ out.old.lines.items }
-    ensures actions { out.new.actions.items ≡ out.old.actions.items ++ meaning.writes array message.now }
+    ensures actions { out.new.actions.items
+        ≡ out.old.actions.items ++ meaning.writes array message }
     ensures grows { Grows 0 1 out.old out.new }
 {
     if let Some(array) = array {
-        out.actions.push(Action::Write(array.base, copied(message)));
+        out.actions.push(Action::Write(array.base, message));
     }
 }
 
@@ -56,29 +60,15 @@ fn array_of_wait(wait: Wait) -> Option<ArrayPlace>
 }
 
 impl ProcessTable {
-    /// The process of an entry of a list, with its record.
-    pub fn numbered(&self, process: ProcessIndex) -> Option<(Runner, ProcessStatus)>
-        ensures found { result ≡ processes.numbered process (processes.row_of self.now (Runner.Process process)) }
-        ensures own { IfSome result (λ found. processes.row_of self.now found.0 ≡ Some found.1) }
-        ensures within { IfSome result (λ found. place_of found.0 < MOST_RUNNERS) }
-        ensures bounded { IfSome result (λ found. IsBounded found.1) }
-    {
-        let runner = Runner::Process(process);
-        match self.row(runner) {
-            Some(row) => Some((runner, row)),
-            None => None,
-        }
-    }
-
     /// The first who waits in a list, with its record: whatever numbers those who wait have taken in
     /// their order, that is the one with the least number, by priority the one of the highest priority
     /// with the least number.
-    pub fn first_waiting(&self, list: ListKey) -> Option<(Runner, ProcessStatus)>
-        ensures found { result ≡ meaning.first_waiting self.now list }
-        ensures least { (disciplines : Key → Discipline) (number : ℕ → ℕ) (next : ℕ) → AreQueues disciplines number next self.now.queues → IfSome result (λ found. IsLeast (disciplines list) number (list_at self.now.queues list) found.0) }
-        ensures own { IfSome result (λ found. processes.row_of self.now found.0 ≡ Some found.1) }
-        ensures within { IfSome result (λ found. place_of found.0 < MOST_RUNNERS) }
-        ensures bounded { IfSome result (λ found. IsBounded found.1) }
+    pub fn first_waiting(&self, list: ListKey) -> Option<Found>
+        ensures found { pair_of result ≡ meaning.first_waiting self.now list }
+        ensures least { (disciplines : Key → Discipline) (number : ℕ → ℕ) (next : ℕ)
+            → AreQueues disciplines number next self.now.queues
+            → IfSome (pair_of result)
+            (λ found. IsLeast (disciplines list) number (list_at self.now.queues list) found.0) }
     {
         match self.queues.first(list) {
             Some(entry) => self.numbered(entry.process),
@@ -138,8 +128,7 @@ impl ProcessTable {
     /// caller waits, at most so long.
     pub fn block(
         &mut self,
-        moment: Moment,
-        caller: Runner,
+        request: Request,
         limit: i64,
         waiting: Waiting,
         message: Words,
@@ -147,10 +136,13 @@ impl ProcessTable {
     )
         requires limit { is_duration limit ≡ true }
         requires room { HasRoom 1 1 out.old }
-        ensures step { IsMade (meaning.blocks moment.at self.old caller limit waiting message) self.new out.old out.new }
+        ensures step { IsMade
+            (meaning.blocks request.moment.at self.old request.caller limit waiting message)
+            self.new out.old out.new }
         ensures grows { Grows 1 1 out.old out.new }
     {
         let service = waiting.service;
+        let caller = request.caller;
         if limit == 0 {
             return self.refuse(caller, service, ReturnCode::NotAvailable, out);
         }
@@ -163,18 +155,22 @@ impl ProcessTable {
                 service,
                 array: waiting.array,
             };
-            self.wait_as(caller, row, reason, time_out(moment, limit), out);
+            let due = time_out(request.moment, limit);
+            self.wait_as(caller, &row, reason, due, out);
         }
     }
 
     /// Releases one that is found.
     fn release_found(&mut self, process: ProcessIndex, out: &mut Out)
         requires { HasRoom 2 1 out.old }
-        ensures step { IsMade (meaning.releases_found self.old (processes.numbered process (processes.row_of self.old (Runner.Process process)))) self.new out.old out.new }
+        ensures step { IsMade
+            (meaning.releases_found self.old
+            (processes.numbered process (processes.row_of self.old (Runner.Process process))))
+            self.new out.old out.new }
         ensures grows { Grows 2 1 out.old out.new }
     {
-        if let Some((runner, row)) = self.numbered(process) {
-            self.release_as(runner, row, ReturnCode::NoError, out);
+        if let Some(found) = self.numbered(process) {
+            self.release_as(found.runner, &found.row, ReturnCode::NoError, out);
         }
     }
 
@@ -193,7 +189,8 @@ impl ProcessTable {
     /// Releases all who wait in a list, in its order.
     pub fn release_all(&mut self, list: ListKey, out: &mut Out)
         requires { HasRoom LINES_TO_RELEASE_ALL ACTIONS_TO_RELEASE_ALL out.old }
-        ensures step { IsMade (meaning.releases_all (meaning.waiting self.old list) self.old) self.new out.old out.new }
+        ensures step { IsMade (meaning.releases_all (meaning.waiting self.old list) self.old)
+            self.new out.old out.new }
         ensures grows { Grows LINES_TO_RELEASE_ALL ACTIONS_TO_RELEASE_ALL out.old out.new }
     {
         let entries = self.waiting(list);
@@ -205,36 +202,42 @@ impl ProcessTable {
     pub(crate) fn give_as(
         &mut self,
         runner: Runner,
-        row: ProcessStatus,
-        message: &Words,
+        row: &ProcessStatus,
+        message: Words,
         out: &mut Out,
     )
         requires runner { place_of runner < MOST_RUNNERS }
-        requires bounded { IsBounded row }
+        requires bounded { IsBounded row.now }
         requires room { HasRoom 2 2 out.old }
-        ensures step { IsMade (meaning.gives self.old runner row message.now) self.new out.old out.new }
+        ensures step { IsMade (meaning.gives self.old runner row.now message)
+            self.new out.old out.new }
         ensures grows { Grows 2 2 out.old out.new }
     {
-        fill(array_of_wait(row.wait), message, out);
         let length = message.len() as i64;
+        fill(array_of_wait(row.wait), message, out);
         self.release_with(runner, row, ReturnCode::NoError, &[length], out);
     }
 
     /// Gives a message to one that is found.
     fn give_found(&mut self, process: ProcessIndex, message: &Words, out: &mut Out)
         requires { HasRoom 2 2 out.old }
-        ensures step { IsMade (meaning.gives_found self.old (processes.numbered process (processes.row_of self.old (Runner.Process process))) message.now) self.new out.old out.new }
+        ensures step { IsMade
+            (meaning.gives_found self.old
+            (processes.numbered process (processes.row_of self.old (Runner.Process process)))
+            message.now)
+            self.new out.old out.new }
         ensures grows { Grows 2 2 out.old out.new }
     {
-        if let Some((runner, row)) = self.numbered(process) {
-            self.give_as(runner, row, message, out);
+        if let Some(found) = self.numbered(process) {
+            self.give_as(found.runner, &found.row, copied(message), out);
         }
     }
 
     /// Gives a message to each of these in turn.
     fn give_each(&mut self, entries: &[Entry], message: &Words, out: &mut Out)
         requires { HasRoom (2 * length entries.now) (2 * length entries.now) out.old }
-        ensures step { IsMade (meaning.gives_all entries.now message.now self.old) self.new out.old out.new }
+        ensures step { IsMade (meaning.gives_all entries.now message.now self.old)
+            self.new out.old out.new }
         ensures grows { Grows (2 * length entries.now) (2 * length entries.now) out.old out.new }
     {
         if let Some((entry, rest)) = entries.split_first() {
@@ -246,7 +249,9 @@ impl ProcessTable {
     /// Gives a message to all who wait in a list, in its order.
     pub fn give_all(&mut self, list: ListKey, message: &Words, out: &mut Out)
         requires { HasRoom LINES_TO_GIVE_ALL ACTIONS_TO_GIVE_ALL out.old }
-        ensures step { IsMade (meaning.gives_all (meaning.waiting self.old list) message.now self.old) self.new out.old out.new }
+        ensures step { IsMade
+            (meaning.gives_all (meaning.waiting self.old list) message.now self.old)
+            self.new out.old out.new }
         ensures grows { Grows LINES_TO_GIVE_ALL ACTIONS_TO_GIVE_ALL out.old out.new }
     {
         let entries = self.waiting(list);

@@ -40,7 +40,10 @@ fn clear(stack: &mut [i64], from: u32, to: u32)
 fn save(stack: &mut [i64], frame: u32, routine: &RoutineRow, next: u32, caller: u32)
     requires fits { IsFittingRoutine routine.now }
     requires small { frame ≤ 65_535 }
-    ensures { stack.new ≡ put_words stack.old (frame + routine.now.parameters) (replicate (routine.now.slots - routine.now.parameters) (pos 0) ++ pos next ∷ pos caller ∷ []) }
+    ensures { stack.new
+        ≡ put_words stack.old (frame + routine.now.parameters)
+        (replicate (routine.now.slots - routine.now.parameters) (pos 0) ++ pos next ∷ pos caller
+        ∷ []) }
 {
     let slots = frame + u32::from(routine.slots);
     clear(stack, frame + u32::from(routine.parameters), slots);
@@ -90,7 +93,8 @@ impl Registers {
         requires next { self.old.pc + 1 < 2 ^ 32 }
         requires fits { IsFittingRoutine routine.now }
         requires small { frame ≤ 65_537 }
-        ensures effect { after result self.new reach.new ≡ does (enters_at frame routine.now) self.old reach.old }
+        ensures effect { after result self.new reach.new
+            ≡ does (enters_at frame routine.now) self.old reach.old }
         ensures done { is_done result ≡ true }
     {
         if reach.stack.len() < (frame + routine.frame) as usize {
@@ -106,7 +110,8 @@ impl Registers {
     /// CALL: the routine of that number, from 0.
     pub(crate) fn enter(&mut self, reach: &mut Reach, code: &Code, x: u32) -> Turn
         requires next { self.old.pc + 1 < 2 ^ 32 }
-        ensures effect { after result self.new reach.new ≡ does (executes code.now.routines.items (Instr.Call x)) self.old reach.old }
+        ensures effect { after result self.new reach.new
+            ≡ does (executes code.now.routines.items (Instr.Call x)) self.old reach.old }
         ensures done { is_done result ≡ true }
     {
         match routine_at(&code.routines, x) {
@@ -123,7 +128,8 @@ impl Registers {
 
     /// RET: gives the top operand back to the frame and the instruction that were saved behind `x` words.
     pub(crate) fn give_back(&mut self, reach: &mut Reach, x: u32) -> Turn
-        ensures effect { after result self.new reach.new ≡ does (executes [] (Instr.Return x)) self.old reach.old }
+        ensures effect { after result self.new reach.new
+            ≡ does (executes [] (Instr.Return x)) self.old reach.old }
         ensures done { is_done result ≡ true }
     {
         if self.sp <= self.fp {
@@ -169,9 +175,12 @@ impl Context {
     fn call_service(&mut self, memory: &PartitionMem, service: Service) -> Outcome
         requires next { self.old.pc + 1 < 2 ^ 32 }
         requires operands { argument_words service ≤ self.old.sp }
-        ensures control { control_of self.new memory.now ≡ (calls service (control_of self.old memory.now) memory.now.words).control }
-        ensures memory { IsChanged (calls service (control_of self.old memory.now) memory.now.words) memory.now memory.now }
-        ensures outcome { result ≡ outcome_of (calls service (control_of self.old memory.now) memory.now.words).asks }
+        ensures control { control_of self.new memory.now
+            ≡ (calls service (control_of self.old memory.now) memory.now.words).control }
+        ensures memory { IsChanged (calls service (control_of self.old memory.now) memory.now.words)
+            memory.now memory.now }
+        ensures outcome { result
+            ≡ outcome_of (calls service (control_of self.old memory.now) memory.now.words).asks }
     {
         let call = self.called(memory, service);
         if !holds(memory, array_of(call)) {
@@ -192,9 +201,16 @@ impl Context {
     /// SVC: the service of that number.
     pub(crate) fn call_numbered(&mut self, memory: &PartitionMem, x: u32) -> Outcome
         requires next { self.old.pc + 1 < 2 ^ 32 }
-        ensures control { control_of self.new memory.now ≡ (executes [] (Instr.Service x) (control_of self.old memory.now) memory.now.words).control }
-        ensures memory { IsChanged (executes [] (Instr.Service x) (control_of self.old memory.now) memory.now.words) memory.now memory.now }
-        ensures outcome { result ≡ outcome_of (executes [] (Instr.Service x) (control_of self.old memory.now) memory.now.words).asks }
+        ensures control { control_of self.new memory.now
+            ≡ (executes [] (Instr.Service x) (control_of self.old memory.now)
+            memory.now.words).control }
+        ensures memory { IsChanged
+            (executes [] (Instr.Service x) (control_of self.old memory.now) memory.now.words)
+            memory.now memory.now }
+        ensures outcome { result
+            ≡ outcome_of
+            (executes [] (Instr.Service x) (control_of self.old memory.now)
+            memory.now.words).asks }
     {
         match Service::from_number(x) {
             Some(service) => {

@@ -98,7 +98,8 @@ fn field_v(instruction: Instr) -> i64
 
 /// Sixteen bytes: opcode (4), x (4), v (8), little endian.
 fn spell(opcode: u32, x: u32, v: i64) -> [u8; 16]
-    ensures { result ≡ to_le_bytes w32 opcode ++ to_le_bytes w32 x ++ to_le_bytes w64 (cast_unsigned w64 v) }
+    ensures { result
+        ≡ to_le_bytes w32 opcode ++ to_le_bytes w32 x ++ to_le_bytes w64 (cast_unsigned w64 v) }
 {
     let op = opcode.to_le_bytes();
     let x = x.to_le_bytes();
@@ -244,7 +245,8 @@ const NAMES: [&str; 31] = [
 
 /// The entry of a table of names that is numbered from 1.
 fn name_entry(names: &[&'static str], op: u32) -> Option<&'static str>
-    ensures { option_map (λ s. s.now) result ≡ (if nat_eq op 0 then None else slice_get (map (λ s. s.now) names.now) (op - 1)) }
+    ensures { option_map (λ s. s.now) result
+        ≡ (if nat_eq op 0 then None else slice_get (map (λ s. s.now) names.now) (op - 1)) }
 {
     if op == 0 {
         return None;
@@ -263,5 +265,6 @@ pub fn op_name(op: u32) -> Option<&'static str>
 /// instruction, [`encode`] writes these bytes for it.
 pub fn encode_and_decode_agree()
     ensures reads_back { (i : Instr) → HasBytes i → reading (bytes_of i) ≡ Some i }
-    ensures spells_back { (i : Instr) (bytes : List ℕ) → length bytes ≡ 16 → AreBytes bytes → reading bytes ≡ Some i → bytes_of i ≡ bytes }
+    ensures spells_back { (i : Instr) (bytes : List ℕ) → length bytes ≡ 16 → AreBytes bytes
+        → reading bytes ≡ Some i → bytes_of i ≡ bytes }
 {}

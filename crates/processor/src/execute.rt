@@ -71,7 +71,8 @@ impl Registers {
     /// PUSH
     fn push(&mut self, reach: &mut Reach, v: i64) -> Turn
         requires next { self.old.pc + 1 < 2 ^ 32 }
-        ensures effect { after result self.new reach.new ≡ does (executes [] (Instr.Push v)) self.old reach.old }
+        ensures effect { after result self.new reach.new
+            ≡ does (executes [] (Instr.Push v)) self.old reach.old }
         ensures done { is_done result ≡ true }
     {
         self.push_at(reach, self.sp, v)
@@ -80,7 +81,8 @@ impl Registers {
     /// An operator with two operands.
     fn binary(&mut self, reach: &mut Reach, operator: BinaryOperator) -> Turn
         requires next { self.old.pc + 1 < 2 ^ 32 }
-        ensures effect { after result self.new reach.new ≡ does (executes [] (Instr.Binary operator)) self.old reach.old }
+        ensures effect { after result self.new reach.new
+            ≡ does (executes [] (Instr.Binary operator)) self.old reach.old }
         ensures done { is_done result ≡ true }
     {
         if self.sp < self.fp + 2 {
@@ -93,7 +95,8 @@ impl Registers {
     /// An operator with one operand.
     fn unary(&mut self, reach: &mut Reach, operator: UnaryOperator) -> Turn
         requires next { self.old.pc + 1 < 2 ^ 32 }
-        ensures effect { after result self.new reach.new ≡ does (executes [] (Instr.Unary operator)) self.old reach.old }
+        ensures effect { after result self.new reach.new
+            ≡ does (executes [] (Instr.Unary operator)) self.old reach.old }
         ensures done { is_done result ≡ true }
     {
         if self.sp <= self.fp {
@@ -106,7 +109,8 @@ impl Registers {
     /// JZ: pops, and jumps if it is 0.
     fn jump_if_zero(&mut self, reach: &Reach, x: u32) -> Turn
         requires next { self.old.pc + 1 < 2 ^ 32 }
-        ensures effect { after result self.new reach.now ≡ does (executes [] (Instr.JumpIfZero x)) self.old reach.now }
+        ensures effect { after result self.new reach.now
+            ≡ does (executes [] (Instr.JumpIfZero x)) self.old reach.now }
         ensures done { is_done result ≡ true }
     {
         if self.sp <= self.fp {
@@ -119,8 +123,10 @@ impl Registers {
     /// The effect of an instruction in its last tick.
     pub(crate) fn execute(&mut self, reach: &mut Reach, code: &Code, instruction: Instr) -> Turn
         requires next { self.old.pc + 1 < 2 ^ 32 }
-        ensures effect { after result self.new reach.new ≡ does (executes code.now.routines.items instruction) self.old reach.old }
-        ensures same { is_done result ≡ false → control_in self.new reach.new ≡ control_in self.old reach.old }
+        ensures effect { after result self.new reach.new
+            ≡ does (executes code.now.routines.items instruction) self.old reach.old }
+        ensures same { is_done result ≡ false
+            → control_in self.new reach.new ≡ control_in self.old reach.old }
     {
         match instruction {
             Instr::Push(v) => self.push(reach, v),

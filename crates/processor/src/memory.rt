@@ -16,7 +16,8 @@ impl Registers {
     /// LDG: a word of the data.
     pub(crate) fn load_data(&mut self, reach: &mut Reach, x: u32) -> Turn
         requires next { self.old.pc + 1 < 2 ^ 32 }
-        ensures effect { after result self.new reach.new ≡ does (executes [] (Instr.LoadData x)) self.old reach.old }
+        ensures effect { after result self.new reach.new
+            ≡ does (executes [] (Instr.LoadData x)) self.old reach.old }
         ensures done { is_done result ≡ true }
     {
         let v = load(&reach.words, x as usize);
@@ -27,7 +28,8 @@ impl Registers {
     fn store_word(&mut self, reach: &mut Reach, popped: u32, place: usize, v: i64) -> Turn
         requires next { self.old.pc + 1 < 2 ^ 32 }
         requires operands { popped ≤ self.old.sp }
-        ensures effect { after result self.new reach.new ≡ does (changes_data popped (stored reach.old.words.items place v)) self.old reach.old }
+        ensures effect { after result self.new reach.new
+            ≡ does (changes_data popped (stored reach.old.words.items place v)) self.old reach.old }
         ensures done { is_done result ≡ true }
     {
         if place >= reach.words.len() {
@@ -42,7 +44,9 @@ impl Registers {
     fn store_own(&mut self, reach: &mut Reach, popped: u32, place: usize, v: i64) -> Turn
         requires next { self.old.pc + 1 < 2 ^ 32 }
         requires operands { popped ≤ self.old.sp }
-        ensures effect { after result self.new reach.new ≡ does (changes_stack popped (stored reach.old.stack.items place v)) self.old reach.old }
+        ensures effect { after result self.new reach.new
+            ≡ does (changes_stack popped (stored reach.old.stack.items place v))
+            self.old reach.old }
         ensures done { is_done result ≡ true }
     {
         if place >= reach.stack.len() {
@@ -55,7 +59,8 @@ impl Registers {
     /// STG: pops into a word of the data.
     pub(crate) fn store_data(&mut self, reach: &mut Reach, x: u32) -> Turn
         requires next { self.old.pc + 1 < 2 ^ 32 }
-        ensures effect { after result self.new reach.new ≡ does (executes [] (Instr.StoreData x)) self.old reach.old }
+        ensures effect { after result self.new reach.new
+            ≡ does (executes [] (Instr.StoreData x)) self.old reach.old }
         ensures done { is_done result ≡ true }
     {
         if self.sp <= self.fp {
@@ -68,7 +73,8 @@ impl Registers {
     /// LDL: a word of the frame.
     pub(crate) fn load_local(&mut self, reach: &mut Reach, x: u32) -> Turn
         requires next { self.old.pc + 1 < 2 ^ 32 }
-        ensures effect { after result self.new reach.new ≡ does (executes [] (Instr.LoadLocal x)) self.old reach.old }
+        ensures effect { after result self.new reach.new
+            ≡ does (executes [] (Instr.LoadLocal x)) self.old reach.old }
         ensures done { is_done result ≡ true }
     {
         let v = load(&reach.stack, self.fp as usize + x as usize);
@@ -78,7 +84,8 @@ impl Registers {
     /// STL: pops into a word of the frame.
     pub(crate) fn store_local(&mut self, reach: &mut Reach, x: u32) -> Turn
         requires next { self.old.pc + 1 < 2 ^ 32 }
-        ensures effect { after result self.new reach.new ≡ does (executes [] (Instr.StoreLocal x)) self.old reach.old }
+        ensures effect { after result self.new reach.new
+            ≡ does (executes [] (Instr.StoreLocal x)) self.old reach.old }
         ensures done { is_done result ≡ true }
     {
         if self.sp <= self.fp {
@@ -92,7 +99,8 @@ impl Registers {
     /// LDA: an element of the array of `size` words at `x`.
     pub(crate) fn load_element(&mut self, reach: &mut Reach, x: u32, size: i64) -> Turn
         requires next { self.old.pc + 1 < 2 ^ 32 }
-        ensures effect { after result self.new reach.new ≡ does (executes [] (Instr.LoadElement x size)) self.old reach.old }
+        ensures effect { after result self.new reach.new
+            ≡ does (executes [] (Instr.LoadElement x size)) self.old reach.old }
         ensures done { is_done result ≡ true }
     {
         if self.sp <= self.fp {
@@ -105,7 +113,8 @@ impl Registers {
     /// STA: pops into an element of the array of `size` words at `x`.
     pub(crate) fn store_element(&mut self, reach: &mut Reach, x: u32, size: i64) -> Turn
         requires next { self.old.pc + 1 < 2 ^ 32 }
-        ensures effect { after result self.new reach.new ≡ does (executes [] (Instr.StoreElement x size)) self.old reach.old }
+        ensures effect { after result self.new reach.new
+            ≡ does (executes [] (Instr.StoreElement x size)) self.old reach.old }
         ensures done { is_done result ≡ true }
     {
         if self.sp < self.fp + 2 {
@@ -122,7 +131,8 @@ impl Registers {
     fn load_known(&mut self, reach: &mut Reach, region: Region) -> Turn
         requires next { self.old.pc + 1 < 2 ^ 32 }
         requires operands { 1 ≤ self.old.sp }
-        ensures effect { after result self.new reach.new ≡ does (loads_region (number_of region)) self.old reach.old }
+        ensures effect { after result self.new reach.new
+            ≡ does (loads_region (number_of region)) self.old reach.old }
         ensures done { is_done result ≡ true }
     {
         let address = self.top(reach);
@@ -138,7 +148,8 @@ impl Registers {
     fn store_known(&mut self, reach: &mut Reach, region: Region) -> Turn
         requires next { self.old.pc + 1 < 2 ^ 32 }
         requires operands { 2 ≤ self.old.sp }
-        ensures effect { after result self.new reach.new ≡ does (stores_region (number_of region)) self.old reach.old }
+        ensures effect { after result self.new reach.new
+            ≡ does (stores_region (number_of region)) self.old reach.old }
         ensures done { is_done result ≡ true }
     {
         let address = self.below_top(reach);
@@ -158,7 +169,8 @@ impl Registers {
     #[tactic(auto, using(crate::proofs::Stack::regions))]
     pub(crate) fn load_region(&mut self, reach: &mut Reach, x: u32) -> Turn
         requires next { self.old.pc + 1 < 2 ^ 32 }
-        ensures effect { after result self.new reach.new ≡ does (executes [] (Instr.LoadRegion x)) self.old reach.old }
+        ensures effect { after result self.new reach.new
+            ≡ does (executes [] (Instr.LoadRegion x)) self.old reach.old }
         ensures done { is_done result ≡ true }
     {
         let Some(region) = Region::from_number(x) else {
@@ -174,7 +186,8 @@ impl Registers {
     #[tactic(auto, using(crate::proofs::Stack::regions))]
     pub(crate) fn store_region(&mut self, reach: &mut Reach, x: u32) -> Turn
         requires next { self.old.pc + 1 < 2 ^ 32 }
-        ensures effect { after result self.new reach.new ≡ does (executes [] (Instr.StoreRegion x)) self.old reach.old }
+        ensures effect { after result self.new reach.new
+            ≡ does (executes [] (Instr.StoreRegion x)) self.old reach.old }
         ensures done { is_done result ≡ true }
     {
         let Some(region) = Region::from_number(x) else {

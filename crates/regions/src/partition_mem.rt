@@ -33,7 +33,8 @@ impl Model for PartitionMem {
 
 /// Stacks of zeros, of these lengths.
 fn zeroed_stacks(alloc: Global, lengths: &[u16]) -> Result<Vec<Vec<i64>>, AllocError>
-    ensures words { IfOk result (λ stacks. map (λ v. v.items) stacks.items ≡ map zeros lengths.now) }
+    ensures words { IfOk result
+        (λ stacks. map (λ v. v.items) stacks.items ≡ map zeros lengths.now) }
     ensures small { IfOk result (λ stacks. All (λ v. length v.items ≤ 65_535) stacks.items) }
 {
     let mut stacks = Vec::with_capacity(alloc, lengths.len())?;
@@ -88,7 +89,8 @@ impl PartitionMem {
     #[tactic(auto, using(crate::proofs::Lists::stacks))]
     fn store_data(&mut self, place: usize, word: i64) -> Result<(), ErrorKind>
         ensures result { result ≡ allowed (nat_lt place (length self.old.words)) }
-        ensures words { self.new ≡ put self.old self.old.stack (slice_set self.old.words place word) }
+        ensures words { self.new
+            ≡ put self.old self.old.stack (slice_set self.old.words place word) }
     {
         if place >= self.reach.words.len() {
             return Err(ErrorKind::MemoryViolation);
@@ -101,7 +103,8 @@ impl PartitionMem {
     #[tactic(auto, using(crate::proofs::Lists::stacks))]
     fn store_stack(&mut self, place: usize, word: i64) -> Result<(), ErrorKind>
         ensures result { result ≡ allowed (nat_lt place (length self.old.stack)) }
-        ensures words { self.new ≡ put self.old (slice_set self.old.stack place word) self.old.words }
+        ensures words { self.new
+            ≡ put self.old (slice_set self.old.stack place word) self.old.words }
     {
         if place >= self.reach.stack.len() {
             return Err(ErrorKind::MemoryViolation);
@@ -180,7 +183,8 @@ impl PartitionMem {
     #[tactic(auto, using(crate::proofs::Lists::stacks))]
     pub fn select(&mut self, place: usize) -> bool
         ensures there { result ≡ nat_lt place (length self.old.rest) }
-        ensures selected { result ≡ true → self.new ≡ seen self.old.words (stacks_of self.old) place }
+        ensures selected { result ≡ true
+            → self.new ≡ seen self.old.words (stacks_of self.old) place }
         ensures same { result ≡ false → self.new ≡ self.old }
     {
         if place >= self.rest.len() {

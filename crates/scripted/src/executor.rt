@@ -45,7 +45,8 @@ impl Scripted {
 /// No part has anything left to do.
 #[tactic(auto, using(crate::proofs::Parts::views))]
 fn stop_each(parts: &mut Vec<Part>)
-    ensures controls { map control_of parts.new.items ≡ map no_control (map control_of parts.old.items) }
+    ensures controls { map control_of parts.new.items
+        ≡ map no_control (map control_of parts.old.items) }
     ensures scripts { map script_of parts.new.items ≡ map script_of parts.old.items }
 {
     for part in parts.iter_mut() {

@@ -49,8 +49,11 @@ impl Part {
     /// The next of the script, where something is left to do.
     #[tactic(auto, using(std::proofs::lemmas::List::drop_more))]
     pub(crate) fn tick(&mut self) -> Outcome
-        ensures control { (scripts : _) (words : List ℤ) → control_of self.new ≡ (ticked (script_engine scripts) (control_of self.old) words).control }
-        ensures asks { (scripts : _) (words : List ℤ) → asks_of result ≡ (ticked (script_engine scripts) (control_of self.old) words).asks }
+        ensures control { (scripts : _) (words : List ℤ)
+            → control_of self.new
+            ≡ (ticked (script_engine scripts) (control_of self.old) words).control }
+        ensures asks { (scripts : _) (words : List ℤ)
+            → asks_of result ≡ (ticked (script_engine scripts) (control_of self.old) words).asks }
         ensures script { script_of self.new ≡ script_of self.old }
     {
         let Some(place) = self.next else {
@@ -66,7 +69,14 @@ impl Part {
 
     /// So many of the script, or those up to the first that asks for something.
     pub(crate) fn advance(&mut self, k: u32) -> Burst
-        ensures burst { (scripts : _) (words : List ℤ) → record { control = control_of self.new; words = words; told = asks_of result.outcome; ticks = result.ticks } ≡ burst (ticked (script_engine scripts)) k (control_of self.old) words }
+        ensures burst { (scripts : _) (words : List ℤ)
+            → record {
+              control = control_of self.new;
+              words = words;
+              told = asks_of result.outcome;
+              ticks = result.ticks;
+            }
+            ≡ burst (ticked (script_engine scripts)) k (control_of self.old) words }
         ensures script { script_of self.new ≡ script_of self.old }
         ensures whole { is_nothing (asks_of result.outcome) ≡ true → result.ticks ≡ k }
     {

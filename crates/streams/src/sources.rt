@@ -21,6 +21,7 @@ pub trait Sources {
     /// A reader at the front of the text of that name; `-` is the standard input. Want of memory is
     /// no failure of the text.
     fn open(&mut self, name: &str) -> Result<Self::Reader, NameFault>
-        ensures opened { IfOk result (λ reader. Opens (texts self.old) name.now (Self.Reader.remaining reader)) }
+        ensures opened { IfOk result
+            (λ reader. Opens (texts self.old) name.now (Self.Reader.remaining reader)) }
         ensures noted { IsNoted name.now (unopened self.old) (unopened self.new) result };
 }

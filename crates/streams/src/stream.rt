@@ -14,7 +14,8 @@ pub trait Stream: Sink {
     /// Puts all of a text. After an error a beginning of it may be out.
     fn put_text<D: Display + Drop>(&mut self, text: D) -> Result<(), SinkFault>
         requires { Self.failures self.old < 2 ^ 64 - 1 }
-        ensures bytes { OnOk result (IfSome (D.output text) (Appends (Self.taken self.old) (Self.taken self.new))) }
+        ensures bytes { OnOk result
+            (IfSome (D.output text) (Appends (Self.taken self.old) (Self.taken self.new))) }
         ensures quiet { OnOk result (Self.failures self.new ≡ Self.failures self.old) }
         ensures failed { OnErr result (Self.failures self.new ≡ Self.failures self.old + 1) };
 

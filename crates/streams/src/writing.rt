@@ -11,9 +11,14 @@ use std::fmt::Display;
 /// Writes a text, and flushes it. After an error a beginning of it may be out.
 pub fn write_text<S: Stream, D: Display + Drop>(stream: &mut S, text: D) -> Result<(), SinkFault>
     requires { S.failures stream.old < 2 ^ 64 - 1 }
-    ensures bytes { OnOk result (IfSome (D.output text) (Appends (S.taken stream.old) (S.taken stream.new))) }
-    ensures flushed { OnOk result (IsFlushed (seen S.taken S.failures S.is_flushed stream.old) (seen S.taken S.failures S.is_flushed stream.new)) }
-    ensures failed { OnErr result (HasFailed (seen S.taken S.failures S.is_flushed stream.old) (seen S.taken S.failures S.is_flushed stream.new)) }
+    ensures bytes { OnOk result
+        (IfSome (D.output text) (Appends (S.taken stream.old) (S.taken stream.new))) }
+    ensures flushed { OnOk result
+        (IsFlushed (seen S.taken S.failures S.is_flushed stream.old)
+        (seen S.taken S.failures S.is_flushed stream.new)) }
+    ensures failed { OnErr result
+        (HasFailed (seen S.taken S.failures S.is_flushed stream.old)
+        (seen S.taken S.failures S.is_flushed stream.new)) }
 {
     stream.put_text(text)?;
     stream.flush()
@@ -22,9 +27,15 @@ pub fn write_text<S: Stream, D: Display + Drop>(stream: &mut S, text: D) -> Resu
 /// Writes a line, and flushes it. After an error a beginning of it may be out.
 pub fn write_line<S: Stream, D: Display + Drop>(stream: &mut S, line: D) -> Result<(), SinkFault>
     requires { S.failures stream.old < 2 ^ 64 - 1 }
-    ensures bytes { OnOk result (IfSome (D.output line) (λ text. Appends (S.taken stream.old) (S.taken stream.new) (text ++ 10 ∷ []))) }
-    ensures flushed { OnOk result (IsFlushed (seen S.taken S.failures S.is_flushed stream.old) (seen S.taken S.failures S.is_flushed stream.new)) }
-    ensures failed { OnErr result (HasFailed (seen S.taken S.failures S.is_flushed stream.old) (seen S.taken S.failures S.is_flushed stream.new)) }
+    ensures bytes { OnOk result
+        (IfSome (D.output line)
+        (λ text. Appends (S.taken stream.old) (S.taken stream.new) (text ++ 10 ∷ []))) }
+    ensures flushed { OnOk result
+        (IsFlushed (seen S.taken S.failures S.is_flushed stream.old)
+        (seen S.taken S.failures S.is_flushed stream.new)) }
+    ensures failed { OnErr result
+        (HasFailed (seen S.taken S.failures S.is_flushed stream.old)
+        (seen S.taken S.failures S.is_flushed stream.new)) }
 {
     stream.put_text(line)?;
     put_all(stream, b"\n")?;
@@ -35,8 +46,12 @@ pub fn write_line<S: Stream, D: Display + Drop>(stream: &mut S, line: D) -> Resu
 pub fn write_bytes<S: Stream>(stream: &mut S, bytes: &[u8]) -> Result<(), SinkFault>
     requires { S.failures stream.old < 2 ^ 64 - 1 }
     ensures bytes { OnOk result (Appends (S.taken stream.old) (S.taken stream.new) bytes.now) }
-    ensures flushed { OnOk result (IsFlushed (seen S.taken S.failures S.is_flushed stream.old) (seen S.taken S.failures S.is_flushed stream.new)) }
-    ensures failed { OnErr result (HasFailed (seen S.taken S.failures S.is_flushed stream.old) (seen S.taken S.failures S.is_flushed stream.new)) }
+    ensures flushed { OnOk result
+        (IsFlushed (seen S.taken S.failures S.is_flushed stream.old)
+        (seen S.taken S.failures S.is_flushed stream.new)) }
+    ensures failed { OnErr result
+        (HasFailed (seen S.taken S.failures S.is_flushed stream.old)
+        (seen S.taken S.failures S.is_flushed stream.new)) }
 {
     put_all(stream, bytes)?;
     stream.flush()
@@ -45,8 +60,11 @@ pub fn write_bytes<S: Stream>(stream: &mut S, bytes: &[u8]) -> Result<(), SinkFa
 /// Writes a text as far as the stream takes it.
 pub fn tell_text<S: Stream, D: Display + Drop>(stream: &mut S, text: D)
     requires { S.failures stream.old < 2 ^ 64 - 1 }
-    ensures text { IfSome (D.output text) (TakesText (seen S.taken S.failures S.is_flushed stream.old) (seen S.taken S.failures S.is_flushed stream.new)) }
-    ensures written { IsWritten (seen S.taken S.failures S.is_flushed stream.old) (seen S.taken S.failures S.is_flushed stream.new) }
+    ensures text { IfSome (D.output text)
+        (TakesText (seen S.taken S.failures S.is_flushed stream.old)
+        (seen S.taken S.failures S.is_flushed stream.new)) }
+    ensures written { IsWritten (seen S.taken S.failures S.is_flushed stream.old)
+        (seen S.taken S.failures S.is_flushed stream.new) }
 {
     // What the stream does not take is not told.
     let _ = write_text(stream, text);
@@ -55,7 +73,9 @@ pub fn tell_text<S: Stream, D: Display + Drop>(stream: &mut S, text: D)
 /// Writes a line as far as the stream takes it.
 pub fn tell_line<S: Stream, D: Display + Drop>(stream: &mut S, line: D)
     requires { S.failures stream.old < 2 ^ 64 - 1 }
-    ensures { IfSome (D.output line) (TakesLine (seen S.taken S.failures S.is_flushed stream.old) (seen S.taken S.failures S.is_flushed stream.new)) }
+    ensures { IfSome (D.output line)
+        (TakesLine (seen S.taken S.failures S.is_flushed stream.old)
+        (seen S.taken S.failures S.is_flushed stream.new)) }
 {
     // What the stream does not take is not told.
     let _ = write_line(stream, line);

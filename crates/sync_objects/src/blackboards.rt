@@ -14,10 +14,11 @@ ghost use Rattle.sync_objects.specs.Both.{number_of_occupied};
 ghost use Rattle.process_table_base.specs.declared.rooms.TheConstants.{ACTIONS_TO_GIVE_ALL, LINES_TO_GIVE_ALL};
 
 use apex_types::{
-    Action, ArrayPlace, Discipline, ListKey, Mode, Moment, Out, ReturnCode, Runner, Service,
-    Waiting, Words,
+    Action, ArrayPlace, Discipline, ListKey, Mode, Out, ReturnCode, Service, Waiting, Words,
 };
-use process_table_base::{ProcessTable, first_words, is_duration, is_large_enough, is_length};
+use process_table_base::{
+    Handed, ProcessTable, Request, first_words, is_duration, is_large_enough, is_length,
+};
 use sync_objects_base::Objects;
 
 /// CREATE_BLACKBOARD (ARINC 653 Part 1, intrapartition communication): the blackboard of that number
@@ -26,26 +27,27 @@ use sync_objects_base::Objects;
 pub fn create_blackboard(
     table: &ProcessTable,
     objects: &mut Objects,
-    mode: Mode,
-    caller: Runner,
+    request: Request,
     name: i64,
     out: &mut Out,
 )
     requires { HasRoom 1 1 out.old }
-    ensures step { IsMade (meaning.create_blackboard mode (both table.now objects.old) caller name) (both table.now objects.new) out.old out.new }
+    ensures step { IsMade
+        (meaning.create_blackboard request.mode (both table.now objects.old) request.caller name)
+        (both table.now objects.new) out.old out.new }
     ensures grows { Grows 1 1 out.old out.new }
 {
     let service = Service::CreateBlackboard;
-    if mode == Mode::Normal {
-        return table.refuse(caller, service, ReturnCode::InvalidMode, out);
+    if request.mode == Mode::Normal {
+        return table.refuse(request.caller, service, ReturnCode::InvalidMode, out);
     }
     let Some((place, blackboard)) = objects.blackboard(name) else {
-        return table.refuse(caller, service, ReturnCode::InvalidConfig, out);
+        return table.refuse(request.caller, service, ReturnCode::InvalidConfig, out);
     };
     if blackboard.created {
-        return table.refuse(caller, service, ReturnCode::NoAction, out);
+        return table.refuse(request.caller, service, ReturnCode::NoAction, out);
     }
-    table.answer(caller, service, ReturnCode::NoError, &[name], out);
+    table.answer(request.caller, service, ReturnCode::NoError, &[name], out);
     objects.create_blackboard(place);
 }
 
@@ -54,20 +56,22 @@ pub fn create_blackboard(
 pub fn get_blackboard_id(
     table: &ProcessTable,
     objects: &Objects,
-    caller: Runner,
+    request: Request,
     name: i64,
     out: &mut Out,
 )
     requires { HasRoom 1 1 out.old }
-    ensures step { IsMade (meaning.get_blackboard_id (both table.now objects.now) caller name) (both table.now objects.now) out.old out.new }
+    ensures step { IsMade
+        (meaning.get_blackboard_id (both table.now objects.now) request.caller name)
+        (both table.now objects.now) out.old out.new }
     ensures grows { Grows 1 1 out.old out.new }
 {
     let service = Service::GetBlackboardId;
     match objects.blackboard(name) {
         Some((_, blackboard)) if blackboard.created => {
-            table.answer(caller, service, ReturnCode::NoError, &[name], out)
+            table.answer(request.caller, service, ReturnCode::NoError, &[name], out)
         }
-        _ => table.refuse(caller, service, ReturnCode::InvalidConfig, out),
+        _ => table.refuse(request.caller, service, ReturnCode::InvalidConfig, out),
     }
 }
 
@@ -76,18 +80,22 @@ pub fn get_blackboard_id(
 fn display(
     table: &mut ProcessTable,
     objects: &mut Objects,
-    caller: Runner,
+    request: Request,
     message: Words,
     place: u8,
     out: &mut Out,
 )
     requires place { place < MOST_OBJECTS }
     requires room { HasRoom (1 + LINES_TO_GIVE_ALL) (1 + ACTIONS_TO_GIVE_ALL) out.old }
-    ensures step { let b = both table.old objects.old in IsMade (after (answers b caller Service.DisplayBlackboard ReturnCode.NoError []) (meaning.displays b message place (blackboard_at objects.old place))) (both table.new objects.new) out.old out.new }
+    ensures step { let b = both table.old objects.old in
+        IsMade
+        (after (answers b request.caller Service.DisplayBlackboard ReturnCode.NoError [])
+        (meaning.displays b message place (blackboard_at objects.old place)))
+        (both table.new objects.new) out.old out.new }
     ensures grows { Grows (1 + LINES_TO_GIVE_ALL) (1 + ACTIONS_TO_GIVE_ALL) out.old out.new }
 {
     let service = Service::DisplayBlackboard;
-    table.answer(caller, service, ReturnCode::NoError, &[], out);
+    table.answer(request.caller, service, ReturnCode::NoError, &[], out);
     table.give_all(ListKey::Blackboard(place), &message, out);
     objects.show(place, Some(message));
 }
@@ -99,26 +107,28 @@ fn display(
 pub fn display_blackboard(
     table: &mut ProcessTable,
     objects: &mut Objects,
-    caller: Runner,
+    request: Request,
     id: i64,
-    array: ArrayPlace,
-    length: i64,
+    handed: Handed,
     words: &Words,
     out: &mut Out,
 )
     requires { HasRoom (1 + LINES_TO_GIVE_ALL) (1 + ACTIONS_TO_GIVE_ALL) out.old }
-    ensures step { IsMade (meaning.display_blackboard (both table.old objects.old) caller id array length words.now.items) (both table.new objects.new) out.old out.new }
+    ensures step { IsMade
+        (meaning.display_blackboard (both table.old objects.old)
+        request.caller id handed.array handed.length words.now.items)
+        (both table.new objects.new) out.old out.new }
     ensures grows { Grows (1 + LINES_TO_GIVE_ALL) (1 + ACTIONS_TO_GIVE_ALL) out.old out.new }
 {
     let service = Service::DisplayBlackboard;
     let Some((place, blackboard)) = objects.blackboard(id) else {
-        return table.refuse(caller, service, ReturnCode::InvalidParam, out);
+        return table.refuse(request.caller, service, ReturnCode::InvalidParam, out);
     };
-    if !blackboard.created || !is_length(blackboard.row.words, array, length) {
-        return table.refuse(caller, service, ReturnCode::InvalidParam, out);
+    if !blackboard.created || !is_length(blackboard.row.words, handed.array, handed.length) {
+        return table.refuse(request.caller, service, ReturnCode::InvalidParam, out);
     }
-    let message = first_words(length, words);
-    display(table, objects, caller, message, place, out);
+    let message = first_words(handed.length, words);
+    display(table, objects, request, message, place, out);
 }
 
 /// CLEAR_BLACKBOARD (ARINC 653 Part 1, intrapartition communication): a blackboard displays nothing.
@@ -126,21 +136,22 @@ pub fn display_blackboard(
 pub fn clear_blackboard(
     table: &ProcessTable,
     objects: &mut Objects,
-    caller: Runner,
+    request: Request,
     id: i64,
     out: &mut Out,
 )
     requires { HasRoom 1 1 out.old }
-    ensures step { IsMade (meaning.clear_blackboard (both table.now objects.old) caller id) (both table.now objects.new) out.old out.new }
+    ensures step { IsMade (meaning.clear_blackboard (both table.now objects.old) request.caller id)
+        (both table.now objects.new) out.old out.new }
     ensures grows { Grows 1 1 out.old out.new }
 {
     let service = Service::ClearBlackboard;
     match objects.blackboard(id) {
         Some((place, blackboard)) if blackboard.created => {
-            table.answer(caller, service, ReturnCode::NoError, &[], out);
+            table.answer(request.caller, service, ReturnCode::NoError, &[], out);
             objects.show(place, None)
         }
-        _ => table.refuse(caller, service, ReturnCode::InvalidParam, out),
+        _ => table.refuse(request.caller, service, ReturnCode::InvalidParam, out),
     }
 }
 
@@ -148,8 +159,7 @@ pub fn clear_blackboard(
 fn read(
     table: &mut ProcessTable,
     objects: &Objects,
-    moment: Moment,
-    caller: Runner,
+    request: Request,
     array: ArrayPlace,
     limit: i64,
     place: u8,
@@ -158,13 +168,16 @@ fn read(
     requires limit { durations.is_duration limit ≡ true }
     requires place { place < MOST_OBJECTS }
     requires room { HasRoom 1 2 out.old }
-    ensures step { IsMade (meaning.reads moment.at (both table.old objects.now) caller array limit place (blackboard_at objects.now place).shown) (both table.new objects.now) out.old out.new }
+    ensures step { IsMade
+        (meaning.reads request.moment.at (both table.old objects.now)
+        request.caller array limit place (blackboard_at objects.now place).shown)
+        (both table.new objects.now) out.old out.new }
     ensures grows { Grows 1 2 out.old out.new }
 {
     let service = Service::ReadBlackboard;
     if let Some(message) = objects.shown(place) {
         let count = message.len() as i64;
-        table.answer(caller, service, ReturnCode::NoError, &[count], out);
+        table.answer(request.caller, service, ReturnCode::NoError, &[count], out);
         out.actions.push(Action::Write(array.base, message));
         return;
     }
@@ -174,7 +187,7 @@ fn read(
         discipline: Discipline::Fifo,
         array: Some(array),
     };
-    table.block(moment, caller, limit, waiting, Words::new(), out);
+    table.block(request, limit, waiting, Words::new(), out);
 }
 
 /// READ_BLACKBOARD (ARINC 653 Part 1, intrapartition communication): the message that a blackboard
@@ -186,26 +199,28 @@ fn read(
 pub fn read_blackboard(
     table: &mut ProcessTable,
     objects: &Objects,
-    moment: Moment,
-    caller: Runner,
+    request: Request,
     id: i64,
     array: ArrayPlace,
     limit: i64,
     out: &mut Out,
 )
     requires room { HasRoom 1 2 out.old }
-    ensures step { IsMade (meaning.read_blackboard moment.at (both table.old objects.now) caller id array limit) (both table.new objects.now) out.old out.new }
+    ensures step { IsMade
+        (meaning.read_blackboard request.moment.at (both table.old objects.now)
+        request.caller id array limit)
+        (both table.new objects.now) out.old out.new }
     ensures grows { Grows 1 2 out.old out.new }
 {
     let service = Service::ReadBlackboard;
     let Some((place, blackboard)) = objects.blackboard(id) else {
-        return table.refuse(caller, service, ReturnCode::InvalidParam, out);
+        return table.refuse(request.caller, service, ReturnCode::InvalidParam, out);
     };
     let large = is_large_enough(blackboard.row.words, array);
     if !blackboard.created || !large || !is_duration(limit) {
-        return table.refuse(caller, service, ReturnCode::InvalidParam, out);
+        return table.refuse(request.caller, service, ReturnCode::InvalidParam, out);
     }
-    read(table, objects, moment, caller, array, limit, place, out);
+    read(table, objects, request, array, limit, place, out);
 }
 
 /// 0 for empty, 1 for occupied.
@@ -222,12 +237,14 @@ fn indicator(occupied: bool) -> i64
 pub fn get_blackboard_status(
     table: &ProcessTable,
     objects: &Objects,
-    caller: Runner,
+    request: Request,
     id: i64,
     out: &mut Out,
 )
     requires { HasRoom 1 1 out.old }
-    ensures step { IsMade (meaning.get_blackboard_status (both table.now objects.now) caller id) (both table.now objects.now) out.old out.new }
+    ensures step { IsMade
+        (meaning.get_blackboard_status (both table.now objects.now) request.caller id)
+        (both table.now objects.now) out.old out.new }
     ensures grows { Grows 1 1 out.old out.new }
 {
     let service = Service::GetBlackboardStatus;
@@ -237,8 +254,8 @@ pub fn get_blackboard_status(
             let words = i64::from(blackboard.row.words);
             let waiting = table.waiting_count(ListKey::Blackboard(place));
             let outputs = [occupied, words, i64::from(waiting)];
-            table.answer(caller, service, ReturnCode::NoError, &outputs, out)
+            table.answer(request.caller, service, ReturnCode::NoError, &outputs, out)
         }
-        _ => table.refuse(caller, service, ReturnCode::InvalidParam, out),
+        _ => table.refuse(request.caller, service, ReturnCode::InvalidParam, out),
     }
 }

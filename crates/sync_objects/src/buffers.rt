@@ -12,10 +12,11 @@ ghost use Rattle.kernel_meaning.specs.Sharing.{both};
 ghost use Rattle.sync_objects.specs.Both.{delivers};
 
 use apex_types::{
-    Action, ArrayPlace, Discipline, ListKey, Mode, Moment, Out, ReturnCode, Runner, Service,
-    Waiting, Words,
+    Action, ArrayPlace, Discipline, ListKey, Mode, Out, ReturnCode, Service, Waiting, Words,
 };
-use process_table_base::{ProcessTable, first_words, is_duration, is_large_enough, is_length};
+use process_table_base::{
+    Handed, ProcessTable, Request, first_words, is_duration, is_large_enough, is_length,
+};
 use sync_objects_base::{BufferStatus, Objects};
 
 /// CREATE_BUFFER (ARINC 653 Part 1, intrapartition communication): the buffer of that number exists,
@@ -24,26 +25,27 @@ use sync_objects_base::{BufferStatus, Objects};
 pub fn create_buffer(
     table: &ProcessTable,
     objects: &mut Objects,
-    mode: Mode,
-    caller: Runner,
+    request: Request,
     name: i64,
     out: &mut Out,
 )
     requires { HasRoom 1 1 out.old }
-    ensures step { IsMade (meaning.create_buffer mode (both table.now objects.old) caller name) (both table.now objects.new) out.old out.new }
+    ensures step { IsMade
+        (meaning.create_buffer request.mode (both table.now objects.old) request.caller name)
+        (both table.now objects.new) out.old out.new }
     ensures grows { Grows 1 1 out.old out.new }
 {
     let service = Service::CreateBuffer;
-    if mode == Mode::Normal {
-        return table.refuse(caller, service, ReturnCode::InvalidMode, out);
+    if request.mode == Mode::Normal {
+        return table.refuse(request.caller, service, ReturnCode::InvalidMode, out);
     }
     let Some((place, buffer)) = objects.buffer(name) else {
-        return table.refuse(caller, service, ReturnCode::InvalidConfig, out);
+        return table.refuse(request.caller, service, ReturnCode::InvalidConfig, out);
     };
     if buffer.created {
-        return table.refuse(caller, service, ReturnCode::NoAction, out);
+        return table.refuse(request.caller, service, ReturnCode::NoAction, out);
     }
-    table.answer(caller, service, ReturnCode::NoError, &[name], out);
+    table.answer(request.caller, service, ReturnCode::NoError, &[name], out);
     objects.create_buffer(place);
 }
 
@@ -52,20 +54,21 @@ pub fn create_buffer(
 pub fn get_buffer_id(
     table: &ProcessTable,
     objects: &Objects,
-    caller: Runner,
+    request: Request,
     name: i64,
     out: &mut Out,
 )
     requires { HasRoom 1 1 out.old }
-    ensures step { IsMade (meaning.get_buffer_id (both table.now objects.now) caller name) (both table.now objects.now) out.old out.new }
+    ensures step { IsMade (meaning.get_buffer_id (both table.now objects.now) request.caller name)
+        (both table.now objects.now) out.old out.new }
     ensures grows { Grows 1 1 out.old out.new }
 {
     let service = Service::GetBufferId;
     match objects.buffer(name) {
         Some((_, buffer)) if buffer.created => {
-            table.answer(caller, service, ReturnCode::NoError, &[name], out)
+            table.answer(request.caller, service, ReturnCode::NoError, &[name], out)
         }
-        _ => table.refuse(caller, service, ReturnCode::InvalidConfig, out),
+        _ => table.refuse(request.caller, service, ReturnCode::InvalidConfig, out),
     }
 }
 
@@ -74,8 +77,7 @@ pub fn get_buffer_id(
 fn send(
     table: &mut ProcessTable,
     objects: &mut Objects,
-    moment: Moment,
-    caller: Runner,
+    request: Request,
     limit: i64,
     message: Words,
     place: u8,
@@ -86,7 +88,10 @@ fn send(
     requires place { place < MOST_OBJECTS }
     requires status { buffer ≡ buffer_status (buffer_at objects.old place) }
     requires room { HasRoom 3 3 out.old }
-    ensures step { IsMade (meaning.sends moment.at (both table.old objects.old) caller limit message place (buffer_at objects.old place)) (both table.new objects.new) out.old out.new }
+    ensures step { IsMade
+        (meaning.sends request.moment.at (both table.old objects.old)
+        request.caller limit message place (buffer_at objects.old place))
+        (both table.new objects.new) out.old out.new }
     ensures grows { Grows 3 3 out.old out.new }
 {
     let service = Service::SendBuffer;
@@ -98,11 +103,11 @@ fn send(
             discipline: buffer.row.discipline,
             array: None,
         };
-        return table.block(moment, caller, limit, waiting, message, out);
+        return table.block(request, limit, waiting, message, out);
     }
-    table.answer(caller, service, ReturnCode::NoError, &[], out);
+    table.answer(request.caller, service, ReturnCode::NoError, &[], out);
     match table.first_waiting(list) {
-        Some((receiver, _)) => table.give(receiver, &message, out),
+        Some(receiver) => table.give(&receiver, message, out),
         None => objects.push_message(place, message),
     }
 }
@@ -116,33 +121,33 @@ fn send(
 pub fn send_buffer(
     table: &mut ProcessTable,
     objects: &mut Objects,
-    moment: Moment,
-    caller: Runner,
+    request: Request,
     id: i64,
-    array: ArrayPlace,
-    length: i64,
-    limit: i64,
+    handed: Handed,
     words: &Words,
+    limit: i64,
     out: &mut Out,
 )
     requires room { HasRoom 3 3 out.old }
-    ensures step { IsMade (meaning.send_buffer moment.at (both table.old objects.old) caller id array length limit words.now.items) (both table.new objects.new) out.old out.new }
+    ensures step { IsMade
+        (meaning.send_buffer request.moment.at (both table.old objects.old)
+        request.caller id handed.array handed.length limit
+        words.now.items)
+        (both table.new objects.new) out.old out.new }
     ensures grows { Grows 3 3 out.old out.new }
 {
     let service = Service::SendBuffer;
     let Some((place, buffer)) = objects.buffer(id) else {
-        return table.refuse(caller, service, ReturnCode::InvalidParam, out);
+        return table.refuse(request.caller, service, ReturnCode::InvalidParam, out);
     };
-    if !buffer.created || !is_length(buffer.row.words, array, length) {
-        return table.refuse(caller, service, ReturnCode::InvalidParam, out);
+    if !buffer.created || !is_length(buffer.row.words, handed.array, handed.length) {
+        return table.refuse(request.caller, service, ReturnCode::InvalidParam, out);
     }
     if !is_duration(limit) {
-        return table.refuse(caller, service, ReturnCode::InvalidParam, out);
+        return table.refuse(request.caller, service, ReturnCode::InvalidParam, out);
     }
-    let message = first_words(length, words);
-    send(
-        table, objects, moment, caller, limit, message, place, buffer, out,
-    );
+    let message = first_words(handed.length, words);
+    send(table, objects, request, limit, message, place, buffer, out);
 }
 
 /// The message of the first sender that waits comes behind the others, and the sender is released.
@@ -150,12 +155,15 @@ fn admit(table: &mut ProcessTable, objects: &mut Objects, place: u8, out: &mut O
     requires place { place < MOST_OBJECTS }
     requires free { let x = buffer_at objects.old place in length x.messages < x.row.depth }
     requires room { HasRoom 2 1 out.old }
-    ensures step { IsMade (meaning.admits (both table.old objects.old) place (buffer_at objects.old place) (first_waiting table.old (meaning.list place))) (both table.new objects.new) out.old out.new }
+    ensures step { IsMade
+        (meaning.admits (both table.old objects.old) place (buffer_at objects.old place)
+        (first_waiting table.old (meaning.list place)))
+        (both table.new objects.new) out.old out.new }
     ensures grows { Grows 2 1 out.old out.new }
 {
-    if let Some((sender, _)) = table.first_waiting(ListKey::Buffer(place)) {
-        objects.push_message(place, table.handed_by(sender));
-        table.release(sender, ReturnCode::NoError, out);
+    if let Some(sender) = table.first_waiting(ListKey::Buffer(place)) {
+        objects.push_message(place, table.handed_by(sender.runner));
+        table.release(&sender, ReturnCode::NoError, out);
     }
 }
 
@@ -163,7 +171,7 @@ fn admit(table: &mut ProcessTable, objects: &mut Objects, place: u8, out: &mut O
 fn deliver(
     table: &mut ProcessTable,
     objects: &mut Objects,
-    caller: Runner,
+    request: Request,
     array: ArrayPlace,
     place: u8,
     message: Words,
@@ -172,12 +180,15 @@ fn deliver(
     requires place { place < MOST_OBJECTS }
     requires free { let x = buffer_at objects.old place in length x.messages < x.row.depth }
     requires room { HasRoom 3 3 out.old }
-    ensures step { IsMade (delivers (both table.old objects.old) caller array place (buffer_at objects.old place) message) (both table.new objects.new) out.old out.new }
+    ensures step { IsMade
+        (delivers (both table.old objects.old) request.caller array place
+        (buffer_at objects.old place) message)
+        (both table.new objects.new) out.old out.new }
     ensures grows { Grows 3 3 out.old out.new }
 {
     let service = Service::ReceiveBuffer;
     let count = message.len() as i64;
-    table.answer(caller, service, ReturnCode::NoError, &[count], out);
+    table.answer(request.caller, service, ReturnCode::NoError, &[count], out);
     out.actions.push(Action::Write(array.base, message));
     admit(table, objects, place, out);
 }
@@ -187,8 +198,7 @@ fn deliver(
 fn receive(
     table: &mut ProcessTable,
     objects: &mut Objects,
-    moment: Moment,
-    caller: Runner,
+    request: Request,
     array: ArrayPlace,
     limit: i64,
     place: u8,
@@ -199,11 +209,15 @@ fn receive(
     requires place { place < MOST_OBJECTS }
     requires discipline { discipline ≡ (buffer_at objects.old place).row.discipline }
     requires room { HasRoom 3 3 out.old }
-    ensures step { let x = buffer_at objects.old place in IsMade (meaning.receives moment.at (both table.old objects.old) caller array limit place x x.messages) (both table.new objects.new) out.old out.new }
+    ensures step { let x = buffer_at objects.old place in
+        IsMade
+        (meaning.receives request.moment.at (both table.old objects.old)
+        request.caller array limit place x x.messages)
+        (both table.new objects.new) out.old out.new }
     ensures grows { Grows 3 3 out.old out.new }
 {
     if let Some(message) = objects.pop_message(place) {
-        return deliver(table, objects, caller, array, place, message, out);
+        return deliver(table, objects, request, array, place, message, out);
     }
     let waiting = Waiting {
         service: Service::ReceiveBuffer,
@@ -211,7 +225,7 @@ fn receive(
         discipline,
         array: Some(array),
     };
-    table.block(moment, caller, limit, waiting, Words::new(), out);
+    table.block(request, limit, waiting, Words::new(), out);
 }
 
 /// RECEIVE_BUFFER (ARINC 653 Part 1, intrapartition communication): the first message of a buffer goes
@@ -223,28 +237,30 @@ fn receive(
 pub fn receive_buffer(
     table: &mut ProcessTable,
     objects: &mut Objects,
-    moment: Moment,
-    caller: Runner,
+    request: Request,
     id: i64,
     array: ArrayPlace,
     limit: i64,
     out: &mut Out,
 )
     requires room { HasRoom 3 3 out.old }
-    ensures step { IsMade (meaning.receive_buffer moment.at (both table.old objects.old) caller id array limit) (both table.new objects.new) out.old out.new }
+    ensures step { IsMade
+        (meaning.receive_buffer request.moment.at (both table.old objects.old)
+        request.caller id array limit)
+        (both table.new objects.new) out.old out.new }
     ensures grows { Grows 3 3 out.old out.new }
 {
     let service = Service::ReceiveBuffer;
     let Some((place, buffer)) = objects.buffer(id) else {
-        return table.refuse(caller, service, ReturnCode::InvalidParam, out);
+        return table.refuse(request.caller, service, ReturnCode::InvalidParam, out);
     };
     let large = is_large_enough(buffer.row.words, array);
     if !buffer.created || !large || !is_duration(limit) {
-        return table.refuse(caller, service, ReturnCode::InvalidParam, out);
+        return table.refuse(request.caller, service, ReturnCode::InvalidParam, out);
     }
     let discipline = buffer.row.discipline;
     receive(
-        table, objects, moment, caller, array, limit, place, discipline, out,
+        table, objects, request, array, limit, place, discipline, out,
     );
 }
 
@@ -254,12 +270,13 @@ pub fn receive_buffer(
 pub fn get_buffer_status(
     table: &ProcessTable,
     objects: &Objects,
-    caller: Runner,
+    request: Request,
     id: i64,
     out: &mut Out,
 )
     requires { HasRoom 1 1 out.old }
-    ensures step { IsMade (meaning.get_buffer_status (both table.now objects.now) caller id) (both table.now objects.now) out.old out.new }
+    ensures step { IsMade (meaning.get_buffer_status (both table.now objects.now) request.caller id)
+        (both table.now objects.now) out.old out.new }
     ensures grows { Grows 1 1 out.old out.new }
 {
     let service = Service::GetBufferStatus;
@@ -270,8 +287,8 @@ pub fn get_buffer_status(
             let words = i64::from(buffer.row.words);
             let waiting = table.waiting_count(ListKey::Buffer(place));
             let outputs = [messages, depth, words, i64::from(waiting)];
-            table.answer(caller, service, ReturnCode::NoError, &outputs, out)
+            table.answer(request.caller, service, ReturnCode::NoError, &outputs, out)
         }
-        _ => table.refuse(caller, service, ReturnCode::InvalidParam, out),
+        _ => table.refuse(request.caller, service, ReturnCode::InvalidParam, out),
     }
 }

@@ -7,10 +7,8 @@ ghost use Rattle.kernel_meaning.specs.Made.{IsMade};
 ghost use Rattle.kernel_meaning.specs.Sharing.{both};
 ghost use Rattle.process_table_base.specs.declared.rooms.TheConstants.{ACTIONS_TO_RELEASE_ALL, LINES_TO_RELEASE_ALL};
 
-use apex_types::{
-    Discipline, ListKey, Mode, Moment, Out, ReturnCode, Runner, Service, Waiting, Words,
-};
-use process_table_base::{ProcessTable, is_duration};
+use apex_types::{Discipline, ListKey, Mode, Out, ReturnCode, Service, Waiting, Words};
+use process_table_base::{ProcessTable, Request, is_duration};
 use sync_objects_base::Objects;
 
 /// CREATE_EVENT (ARINC 653 Part 1, intrapartition communication): the event of that number exists,
@@ -19,26 +17,27 @@ use sync_objects_base::Objects;
 pub fn create_event(
     table: &ProcessTable,
     objects: &mut Objects,
-    mode: Mode,
-    caller: Runner,
+    request: Request,
     name: i64,
     out: &mut Out,
 )
     requires { HasRoom 1 1 out.old }
-    ensures step { IsMade (meaning.create_event mode (both table.now objects.old) caller name) (both table.now objects.new) out.old out.new }
+    ensures step { IsMade
+        (meaning.create_event request.mode (both table.now objects.old) request.caller name)
+        (both table.now objects.new) out.old out.new }
     ensures grows { Grows 1 1 out.old out.new }
 {
     let service = Service::CreateEvent;
-    if mode == Mode::Normal {
-        return table.refuse(caller, service, ReturnCode::InvalidMode, out);
+    if request.mode == Mode::Normal {
+        return table.refuse(request.caller, service, ReturnCode::InvalidMode, out);
     }
     let Some((place, event)) = objects.event(name) else {
-        return table.refuse(caller, service, ReturnCode::InvalidConfig, out);
+        return table.refuse(request.caller, service, ReturnCode::InvalidConfig, out);
     };
     if event.is_created() {
-        return table.refuse(caller, service, ReturnCode::NoAction, out);
+        return table.refuse(request.caller, service, ReturnCode::NoAction, out);
     }
-    table.answer(caller, service, ReturnCode::NoError, &[name], out);
+    table.answer(request.caller, service, ReturnCode::NoError, &[name], out);
     objects.put_event(place, event.created());
 }
 
@@ -47,20 +46,21 @@ pub fn create_event(
 pub fn get_event_id(
     table: &ProcessTable,
     objects: &Objects,
-    caller: Runner,
+    request: Request,
     name: i64,
     out: &mut Out,
 )
     requires { HasRoom 1 1 out.old }
-    ensures step { IsMade (meaning.get_event_id (both table.now objects.now) caller name) (both table.now objects.now) out.old out.new }
+    ensures step { IsMade (meaning.get_event_id (both table.now objects.now) request.caller name)
+        (both table.now objects.now) out.old out.new }
     ensures grows { Grows 1 1 out.old out.new }
 {
     let service = Service::GetEventId;
     match objects.event(name) {
         Some((_, event)) if event.is_created() => {
-            table.answer(caller, service, ReturnCode::NoError, &[name], out)
+            table.answer(request.caller, service, ReturnCode::NoError, &[name], out)
         }
-        _ => table.refuse(caller, service, ReturnCode::InvalidConfig, out),
+        _ => table.refuse(request.caller, service, ReturnCode::InvalidConfig, out),
     }
 }
 
@@ -69,22 +69,23 @@ pub fn get_event_id(
 pub fn set_event(
     table: &mut ProcessTable,
     objects: &mut Objects,
-    caller: Runner,
+    request: Request,
     id: i64,
     out: &mut Out,
 )
     requires { HasRoom (1 + LINES_TO_RELEASE_ALL) (1 + ACTIONS_TO_RELEASE_ALL) out.old }
-    ensures step { IsMade (meaning.set_event (both table.old objects.old) caller id) (both table.new objects.new) out.old out.new }
+    ensures step { IsMade (meaning.set_event (both table.old objects.old) request.caller id)
+        (both table.new objects.new) out.old out.new }
     ensures grows { Grows (1 + LINES_TO_RELEASE_ALL) (1 + ACTIONS_TO_RELEASE_ALL) out.old out.new }
 {
     let service = Service::SetEvent;
     match objects.event(id) {
         Some((place, event)) if event.is_created() => {
-            table.answer(caller, service, ReturnCode::NoError, &[], out);
+            table.answer(request.caller, service, ReturnCode::NoError, &[], out);
             objects.put_event(place, event.with_state(true));
             table.release_all(ListKey::Event(place), out)
         }
-        _ => table.refuse(caller, service, ReturnCode::InvalidParam, out),
+        _ => table.refuse(request.caller, service, ReturnCode::InvalidParam, out),
     }
 }
 
@@ -93,21 +94,22 @@ pub fn set_event(
 pub fn reset_event(
     table: &ProcessTable,
     objects: &mut Objects,
-    caller: Runner,
+    request: Request,
     id: i64,
     out: &mut Out,
 )
     requires { HasRoom 1 1 out.old }
-    ensures step { IsMade (meaning.reset_event (both table.now objects.old) caller id) (both table.now objects.new) out.old out.new }
+    ensures step { IsMade (meaning.reset_event (both table.now objects.old) request.caller id)
+        (both table.now objects.new) out.old out.new }
     ensures grows { Grows 1 1 out.old out.new }
 {
     let service = Service::ResetEvent;
     match objects.event(id) {
         Some((place, event)) if event.is_created() => {
-            table.answer(caller, service, ReturnCode::NoError, &[], out);
+            table.answer(request.caller, service, ReturnCode::NoError, &[], out);
             objects.put_event(place, event.with_state(false))
         }
-        _ => table.refuse(caller, service, ReturnCode::InvalidParam, out),
+        _ => table.refuse(request.caller, service, ReturnCode::InvalidParam, out),
     }
 }
 
@@ -118,25 +120,26 @@ pub fn reset_event(
 pub fn wait_event(
     table: &mut ProcessTable,
     objects: &Objects,
-    moment: Moment,
-    caller: Runner,
+    request: Request,
     id: i64,
     limit: i64,
     out: &mut Out,
 )
     requires room { HasRoom 1 1 out.old }
-    ensures step { IsMade (meaning.wait_event moment.at (both table.old objects.now) caller id limit) (both table.new objects.now) out.old out.new }
+    ensures step { IsMade
+        (meaning.wait_event request.moment.at (both table.old objects.now) request.caller id limit)
+        (both table.new objects.now) out.old out.new }
     ensures grows { Grows 1 1 out.old out.new }
 {
     let service = Service::WaitEvent;
     let Some((place, event)) = objects.event(id) else {
-        return table.refuse(caller, service, ReturnCode::InvalidParam, out);
+        return table.refuse(request.caller, service, ReturnCode::InvalidParam, out);
     };
     if !event.is_created() || !is_duration(limit) {
-        return table.refuse(caller, service, ReturnCode::InvalidParam, out);
+        return table.refuse(request.caller, service, ReturnCode::InvalidParam, out);
     }
     if event.is_up() {
-        return table.answer(caller, service, ReturnCode::NoError, &[], out);
+        return table.answer(request.caller, service, ReturnCode::NoError, &[], out);
     }
     let waiting = Waiting {
         service,
@@ -144,7 +147,7 @@ pub fn wait_event(
         discipline: Discipline::Fifo,
         array: None,
     };
-    table.block(moment, caller, limit, waiting, Words::new(), out);
+    table.block(request, limit, waiting, Words::new(), out);
 }
 
 /// 0 for down, 1 for up.
@@ -159,12 +162,13 @@ fn number_of_state(up: bool) -> i64
 pub fn get_event_status(
     table: &ProcessTable,
     objects: &Objects,
-    caller: Runner,
+    request: Request,
     id: i64,
     out: &mut Out,
 )
     requires { HasRoom 1 1 out.old }
-    ensures step { IsMade (meaning.get_event_status (both table.now objects.now) caller id) (both table.now objects.now) out.old out.new }
+    ensures step { IsMade (meaning.get_event_status (both table.now objects.now) request.caller id)
+        (both table.now objects.now) out.old out.new }
     ensures grows { Grows 1 1 out.old out.new }
 {
     let service = Service::GetEventStatus;
@@ -173,8 +177,8 @@ pub fn get_event_status(
             let state = number_of_state(event.is_up());
             let waiting = table.waiting_count(ListKey::Event(place));
             let outputs = [state, i64::from(waiting)];
-            table.answer(caller, service, ReturnCode::NoError, &outputs, out)
+            table.answer(request.caller, service, ReturnCode::NoError, &outputs, out)
         }
-        _ => table.refuse(caller, service, ReturnCode::InvalidParam, out),
+        _ => table.refuse(request.caller, service, ReturnCode::InvalidParam, out),
     }
 }

@@ -6,8 +6,8 @@ ghost use Rattle.kernel_meaning.specs.SemaphoreServices as meaning;
 ghost use Rattle.kernel_meaning.specs.Made.{IsMade};
 ghost use Rattle.kernel_meaning.specs.Sharing.{both};
 
-use apex_types::{ListKey, Mode, Moment, Out, ReturnCode, Runner, Service, Waiting, Words};
-use process_table_base::{ProcessTable, is_duration};
+use apex_types::{ListKey, Mode, Out, ReturnCode, Service, Waiting, Words};
+use process_table_base::{ProcessTable, Request, is_duration};
 use sync_objects_base::Objects;
 
 /// CREATE_SEMAPHORE (ARINC 653 Part 1, intrapartition communication): the semaphore of that number
@@ -16,26 +16,27 @@ use sync_objects_base::Objects;
 pub fn create_semaphore(
     table: &ProcessTable,
     objects: &mut Objects,
-    mode: Mode,
-    caller: Runner,
+    request: Request,
     name: i64,
     out: &mut Out,
 )
     requires { HasRoom 1 1 out.old }
-    ensures step { IsMade (meaning.create_semaphore mode (both table.now objects.old) caller name) (both table.now objects.new) out.old out.new }
+    ensures step { IsMade
+        (meaning.create_semaphore request.mode (both table.now objects.old) request.caller name)
+        (both table.now objects.new) out.old out.new }
     ensures grows { Grows 1 1 out.old out.new }
 {
     let service = Service::CreateSemaphore;
-    if mode == Mode::Normal {
-        return table.refuse(caller, service, ReturnCode::InvalidMode, out);
+    if request.mode == Mode::Normal {
+        return table.refuse(request.caller, service, ReturnCode::InvalidMode, out);
     }
     let Some((place, semaphore)) = objects.semaphore(name) else {
-        return table.refuse(caller, service, ReturnCode::InvalidConfig, out);
+        return table.refuse(request.caller, service, ReturnCode::InvalidConfig, out);
     };
     if semaphore.is_created() {
-        return table.refuse(caller, service, ReturnCode::NoAction, out);
+        return table.refuse(request.caller, service, ReturnCode::NoAction, out);
     }
-    table.answer(caller, service, ReturnCode::NoError, &[name], out);
+    table.answer(request.caller, service, ReturnCode::NoError, &[name], out);
     objects.put_semaphore(place, semaphore.created());
 }
 
@@ -44,20 +45,22 @@ pub fn create_semaphore(
 pub fn get_semaphore_id(
     table: &ProcessTable,
     objects: &Objects,
-    caller: Runner,
+    request: Request,
     name: i64,
     out: &mut Out,
 )
     requires { HasRoom 1 1 out.old }
-    ensures step { IsMade (meaning.get_semaphore_id (both table.now objects.now) caller name) (both table.now objects.now) out.old out.new }
+    ensures step { IsMade
+        (meaning.get_semaphore_id (both table.now objects.now) request.caller name)
+        (both table.now objects.now) out.old out.new }
     ensures grows { Grows 1 1 out.old out.new }
 {
     let service = Service::GetSemaphoreId;
     match objects.semaphore(name) {
         Some((_, semaphore)) if semaphore.is_created() => {
-            table.answer(caller, service, ReturnCode::NoError, &[name], out)
+            table.answer(request.caller, service, ReturnCode::NoError, &[name], out)
         }
-        _ => table.refuse(caller, service, ReturnCode::InvalidConfig, out),
+        _ => table.refuse(request.caller, service, ReturnCode::InvalidConfig, out),
     }
 }
 
@@ -69,26 +72,28 @@ pub fn get_semaphore_id(
 pub fn wait_semaphore(
     table: &mut ProcessTable,
     objects: &mut Objects,
-    moment: Moment,
-    caller: Runner,
+    request: Request,
     id: i64,
     limit: i64,
     out: &mut Out,
 )
     requires room { HasRoom 1 1 out.old }
-    ensures step { IsMade (meaning.wait_semaphore moment.at (both table.old objects.old) caller id limit) (both table.new objects.new) out.old out.new }
+    ensures step { IsMade
+        (meaning.wait_semaphore request.moment.at (both table.old objects.old)
+        request.caller id limit)
+        (both table.new objects.new) out.old out.new }
     ensures grows { Grows 1 1 out.old out.new }
 {
     let service = Service::WaitSemaphore;
     let Some((place, semaphore)) = objects.semaphore(id) else {
-        return table.refuse(caller, service, ReturnCode::InvalidParam, out);
+        return table.refuse(request.caller, service, ReturnCode::InvalidParam, out);
     };
     if !semaphore.is_created() || !is_duration(limit) {
-        return table.refuse(caller, service, ReturnCode::InvalidParam, out);
+        return table.refuse(request.caller, service, ReturnCode::InvalidParam, out);
     }
     let value = semaphore.value();
     if 0 < value {
-        table.answer(caller, service, ReturnCode::NoError, &[], out);
+        table.answer(request.caller, service, ReturnCode::NoError, &[], out);
         return objects.put_semaphore(place, semaphore.with_value(value - 1));
     }
     let waiting = Waiting {
@@ -97,7 +102,7 @@ pub fn wait_semaphore(
         discipline: semaphore.discipline(),
         array: None,
     };
-    table.block(moment, caller, limit, waiting, Words::new(), out);
+    table.block(request, limit, waiting, Words::new(), out);
 }
 
 /// SIGNAL_SEMAPHORE (ARINC 653 Part 1, intrapartition communication): the first who waits for a
@@ -106,28 +111,29 @@ pub fn wait_semaphore(
 pub fn signal_semaphore(
     table: &mut ProcessTable,
     objects: &mut Objects,
-    caller: Runner,
+    request: Request,
     id: i64,
     out: &mut Out,
 )
     requires { HasRoom 3 2 out.old }
-    ensures step { IsMade (meaning.signal_semaphore (both table.old objects.old) caller id) (both table.new objects.new) out.old out.new }
+    ensures step { IsMade (meaning.signal_semaphore (both table.old objects.old) request.caller id)
+        (both table.new objects.new) out.old out.new }
     ensures grows { Grows 3 2 out.old out.new }
 {
     let service = Service::SignalSemaphore;
     let Some((place, semaphore)) = objects.semaphore(id) else {
-        return table.refuse(caller, service, ReturnCode::InvalidParam, out);
+        return table.refuse(request.caller, service, ReturnCode::InvalidParam, out);
     };
     if !semaphore.is_created() {
-        return table.refuse(caller, service, ReturnCode::InvalidParam, out);
+        return table.refuse(request.caller, service, ReturnCode::InvalidParam, out);
     }
     let value = semaphore.value();
     if value >= semaphore.maximum() {
-        return table.refuse(caller, service, ReturnCode::NoAction, out);
+        return table.refuse(request.caller, service, ReturnCode::NoAction, out);
     }
-    table.answer(caller, service, ReturnCode::NoError, &[], out);
+    table.answer(request.caller, service, ReturnCode::NoError, &[], out);
     match table.first_waiting(ListKey::Semaphore(place)) {
-        Some((first, _)) => table.release(first, ReturnCode::NoError, out),
+        Some(first) => table.release(&first, ReturnCode::NoError, out),
         None => objects.put_semaphore(place, semaphore.with_value(value + 1)),
     }
 }
@@ -137,12 +143,14 @@ pub fn signal_semaphore(
 pub fn get_semaphore_status(
     table: &ProcessTable,
     objects: &Objects,
-    caller: Runner,
+    request: Request,
     id: i64,
     out: &mut Out,
 )
     requires { HasRoom 1 1 out.old }
-    ensures step { IsMade (meaning.get_semaphore_status (both table.now objects.now) caller id) (both table.now objects.now) out.old out.new }
+    ensures step { IsMade
+        (meaning.get_semaphore_status (both table.now objects.now) request.caller id)
+        (both table.now objects.now) out.old out.new }
     ensures grows { Grows 1 1 out.old out.new }
 {
     let service = Service::GetSemaphoreStatus;
@@ -152,8 +160,8 @@ pub fn get_semaphore_status(
             let maximum = i64::from(semaphore.maximum());
             let waiting = table.waiting_count(ListKey::Semaphore(place));
             let outputs = [value, maximum, i64::from(waiting)];
-            table.answer(caller, service, ReturnCode::NoError, &outputs, out)
+            table.answer(request.caller, service, ReturnCode::NoError, &outputs, out)
         }
-        _ => table.refuse(caller, service, ReturnCode::InvalidParam, out),
+        _ => table.refuse(request.caller, service, ReturnCode::InvalidParam, out),
     }
 }

@@ -3,7 +3,7 @@ use Rattle.std.specs.Prelude.{◌≤◌, length}
 use Rattle.apex_types.specs.declared.limits.TheConstants.{MOST_OBJECTS}
 use Rattle.kernel_meaning.specs.Objects as meaning
 use Rattle.sync_objects_base.specs.declared.semaphore.Semaphore.TheInside as semaphore
-use Rattle.sync_objects_base.specs.declared.event.Event.TheInside as event
+use Rattle.sync_objects_base.specs.declared.event.ApexEvent.TheInside as event
 use Rattle.sync_objects_base.specs.declared.buffer.Buffer.TheInside as buffer
 use Rattle.sync_objects_base.specs.declared.blackboard.Blackboard.TheInside as blackboard
 use Rattle.sync_objects_base.specs.declared.objects.Objects.TheInside as objects
@@ -14,10 +14,10 @@ semaphore_of s = record { row = s.row; created = s.created; value = s.value }
 abbrev pub semaphore_fields : meaning.Semaphore → semaphore.Inside
 semaphore_fields s = record { row = s.row; created = s.created; value = s.value }
 
-abbrev pub event_of : event.Inside → meaning.Event
+abbrev pub event_of : event.Inside → meaning.ApexEvent
 event_of e = record { created = e.created; up = e.up }
 
-abbrev pub event_fields : meaning.Event → event.Inside
+abbrev pub event_fields : meaning.ApexEvent → event.Inside
 event_fields e = record { created = e.created; up = e.up }
 
 abbrev pub buffer_of : buffer.Inside → meaning.Buffer

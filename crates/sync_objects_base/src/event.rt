@@ -7,15 +7,15 @@ use std::marker::Model;
 
 /// An event. A contract sees it as the event of the definitions.
 #[derive(Clone, Copy)]
-pub struct Event {
+pub struct ApexEvent {
     created: bool,
     up: bool,
 }
 
-impl Model for Event {
+impl Model for ApexEvent {
     ghost use Rattle.kernel_meaning.specs.Objects as meaning;
 
-    ghost Value = { meaning.Event };
+    ghost Value = { meaning.ApexEvent };
 
     ghost use Rattle.sync_objects_base.specs.View.{event_of, event_fields};
 
@@ -24,12 +24,12 @@ impl Model for Event {
     ghost inverse = { event_fields };
 }
 
-impl Event {
+impl ApexEvent {
     /// An event before it is created.
-    pub(crate) fn fresh() -> Event
+    pub(crate) fn fresh() -> ApexEvent
         ensures { result ≡ meaning.fresh_event }
     {
-        Event {
+        ApexEvent {
             created: false,
             up: false,
         }
@@ -50,19 +50,19 @@ impl Event {
     }
 
     /// The same event, created.
-    pub fn created(self) -> Event
+    pub fn created(self) -> ApexEvent
         ensures { result ≡ record self { created = true } }
     {
-        Event {
+        ApexEvent {
             created: true,
             ..self
         }
     }
 
     /// The same event, up or down.
-    pub fn with_state(self, up: bool) -> Event
+    pub fn with_state(self, up: bool) -> ApexEvent
         ensures { result ≡ record self { up = up } }
     {
-        Event { up, ..self }
+        ApexEvent { up, ..self }
     }
 }

@@ -11,7 +11,7 @@ mod semaphore;
 
 pub use blackboard::BlackboardStatus;
 pub use buffer::BufferStatus;
-pub use event::Event;
+pub use event::ApexEvent;
 pub use find::place_of;
 pub use objects::Objects;
 pub use semaphore::Semaphore;

@@ -7,7 +7,7 @@ ghost use Rattle.sync_objects_base.specs.Status.{buffer_at, buffer_of_status, bu
 
 use crate::blackboard::{Blackboard, BlackboardStatus};
 use crate::buffer::{Buffer, BufferStatus};
-use crate::event::Event;
+use crate::event::ApexEvent;
 use crate::find::place_of;
 use crate::semaphore::Semaphore;
 use apex_types::{BlackboardRow, BufferRow, MOST_OBJECTS, SemaphoreRow, Words};
@@ -19,7 +19,7 @@ use std::marker::Model;
 #[derive(Drop)]
 pub struct Objects {
     semaphores: Vec<Semaphore>,
-    events: Vec<Event>,
+    events: Vec<ApexEvent>,
     buffers: Vec<Buffer>,
     blackboards: Vec<Blackboard>,
 }
@@ -46,12 +46,12 @@ fn fresh_semaphores(alloc: Global, rows: &[SemaphoreRow]) -> Result<Vec<Semaphor
     Ok(all)
 }
 
-fn fresh_events(alloc: Global, count: u8) -> Result<Vec<Event>, AllocError>
+fn fresh_events(alloc: Global, count: u8) -> Result<Vec<ApexEvent>, AllocError>
     ensures { IfOk result (λ all. all.items ≡ replicate count meaning.fresh_event) }
 {
     let mut all = Vec::with_capacity(alloc, usize::from(count))?;
     for _number in 0..count {
-        all.push(Event::fresh())?;
+        all.push(ApexEvent::fresh())?;
     }
     Ok(all)
 }
@@ -84,11 +84,11 @@ fn clear_semaphores(all: &mut Vec<Semaphore>)
     }
 }
 
-fn clear_events(all: &mut Vec<Event>)
+fn clear_events(all: &mut Vec<ApexEvent>)
     ensures { all.new.items ≡ map meaning.cleared_event all.old.items }
 {
     for event in all.iter_mut() {
-        *event = Event::fresh();
+        *event = ApexEvent::fresh();
     }
 }
 
@@ -121,7 +121,9 @@ impl Objects {
         requires few_events { events ≤ MOST_OBJECTS }
         requires few_buffers { length buffers.now ≤ MOST_OBJECTS }
         requires few_blackboards { length blackboards.now ≤ MOST_OBJECTS }
-        ensures { IfOk result (λ objects. objects ≡ meaning.fresh_objects semaphores.now events buffers.now blackboards.now) }
+        ensures { IfOk result
+            (λ objects.
+            objects ≡ meaning.fresh_objects semaphores.now events buffers.now blackboards.now) }
     {
         Ok(Objects {
             semaphores: fresh_semaphores(alloc, semaphores)?,
@@ -160,7 +162,7 @@ impl Objects {
     }
 
     /// The event with a number, with its place.
-    pub fn event(&self, id: i64) -> Option<(u8, Event)>
+    pub fn event(&self, id: i64) -> Option<(u8, ApexEvent)>
         ensures found { result ≡ meaning.event self.now id }
         ensures within { IfSome result (λ found. found.0 < MOST_OBJECTS) }
     {
@@ -169,7 +171,7 @@ impl Objects {
     }
 
     /// An event changes.
-    pub fn put_event(&mut self, place: u8, event: Event)
+    pub fn put_event(&mut self, place: u8, event: ApexEvent)
         ensures { self.new ≡ meaning.put_event self.old place event }
     {
         if let Some(old) = self.events.get_mut(usize::from(place)) {
@@ -180,7 +182,8 @@ impl Objects {
     /// How the buffer with a number stands, with its place.
     pub fn buffer(&self, id: i64) -> Option<(u8, BufferStatus)>
         ensures found { meaning.buffer self.now id ≡ buffer_of_status self.now result }
-        ensures status { IfSome result (λ found. found.1 ≡ buffer_status (buffer_at self.now found.0)) }
+        ensures status { IfSome result
+            (λ found. found.1 ≡ buffer_status (buffer_at self.now found.0)) }
         ensures within { IfSome result (λ found. found.0 < MOST_OBJECTS) }
     {
         let place = place_of(&self.buffers, id)?;
@@ -189,7 +192,9 @@ impl Objects {
 
     /// A buffer is created.
     pub fn create_buffer(&mut self, place: u8)
-        ensures { self.new ≡ meaning.put_buffer self.old place (record (buffer_at self.old place) { created = true }) }
+        ensures { self.new
+            ≡ meaning.put_buffer self.old place
+            (record (buffer_at self.old place) { created = true }) }
     {
         if let Some(buffer) = self.buffers.get_mut(usize::from(place)) {
             buffer.create();
@@ -198,8 +203,12 @@ impl Objects {
 
     /// A message goes behind the others of a buffer.
     pub fn push_message(&mut self, place: u8, message: Words)
-        requires { length (buffer_at self.old place).messages < (buffer_at self.old place).row.depth }
-        ensures { let x = buffer_at self.old place in self.new ≡ meaning.put_buffer self.old place (record x { messages = x.messages ++ message ∷ [] }) }
+        requires { length (buffer_at self.old place).messages
+            < (buffer_at self.old place).row.depth }
+        ensures { let x = buffer_at self.old place in
+            self.new
+            ≡ meaning.put_buffer self.old place
+            (record x { messages = x.messages ++ message ∷ [] }) }
     {
         if let Some(buffer) = self.buffers.get_mut(usize::from(place)) {
             buffer.push(message);
@@ -210,9 +219,13 @@ impl Objects {
     pub fn pop_message(&mut self, place: u8) -> Option<Words>
         ensures first { result ≡ slice_get (buffer_at self.old place).messages 0 }
         ensures empty { IsNone result → self.new ≡ self.old }
-        ensures rest { OnSome result (self.new ≡ meaning.put_buffer self.old place (without_first (buffer_at self.old place))) }
-        ensures left { OnSome result (buffer_at self.new place ≡ without_first (buffer_at self.old place)) }
-        ensures room { OnSome result (let x = buffer_at self.new place in length x.messages < x.row.depth) }
+        ensures rest { OnSome result
+            (self.new
+            ≡ meaning.put_buffer self.old place (without_first (buffer_at self.old place))) }
+        ensures left { OnSome result
+            (buffer_at self.new place ≡ without_first (buffer_at self.old place)) }
+        ensures room { OnSome result
+            (let x = buffer_at self.new place in length x.messages < x.row.depth) }
     {
         let buffer = self.buffers.get_mut(usize::from(place))?;
         buffer.pop()
@@ -221,7 +234,8 @@ impl Objects {
     /// How the blackboard with a number stands, with its place.
     pub fn blackboard(&self, id: i64) -> Option<(u8, BlackboardStatus)>
         ensures found { meaning.blackboard self.now id ≡ blackboard_of_status self.now result }
-        ensures status { IfSome result (λ found. found.1 ≡ blackboard_status (blackboard_at self.now found.0)) }
+        ensures status { IfSome result
+            (λ found. found.1 ≡ blackboard_status (blackboard_at self.now found.0)) }
         ensures within { IfSome result (λ found. found.0 < MOST_OBJECTS) }
     {
         let place = place_of(&self.blackboards, id)?;
@@ -230,7 +244,9 @@ impl Objects {
 
     /// A blackboard is created.
     pub fn create_blackboard(&mut self, place: u8)
-        ensures { self.new ≡ meaning.put_blackboard self.old place (record (blackboard_at self.old place) { created = true }) }
+        ensures { self.new
+            ≡ meaning.put_blackboard self.old place
+            (record (blackboard_at self.old place) { created = true }) }
     {
         if let Some(blackboard) = self.blackboards.get_mut(usize::from(place)) {
             blackboard.create();
@@ -239,7 +255,9 @@ impl Objects {
 
     /// A blackboard displays a message, or none.
     pub fn show(&mut self, place: u8, shown: Option<Words>)
-        ensures { self.new ≡ meaning.put_blackboard self.old place (record (blackboard_at self.old place) { shown = shown }) }
+        ensures { self.new
+            ≡ meaning.put_blackboard self.old place
+            (record (blackboard_at self.old place) { shown = shown }) }
     {
         if let Some(blackboard) = self.blackboards.get_mut(usize::from(place)) {
             blackboard.show(shown);

@@ -128,7 +128,11 @@ fn draw_bar(
     bar: Bar,
     span: Span,
 ) -> Result<(), AllocError>
-    ensures { OnOk result (string_bytes page.new.text ≡ string_bytes page.old.text ++ start_text Tag.Rect (bar_tag bar (left_of axis.span span) top (width_of axis.span span))) }
+    ensures { OnOk result
+        (string_bytes page.new.text
+        ≡ string_bytes page.old.text
+        ++ start_text Tag.Rect
+        (bar_tag bar (left_of axis.span span) top (width_of axis.span span))) }
 {
     let left = axis.place(span.from);
     let wide = axis.place(span.until) - left;
@@ -181,7 +185,9 @@ pub fn draw_text(
     line: Length,
     text: &str,
 ) -> Result<(), AllocError>
-    ensures { OnOk result (string_bytes page.new.text ≡ string_bytes page.old.text ++ text_element class.now left line text.now) }
+    ensures { OnOk result
+        (string_bytes page.new.text
+        ≡ string_bytes page.old.text ++ text_element class.now left line text.now) }
 {
     page.open(
         Tag::Text,

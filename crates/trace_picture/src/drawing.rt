@@ -52,7 +52,9 @@ impl Drawing {
     ///
     /// Memory ran out, or the writer failed.
     pub fn write<W: Write>(&self, out: &mut W) -> io::Result<()>
-        ensures { OnOk result ((text : List ℕ) × (∥ IsPicture text ∥₁ × Appends (W.contents out.old) (W.contents out.new) text)) }
+        ensures { OnOk result
+            ((text : List ℕ)
+            × (∥ IsPicture text ∥₁ × Appends (W.contents out.old) (W.contents out.new) text)) }
     {
         let text = self.text()?;
         out.write_all(text.as_bytes())?;

@@ -182,7 +182,8 @@ fn push_length(out: &mut String, length: Length) -> Result<(), AllocError>
 
 /// Appends two lengths with a space between them.
 fn push_pair(out: &mut String, first: Length, second: Length) -> Result<(), AllocError>
-    ensures { OnOk result (string_bytes out.new ≡ string_bytes out.old ++ text.pair_text first second) }
+    ensures { OnOk result
+        (string_bytes out.new ≡ string_bytes out.old ++ text.pair_text first second) }
 {
     push_length(out, first)?;
     out.push_str(" ")?;
@@ -190,7 +191,8 @@ fn push_pair(out: &mut String, first: Length, second: Length) -> Result<(), Allo
 }
 
 fn push_value(out: &mut String, value: Value<'_>) -> Result<(), AllocError>
-    ensures { OnOk result (string_bytes out.new ≡ string_bytes out.old ++ text.value_text value.entry) }
+    ensures { OnOk result
+        (string_bytes out.new ≡ string_bytes out.old ++ text.value_text value.entry) }
 {
     match value {
         Value::Text(text) => push_escaped(out, text),
@@ -208,7 +210,8 @@ fn push_value(out: &mut String, value: Value<'_>) -> Result<(), AllocError>
 }
 
 fn push_attribute(out: &mut String, attribute: &Attribute<'_>) -> Result<(), AllocError>
-    ensures { OnOk result (string_bytes out.new ≡ string_bytes out.old ++ text.attribute_text attribute.now) }
+    ensures { OnOk result
+        (string_bytes out.new ≡ string_bytes out.old ++ text.attribute_text attribute.now) }
 {
     out.push_str(" ")?;
     out.push_str(attribute.key.name())?;
@@ -218,7 +221,9 @@ fn push_attribute(out: &mut String, attribute: &Attribute<'_>) -> Result<(), All
 }
 
 fn push_attributes(out: &mut String, attributes: &[Attribute<'_>]) -> Result<(), AllocError>
-    ensures { OnOk result (string_bytes out.new ≡ string_bytes out.old ++ flat_map text.attribute_text attributes.now) }
+    ensures { OnOk result
+        (string_bytes out.new
+        ≡ string_bytes out.old ++ flat_map text.attribute_text attributes.now) }
 {
     for attribute in attributes {
         push_attribute(out, attribute)?;
@@ -233,7 +238,9 @@ pub fn push_start(
     attributes: &[Attribute<'_>],
     close: &str,
 ) -> Result<(), AllocError>
-    ensures { OnOk result (string_bytes out.new ≡ string_bytes out.old ++ (text.tag_text tag attributes.now ++ close.now)) }
+    ensures { OnOk result
+        (string_bytes out.new
+        ≡ string_bytes out.old ++ (text.tag_text tag attributes.now ++ close.now)) }
 {
     out.push_str("<")?;
     out.push_str(tag.name())?;

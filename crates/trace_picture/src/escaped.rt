@@ -21,7 +21,8 @@ pub fn push_escaped(out: &mut String, text: &str) -> Result<(), AllocError>
 }
 
 fn push_character(out: &mut String, character: char) -> Result<(), AllocError>
-    ensures { OnOk result (string_bytes out.new ≡ string_bytes out.old ++ character_text character) }
+    ensures { OnOk result
+        (string_bytes out.new ≡ string_bytes out.old ++ character_text character) }
 {
     match character {
         '&' => out.push_str("&amp;"),

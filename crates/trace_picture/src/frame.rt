@@ -90,7 +90,11 @@ fn draw_ground(page: &mut Page, top: Length, bottom: Length) -> Result<(), Alloc
 
 /// Draws the axis with its numbers, and a line down at each of these.
 pub fn draw_axis(page: &mut Page, axis: Axis, bottom: Length) -> Result<(), AllocError>
-    ensures { OnOk result ((step : ℕ) × ((0 < step) × (ticks_of axis.span / step ≤ 10) × HasMarks axis.span bottom step (string_bytes page.old.text) (string_bytes page.new.text))) }
+    ensures { OnOk result
+        ((step : ℕ)
+        × ((0 < step) × (ticks_of axis.span / step ≤ 10)
+        × HasMarks axis.span bottom step (string_bytes page.old.text)
+        (string_bytes page.new.text))) }
 {
     page.empty(
         Tag::Line,
@@ -110,7 +114,10 @@ pub fn draw_axis(page: &mut Page, axis: Axis, bottom: Length) -> Result<(), Allo
 /// one.
 fn draw_marks(page: &mut Page, axis: Axis, step: u64, bottom: Length) -> Result<(), AllocError>
     requires { 0 < step }
-    ensures { OnOk result (string_bytes page.new.text ≡ string_bytes page.old.text ++ flat_map (mark_text axis.span bottom) (multiples_in step axis.span)) }
+    ensures { OnOk result
+        (string_bytes page.new.text
+        ≡ string_bytes page.old.text
+        ++ flat_map (mark_text axis.span bottom) (multiples_in step axis.span)) }
 {
     let first = axis.span.from.0.div_ceil(step);
     let last = axis.span.until.0 / step;
@@ -125,7 +132,9 @@ fn draw_marks(page: &mut Page, axis: Axis, step: u64, bottom: Length) -> Result<
 
 /// Draws a number of the axis, and a line down from it.
 fn draw_mark(page: &mut Page, axis: Axis, tick: Ticks, bottom: Length) -> Result<(), AllocError>
-    ensures { OnOk result (string_bytes page.new.text ≡ string_bytes page.old.text ++ mark_text axis.span bottom tick.0) }
+    ensures { OnOk result
+        (string_bytes page.new.text
+        ≡ string_bytes page.old.text ++ mark_text axis.span bottom tick.0) }
 {
     let x = axis.place(tick);
     page.empty(

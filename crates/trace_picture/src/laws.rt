@@ -25,10 +25,12 @@ pub fn ticks_stand_on_the_axis()
 /// Each arrow of a message stands in the picture, however many fall on its tick: at its tick or further
 /// right, and left of the right edge, which is at 12000.
 pub fn messages_stand_in_the_picture()
-    ensures { (axis : Span) (m : Message) → (place axis m.tick.0 ≤ (message_place axis m).0) × ((message_place axis m).0 < 12000) }
+    ensures { (axis : Span) (m : Message)
+        → (place axis m.tick.0 ≤ (message_place axis m).0) × ((message_place axis m).0 < 12000) }
 {}
 
 /// Each multiple of a step among the ticks of an axis, or at its end, is among those that get a mark.
 pub fn each_multiple_has_its_mark()
-    ensures { (axis : Span) (step k : ℕ) → 0 < step → axis.from.0 ≤ k * step → k * step ≤ axis.until.0 → list_any (nat_eq (k * step)) (multiples_in step axis) ≡ true }
+    ensures { (axis : Span) (step k : ℕ) → 0 < step → axis.from.0 ≤ k * step
+        → k * step ≤ axis.until.0 → list_any (nat_eq (k * step)) (multiples_in step axis) ≡ true }
 {}

@@ -107,7 +107,9 @@ fn draw_arrow(
     from: Length,
     to: Length,
 ) -> Result<(), AllocError>
-    ensures { OnOk result (string_bytes page.new.text ≡ string_bytes page.old.text ++ arrow_text axis.span message.now from to) }
+    ensures { OnOk result
+        (string_bytes page.new.text
+        ≡ string_bytes page.old.text ++ arrow_text axis.span message.now from to) }
 {
     let x = message_place(axis, message);
     page.open(

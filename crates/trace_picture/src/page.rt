@@ -29,7 +29,8 @@ impl Page {
     ///
     /// Memory ran out.
     pub fn new(alloc: Global, attributes: &[Attribute<'_>]) -> Result<Page, AllocError>
-        ensures text { IfOk result (λ page. string_bytes page.text ≡ start_text Tag.Svg attributes.now) }
+        ensures text { IfOk result
+            (λ page. string_bytes page.text ≡ start_text Tag.Svg attributes.now) }
         ensures unended { IfOk result (λ page. page.unended.items ≡ []) }
     {
         let mut text = String::new(alloc);
@@ -47,8 +48,11 @@ impl Page {
     ///
     /// Memory ran out. Then the page is as it was.
     pub fn open(&mut self, tag: Tag, attributes: &[Attribute<'_>]) -> Result<(), AllocError>
-        ensures text { OnOk result (string_bytes self.new.text ≡ string_bytes self.old.text ++ start_text tag attributes.now) }
-        ensures unended { OnOk result (self.new.unended.items ≡ self.old.unended.items ++ tag ∷ []) }
+        ensures text { OnOk result
+            (string_bytes self.new.text
+            ≡ string_bytes self.old.text ++ start_text tag attributes.now) }
+        ensures unended { OnOk result
+            (self.new.unended.items ≡ self.old.unended.items ++ tag ∷ []) }
         ensures kept { OnErr result (string_bytes self.new.text ≡ string_bytes self.old.text) }
         ensures kept_unended { OnErr result (self.new.unended.items ≡ self.old.unended.items) }
     {
@@ -66,7 +70,9 @@ impl Page {
     ///
     /// Memory ran out. Then the page is as it was.
     pub fn empty(&mut self, tag: Tag, attributes: &[Attribute<'_>]) -> Result<(), AllocError>
-        ensures text { OnOk result (string_bytes self.new.text ≡ string_bytes self.old.text ++ empty_text tag attributes.now) }
+        ensures text { OnOk result
+            (string_bytes self.new.text
+            ≡ string_bytes self.old.text ++ empty_text tag attributes.now) }
         ensures unended { self.new.unended ≡ self.old.unended }
         ensures kept { OnErr result (string_bytes self.new.text ≡ string_bytes self.old.text) }
     {
@@ -82,7 +88,8 @@ impl Page {
     ///
     /// Memory ran out. Then the page is as it was.
     pub fn text(&mut self, text: &str) -> Result<(), AllocError>
-        ensures text { OnOk result (string_bytes self.new.text ≡ string_bytes self.old.text ++ escaped text.now) }
+        ensures text { OnOk result
+            (string_bytes self.new.text ≡ string_bytes self.old.text ++ escaped text.now) }
         ensures unended { self.new.unended ≡ self.old.unended }
         ensures kept { OnErr result (string_bytes self.new.text ≡ string_bytes self.old.text) }
     {
@@ -98,7 +105,8 @@ impl Page {
     ///
     /// Memory ran out. Then the page is as it was.
     pub fn number(&mut self, number: u64) -> Result<(), AllocError>
-        ensures text { OnOk result (string_bytes self.new.text ≡ string_bytes self.old.text ++ escaped (decimal number)) }
+        ensures text { OnOk result
+            (string_bytes self.new.text ≡ string_bytes self.old.text ++ escaped (decimal number)) }
         ensures unended { self.new.unended ≡ self.old.unended }
         ensures kept { OnErr result (string_bytes self.new.text ≡ string_bytes self.old.text) }
     {
@@ -112,7 +120,9 @@ impl Page {
     ///
     /// Memory ran out. Then the page is as it was.
     pub fn close(&mut self) -> Result<(), AllocError>
-        ensures text { OnOk result ((outer : List Tag) (tag : Tag) → self.old.unended.items ≡ outer ++ tag ∷ [] → string_bytes self.new.text ≡ string_bytes self.old.text ++ end_text tag) }
+        ensures text { OnOk result
+            ((outer : List Tag) (tag : Tag) → self.old.unended.items ≡ outer ++ tag ∷ []
+            → string_bytes self.new.text ≡ string_bytes self.old.text ++ end_text tag) }
         ensures unended { OnOk result (vec_len self.new.unended ≡ vec_len self.old.unended - 1) }
         ensures kept { OnErr result (string_bytes self.new.text ≡ string_bytes self.old.text) }
         ensures kept_unended { OnErr result (self.new.unended.items ≡ self.old.unended.items) }

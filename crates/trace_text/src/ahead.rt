@@ -48,7 +48,8 @@ impl Ahead {
     /// Leaves the last `count` bytes alone.
     pub fn keep_last(&mut self, count: usize)
         requires { count ≤ length (ahead_bytes self.old) }
-        ensures { ahead_bytes self.new ≡ drop (length (ahead_bytes self.old) - count) (ahead_bytes self.old) }
+        ensures { ahead_bytes self.new
+            ≡ drop (length (ahead_bytes self.old) - count) (ahead_bytes self.old) }
     {
         self.start = self.end - count;
     }
@@ -56,8 +57,10 @@ impl Ahead {
     /// Reads once, and says how many bytes came.
     pub fn read_more<R: Read>(&mut self, reader: &mut R) -> Result<usize>
         requires { length (ahead_bytes self.old) < MOST_LINE_BYTES }
-        ensures kept { Keeps (prepend_known (ahead_bytes self.old) (R.remaining reader.old)) (prepend_known (ahead_bytes self.new) (R.remaining reader.new)) }
-        ensures longer { IfOk result (λ n. length (ahead_bytes self.new) ≡ length (ahead_bytes self.old) + n) }
+        ensures kept { Keeps (prepend_known (ahead_bytes self.old) (R.remaining reader.old))
+            (prepend_known (ahead_bytes self.new) (R.remaining reader.new)) }
+        ensures longer { IfOk result
+            (λ n. length (ahead_bytes self.new) ≡ length (ahead_bytes self.old) + n) }
         ensures end { IfOk result (λ n. n ≡ 0 → IsAtEnd (R.remaining reader.new)) }
         ensures same { OnErr result (ahead_bytes self.new ≡ ahead_bytes self.old) }
     {
@@ -83,7 +86,9 @@ fn read_behind<R: Read>(reader: &mut R, buffer: &mut Vec<u8>, at: usize) -> Resu
     ensures front { take at buffer.new.items ≡ take at buffer.old.items }
     ensures len { vec_len buffer.new ≡ vec_len buffer.old }
     ensures fits { IfOk result (λ n. at + n ≤ vec_len buffer.new) }
-    ensures read { IfOk result (λ n. Consumes (R.remaining reader.old) (R.remaining reader.new) (take n (drop at buffer.new.items))) }
+    ensures read { IfOk result
+        (λ n. Consumes (R.remaining reader.old) (R.remaining reader.new)
+        (take n (drop at buffer.new.items))) }
     ensures end { IfOk result (λ n. n ≡ 0 → IsAtEnd (R.remaining reader.new)) }
     ensures kept { OnErr result (Keeps (R.remaining reader.old) (R.remaining reader.new)) }
 {
@@ -96,7 +101,9 @@ fn read_at<R: Read>(reader: &mut R, buffer: &mut [u8], at: usize) -> Result<usiz
     ensures front { take at buffer.new ≡ take at buffer.old }
     ensures len { length buffer.new ≡ length buffer.old }
     ensures fits { IfOk result (λ n. at + n ≤ length buffer.new) }
-    ensures read { IfOk result (λ n. Consumes (R.remaining reader.old) (R.remaining reader.new) (take n (drop at buffer.new))) }
+    ensures read { IfOk result
+        (λ n.
+        Consumes (R.remaining reader.old) (R.remaining reader.new) (take n (drop at buffer.new))) }
     ensures end { IfOk result (λ n. n ≡ 0 → IsAtEnd (R.remaining reader.new)) }
     ensures kept { OnErr result (Keeps (R.remaining reader.old) (R.remaining reader.new)) }
 {
@@ -106,8 +113,10 @@ fn read_at<R: Read>(reader: &mut R, buffer: &mut [u8], at: usize) -> Result<usiz
 /// One read, tried again where it was interrupted.
 fn read_retrying<R: Read>(reader: &mut R, buffer: &mut [u8]) -> Result<usize>
     ensures bound { ReadsAtMost result buffer.new }
-    ensures read { IfOk result (λ n. Consumes (R.remaining reader.old) (R.remaining reader.new) (take n buffer.new)) }
-    ensures end { IfOk result (λ n. n ≡ 0 → 0 < length buffer.old → IsAtEnd (R.remaining reader.new)) }
+    ensures read { IfOk result
+        (λ n. Consumes (R.remaining reader.old) (R.remaining reader.new) (take n buffer.new)) }
+    ensures end { IfOk result
+        (λ n. n ≡ 0 → 0 < length buffer.old → IsAtEnd (R.remaining reader.new)) }
     ensures kept { OnErr result (Keeps (R.remaining reader.old) (R.remaining reader.new)) }
 {
     for _ in 0..u64::MAX {

@@ -71,11 +71,17 @@ impl<'a> TraceReader<'a> {
     /// The next line is no line of a trace here. The reader stays where it is, so that it answers
     /// the same again.
     pub fn next_event(&mut self) -> Result<Option<Event>, TraceFault>
-        ensures read { IfOk result (λ o. IfSome o (λ e. IsNext self.old.before.0 self.old.rest.now e self.new.rest.now)) }
-        ensures moved { IfOk result (λ o. IfSome o (λ e. (self.new.before ≡ e.tick) × (self.new.lines ≡ self.old.lines + 1))) }
+        ensures read { IfOk result
+            (λ o. IfSome o (λ e. IsNext self.old.before.0 self.old.rest.now e self.new.rest.now)) }
+        ensures moved { IfOk result
+            (λ o.
+            IfSome o (λ e. (self.new.before ≡ e.tick) × (self.new.lines ≡ self.old.lines + 1))) }
         ensures ended { result ≡ Ok None → (self.old.rest.now ≡ []) × (self.new ≡ self.old) }
-        ensures refused { IfErr result (λ fault. (fault.line ≡ self.old.lines + 1) × (0 < length self.old.rest.now) × (self.new ≡ self.old)) }
-        ensures read_back { (e : Event) (rest : List ℕ) → IsNext self.old.before.0 self.old.rest.now e rest → result ≡ Ok (Some e) }
+        ensures refused { IfErr result
+            (λ fault. (fault.line ≡ self.old.lines + 1) × (0 < length self.old.rest.now)
+            × (self.new ≡ self.old)) }
+        ensures read_back { (e : Event) (rest : List ℕ)
+            → IsNext self.old.before.0 self.old.rest.now e rest → result ≡ Ok (Some e) }
     {
         if self.rest.is_empty() {
             return Ok(None);

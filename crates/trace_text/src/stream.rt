@@ -95,13 +95,26 @@ impl<R: Read> TraceStream<R> {
     /// The next line is no line of a trace here; or the reader failed. No byte is lost: a refused
     /// line is refused again, and after an error of the reader the next call reads on.
     pub fn next_event(&mut self) -> Result<Option<Event>, StreamFault>
-        ensures read { IfOk result (λ o. IfSome o (λ e. NextIn self.old.before.0 (left R.remaining self.old) e (left R.remaining self.new))) }
-        ensures moved { IfOk result (λ o. IfSome o (λ e. (self.new.before ≡ e.tick) × (self.new.lines ≡ next_number self.old.lines))) }
-        ensures line { IfOk result (λ o. IfSome o (λ e. CanBeWritten e × (self.old.before.0 ≤ e.tick.0))) }
+        ensures read { IfOk result
+            (λ o. IfSome o
+            (λ e.
+            NextIn self.old.before.0 (left R.remaining self.old) e (left R.remaining self.new))) }
+        ensures moved { IfOk result
+            (λ o. IfSome o
+            (λ e. (self.new.before ≡ e.tick) × (self.new.lines ≡ next_number self.old.lines))) }
+        ensures line { IfOk result
+            (λ o. IfSome o (λ e. CanBeWritten e × (self.old.before.0 ≤ e.tick.0))) }
         ensures ended { result ≡ Ok None → IsAtEnd (left R.remaining self.old) }
-        ensures kept { (result ≡ Ok None → Keeps (left R.remaining self.old) (left R.remaining self.new)) × OnErr result (Keeps (left R.remaining self.old) (left R.remaining self.new)) }
-        ensures stays { (result ≡ Ok None → (self.new.before ≡ self.old.before) × (self.new.lines ≡ self.old.lines)) × OnErr result ((self.new.before ≡ self.old.before) × (self.new.lines ≡ self.old.lines)) }
-        ensures refused { IfErr result (λ fault. IsStreamFault self.old.before.0 self.old.lines (left R.remaining self.old) fault) }
+        ensures kept { (result ≡ Ok None
+            → Keeps (left R.remaining self.old) (left R.remaining self.new))
+            × OnErr result (Keeps (left R.remaining self.old) (left R.remaining self.new)) }
+        ensures stays { (result ≡ Ok None
+            → (self.new.before ≡ self.old.before) × (self.new.lines ≡ self.old.lines))
+            × OnErr result
+            ((self.new.before ≡ self.old.before) × (self.new.lines ≡ self.old.lines)) }
+        ensures refused { IfErr result
+            (λ fault.
+            IsStreamFault self.old.before.0 self.old.lines (left R.remaining self.old) fault) }
     {
         self.look_ahead()?;
         let mut front = TraceReader::behind(self.ahead.as_slice(), self.before);
@@ -126,7 +139,8 @@ impl<R: Read> TraceStream<R> {
         ensures kept { Keeps (left R.remaining self.old) (left R.remaining self.new) }
         ensures before { self.new.before ≡ self.old.before }
         ensures lines { self.new.lines ≡ self.old.lines }
-        ensures seen { OnOk result (SeesLine (ahead_bytes self.new.ahead) (R.remaining self.new.reader)) }
+        ensures seen { OnOk result
+            (SeesLine (ahead_bytes self.new.ahead) (R.remaining self.new.reader)) }
     {
         while !has_line(self.ahead.as_slice()) {
             if self.ahead.read_more(&mut self.reader)? == 0 {
@@ -139,7 +153,8 @@ impl<R: Read> TraceStream<R> {
 
 /// Whether the first line, if it is one of a trace, stands here to its end.
 fn has_line(bytes: &[u8]) -> bool
-    ensures found { result ≡ true → (pieces_behind_marks 10 bytes.now ≢ []) ⊎ (MOST_LINE_BYTES ≤ length bytes.now) }
+    ensures found { result ≡ true
+        → (pieces_behind_marks 10 bytes.now ≢ []) ⊎ (MOST_LINE_BYTES ≤ length bytes.now) }
     ensures short { result ≡ false → length bytes.now < MOST_LINE_BYTES }
 {
     let (_, behind) = split_at(b'\n', bytes);

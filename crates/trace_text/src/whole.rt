@@ -12,7 +12,8 @@ use crate::reader::{TraceFault, TraceReader};
 ///
 /// The text is no trace: the first line that is no line of a trace where it stands.
 pub fn check_trace(text: &[u8]) -> Result<u64, TraceFault>
-    ensures trace { IfOk result (λ count. (events : List Event) × IsReadAs text.now events × (length events ≡ count)) }
+    ensures trace { IfOk result
+        (λ count. (events : List Event) × IsReadAs text.now events × (length events ≡ count)) }
     ensures no_trace { IfErr result (λ _. (events : List Event) → IsReadAs text.now events → ⊥) }
     ensures refused { IfErr result (λ fault. IsRefusedAt text.now fault.line) }
 {

@@ -67,7 +67,9 @@ impl Counts {
     /// Memory ran out.
     pub fn finish(mut self, extent: Extent) -> Result<Report, MemoryFull>
         ensures extent { IfOk result (λ report. report.extent ≡ extent) }
-        ensures routes { IfOk result (λ report. report.routes.items ≡ totals_from 0 report.partitions.items self.traffic.passages.items) }
+        ensures routes { IfOk result
+            (λ report. report.routes.items
+            ≡ totals_from 0 report.partitions.items self.traffic.passages.items) }
     {
         self.finish_stays(extent.window)?;
         let partitions = self.partition_totals()?;
@@ -250,7 +252,9 @@ impl Counts {
     /// Those of the first partition, then those of the next one, and so on.
     #[tactic(auto, using(std::proofs::lemmas::List::drop_more))]
     fn route_totals(&self, partitions: &[PartitionTotal]) -> Result<Vec<RouteTotal>, MemoryFull>
-        ensures { IfOk result (λ totals. totals.items ≡ totals_from 0 partitions.now self.now.traffic.passages.items) }
+        ensures { IfOk result
+            (λ totals.
+            totals.items ≡ totals_from 0 partitions.now self.now.traffic.passages.items) }
     {
         let mut totals = Vec::new(self.alloc);
         for (place, partition) in partitions.iter().enumerate() {

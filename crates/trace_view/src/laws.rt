@@ -15,23 +15,28 @@ ghost use Rattle.trace_view.specs.declared.tally.Turn.{Turn};
 /// What the turns of a process come to one by one are the sums, the counts and the times over all of
 /// them.
 pub fn turns_are_counted()
-    ensures { (window : Span) (turns : List Turn) → AreNumbersOf window turns (tally_after window nothing_counted turns) }
+    ensures { (window : Span) (turns : List Turn)
+        → AreNumbersOf window turns (tally_after window nothing_counted turns) }
 {}
 
 /// Of stays that follow one another each tick counts for one state: the ticks in the four states
 /// together are all ticks from the first stay to the last.
 pub fn each_tick_counts_once()
-    ensures { (window : Span) (from until : ℕ) (stays : List Stay) → AreContiguous from stays until → ticks_in_all window stays ≡ ticks_in window (span from until) }
+    ensures { (window : Span) (from until : ℕ) (stays : List Stay) → AreContiguous from stays until
+        → ticks_in_all window stays ≡ ticks_in window (span from until) }
 {}
 
 /// The stays of a process whose partition does not start again follow one another, whatever its
 /// lines say.
 pub fn stays_follow_one_another()
-    ensures { (held : Held) (lines : List StateLine) (until : ℕ) → AreContiguous held.since.0 (stays_in (Some held) lines until) (stays_until held lines until) }
+    ensures { (held : Held) (lines : List StateLine) (until : ℕ)
+        → AreContiguous held.since.0 (stays_in (Some held) lines until)
+        (stays_until held lines until) }
 {}
 
 /// The lines that are counted one by one are all those of the window: how many they are, the first
 /// and the last.
 pub fn lines_are_counted()
-    ensures { (from : Ticks) (to : Option Ticks) (lines : List Ticks) → AreLinesOf lines (opened from to).window (extent_after (opened from to) lines) }
+    ensures { (from : Ticks) (to : Option Ticks) (lines : List Ticks)
+        → AreLinesOf lines (opened from to).window (extent_after (opened from to) lines) }
 {}

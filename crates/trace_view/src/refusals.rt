@@ -20,7 +20,15 @@ impl Refusals {
 
     /// No service was refused.
     pub fn new() -> Refusals
-        ensures { result ≡ record { no_action = 0; not_available = 0; invalid_param = 0; invalid_config = 0; invalid_mode = 0; timed_out = 0 } }
+        ensures { result
+            ≡ record {
+              no_action = 0;
+              not_available = 0;
+              invalid_param = 0;
+              invalid_config = 0;
+              invalid_mode = 0;
+              timed_out = 0;
+            } }
     {
         Refusals {
             no_action: 0,

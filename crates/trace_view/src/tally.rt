@@ -95,7 +95,8 @@ impl Tally {
 
     /// Counts a missed deadline.
     pub fn miss(&mut self)
-        ensures { self.new ≡ record self.old { deadlines_missed = capped (self.old.deadlines_missed + 1) } }
+        ensures { self.new
+            ≡ record self.old { deadlines_missed = capped (self.old.deadlines_missed + 1) } }
     {
         self.deadlines_missed = self.deadlines_missed.saturating_add(1);
     }

@@ -66,7 +66,9 @@ impl Traffic {
         route: &Route,
         kind: &EventKind,
     ) -> Result<(), MemoryFull>
-        ensures counted { OnOk result (IsCounted partition route.now kind.now self.old.passages.items self.new.passages.items) }
+        ensures counted { OnOk result
+            (IsCounted partition route.now kind.now self.old.passages.items
+            self.new.passages.items) }
         ensures kept { OnErr result (self.new.passages.items ≡ self.old.passages.items) }
     {
         match self.place_of(partition, route) {
@@ -86,7 +88,10 @@ impl Traffic {
 
     /// The place where the messages of this port or channel are counted, if there is one.
     fn place_of(&self, partition: usize, route: &Route) -> Option<usize>
-        ensures { MatchOption result (IsNoneOf partition route.now self.now.passages.items) (λ place. (one : Passage) × ((slice_get self.now.passages.items place ≡ Some one) × IsOf partition route.now one)) }
+        ensures { MatchOption result (IsNoneOf partition route.now self.now.passages.items)
+            (λ place. (one : Passage)
+            × ((slice_get self.now.passages.items place ≡ Some one)
+            × IsOf partition route.now one)) }
     {
         for (place, passage) in self.passages.iter().enumerate() {
             if passage.is_of(partition, route) {
@@ -108,7 +113,9 @@ impl Traffic {
         partition: &PartitionTotal,
         totals: &mut Vec<RouteTotal>,
     ) -> Result<(), MemoryFull>
-        ensures { OnOk result (totals.new.items ≡ totals.old.items ++ totals_at place partition.now self.now.passages.items) }
+        ensures { OnOk result
+            (totals.new.items
+            ≡ totals.old.items ++ totals_at place partition.now self.now.passages.items) }
     {
         for passage in &self.passages {
             if passage.partition == place {

@@ -42,9 +42,12 @@ pub fn view<S: AsStr, F: Sources, O: Stream, E: Stream>(
 ) -> u8
     requires out { O.failures out.old < 2 ^ 64 - 1 }
     requires err { E.failures err.old < 2 ^ 64 - 1 }
-    ensures { IsAnswer (fault_of view_app (map S.text words.now)) (subcommand_of view_app (map S.text words.now)) (F.texts sources.old)
-        (state (F.unopened sources.old) (seen O.taken O.failures O.is_flushed out.old)) (state (F.unopened sources.new) (seen O.taken O.failures O.is_flushed out.new))
-        (seen E.taken E.failures E.is_flushed err.old) (seen E.taken E.failures E.is_flushed err.new) result }
+    ensures { IsAnswer (fault_of view_app (map S.text words.now))
+        (subcommand_of view_app (map S.text words.now)) (F.texts sources.old)
+        (state (F.unopened sources.old) (seen O.taken O.failures O.is_flushed out.old))
+        (state (F.unopened sources.new) (seen O.taken O.failures O.is_flushed out.new))
+        (seen E.taken E.failures E.is_flushed err.old)
+        (seen E.taken E.failures E.is_flushed err.new) result }
 {
     let outcome = perform(alloc, words, sources, out);
     tell(outcome, out, err)
@@ -59,11 +62,18 @@ fn perform<S: AsStr, F: Sources, O: Stream>(
 ) -> Result<(), Failure<Refusal>>
     requires { O.failures out.old < 2 ^ 64 - 1 }
     ensures command { OnOk result (fault_of view_app (map S.text words.now) ≡ []) }
-    ensures trace { OnOk result (IsTraceIn (F.texts sources.old) (trace_of (subcommand_of view_app (map S.text words.now)))) }
+    ensures trace { OnOk result
+        (IsTraceIn (F.texts sources.old)
+        (trace_of (subcommand_of view_app (map S.text words.now)))) }
     ensures opened { OnOk result (F.unopened sources.new ≡ F.unopened sources.old) }
-    ensures flushed { OnOk result (IsFlushed (seen O.taken O.failures O.is_flushed out.old) (seen O.taken O.failures O.is_flushed out.new)) }
-    ensures failed { IfErr result (λ f. IsFailure (fault_of view_app (map S.text words.now)) (subcommand_of view_app (map S.text words.now)) (F.texts sources.old)
-        (state (F.unopened sources.old) (seen O.taken O.failures O.is_flushed out.old)) (state (F.unopened sources.new) (seen O.taken O.failures O.is_flushed out.new)) f) }
+    ensures flushed { OnOk result
+        (IsFlushed (seen O.taken O.failures O.is_flushed out.old)
+        (seen O.taken O.failures O.is_flushed out.new)) }
+    ensures failed { IfErr result
+        (λ f. IsFailure (fault_of view_app (map S.text words.now))
+        (subcommand_of view_app (map S.text words.now)) (F.texts sources.old)
+        (state (F.unopened sources.old) (seen O.taken O.failures O.is_flushed out.old))
+        (state (F.unopened sources.new) (seen O.taken O.failures O.is_flushed out.new)) f) }
 {
     let request = request_of(alloc, words)?;
     Ok(show(alloc, &request, sources, out)?)

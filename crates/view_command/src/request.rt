@@ -34,8 +34,11 @@ pub struct Request {
 /// What the words ask for.
 pub fn request_of<S: AsStr>(alloc: Global, words: &[S]) -> Result<Request, Failure<Refusal>>
     ensures command { OnOk result (fault_of view_app (map S.text words.now) ≡ []) }
-    ensures trace { IfOk result (λ r. string_bytes r.trace ≡ trace_of (subcommand_of view_app (map S.text words.now))) }
-    ensures failed { IfErr result (λ f. IsFailureOfWords (fault_of view_app (map S.text words.now)) (subcommand_of view_app (map S.text words.now)) f) }
+    ensures trace { IfOk result
+        (λ r. string_bytes r.trace ≡ trace_of (subcommand_of view_app (map S.text words.now))) }
+    ensures failed { IfErr result
+        (λ f. IsFailureOfWords (fault_of view_app (map S.text words.now))
+        (subcommand_of view_app (map S.text words.now)) f) }
 {
     let matches = grammar(alloc)?.try_get_matches_from(words)?;
     requested(alloc, &matches)
@@ -43,7 +46,8 @@ pub fn request_of<S: AsStr>(alloc: Global, words: &[S]) -> Result<Request, Failu
 
 /// What was found in the words.
 fn requested(alloc: Global, matches: &ArgMatches<'_>) -> Result<Request, Failure<Refusal>>
-    ensures trace { IfOk result (λ r. string_bytes r.trace ≡ trace_of (subcommand_rows_of matches.now)) }
+    ensures trace { IfOk result
+        (λ r. string_bytes r.trace ≡ trace_of (subcommand_rows_of matches.now)) }
     ensures failed { IfErr result (λ f. IsNothingAsked (subcommand_rows_of matches.now) f) }
 {
     match matches.subcommand() {
@@ -65,7 +69,8 @@ fn table_or_rows(found: &ArgMatches<'_>) -> View {
 
 /// The trace and the ticks that were found.
 fn shown(alloc: Global, view: View, found: &ArgMatches<'_>) -> Result<Request, Failure<Refusal>>
-    ensures trace { IfOk result (λ r. string_bytes r.trace ≡ word_at (codes "TRACE") (rows_of (found_of found.now))) }
+    ensures trace { IfOk result
+        (λ r. string_bytes r.trace ≡ word_at (codes "TRACE") (rows_of (found_of found.now))) }
     ensures failed { IfErr result (λ f. IsTicksFailure (rows_of (found_of found.now)) f) }
 {
     let trace = String::from_str(alloc, word(found, "TRACE"))?;
@@ -90,8 +95,10 @@ fn tick(
     found: &ArgMatches<'_>,
     option: &str,
 ) -> Result<Option<u64>, Failure<Refusal>>
-    ensures read { IfOk result (λ t. IsTickOf (first_of option.now (rows_of (found_of found.now))) t) }
-    ensures failed { IfErr result (λ f. IsTickFailure (first_of option.now (rows_of (found_of found.now))) f) }
+    ensures read { IfOk result
+        (λ t. IsTickOf (first_of option.now (rows_of (found_of found.now))) t) }
+    ensures failed { IfErr result
+        (λ f. IsTickFailure (first_of option.now (rows_of (found_of found.now))) f) }
 {
     let Some(word) = found.get_str(option) else {
         return Ok(None);

@@ -26,9 +26,13 @@ pub fn show<F: Sources, O: Stream>(
     requires { O.failures out.old < 2 ^ 64 - 1 }
     ensures trace { OnOk result (IsTraceIn (F.texts sources.old) (string_bytes request.now.trace)) }
     ensures opened { OnOk result (F.unopened sources.new ≡ F.unopened sources.old) }
-    ensures flushed { OnOk result (IsFlushed (seen O.taken O.failures O.is_flushed out.old) (seen O.taken O.failures O.is_flushed out.new)) }
-    ensures refused { IfErr result (λ r. IsRefused (F.texts sources.old) (string_bytes request.now.trace)
-        (state (F.unopened sources.old) (seen O.taken O.failures O.is_flushed out.old)) (state (F.unopened sources.new) (seen O.taken O.failures O.is_flushed out.new)) r) }
+    ensures flushed { OnOk result
+        (IsFlushed (seen O.taken O.failures O.is_flushed out.old)
+        (seen O.taken O.failures O.is_flushed out.new)) }
+    ensures refused { IfErr result
+        (λ r. IsRefused (F.texts sources.old) (string_bytes request.now.trace)
+        (state (F.unopened sources.old) (seen O.taken O.failures O.is_flushed out.old))
+        (state (F.unopened sources.new) (seen O.taken O.failures O.is_flushed out.new)) r) }
 {
     let trace = request.trace.as_str();
     let name = String::from_str(alloc, called(trace))?;

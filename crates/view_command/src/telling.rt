@@ -17,8 +17,10 @@ pub fn tell<O: Stream, E: Stream>(
 ) -> u8
     requires out { CanTakeHelp outcome (O.failures out.old) }
     requires err { E.failures err.old < 2 ^ 64 - 1 }
-    ensures { IsTold outcome (seen O.taken O.failures O.is_flushed out.old) (seen O.taken O.failures O.is_flushed out.new)
-        (seen E.taken E.failures E.is_flushed err.old) (seen E.taken E.failures E.is_flushed err.new) result }
+    ensures { IsTold outcome (seen O.taken O.failures O.is_flushed out.old)
+        (seen O.taken O.failures O.is_flushed out.new)
+        (seen E.taken E.failures E.is_flushed err.old)
+        (seen E.taken E.failures E.is_flushed err.new) result }
 {
     match outcome {
         Ok(()) => 0,

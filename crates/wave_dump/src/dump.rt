@@ -109,7 +109,8 @@ impl Dump {
     ///
     /// Memory ran out.
     pub fn finish(&mut self) -> Result<(), MemoryFull>
-        ensures in_order { OnOk result (IsNonDecreasingBy (λ change. change.tick.0) self.new.changes.items) }
+        ensures in_order { OnOk result
+            (IsNonDecreasingBy (λ change. change.tick.0) self.new.changes.items) }
         ensures shown { self.new.shown ≡ self.old.shown }
     {
         let until = self.shown.span().until;

@@ -111,7 +111,9 @@ fn has_unknown<P: HasRow>(partitions: &[P], ends: &[ChannelEnd]) -> bool
 }
 
 fn has_unknown_end<P: HasRow>(partitions: &[P], channel: &ChannelRow) -> bool
-    ensures { result ≡ list_any (is_unknown_port (map P.row_of partitions.now)) (ends_of (channel_view channel.now)) }
+    ensures { result
+        ≡ list_any (is_unknown_port (map P.row_of partitions.now))
+        (ends_of (channel_view channel.now)) }
 {
     is_unknown_port(partitions, channel.source)
         || has_unknown(partitions, channel.destinations.as_slice())
@@ -120,7 +122,8 @@ fn has_unknown_end<P: HasRow>(partitions: &[P], channel: &ChannelRow) -> bool
 /// Whether an end of a channel is neither a port nor the device.
 #[tactic(auto, using(std::proofs::lemmas::List::drop_more))]
 pub fn has_unknown_port<P: HasRow>(partitions: &[P], channels: &[ChannelRow]) -> bool
-    ensures { result ≡ has_unknown_port (map P.row_of partitions.now) (map channel_view channels.now) }
+    ensures { result
+        ≡ has_unknown_port (map P.row_of partitions.now) (map channel_view channels.now) }
 {
     for channel in channels {
         if has_unknown_end(partitions, channel) {
@@ -158,7 +161,8 @@ fn has_source<P: HasRow>(partitions: &[P], ends: &[ChannelEnd]) -> bool
 
 /// Whether a source is none, or a destination is none.
 fn has_wrong_direction<P: HasRow>(partitions: &[P], channel: &ChannelRow) -> bool
-    ensures { result ≡ has_wrong_direction (map P.row_of partitions.now) (channel_view channel.now) }
+    ensures { result
+        ≡ has_wrong_direction (map P.row_of partitions.now) (channel_view channel.now) }
 {
     is_destination_port(partitions, channel.source)
         || has_source(partitions, channel.destinations.as_slice())
@@ -254,7 +258,8 @@ pub fn has_wrong_ends<P: HasRow>(
     partitions: &[P],
     channels: &[ChannelRow],
 ) -> Result<bool, AllocError>
-    ensures { IfOk result (λ b. b ≡ has_wrong_ends (map P.row_of partitions.now) (map channel_view channels.now)) }
+    ensures { IfOk result
+        (λ b. b ≡ has_wrong_ends (map P.row_of partitions.now) (map channel_view channels.now)) }
 {
     let mut all: Vec<ChannelEnd> = Vec::new(alloc);
     let mut is_any_wrong = false;

@@ -79,7 +79,8 @@ fn offers_less(
 /// The windows from the first on that ends after a tick.
 #[tactic(auto, unfolding(module_meaning::specs::Table::offered))]
 fn not_ended(tick: Ticks, windows: &[WindowRow]) -> &[WindowRow]
-    ensures same { (p low high : ℕ) → tick.0 ≤ low → offered p low high result.now ≡ offered p low high windows.now }
+    ensures same { (p low high : ℕ) → tick.0 ≤ low
+        → offered p low high result.now ≡ offered p low high windows.now }
 {
     let mut rest = windows;
     while let Some((window, others)) = rest.split_first() {
@@ -100,7 +101,9 @@ fn falls_short(
     windows: &[WindowRow],
 ) -> bool
     requires { 0 < partition.now.period }
-    ensures { result ≡ falls_short (frame / partition.now.period) number.0 partition.now.period partition.now.duration windows.now }
+    ensures { result
+        ≡ falls_short (frame / partition.now.period)
+        number.0 partition.now.period partition.now.duration windows.now }
 {
     let period = u64::from(partition.period);
     let duration = u64::from(partition.duration);

@@ -48,7 +48,8 @@ fn is_partition_key(key: &str) -> bool
 }
 
 fn is_port_key(key: &str) -> bool
-    ensures { result ≡ is_one_of (codes "name" ∷ codes "kind" ∷ codes "direction" ∷ codes "words" ∷ []) key.now }
+    ensures { result
+        ≡ is_one_of (codes "name" ∷ codes "kind" ∷ codes "direction" ∷ codes "words" ∷ []) key.now }
 {
     matches!(key, "name" | "kind" | "direction" | "words")
 }

@@ -39,7 +39,8 @@ fn is_outside(low: i64, high: i64, number: i64) -> bool
 /// The kind of a port, if its numbers are within their limits.
 #[tactic(auto, unfolding(module_meaning::specs::TableRules::exceeds_kind))]
 fn kind_row(kind: WrittenKind) -> Option<PortKind>
-    ensures { result ≡ (if exceeds_kind (kind_text kind) then None else Some (kind_row (kind_text kind))) }
+    ensures { result
+        ≡ (if exceeds_kind (kind_text kind) then None else Some (kind_row (kind_text kind))) }
 {
     match kind {
         WrittenKind::Sampling { refresh } => {
@@ -65,7 +66,9 @@ fn kind_row(kind: WrittenKind) -> Option<PortKind>
 /// The row of a port, if its name and numbers are within their limits.
 #[tactic(auto, unfolding(module_meaning::specs::TableRules::exceeds_port))]
 fn port_row(port: &WrittenPort<'_>) -> Option<PortRow>
-    ensures { result ≡ (if exceeds_port (port_text port.now) then None else Some (port_row (port_text port.now))) }
+    ensures { result
+        ≡ (if exceeds_port (port_text port.now) then None else Some
+        (port_row (port_text port.now))) }
 {
     let name = Name::new(port.name.as_bytes())?;
     if is_outside(1, MOST_WORDS as i64, port.words) {
@@ -82,7 +85,9 @@ fn port_row(port: &WrittenPort<'_>) -> Option<PortRow>
 
 #[tactic(auto, using(std::proofs::lemmas::List::drop_more))]
 fn port_rows(alloc: Global, ports: &[WrittenPort<'_>]) -> Result<Vec<PortRow>, TableFault>
-    ensures kept { IfOk result (λ r. (list_any exceeds_port (map port_text ports.now) ≡ false) × (map port_row (map port_text ports.now) ≡ r.items)) }
+    ensures kept { IfOk result
+        (λ r. (list_any exceeds_port (map port_text ports.now) ≡ false)
+        × (map port_row (map port_text ports.now) ≡ r.items)) }
     ensures refused { RefusesLimit result (list_any exceeds_port (map port_text ports.now)) }
 {
     let mut rows = Vec::new(alloc);
@@ -124,7 +129,9 @@ fn partition_row(
     partition: &WrittenPartition<'_>,
 ) -> Result<PartitionRow, TableFault>
     requires { is_outside 1 (pos 16777216) frame ≡ false }
-    ensures kept { IfOk result (λ r. (exceeds_partition frame (partition_text partition.now) ≡ false) × (partition_row (partition_text partition.now) ≡ partition_view r)) }
+    ensures kept { IfOk result
+        (λ r. (exceeds_partition frame (partition_text partition.now) ≡ false)
+        × (partition_row (partition_text partition.now) ≡ partition_view r)) }
     ensures refused { RefusesLimit result (exceeds_partition frame (partition_text partition.now)) }
 {
     let name = Name::new(partition.name.as_bytes()).ok_or(TableFault::Limit)?;
@@ -149,8 +156,11 @@ pub fn partition_rows(
     partitions: &[WrittenPartition<'_>],
 ) -> Result<Vec<PartitionRow>, TableFault>
     requires { is_outside 1 (pos 16777216) frame ≡ false }
-    ensures kept { IfOk result (λ r. (list_any (exceeds_partition frame) (map partition_text partitions.now) ≡ false) × (map partition_row (map partition_text partitions.now) ≡ map partition_view r.items)) }
-    ensures refused { RefusesLimit result (list_any (exceeds_partition frame) (map partition_text partitions.now)) }
+    ensures kept { IfOk result
+        (λ r. (list_any (exceeds_partition frame) (map partition_text partitions.now) ≡ false)
+        × (map partition_row (map partition_text partitions.now) ≡ map partition_view r.items)) }
+    ensures refused { RefusesLimit result
+        (list_any (exceeds_partition frame) (map partition_text partitions.now)) }
 {
     let mut rows = Vec::new(alloc);
     for partition in partitions {

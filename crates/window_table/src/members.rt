@@ -11,7 +11,8 @@ use toml::{Table, Value};
 
 /// The value at a key.
 pub fn member<'a>(table: &'a Table, key: &str) -> Option<&'a Value>
-    ensures { option_map (λ v. value_view v.now) result ≡ get_member key.now (table_view table.now) }
+    ensures { option_map (λ v. value_view v.now) result
+        ≡ get_member key.now (table_view table.now) }
 {
     table.get(key)
 }
@@ -58,7 +59,8 @@ pub fn subtable<'a>(table: &'a Table, key: &str) -> Option<&'a Table>
 
 /// The elements of the array at a key.
 pub fn array<'a>(table: &'a Table, key: &str) -> Option<&'a [Value]>
-    ensures { option_map (λ vs. items_view vs.now) result ≡ array_at key.now (table_view table.now) }
+    ensures { option_map (λ vs. items_view vs.now) result
+        ≡ array_at key.now (table_view table.now) }
 {
     match member(table, key) {
         Some(value) => match value.as_array() {
@@ -71,7 +73,8 @@ pub fn array<'a>(table: &'a Table, key: &str) -> Option<&'a [Value]>
 
 /// The elements of the array at a key that may be absent.
 pub fn optional_array<'a>(table: &'a Table, key: &str) -> Option<&'a [Value]>
-    ensures { option_map (λ vs. items_view vs.now) result ≡ optional_array_at key.now (table_view table.now) }
+    ensures { option_map (λ vs. items_view vs.now) result
+        ≡ optional_array_at key.now (table_view table.now) }
 {
     match member(table, key) {
         Some(value) => match value.as_array() {

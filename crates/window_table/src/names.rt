@@ -86,7 +86,9 @@ fn has_same_channels(channels: &[WrittenChannel<'_>]) -> bool
 
 #[tactic(auto, using(std::proofs::lemmas::List::drop_more))]
 fn has_same_ports_somewhere(partitions: &[WrittenPartition<'_>]) -> bool
-    ensures { result ≡ list_any (λ p. has_twice (λ a b. same a.name b.name) p.ports) (map partition_text partitions.now) }
+    ensures { result
+        ≡ list_any (λ p. has_twice (λ a b. same a.name b.name) p.ports)
+        (map partition_text partitions.now) }
 {
     for partition in partitions {
         if has_same_ports(partition.ports.as_slice()) {
@@ -109,7 +111,8 @@ pub fn has_same_names(table: &WrittenTable<'_>) -> bool
 /// The number of the partition with a name, if there is one.
 #[tactic(auto, using(std::proofs::lemmas::List::drop_more), unfolding(module_meaning::specs::TableRules::number_from))]
 pub fn partition_number(partitions: FewPartitions<'_>, name: &str) -> Option<PartitionId>
-    ensures { option_map (λ n. n.0) result ≡ partition_number (map partition_text partitions.entry.rows.now) name.now }
+    ensures { option_map (λ n. n.0) result
+        ≡ partition_number (map partition_text partitions.entry.rows.now) name.now }
 {
     let mut number: u8 = 1;
     for partition in partitions.rows {
@@ -171,7 +174,9 @@ pub fn channel_end(partitions: FewPartitions<'_>, text: &str) -> Option<ChannelE
 
 #[tactic(auto, using(std::proofs::lemmas::List::drop_more))]
 fn has_unknown_text(partitions: FewPartitions<'_>, texts: &[&str]) -> bool
-    ensures { result ≡ list_any (λ d. is_none (end_of (map partition_text partitions.entry.rows.now) d)) (map (λ d. d.now) texts.now) }
+    ensures { result
+        ≡ list_any (λ d. is_none (end_of (map partition_text partitions.entry.rows.now) d))
+        (map (λ d. d.now) texts.now) }
 {
     for text in texts {
         if channel_end(partitions, text).is_none() {
@@ -182,7 +187,9 @@ fn has_unknown_text(partitions: FewPartitions<'_>, texts: &[&str]) -> bool
 }
 
 fn has_unknown_end(partitions: FewPartitions<'_>, channel: &WrittenChannel<'_>) -> bool
-    ensures { result ≡ has_unknown_end (map partition_text partitions.entry.rows.now) (channel_text channel.now) }
+    ensures { result
+        ≡ has_unknown_end (map partition_text partitions.entry.rows.now)
+        (channel_text channel.now) }
 {
     channel_end(partitions, channel.source).is_none()
         || has_unknown_text(partitions, channel.destinations.as_slice())
@@ -190,7 +197,9 @@ fn has_unknown_end(partitions: FewPartitions<'_>, channel: &WrittenChannel<'_>) 
 
 #[tactic(auto, using(std::proofs::lemmas::List::drop_more))]
 fn has_unknown_ends(partitions: FewPartitions<'_>, channels: &[WrittenChannel<'_>]) -> bool
-    ensures { result ≡ list_any (has_unknown_end (map partition_text partitions.entry.rows.now)) (map channel_text channels.now) }
+    ensures { result
+        ≡ list_any (has_unknown_end (map partition_text partitions.entry.rows.now))
+        (map channel_text channels.now) }
 {
     for channel in channels {
         if has_unknown_end(partitions, channel) {
@@ -202,7 +211,9 @@ fn has_unknown_ends(partitions: FewPartitions<'_>, channels: &[WrittenChannel<'_
 
 #[tactic(auto, using(std::proofs::lemmas::List::drop_more))]
 fn has_unknown_partition(partitions: FewPartitions<'_>, windows: &[WrittenWindow<'_>]) -> bool
-    ensures { result ≡ list_any (is_unknown_window (map partition_text partitions.entry.rows.now)) (map window_text windows.now) }
+    ensures { result
+        ≡ list_any (is_unknown_window (map partition_text partitions.entry.rows.now))
+        (map window_text windows.now) }
 {
     for window in windows {
         if partition_number(partitions, window.partition).is_none() {

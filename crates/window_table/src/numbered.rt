@@ -19,7 +19,10 @@ use std::alloc::Global;
 #[tactic(auto, using(crate::proofs::Orders::lt_true, crate::proofs::Orders::ge_false), unfolding(module_meaning::specs::TableRules::exceeds_window))]
 fn window_end(frame: u32, end: u32, window: &WrittenWindow<'_>) -> Option<u32>
     requires { exceeds_window (window_text window.now) ≡ false }
-    ensures { option_map pos result ≡ (if int_lt window.now.offset (pos end) || int_lt (pos frame) (window.now.offset +ℤ window.now.length) then None else Some (window.now.offset +ℤ window.now.length)) }
+    ensures { option_map pos result
+        ≡ (if int_lt window.now.offset (pos end) || int_lt (pos frame)
+        (window.now.offset +ℤ window.now.length) then None else Some
+        (window.now.offset +ℤ window.now.length)) }
 {
     let frame = i64::from(frame);
     if window.offset < i64::from(end) {
@@ -39,7 +42,13 @@ fn window_end(frame: u32, end: u32, window: &WrittenWindow<'_>) -> Option<u32>
 fn placed_row(window: &WrittenWindow<'_>, end: u32, partition: PartitionId) -> WindowRow
     requires numbers { exceeds_window (window_text window.now) ≡ false }
     requires within { (window.now.offset +ℤ window.now.length) ≡ pos end }
-    ensures { result ≡ record { partition = partition; offset = nat_abs window.now.offset; length = nat_abs window.now.length; release = window.now.release } }
+    ensures { result
+        ≡ record {
+          partition = partition;
+          offset = nat_abs window.now.offset;
+          length = nat_abs window.now.length;
+          release = window.now.release;
+        } }
 {
     WindowRow {
         partition,
@@ -59,9 +68,16 @@ pub fn window_rows(
     windows: &[WrittenWindow<'_>],
 ) -> Result<Vec<WindowRow>, TableFault>
     requires numbers { list_any exceeds_window (map window_text windows.now) ≡ false }
-    requires known { list_any (is_unknown_window (map partition_text partitions.rows.now)) (map window_text windows.now) ≡ false }
-    ensures kept { IfOk result (λ rows. (overlaps_after (pos frame) (pos 0) (map window_text windows.now) ≡ false) × (map (window_row (map partition_text partitions.entry.rows.now)) (map window_text windows.now) ≡ rows.items)) }
-    ensures refused { RefusesOverlap result (overlaps_after (pos frame) (pos 0) (map window_text windows.now)) }
+    requires known { list_any (is_unknown_window (map partition_text partitions.rows.now))
+        (map window_text windows.now)
+        ≡ false }
+    ensures kept { IfOk result
+        (λ rows. (overlaps_after (pos frame) (pos 0) (map window_text windows.now) ≡ false)
+        × (map (window_row (map partition_text partitions.entry.rows.now))
+        (map window_text windows.now)
+        ≡ rows.items)) }
+    ensures refused { RefusesOverlap result
+        (overlaps_after (pos frame) (pos 0) (map window_text windows.now)) }
 {
     let mut rows = Vec::new(alloc);
     let mut end: u32 = 0;
@@ -82,8 +98,11 @@ fn channel_row(
     channel: &WrittenChannel<'_>,
 ) -> Result<ChannelRow, TableFault>
     requires name { exceeds_channel (channel_text channel.now) ≡ false }
-    requires known { has_unknown_end (map partition_text partitions.rows.now) (channel_text channel.now) ≡ false }
-    ensures ok { IfOk result (λ row. channel_view row ≡ channel_row (map partition_text partitions.entry.rows.now) (channel_text channel.now)) }
+    requires known { has_unknown_end (map partition_text partitions.rows.now)
+        (channel_text channel.now) ≡ false }
+    ensures ok { IfOk result
+        (λ row. channel_view row
+        ≡ channel_row (map partition_text partitions.entry.rows.now) (channel_text channel.now)) }
     ensures err { IfErr result (λ e. e ≡ TableFault.Memory) }
 {
     let name = Name::new(channel.name.as_bytes()).ok_or(TableFault::Limit)?;
@@ -110,8 +129,13 @@ pub fn channel_rows(
     channels: &[WrittenChannel<'_>],
 ) -> Result<Vec<ChannelRow>, TableFault>
     requires name { list_any exceeds_channel (map channel_text channels.now) ≡ false }
-    requires known { list_any (has_unknown_end (map partition_text partitions.rows.now)) (map channel_text channels.now) ≡ false }
-    ensures ok { IfOk result (λ rows. map channel_view rows.items ≡ map (channel_row (map partition_text partitions.entry.rows.now)) (map channel_text channels.now)) }
+    requires known { list_any (has_unknown_end (map partition_text partitions.rows.now))
+        (map channel_text channels.now)
+        ≡ false }
+    ensures ok { IfOk result
+        (λ rows. map channel_view rows.items
+        ≡ map (channel_row (map partition_text partitions.entry.rows.now))
+        (map channel_text channels.now)) }
     ensures err { IfErr result (λ e. e ≡ TableFault.Memory) }
 {
     let mut rows = Vec::new(alloc);

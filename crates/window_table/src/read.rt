@@ -23,7 +23,14 @@ use std::alloc::Global;
 /// The rows of the partitions of a text that is within its limits.
 #[tactic(auto, using(crate::proofs::Rules::frame_kept))]
 fn limited(alloc: Global, written: &WrittenTable<'_>) -> Result<Vec<PartitionRow>, TableFault>
-    ensures kept { IfOk result (λ rows. (exceeds_counts (table_text written.now) ≡ false) × (exceeds_rows (table_text written.now) ≡ false) × (list_any (exceeds_partition written.now.frame) (map partition_text written.now.partitions.items) ≡ false) × (map partition_row (map partition_text written.now.partitions.items) ≡ map partition_view rows.items)) }
+    ensures kept { IfOk result
+        (λ rows. (exceeds_counts (table_text written.now) ≡ false)
+        × (exceeds_rows (table_text written.now) ≡ false)
+        × (list_any (exceeds_partition written.now.frame)
+        (map partition_text written.now.partitions.items)
+        ≡ false)
+        × (map partition_row (map partition_text written.now.partitions.items)
+        ≡ map partition_view rows.items)) }
     ensures refused { RefusesLimit result (exceeds_limits (table_text written.now)) }
 {
     if exceeds_counts(written) {
@@ -48,7 +55,9 @@ fn frame_row(frame: i64) -> u32
 #[tactic(auto, using(crate::proofs::Rules::few_partitions, crate::proofs::Rules::few_ports))]
 fn few_partitions<'a>(written: &'a WrittenTable<'a>) -> FewPartitions<'a>
     requires counts { exceeds_counts (table_text written.now) ≡ false }
-    requires limits { list_any (exceeds_partition written.now.frame) (map partition_text written.now.partitions.items) ≡ false }
+    requires limits { list_any (exceeds_partition written.now.frame)
+        (map partition_text written.now.partitions.items)
+        ≡ false }
     ensures { result.rows.now ≡ written.now.partitions.items }
 {
     FewPartitions {
@@ -65,10 +74,16 @@ fn numbered(
 ) -> Result<ModuleTable, TableFault>
     requires counts { exceeds_counts (table_text written.now) ≡ false }
     requires within { exceeds_rows (table_text written.now) ≡ false }
-    requires limits { list_any (exceeds_partition written.now.frame) (map partition_text written.now.partitions.items) ≡ false }
+    requires limits { list_any (exceeds_partition written.now.frame)
+        (map partition_text written.now.partitions.items)
+        ≡ false }
     requires known { has_unknown_name (table_text written.now) ≡ false }
-    requires rows { map partition_row (map partition_text written.now.partitions.items) ≡ map partition_view partitions.items }
-    ensures kept { IfOk result (λ t. (overlaps (table_text written.now) ≡ false) × (numbered (table_text written.now) ≡ table_of t) × (t.partitions.items ≡ partitions.items)) }
+    requires rows { map partition_row (map partition_text written.now.partitions.items)
+        ≡ map partition_view partitions.items }
+    ensures kept { IfOk result
+        (λ t. (overlaps (table_text written.now) ≡ false)
+        × (numbered (table_text written.now) ≡ table_of t)
+        × (t.partitions.items ≡ partitions.items)) }
     ensures refused { RefusesOverlap result (overlaps (table_text written.now)) }
 {
     let rows = few_partitions(written);
@@ -109,9 +124,11 @@ fn broken_rule(
     written: &WrittenTable<'_>,
     table: &ModuleTable,
 ) -> Result<(), TableFault>
-    requires periods { list_any (λ p. p.period == 0) (map partition_view table.now.partitions.items) ≡ false }
+    requires periods { list_any (λ p. p.period == 0) (map partition_view table.now.partitions.items)
+        ≡ false }
     requires placed { overlaps (table_text written.now) ≡ false }
-    ensures { Judges (λ u. table_of table.now) result (judge_table (table_text written.now) (table_of table.now)) }
+    ensures { Judges (λ u. table_of table.now) result
+        (judge_table (table_text written.now) (table_of table.now)) }
 {
     let schedule = &table.schedule;
     let partitions = table.partitions.as_slice();

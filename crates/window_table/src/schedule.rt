@@ -50,7 +50,9 @@ fn until_edge(frame: u32, place: Ticks, edge: u64) -> u64
 /// The same of the two edges of a window, the nearer one.
 fn until_edges(frame: u32, place: Ticks, window: &WindowRow) -> u64
     requires within { place.0 < frame }
-    ensures computed { result ≡ min (until_edge frame place.0 window.now.offset) (until_edge frame place.0 ((window.now.offset + window.now.length) % frame)) }
+    ensures computed { result
+        ≡ min (until_edge frame place.0 window.now.offset)
+        (until_edge frame place.0 ((window.now.offset + window.now.length) % frame)) }
     ensures some { 0 < result }
 {
     let end = (u64::from(window.offset) + u64::from(window.length)) % u64::from(frame);
@@ -71,7 +73,8 @@ fn own_windows(
     windows: &[WindowRow],
     partition: PartitionId,
 ) -> Result<Vec<WindowRow>, AllocError>
-    ensures { IfOk result (λ own. own.items ≡ filter (λ w. w.partition.0 == partition.0) windows.now) }
+    ensures { IfOk result
+        (λ own. own.items ≡ filter (λ w. w.partition.0 == partition.0) windows.now) }
 {
     let mut own = Vec::new(alloc);
     for window in windows {
@@ -107,7 +110,8 @@ impl Schedule {
         alloc: Global,
         partition: PartitionId,
     ) -> Result<Schedule, AllocError>
-        ensures { IfOk result (λ own. schedule_of own ≡ schedule_of_partition partition.0 (schedule_of self.now)) }
+        ensures { IfOk result
+            (λ own. schedule_of own ≡ schedule_of_partition partition.0 (schedule_of self.now)) }
     {
         Ok(Schedule {
             frame: self.frame,
@@ -174,8 +178,11 @@ impl Schedule {
     /// For how many ticks from this one on the owner stays and, behind this one, no window ends; at least one.
     pub fn until_change(&self, moment: Moment) -> u64
         ensures some { 0 < result }
-        ensures owner { (i : ℕ) → i < result → owner (schedule_of self.now) (at_tick moment.at (moment.at.now.0 + i)) ≡ owner (schedule_of self.now) moment.at }
-        ensures ended { (i : ℕ) → 0 < i → i < result → ended (schedule_of self.now) (at_tick moment.at (moment.at.now.0 + i)) ≡ None }
+        ensures owner { (i : ℕ) → i < result
+            → owner (schedule_of self.now) (at_tick moment.at (moment.at.now.0 + i))
+            ≡ owner (schedule_of self.now) moment.at }
+        ensures ended { (i : ℕ) → 0 < i → i < result
+            → ended (schedule_of self.now) (at_tick moment.at (moment.at.now.0 + i)) ≡ None }
     {
         let at = moment.at;
         self.until_next_edge(self.phase(at.now.0 - at.origin.0))
@@ -194,7 +201,8 @@ impl Schedule {
     /// How many ticks after a tick, at most a frame, a release window of a partition starts next.
     #[tactic(auto, using(std::proofs::lemmas::List::drop_more, crate::proofs::Periods::until_first))]
     fn until_release(&self, partition: PartitionId, moment: Moment) -> Ticks
-        ensures computed { result.0 ≡ until_one_of (schedule_of self.now) partition.0 moment.at self.now.windows.items }
+        ensures computed { result.0
+            ≡ until_one_of (schedule_of self.now) partition.0 moment.at self.now.windows.items }
         ensures bound { result.0 ≤ self.now.frame }
     {
         let mut least = Ticks(u64::from(self.frame));
@@ -219,7 +227,8 @@ impl Schedule {
     pub fn next_release(&self, partition: PartitionId, moment: Moment) -> Ticks
         ensures computed { result.0 ≡ next_release (schedule_of self.now) partition.0 moment.at }
         ensures soon { result.0 ≤ LATEST_RELEASE_POINT }
-        ensures least { IsTrue (has_release self.now.windows.items partition.0) → IsNextRelease (schedule_of self.now) partition.0 moment.at result.0 }
+        ensures least { IsTrue (has_release self.now.windows.items partition.0)
+            → IsNextRelease (schedule_of self.now) partition.0 moment.at result.0 }
     {
         self.release_after(partition, moment)
     }

@@ -142,7 +142,8 @@ fn read_port(table: &Table) -> Option<WrittenPort<'_>>
 }
 
 fn read_ports(alloc: Global, values: &[Value]) -> Result<Vec<WrittenPort<'_>>, TableFault>
-    ensures { Reads (λ v. map port_text v.items) result (tables_of port_of (items_view values.now)) }
+    ensures { Reads (λ v. map port_text v.items) result
+        (tables_of port_of (items_view values.now)) }
 {
     let mut ports = Vec::new(alloc);
     for value in values {
@@ -183,7 +184,8 @@ fn read_partition(alloc: Global, table: &Table) -> Result<WrittenPartition<'_>, 
 }
 
 fn read_partitions(alloc: Global, values: &[Value]) -> Result<Vec<WrittenPartition<'_>>, TableFault>
-    ensures { Reads (λ v. map partition_text v.items) result (tables_of partition_of (items_view values.now)) }
+    ensures { Reads (λ v. map partition_text v.items) result
+        (tables_of partition_of (items_view values.now)) }
 {
     let mut partitions = Vec::new(alloc);
     for value in values {
@@ -218,7 +220,8 @@ fn read_window(table: &Table) -> Option<WrittenWindow<'_>>
 }
 
 fn read_windows(alloc: Global, values: &[Value]) -> Result<Vec<WrittenWindow<'_>>, TableFault>
-    ensures { Reads (λ v. map window_text v.items) result (tables_of window_of (items_view values.now)) }
+    ensures { Reads (λ v. map window_text v.items) result
+        (tables_of window_of (items_view values.now)) }
 {
     let mut windows = Vec::new(alloc);
     for value in values {
@@ -269,7 +272,8 @@ fn read_channel(alloc: Global, table: &Table) -> Result<WrittenChannel<'_>, Tabl
 }
 
 fn read_channels(alloc: Global, values: &[Value]) -> Result<Vec<WrittenChannel<'_>>, TableFault>
-    ensures { Reads (λ v. map channel_text v.items) result (tables_of channel_of (items_view values.now)) }
+    ensures { Reads (λ v. map channel_text v.items) result
+        (tables_of channel_of (items_view values.now)) }
 {
     let mut channels = Vec::new(alloc);
     for value in values {

@@ -167,7 +167,8 @@ fn processes_at(
     bytes: &[u8],
 ) -> Result<(Vec<ProcessRow>, &[u8]), ImageFault>
     requires { 0 < unit }
-    ensures { Gives (λ x. (x.0.items, x.1.now)) result (items_at (process_at unit) count [] bytes.now) }
+    ensures { Gives (λ x. (x.0.items, x.1.now)) result
+        (items_at (process_at unit) count [] bytes.now) }
 {
     let mut rows: Vec<ProcessRow> = Vec::new(alloc);
     let mut rest = bytes;
@@ -189,7 +190,8 @@ fn process_list_at(
     bytes: &[u8],
 ) -> Result<(Vec<ProcessRow>, &[u8]), ImageFault>
     requires { 0 < unit }
-    ensures { Gives (λ x. (x.0.items, x.1.now)) result (list_at 0 MOST_PROCESSES (process_at unit) bytes.now) }
+    ensures { Gives (λ x. (x.0.items, x.1.now)) result
+        (list_at 0 MOST_PROCESSES (process_at unit) bytes.now) }
 {
     let (count, rest) = u32_within(bytes, 0, u32::from(MOST_PROCESSES))?;
     processes_at(alloc, unit, count, rest)

@@ -45,7 +45,8 @@ fn channel_name_at<'a>(
     before: &[ChannelRow],
     bytes: &'a [u8],
 ) -> Result<(Name, &'a [u8]), ImageFault>
-    ensures { Gives (λ x. (x.0, x.1.now)) result (fresh_name_at (is_channel (channels_of before.now)) bytes.now) }
+    ensures { Gives (λ x. (x.0, x.1.now)) result
+        (fresh_name_at (is_channel (channels_of before.now)) bytes.now) }
 {
     match name_at(bytes) {
         Ok((name, _)) if is_channel(before, &name) => Err(ImageFault::Order),
@@ -59,7 +60,8 @@ fn channel_at<'a>(
     before: &[ChannelRow],
     bytes: &'a [u8],
 ) -> Result<(ChannelRow, &'a [u8]), ImageFault>
-    ensures { Gives (λ x. (channel_of x.0, x.1.now)) result (channel_at (channels_of before.now) bytes.now) }
+    ensures { Gives (λ x. (channel_of x.0, x.1.now)) result
+        (channel_at (channels_of before.now) bytes.now) }
 {
     let (name, rest) = match channel_name_at(before, bytes) {
         Ok(found) => found,
@@ -80,7 +82,8 @@ fn channels_at(
     count: u32,
     bytes: &[u8],
 ) -> Result<(Vec<ChannelRow>, &[u8]), ImageFault>
-    ensures { Gives (λ x. (channels_of x.0.items, x.1.now)) result (items_at channel_at count [] bytes.now) }
+    ensures { Gives (λ x. (channels_of x.0.items, x.1.now)) result
+        (items_at channel_at count [] bytes.now) }
 {
     let mut rows: Vec<ChannelRow> = Vec::new(alloc);
     let mut rest = bytes;
@@ -98,7 +101,8 @@ fn channels_at(
 /// The channels.
 #[tactic(auto, unfolding(machine_meaning::specs::ImageReading::list_at))]
 pub fn channel_list_at(alloc: Global, bytes: &[u8]) -> Result<(Vec<ChannelRow>, &[u8]), ImageFault>
-    ensures { Gives (λ x. (channels_of x.0.items, x.1.now)) result (list_at 0 MOST_CHANNELS channel_at bytes.now) }
+    ensures { Gives (λ x. (channels_of x.0.items, x.1.now)) result
+        (list_at 0 MOST_CHANNELS channel_at bytes.now) }
 {
     let (count, rest) = u32_within(bytes, 0, MOST_CHANNELS as u32)?;
     channels_at(alloc, count, rest)

@@ -47,7 +47,8 @@ fn item_at<'a>(
     before: &[PartitionItem],
     bytes: &'a [u8],
 ) -> Result<(PartitionItem, &'a [u8]), ImageFault>
-    ensures { Gives (λ x. (item_of x.0, x.1.now)) result (item_at frame (items_of before.now) bytes.now) }
+    ensures { Gives (λ x. (item_of x.0, x.1.now)) result
+        (item_at frame (items_of before.now) bytes.now) }
 {
     let (row, rest) = match partition_at(alloc, frame, before, bytes) {
         Ok(found) => found,
@@ -63,7 +64,8 @@ fn items_at(
     count: u32,
     bytes: &[u8],
 ) -> Result<(Vec<PartitionItem>, &[u8]), ImageFault>
-    ensures { Gives (λ x. (items_of x.0.items, x.1.now)) result (items_at (item_at frame) count [] bytes.now) }
+    ensures { Gives (λ x. (items_of x.0.items, x.1.now)) result
+        (items_at (item_at frame) count [] bytes.now) }
 {
     let mut items: Vec<PartitionItem> = Vec::new(alloc);
     let mut rest = bytes;
@@ -85,7 +87,8 @@ pub fn item_list_at(
     frame: u32,
     bytes: &[u8],
 ) -> Result<(Vec<PartitionItem>, &[u8]), ImageFault>
-    ensures { Gives (λ x. (items_of x.0.items, x.1.now)) result (list_at 1 MOST_PARTITIONS (item_at frame) bytes.now) }
+    ensures { Gives (λ x. (items_of x.0.items, x.1.now)) result
+        (list_at 1 MOST_PARTITIONS (item_at frame) bytes.now) }
 {
     let (count, rest) = u32_within(bytes, 1, MOST_PARTITIONS as u32)?;
     items_at(alloc, frame, count, rest)

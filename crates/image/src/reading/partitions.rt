@@ -122,7 +122,8 @@ fn partition_name_at<'a>(
     before: &[PartitionItem],
     bytes: &'a [u8],
 ) -> Result<(Name, &'a [u8]), ImageFault>
-    ensures { Gives (λ x. (x.0, x.1.now)) result (fresh_name_at (is_partition (items_of before.now)) bytes.now) }
+    ensures { Gives (λ x. (x.0, x.1.now)) result
+        (fresh_name_at (is_partition (items_of before.now)) bytes.now) }
 {
     match name_at(bytes) {
         Ok((name, _)) if is_partition(before, &name) => Err(ImageFault::Order),
@@ -139,7 +140,8 @@ pub fn partition_at<'a>(
     bytes: &'a [u8],
 ) -> Result<(PartitionRow, &'a [u8]), ImageFault>
     ensures period { IfOk result (λ x. 0 < x.0.period) }
-    ensures exact { Gives (λ x. (partition_of x.0, x.1.now)) result (partition_at frame (items_of before.now) bytes.now) }
+    ensures exact { Gives (λ x. (partition_of x.0, x.1.now)) result
+        (partition_at frame (items_of before.now) bytes.now) }
 {
     let (name, rest) = match partition_name_at(before, bytes) {
         Ok(found) => found,

@@ -117,7 +117,8 @@ fn put_handler(out: &mut Vec<u8>, row: Option<BodyRow>) -> Result<(), AllocError
 
 #[tactic(auto, unfolding(machine_meaning::specs::ImageSpelling::objects))]
 fn put_objects(out: &mut Vec<u8>, source: &Section) -> Result<(), AllocError>
-    ensures { OnOk result (out.new.items ≡ out.old.items ++ objects (objects_in (section_of source.now))) }
+    ensures { OnOk result
+        (out.new.items ≡ out.old.items ++ objects (objects_in (section_of source.now))) }
 {
     put_list(out, &source.initial)?;
     put_list(out, &source.semaphores)?;
@@ -128,7 +129,8 @@ fn put_objects(out: &mut Vec<u8>, source: &Section) -> Result<(), AllocError>
 
 #[tactic(auto, unfolding(machine_meaning::specs::ImageSpelling::bodies))]
 fn put_bodies(out: &mut Vec<u8>, source: &Section) -> Result<(), AllocError>
-    ensures { OnOk result (out.new.items ≡ out.old.items ++ bodies (bodies_in (section_of source.now))) }
+    ensures { OnOk result
+        (out.new.items ≡ out.old.items ++ bodies (bodies_in (section_of source.now))) }
 {
     put_list(out, &source.routines)?;
     put_list(out, &source.processes)?;

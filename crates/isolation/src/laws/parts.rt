@@ -20,18 +20,32 @@ ghost use Rattle.isolation.specs.SourceSlices.{source_inputs, source_slice, sour
 /// What the trace of an image shows of a partition is the trace of that partition alone, from its
 /// slice of the image and from what the run brings to it: whatever code the others run.
 pub fn part_is_alone()
-    ensures { (image : Image) (text : List ℕ) (lines : List DeviceLine) (p : ℕ) (s : Slice) (n : ℕ) → IsLawful image → verdict_for image text ≡ Ok lines → slice image p ≡ Some s → part s.item.partition.name (machine_trace image lines n) ≡ slice_trace s (machine_inputs image p lines n) n }
+    ensures { (image : Image) (text : List ℕ) (lines : List DeviceLine) (p : ℕ) (s : Slice) (n : ℕ)
+        → IsLawful image → verdict_for image text ≡ Ok lines → slice image p ≡ Some s
+        → part s.item.partition.name (machine_trace image lines n)
+        ≡ slice_trace s (machine_inputs image p lines n) n }
 {}
 
 /// Two modules that agree in a partition's slice, and bring it the same inputs, give it the same
 /// trace.
 pub fn same_slice_same_part()
-    ensures { (one other : Image) (text words : List ℕ) (lines others : List DeviceLine) (p : ℕ) (s : Slice) (n : ℕ) → IsLawful one → IsLawful other → verdict_for one text ≡ Ok lines → verdict_for other words ≡ Ok others → slice one p ≡ Some s → slice other p ≡ Some s → machine_inputs one p lines n ≡ machine_inputs other p others n → part s.item.partition.name (machine_trace one lines n) ≡ part s.item.partition.name (machine_trace other others n) }
+    ensures { (one other : Image) (text words : List ℕ) (lines others : List DeviceLine) (p : ℕ)
+        (s : Slice) (n : ℕ)
+        → IsLawful one → IsLawful other → verdict_for one text ≡ Ok lines
+        → verdict_for other words ≡ Ok others → slice one p ≡ Some s → slice other p ≡ Some s
+        → machine_inputs one p lines n ≡ machine_inputs other p others n
+        → part s.item.partition.name (machine_trace one lines n)
+        ≡ part s.item.partition.name (machine_trace other others n) }
 {}
 
 /// The same for the meaning of sources: what it shows of a partition depends on the partition's own
 /// row and program, on what surrounds it, and on what comes to it.
 pub fn source_part_is_alone()
-    ensures { (ms : Members) (t : Table) (sources : List Program) (text : List ℕ) (lines : List DeviceLine) (p : ℕ) (row : Partition) (program : Program) (n : ℕ) → verdict ms ≡ Ok t → device_verdict t.partitions t.channels text ≡ Ok lines → at_number t.partitions p ≡ Some row → at_number sources p ≡ Some program
-        → part row.name (source_trace t sources lines n) ≡ source_slice_trace (source_slice t sources p row program) (source_inputs t sources p lines n) n }
+    ensures { (ms : Members) (t : Table) (sources : List Program) (text : List ℕ)
+        (lines : List DeviceLine) (p : ℕ) (row : Partition) (program : Program) (n : ℕ)
+        → verdict ms ≡ Ok t → device_verdict t.partitions t.channels text ≡ Ok lines
+        → at_number t.partitions p ≡ Some row → at_number sources p ≡ Some program
+        → part row.name (source_trace t sources lines n)
+        ≡ source_slice_trace (source_slice t sources p row program)
+        (source_inputs t sources p lines n) n }
 {}

@@ -3,15 +3,15 @@
 ghost use Rattle.apex_types.specs.Room.{HasRoom};
 
 use apex_types::{
-    Action, ArrayPlace, BodyRow, ErrorKind, ErrorLevel, Event, HealthTable, Mode, Name, Out,
-    PartitionAction, Priority, ProcessIndex, ProcessRow, Response, Runner, Ticks, WaitingError,
-    Words, WriterSink, write_event,
+    Action, ArrayPlace, At, BodyRow, ErrorKind, ErrorLevel, Event, HealthTable, Mode, Moment, Name,
+    Out, PartitionAction, Priority, ProcessIndex, ProcessRow, Response, Runner, Ticks,
+    WaitingError, Words, WriterSink, write_event,
 };
 use health::{
     Errors, action_of, create_error_handler, free_places, get_error_status, handler_stays,
     is_message_length, level_of, report_application_message, start_handler,
 };
-use process_table_base::{ProcessRows, ProcessTable};
+use process_table_base::{Handed, ProcessRows, ProcessTable, Request};
 use std::alloc::Global;
 use std::process::Abort;
 
@@ -66,8 +66,21 @@ fn with_handler(rt: &impl Abort, alloc: Global, out: &mut Out) -> ProcessTable
 {
     let mut table = table(rt, alloc);
     let errors = no_errors(rt, alloc);
-    create_error_handler(&mut table, &errors, Mode::ColdStart, Runner::Init, out);
+    create_error_handler(&mut table, &errors, request(Runner::Init), out);
     table
+}
+
+/// A call in the first tick of a cold start.
+fn request(caller: Runner) -> Request {
+    let at = At {
+        now: Ticks(0),
+        origin: Ticks(0),
+    };
+    Request {
+        caller,
+        moment: Moment { at },
+        mode: Mode::ColdStart,
+    }
 }
 
 fn words(first: i64, second: i64) -> Words {
@@ -195,7 +208,13 @@ fn an_error_is_taken(rt: HostRuntime) {
     let mut errors = errors(&rt, rt.alloc(), 2);
     let array = ArrayPlace { base: 4, size: 16 };
     let mut out = Out::new();
-    get_error_status(&table, &mut errors, Runner::Handler, array, &mut out);
+    get_error_status(
+        &table,
+        &mut errors,
+        request(Runner::Handler),
+        array,
+        &mut out,
+    );
     let line = "0000000000003 a RET HANDLER GET_ERROR_STATUS 0\n";
     expect_line(&rt, rt.alloc(), &mut out, line);
     expect_words(&rt, &mut out, 4, &[7, -8]);
@@ -209,7 +228,13 @@ fn cleared_errors_are_gone(rt: HostRuntime) {
     errors.clear();
     let array = ArrayPlace { base: 4, size: 16 };
     let mut out = Out::new();
-    get_error_status(&table, &mut errors, Runner::Handler, array, &mut out);
+    get_error_status(
+        &table,
+        &mut errors,
+        request(Runner::Handler),
+        array,
+        &mut out,
+    );
     expect_answer(&rt, &mut out, &[1, 0, 0, 0]);
 }
 
@@ -226,9 +251,13 @@ fn errors_are_handled(rt: HostRuntime) {
 #[test]
 fn a_message_is_reported(rt: HostRuntime) {
     let table = table(&rt, rt.alloc());
-    let array = ArrayPlace { base: 0, size: 2 };
+    let words = words(5, 6);
+    let handed = Handed {
+        array: ArrayPlace { base: 0, size: 2 },
+        length: 1,
+    };
     let mut out = Out::new();
-    report_application_message(&table, PROCESS, array, 1, words(5, 6), &mut out);
+    report_application_message(&table, request(PROCESS), handed, &words, &mut out);
     expect_line(&rt, rt.alloc(), &mut out, "0000000000003 a REPORT p 5\n");
 }
 

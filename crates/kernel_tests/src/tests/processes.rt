@@ -2,9 +2,10 @@
 //! anything.
 
 use apex_types::{
-    At, BodyRow, Mode, Moment, Name, Out, Priority, ProcessIndex, ProcessRow, Runner, Ticks,
+    At, BodyRow, Mode, Moment, Name, Out, Priority, ProcessIndex, ProcessRow, Runner, Subject,
+    Ticks,
 };
-use process_table_base::{Points, ProcessRows, ProcessTable};
+use process_table_base::{Points, ProcessRows, ProcessTable, name_of};
 use std::alloc::Global;
 use std::process::Abort;
 
@@ -39,7 +40,26 @@ fn start(table: &mut ProcessTable) {
         moment,
         next: Ticks(40),
     };
-    table.start(Mode::Normal, points, PROCESS, Ticks(0), &mut Out::new());
+    if let Some(process) = table.found(PROCESS) {
+        table.start(Mode::Normal, points, &process, Ticks(0), &mut Out::new());
+    }
+}
+
+#[test]
+fn someone_is_found_with_its_name(rt: HostRuntime) {
+    let table = table(&rt, rt.alloc());
+    assert!(rt; table.process_at(0).is_none());
+    assert!(rt; table.process_at(2).is_none());
+    match table.process_at(1) {
+        Some(found) => {
+            assert_eq!(rt; found.runner, PROCESS);
+            assert!(rt; !found.row.created);
+            assert_eq!(rt; Some(found.name()), Name::new(b"p").map(Subject::Process));
+        }
+        None => panic!(rt; "no process"),
+    }
+    assert_eq!(rt; name_of(&table.found(Runner::Handler)), Subject::Handler);
+    assert_eq!(rt; name_of(&table.numbered(ProcessIndex(1))), Subject::Init);
 }
 
 #[test]

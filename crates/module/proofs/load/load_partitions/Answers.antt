@@ -7,7 +7,7 @@ use Rattle.machine_meaning.specs.MachineMeaning.{machine_member, machine_members
 use Rattle.image.specs.Items.{item_of, items_of, partition_of, section_of}
 use Rattle.image.specs.declared.item.PartitionItem.{PartitionItem}
 use Rattle.partition.specs.Members.{member_of}
-use Rattle.partition_base.specs.contracts.machine.MachineExecutor.TheImpl.{ghosts as machine}
+use Rattle.partition_base.specs.contracts.machine.PartitionProcessorExecutor.TheImpl.{ghosts as machine}
 use Rattle.window_table.specs.Schedules.{schedule_of}
 use Rattle.lone_partition.specs.Loading.{fresh_item}
 use Rattle.module.specs.Members.{members_of, AreFitting}

@@ -1,7 +1,7 @@
 use Rattle.std.proofs.Common.{◌≡◌, ◌+◌, ◌++◌, drop, length, map, take}
 use Rattle.machine_meaning.specs.MachineMeaning.{machine_members}
 use Rattle.image.specs.Items.{items_of}
-use Rattle.partition_base.specs.contracts.machine.MachineExecutor.TheImpl.{ghosts as machine}
+use Rattle.partition_base.specs.contracts.machine.PartitionProcessorExecutor.TheImpl.{ghosts as machine}
 use Rattle.window_table.specs.Schedules.{schedule_of}
 use Rattle.lone_partition.specs.Loading.{fresh_item}
 use Rattle.module.specs.Members.{members_of, AreFitting}

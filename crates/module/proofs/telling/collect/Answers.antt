@@ -7,7 +7,7 @@ use Rattle.isolation.specs.Slices.{machine_inputs}
 use Rattle.isolation.specs.declared.input.InputLine.{InputLine}
 use Rattle.machine_meaning.specs.MachineControl.{MachineControl}
 use Rattle.image.specs.declared.value.Image as code
-use Rattle.partition_base.specs.contracts.machine.MachineExecutor.TheImpl.{ghosts as machine}
+use Rattle.partition_base.specs.contracts.machine.PartitionProcessorExecutor.TheImpl.{ghosts as machine}
 use Rattle.module.specs.Collecting.{brought_next, brought_of}
 use Rattle.module.specs.Standing.{Standing, after, ticks}
 use Rattle.module.specs.Views.{members_in, plan_of, standing_of}

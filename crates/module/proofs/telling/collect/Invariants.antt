@@ -3,7 +3,7 @@ use Rattle.apex_types.specs.declared.limits.TheConstants.{MOST_TICKS}
 use Rattle.machine_meaning.specs.MachineMeaning.{machine_module}
 use Rattle.image.specs.Views.{image_of}
 use Rattle.isolation.specs.Slices.{machine_inputs}
-use Rattle.partition_base.specs.contracts.machine.MachineExecutor.TheImpl.{ghosts as machine}
+use Rattle.partition_base.specs.contracts.machine.PartitionProcessorExecutor.TheImpl.{ghosts as machine}
 use Rattle.module.specs.Collecting.{brought_of}
 use Rattle.module.specs.Views.{standing_of}
 use Rattle.module.specs.Written.{AreFrom}

@@ -15,4 +15,4 @@ returns-clause-step c =
     let found : queuing c.args.ports.now c.args.id ≡ Some (c.in-Some.place, x) = search rules in
     let created : x.created ≡ true = search rules in
     let step = c.tell_status.ensures.step in
-    subst (λ t. IsMade t b c.args.out.now c.tell_status.new.out) (sym (told b c.args.caller c.args.id c.in-Some.place x found created)) (refl, step.0, step.1)
+    subst (λ t. IsMade t b c.args.out.now c.tell_status.new.out) (sym (told b c.args.request.caller c.args.id c.in-Some.place x found created)) (refl, step.0, step.1)

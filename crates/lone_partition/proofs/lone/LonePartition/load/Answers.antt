@@ -8,7 +8,7 @@ use Rattle.image.specs.Views.{image_of}
 use Rattle.isolation.specs.Surrounded.{surroundings_of}
 use Rattle.partition.specs.Members.{member_of}
 use Rattle.partition.specs.View.{fixed_of as view}
-use Rattle.partition_base.specs.contracts.machine.MachineExecutor.TheImpl.{ghosts as machine}
+use Rattle.partition_base.specs.contracts.machine.PartitionProcessorExecutor.TheImpl.{ghosts as machine}
 use Rattle.regions.specs.Space.{Space}
 use Rattle.lone_partition.specs.Around.{around}
 use Rattle.lone_partition.specs.Only.{only_part}

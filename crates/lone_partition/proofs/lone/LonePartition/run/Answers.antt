@@ -1,7 +1,7 @@
 use Rattle.std.proofs.Common.{sym, subst}
 use Rattle.isolation.specs.Alone.{trace_alone}
 use Rattle.partition.specs.Members.{member_of}
-use Rattle.partition_base.specs.contracts.machine.MachineExecutor.TheImpl.{ghosts as machine}
+use Rattle.partition_base.specs.contracts.machine.PartitionProcessorExecutor.TheImpl.{ghosts as machine}
 use Rattle.regions.specs.Space.{Space}
 use Rattle.lone_partition.specs.Around.{around}
 use Rattle.lone_partition.specs.Written.{AreWritten}

@@ -1,5 +1,5 @@
 use Rattle.std.proofs.Common.{◌≡◌, true, false, ap, subst, rules}
-use Rattle.partition_base.specs.contracts.machine.MachineExecutor.TheImpl.{ghosts as executor}
+use Rattle.partition_base.specs.contracts.machine.PartitionProcessorExecutor.TheImpl.{ghosts as executor}
 use Rattle.lone_partition.specs.Outputs.{sent_of}
 use Rattle.lone_partition.specs.Sent.{Sent}
 use Rattle.module.specs.Pieces.{IsBrokenOff}
