@@ -11,3 +11,4 @@ pub mod ServiceCalls
 pub mod ServiceShape
 pub mod Sink
 pub mod StoredName
+pub mod Versions

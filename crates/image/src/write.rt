@@ -9,8 +9,10 @@ ghost use Rattle.image.specs.declared.fault.ImageFault.TheVariants.{Memory};
 use crate::fault::ImageFault;
 use crate::item::PartitionItem;
 use crate::value::Image;
+use crate::writing::costs::put_own_fields;
 use crate::writing::numbers::number_of_module_action;
 use crate::writing::rows::put_list;
+use apex_types::MAGIC;
 use std::alloc::{AllocError, Global};
 use window_table::ChannelRow;
 
@@ -18,11 +20,11 @@ use window_table::ChannelRow;
 fn put_head(out: &mut Vec<u8>, image: &Image) -> Result<(), AllocError>
     ensures { OnOk result (out.new.items ≡ out.old.items ++ head (image_of image.now)) }
 {
-    out.extend_from_slice(b"AP653IMG".as_slice())?;
-    out.extend_from_slice(&1u16.to_le_bytes())?;
+    out.extend_from_slice(MAGIC.as_slice())?;
+    out.extend_from_slice(&image.version.number().to_le_bytes())?;
     out.extend_from_slice(&image.schedule.frame.to_le_bytes())?;
     out.push(number_of_module_action(image.fault))?;
-    Ok(())
+    put_own_fields(out, image.version)
 }
 
 #[tactic(auto, using(crate::proofs::Lists::items_spelled))]

@@ -4,6 +4,7 @@ pub mod ImageNumbers
 pub mod ImageNames
 pub mod ImageLists
 pub mod ImageChoices
+pub mod ImageCosts
 pub mod ImageObjects
 pub mod ImageBodies
 pub mod ImageTables

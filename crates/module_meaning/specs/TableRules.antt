@@ -1,9 +1,12 @@
 -- What the text of a module table says, and the rules that it has to keep. A text is a TOML document whose keys are those of a module
 -- table, each with a value of its type. The verdict on it is its table, or the first rule that it breaks.
-use Rattle.std.specs.Prelude.{ℕ, ℤ, codes, eqb, Bool, true, false, ◌&&◌, ◌||◌, is_some, if◌then◌else◌, List, [], ◌∷◌, Option, Some, None, ◌+◌, ◌^◌, pos, ◌+ℤ◌, nat_abs, not, nat_lt, int_lt, is_none, ◌++◌, length, map, unwrap_or, Result, Ok, Err}
+use Rattle.std.specs.Prelude.{ℕ, ℤ, codes, eqb, Bool, true, false, ◌&&◌, ◌||◌, is_some, if◌then◌else◌, List, [], ◌∷◌, Option, Some, None, ◌+◌, ◌^◌, pos, refl, ◌+ℤ◌, nat_abs, not, nat_lt, int_lt, is_none, ◌++◌, length, map, unwrap_or, Result, Ok, Err}
 use Rattle.std.specs.Cmp.Lexicographic.{pointwise}
 use Rattle.toml.specs.Data.{Items, no_items, item, Members, no_members, member, get_member, as_str, as_integer, as_bool, as_array, as_table}
-use Rattle.apex_types.specs.declared.limits.TheConstants.{MOST_CHANNELS, MOST_DEPTH, MOST_DESTINATIONS, MOST_FRAME_TICKS, MOST_PARTITIONS, MOST_PORTS, MOST_TICKS, MOST_WINDOWS, MOST_WORDS}
+use Rattle.apex_types.specs.Costs.{cost_of_ticks, ticks, written_costs}
+use Rattle.apex_types.specs.declared.cost.TickCost.{TickCost}
+use Rattle.apex_types.specs.declared.cost.Costs.{Costs}
+use Rattle.apex_types.specs.declared.limits.TheConstants.{MOST_CHANNELS, MOST_COST, MOST_DEPTH, MOST_DESTINATIONS, MOST_FRAME_TICKS, MOST_PARTITIONS, MOST_PORTS, MOST_TICKS, MOST_WINDOWS, MOST_WORDS}
 use Rattle.apex_types.specs.declared.codes.Discipline.{Discipline}
 use Rattle.apex_types.specs.declared.codes.Discipline.TheVariants as orders
 use Rattle.apex_types.specs.declared.codes.ModuleAction.{ModuleAction}
@@ -57,10 +60,29 @@ pub record ChannelText : Type 0 where
   pub source : List ℕ
   pub destinations : List (List ℕ)
 
--- no action on a module fault where the text's is not a known one
+-- what constructs cost, each key with its number
+pub record CostsText : Type 0 where
+  pub literal : ℤ
+  pub scalar : ℤ
+  pub array : ℤ
+  pub add : ℤ
+  pub mul : ℤ
+  pub div : ℤ
+  pub logic : ℤ
+  pub branch : ℤ
+  pub jump : ℤ
+  pub call : ℤ
+  pub ret : ℤ
+  pub create : ℤ
+  pub message : ℤ
+  pub service : ℤ
+  pub end : ℤ
+
+-- no action on a module fault where the text's is not a known one; no costs where the text writes none
 pub record TableText : Type 0 where
   pub frame : ℤ
   pub fault : Option ModuleAction
+  pub costs : Option CostsText
   pub partitions : List PartitionText
   pub windows : List WindowText
   pub channels : List ChannelText
@@ -101,6 +123,10 @@ table_at key ms = get_member key ms >>= as_table
 
 abbrev pub array_at : List ℕ → Members → Option Items
 array_at key ms = get_member key ms >>= as_array
+
+-- the table at a key that may be absent
+abbrev pub optional_table_at : List ℕ → Members → Option (Option Members)
+optional_table_at key ms = elim (get_member key ms) [ None ↦ Some None | Some d ↦ as_table d >>= λ t. Some (Some t) ]
 
 -- the array at a key that may be absent
 abbrev pub optional_array_at : List ℕ → Members → Option Items
@@ -224,18 +250,48 @@ channel_of ms = do
   destinations ← array_at (codes "destinations") ms >>= texts_of
   if has_only is_channel_key ms then Some (record { name = name; source = source; destinations = destinations }) else None
 
+-- Costs: exactly the fifteen keys.
+
+abbrev pub is_cost_key : List ℕ → Bool
+is_cost_key = is_one_of (codes "literal" ∷ codes "scalar" ∷ codes "array" ∷ codes "add" ∷ codes "mul" ∷ codes "div" ∷ codes "logic" ∷ codes "branch" ∷ codes "jump" ∷ codes "call" ∷ codes "return" ∷ codes "create" ∷ codes "message" ∷ codes "service" ∷ codes "end" ∷ [])
+
+unfoldable pub costs_of : Members → Option CostsText
+costs_of ms = do
+  literal ← integer_at (codes "literal") ms
+  scalar ← integer_at (codes "scalar") ms
+  array ← integer_at (codes "array") ms
+  add ← integer_at (codes "add") ms
+  mul ← integer_at (codes "mul") ms
+  div ← integer_at (codes "div") ms
+  logic ← integer_at (codes "logic") ms
+  branch ← integer_at (codes "branch") ms
+  jump ← integer_at (codes "jump") ms
+  call ← integer_at (codes "call") ms
+  ret ← integer_at (codes "return") ms
+  create ← integer_at (codes "create") ms
+  message ← integer_at (codes "message") ms
+  service ← integer_at (codes "service") ms
+  end ← integer_at (codes "end") ms
+  if has_only is_cost_key ms then Some (record { literal = literal; scalar = scalar; array = array; add = add; mul = mul; div = div; logic = logic; branch = branch; jump = jump; call = call; ret = ret; create = create; message = message; service = service; end = end }) else None
+
+-- the costs at a key that may be absent
+abbrev pub optional_costs : Option Members → Option (Option CostsText)
+optional_costs None = Some None
+optional_costs (Some ms) = costs_of ms >>= λ costs. Some (Some costs)
+
 abbrev pub is_table_key : List ℕ → Bool
-is_table_key = is_one_of (codes "frame" ∷ codes "fault" ∷ codes "partition" ∷ codes "window" ∷ codes "channel" ∷ [])
+is_table_key = is_one_of (codes "frame" ∷ codes "fault" ∷ codes "cost" ∷ codes "partition" ∷ codes "window" ∷ codes "channel" ∷ [])
 
 -- what a document says, if its keys, types and words are those of a module table
 unfoldable pub table_text_of : Members → Option TableText
 table_text_of ms = do
   frame ← integer_at (codes "frame") ms
   fault ← text_at (codes "fault") ms
+  costs ← optional_table_at (codes "cost") ms >>= optional_costs
   partitions ← array_at (codes "partition") ms >>= tables_of partition_of
   windows ← array_at (codes "window") ms >>= tables_of window_of
   channels ← optional_array_at (codes "channel") ms >>= tables_of channel_of
-  if has_only is_table_key ms then Some (record { frame = frame; fault = module_action_of fault; partitions = partitions; windows = windows; channels = channels }) else None
+  if has_only is_table_key ms then Some (record { frame = frame; fault = module_action_of fault; costs = costs; partitions = partitions; windows = windows; channels = channels }) else None
 
 -- The rules that a module table keeps, in the order in which they are asked, and its verdict: the
 -- table itself, or the first rule that it breaks.
@@ -287,8 +343,16 @@ unfoldable pub exceeds_counts : TableText → Bool
 exceeds_counts t =
     is_outside 1 (pos MOST_FRAME_TICKS) t.frame || is_count_outside 1 MOST_PARTITIONS t.partitions || is_count_outside 1 MOST_WINDOWS t.windows || is_count_outside 0 MOST_CHANNELS t.channels
 
+-- one of the fifteen costs
+unfoldable pub exceeds_costs : CostsText → Bool
+exceeds_costs c = list_any (is_outside 1 (pos MOST_COST)) (c.literal ∷ c.scalar ∷ c.array ∷ c.add ∷ c.mul ∷ c.div ∷ c.logic ∷ c.branch ∷ c.jump ∷ c.call ∷ c.ret ∷ c.create ∷ c.message ∷ c.service ∷ c.end ∷ [])
+
+abbrev pub has_costs_outside : Option CostsText → Bool
+has_costs_outside None = false
+has_costs_outside (Some costs) = exceeds_costs costs
+
 unfoldable pub exceeds_rows : TableText → Bool
-exceeds_rows t = list_any exceeds_window t.windows || list_any exceeds_channel t.channels
+exceeds_rows t = has_costs_outside t.costs || list_any exceeds_window t.windows || list_any exceeds_channel t.channels
 
 abbrev pub exceeds_limits : TableText → Bool
 exceeds_limits t = exceeds_counts t || exceeds_rows t || list_any (exceeds_partition t.frame) t.partitions
@@ -355,8 +419,20 @@ port_row p = record { name = p.name; kind = kind_row p.kind; direction = p.direc
 abbrev pub partition_row : PartitionText → Partition
 partition_row p = record { name = p.name; period = nat_abs p.period; duration = nat_abs p.duration; health = unwrap_or p.health all_ignored; ports = map port_row p.ports }
 
+-- a number outside the limits of a cost is one tick until its rule refuses it
+abbrev pub cost_row : ℤ → TickCost
+cost_row z = unwrap_or (cost_of_ticks (nat_abs z)) (ticks 1 refl)
+
+unfoldable pub costs_row : CostsText → Costs
+costs_row c = record { literal = cost_row c.literal; scalar = cost_row c.scalar; array = cost_row c.array; add = cost_row c.add; mul = cost_row c.mul; div = cost_row c.div; logic = cost_row c.logic; branch = cost_row c.branch; jump = cost_row c.jump; call = cost_row c.call; ret = cost_row c.ret; create = cost_row c.create; message = cost_row c.message; service = cost_row c.service; end = cost_row c.end }
+
+-- A table that writes no costs has those that are written of Pal.
+abbrev pub costs_or_written : Option CostsText → Costs
+costs_or_written None = written_costs
+costs_or_written (Some c) = costs_row c
+
 unfoldable pub numbered : TableText → Table
-numbered t = record { schedule = record { frame = nat_abs t.frame; windows = map (window_row t.partitions) t.windows }; fault = unwrap_or t.fault module_action.Ignore; partitions = map partition_row t.partitions; channels = map (channel_row t.partitions) t.channels }
+numbered t = record { schedule = record { frame = nat_abs t.frame; windows = map (window_row t.partitions) t.windows }; fault = unwrap_or t.fault module_action.Ignore; costs = costs_or_written t.costs; partitions = map partition_row t.partitions; channels = map (channel_row t.partitions) t.channels }
 
 -- Overlap: a window that begins before the end of the window before it in the text, or ends past
 -- the frame.

@@ -1,5 +1,4 @@
 use Rattle.std.proofs.Common.{◌≡◌, ◌∷◌, length, map, ap, sym, ◌∙◌}
-use Rattle.apex_types.specs.Costs.{written_costs}
 use Rattle.engine_meaning.specs.Engine.{body_at, or_init}
 use Rattle.machine_meaning.specs.Instructions.{reading}
 use Rattle.machine_meaning.specs.MachineControl.{machine_engine}
@@ -29,11 +28,12 @@ returns-clause-engine c =
     let s = c.args.fitting.section.now in
     let code = c.in_ok-read.field-0 in
     let processes = c.in_ok-processes.processes.items in
-    let costs : code.costs ≡ written_costs = c.in_ok-read.ensures.costs ∙ c.written.ensures in
+    let k = c.args.costs.now in
+    let costs : code.costs ≡ k = c.in_ok-read.ensures.costs in
     let instructions : code.instructions.items ≡ map reading s.code.items = c.in_ok-read.ensures.instructions ∙ ap (λ bytes. map reading bytes) c.deref.ensures.value in
     let routines : code.routines.items ≡ s.routines.items = c.in_ok-read.ensures.routines ∙ c.deref-2.ensures.value in
     let rows : processes ≡ map body_of_row s.processes.items = c.in_ok-processes.ensures ∙ ap (λ ps. map body_of_row ps) c.deref-3.ensures.value in
-    ap (λ k. machine_engine k code.instructions.items code.routines.items (body_at s.init s.handler processes)) costs
-    ∙ ap (λ is. machine_engine written_costs is code.routines.items (body_at s.init s.handler processes)) instructions
-    ∙ ap (λ rs. machine_engine written_costs (map reading s.code.items) rs (body_at s.init s.handler processes)) routines
-    ∙ ap (λ ps. machine_engine written_costs (map reading s.code.items) s.routines.items (body_at s.init s.handler ps)) rows
+    ap (λ it. machine_engine it code.instructions.items code.routines.items (body_at s.init s.handler processes)) costs
+    ∙ ap (λ is. machine_engine k is code.routines.items (body_at s.init s.handler processes)) instructions
+    ∙ ap (λ rs. machine_engine k (map reading s.code.items) rs (body_at s.init s.handler processes)) routines
+    ∙ ap (λ ps. machine_engine k (map reading s.code.items) s.routines.items (body_at s.init s.handler ps)) rows
