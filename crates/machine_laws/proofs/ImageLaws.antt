@@ -14,7 +14,7 @@ use Rattle.apex_types.specs.Versions.{number_of}
 use Rattle.machine_meaning.specs.Image.{magic}
 use Rattle.machine_meaning.specs.ImageReading.{Fault, Foreign, Limit, Trailing, Read, ◌>>=◌, number_at, limited_at, bytes_at, choice_at, module_action_of, list_at, item_at, window_at, channel_at, magic_at, version_at, own_fields_at, fields_at, keeps_table_rules, image_at}
 use Rattle.machine_meaning.specs.ImageLimits.{IsFrom, IsItem, IsWindow, IsChannel, IsWithinLimits, IsLawful}
-use Rattle.machine_laws.proofs.ImageFields.{IsBytes, bind_ok, ok_is, Takes, Takes-then, Reads, said, first, last, assoc3}
+use Rattle.machine_laws.proofs.ImageFields.{IsBytes, bind_ok, ok_is, Takes, Takes-then, Reads, said, first, last, assoc4}
 use Rattle.machine_laws.proofs.ImageNumbers.{wide16, wide32, number_reads, limited_reads}
 use Rattle.machine_laws.proofs.ImageNames.{bytes_reads, held}
 use Rattle.machine_laws.proofs.ImageChoices.{module_action_reads}
@@ -77,7 +77,7 @@ fields_reads = said fields_at _ spelling _ IsWithinLimits
     (λ fault image q g. ap (λ (image : Image). image.fault) g.1.1.1.1))
     (λ frame image p g. ap (λ (image : Image). image.schedule.frame) g.1.1.1.1.1))
     (λ number image o g. g.1.1.0))
-    (λ image. ap (λ (t : List ℕ). head image ++ t) (assoc3 (list item image.items) (list window image.schedule.windows) (list channel image.channels)))
+    (λ image. ap (λ (t : List ℕ). magic ++ u16 (number_of image.version) ++ u32 image.schedule.frame ++ u8 (module_action image.fault) ++ t) (assoc4 (own_fields image.version) (list item image.items) (list window image.schedule.windows) (list channel image.channels)))
     (λ image g. record { frame = g.1.0; item_count = g.1.1.1.1.0.0; items = g.1.1.1.1.0.1; window_count = g.1.1.1.1.1.0.0; windows = g.1.1.1.1.1.0.1; channel_count = g.1.1.1.1.1.1.0.0; channels = g.1.1.1.1.1.1.0.1 })
     (λ image g. (numbered_known image.version, (g.frame, (tt, (refl, ((g.item_count, g.items), ((g.window_count, g.windows), ((g.channel_count, g.channels), refl))))))))
 

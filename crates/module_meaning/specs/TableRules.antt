@@ -343,19 +343,25 @@ unfoldable pub exceeds_counts : TableText → Bool
 exceeds_counts t =
     is_outside 1 (pos MOST_FRAME_TICKS) t.frame || is_count_outside 1 MOST_PARTITIONS t.partitions || is_count_outside 1 MOST_WINDOWS t.windows || is_count_outside 0 MOST_CHANNELS t.channels
 
+abbrev pub is_outside_cost : ℤ → Bool
+is_outside_cost = is_outside 1 (pos MOST_COST)
+
 -- one of the fifteen costs
 unfoldable pub exceeds_costs : CostsText → Bool
-exceeds_costs c = list_any (is_outside 1 (pos MOST_COST)) (c.literal ∷ c.scalar ∷ c.array ∷ c.add ∷ c.mul ∷ c.div ∷ c.logic ∷ c.branch ∷ c.jump ∷ c.call ∷ c.ret ∷ c.create ∷ c.message ∷ c.service ∷ c.end ∷ [])
+exceeds_costs c =
+    is_outside_cost c.literal || is_outside_cost c.scalar || is_outside_cost c.array || is_outside_cost c.add || is_outside_cost c.mul
+    || is_outside_cost c.div || is_outside_cost c.logic || is_outside_cost c.branch || is_outside_cost c.jump || is_outside_cost c.call
+    || is_outside_cost c.ret || is_outside_cost c.create || is_outside_cost c.message || is_outside_cost c.service || is_outside_cost c.end
 
 abbrev pub has_costs_outside : Option CostsText → Bool
 has_costs_outside None = false
 has_costs_outside (Some costs) = exceeds_costs costs
 
 unfoldable pub exceeds_rows : TableText → Bool
-exceeds_rows t = has_costs_outside t.costs || list_any exceeds_window t.windows || list_any exceeds_channel t.channels
+exceeds_rows t = list_any exceeds_window t.windows || list_any exceeds_channel t.channels
 
 abbrev pub exceeds_limits : TableText → Bool
-exceeds_limits t = exceeds_counts t || exceeds_rows t || list_any (exceeds_partition t.frame) t.partitions
+exceeds_limits t = exceeds_counts t || exceeds_rows t || has_costs_outside t.costs || list_any (exceeds_partition t.frame) t.partitions
 
 unfoldable pub has_same_names : TableText → Bool
 has_same_names t =

@@ -2,14 +2,15 @@
 
 ghost use Rattle.std.specs.Prelude.{◌≡◌, option_map, map};
 ghost use Rattle.toml.specs.View.{table_view, items_view};
-ghost use Rattle.module_meaning.specs.TableRules.{action_at, health_of, sampling_of, queuing_of, kind_of, port_of, partition_of, window_of, channel_of, table_text_of, tables_of, texts_of};
+ghost use Rattle.module_meaning.specs.TableRules.{action_at, health_of, sampling_of, queuing_of, kind_of, port_of, partition_of, window_of, channel_of, costs_of, optional_costs, table_text_of, tables_of, texts_of};
 ghost use Rattle.window_table.specs.Answers.{Reads};
-ghost use Rattle.window_table.specs.Views.{kind_text, port_text, partition_text, window_text, channel_text, table_text};
+ghost use Rattle.window_table.specs.Views.{kind_text, port_text, partition_text, window_text, channel_text, costs_text, table_text};
 
 use crate::fault::TableFault;
 use crate::keys::Part;
 use crate::members::{
-    array, boolean, has_only, has_texts_only, integer, optional_array, subtable, text,
+    array, boolean, has_only, has_texts_only, integer, optional_array, optional_table, subtable,
+    text,
 };
 use crate::words::{direction, discipline, module_action, partition_action};
 use apex_types::{Discipline, HealthTable, ModuleAction, PartitionAction, PortDirection};
@@ -60,11 +61,33 @@ pub struct WrittenChannel<'a> {
     pub destinations: Vec<&'a str>,
 }
 
-/// A module table: without an action on a module fault where the text's is not a known one.
+/// What constructs cost, key by key.
+#[derive(Clone, Copy)]
+pub struct WrittenCosts {
+    pub literal: i64,
+    pub scalar: i64,
+    pub array: i64,
+    pub add: i64,
+    pub mul: i64,
+    pub div: i64,
+    pub logic: i64,
+    pub branch: i64,
+    pub jump: i64,
+    pub call: i64,
+    pub ret: i64,
+    pub create: i64,
+    pub message: i64,
+    pub service: i64,
+    pub end: i64,
+}
+
+/// A module table: without an action on a module fault where the text's is not a known one, and
+/// without costs where the text writes none.
 #[derive(Drop)]
 pub struct WrittenTable<'a> {
     pub frame: i64,
     pub fault: Option<ModuleAction>,
+    pub costs: Option<WrittenCosts>,
     pub partitions: Vec<WrittenPartition<'a>>,
     pub windows: Vec<WrittenWindow<'a>>,
     pub channels: Vec<WrittenChannel<'a>>,
@@ -291,6 +314,42 @@ fn read_channels(alloc: Global, values: &[Value]) -> Result<Vec<WrittenChannel<'
     Ok(channels)
 }
 
+/// The costs, if there are exactly the fifteen keys.
+#[tactic(auto, unfolding(module_meaning::specs::TableRules::costs_of))]
+fn read_costs(table: &Table) -> Option<WrittenCosts>
+    ensures { option_map costs_text result ≡ costs_of (table_view table.now) }
+{
+    let costs = WrittenCosts {
+        literal: integer(table, "literal")?,
+        scalar: integer(table, "scalar")?,
+        array: integer(table, "array")?,
+        add: integer(table, "add")?,
+        mul: integer(table, "mul")?,
+        div: integer(table, "div")?,
+        logic: integer(table, "logic")?,
+        branch: integer(table, "branch")?,
+        jump: integer(table, "jump")?,
+        call: integer(table, "call")?,
+        ret: integer(table, "return")?,
+        create: integer(table, "create")?,
+        message: integer(table, "message")?,
+        service: integer(table, "service")?,
+        end: integer(table, "end")?,
+    };
+    has_only(table, Part::Cost).then_some(costs)
+}
+
+/// The costs of a table that may write none.
+fn read_optional_costs(table: Option<&Table>) -> Option<Option<WrittenCosts>>
+    ensures { option_map (λ o. option_map costs_text o) result
+        ≡ optional_costs (option_map (λ t. table_view t.now) table) }
+{
+    match table {
+        Some(table) => Some(Some(read_costs(table)?)),
+        None => Some(None),
+    }
+}
+
 /// What a document says, if its keys, types and words are those of a module table.
 #[tactic(auto, unfolding(module_meaning::specs::TableRules::table_text_of))]
 pub fn read_written(alloc: Global, table: &Table) -> Result<WrittenTable<'_>, TableFault>
@@ -298,6 +357,8 @@ pub fn read_written(alloc: Global, table: &Table) -> Result<WrittenTable<'_>, Ta
 {
     let frame = integer(table, "frame").ok_or(TableFault::Shape)?;
     let fault = text(table, "fault").ok_or(TableFault::Shape)?;
+    let costs = optional_table(table, "cost").ok_or(TableFault::Shape)?;
+    let costs = read_optional_costs(costs).ok_or(TableFault::Shape)?;
     let partitions = array(table, "partition").ok_or(TableFault::Shape)?;
     let windows = array(table, "window").ok_or(TableFault::Shape)?;
     let channels = optional_array(table, "channel").ok_or(TableFault::Shape)?;
@@ -307,6 +368,7 @@ pub fn read_written(alloc: Global, table: &Table) -> Result<WrittenTable<'_>, Ta
     Ok(WrittenTable {
         frame,
         fault: module_action(fault),
+        costs,
         partitions: read_partitions(alloc, partitions)?,
         windows: read_windows(alloc, windows)?,
         channels: read_channels(alloc, channels)?,
