@@ -15,7 +15,7 @@ abbrev pub cost_if : (n : ℕ) (is : Bool) → is_cost n ≡ is → Option TickC
 cost_if n true within = Some (ticks n within)
 cost_if n false outside = None
 
-abbrev pub cost_of_ticks : ℕ → Option TickCost
+unfoldable pub cost_of_ticks : ℕ → Option TickCost
 cost_of_ticks n = cost_if n (is_cost n) refl
 
 -- the costs in the order of a table's keys
@@ -41,6 +41,11 @@ written_costs = record {
   service = ticks 4 refl;
   end = ticks 4 refl;
 }
+
+-- the costs that these are in the order of a table's keys, which are as many
+abbrev pub from_order : List TickCost → Costs
+from_order (literal ∷ scalar ∷ array ∷ add ∷ mul ∷ div ∷ logic ∷ branch ∷ jump ∷ call ∷ ret ∷ create ∷ message ∷ service ∷ end ∷ []) = record { literal = literal; scalar = scalar; array = array; add = add; mul = mul; div = div; logic = logic; branch = branch; jump = jump; call = call; ret = ret; create = create; message = message; service = service; end = end }
+from_order _ = written_costs
 
 abbrev pub cost_of_binary : Costs → BinaryOperator → ℕ
 cost_of_binary costs Add = costs.add.ticks

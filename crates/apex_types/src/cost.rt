@@ -15,8 +15,8 @@ pub struct TickCost {
 }
 
 impl TickCost {
-    ghost use Rattle.std.specs.Prelude.{Some};
-    ghost use Rattle.apex_types.specs.Costs.{cost_of_ticks};
+    ghost use Rattle.std.specs.Prelude.{Some, refl};
+    ghost use Rattle.apex_types.specs.Costs.{cost_of_ticks, ticks};
 
     /// The cost of `ticks` ticks, if a construct may cost as much.
     #[tactic(auto, using(crate::proofs::TickCosts::is_no_cost))]
@@ -28,6 +28,14 @@ impl TickCost {
         } else {
             None
         }
+    }
+
+    /// The least cost: one tick.
+    #[tactic(auto, unfolding(crate::specs::Costs::cost_of_ticks))]
+    pub fn least() -> TickCost
+        ensures { result ≡ ticks 1 refl }
+    {
+        TickCost::known(1)
     }
 
     /// The cost of `ticks` ticks, which are within the limits.
@@ -77,11 +85,14 @@ pub struct Costs {
     pub end: TickCost,
 }
 
+/// How many keys the costs of a module table have.
+pub const COST_KEYS: usize = 15;
+
 /// An instruction that names no number of ticks or no service that there is.
 pub const UNKNOWN_COST: u32 = 1;
 
 impl Costs {
-    ghost use Rattle.apex_types.specs.Costs.{written_costs};
+    ghost use Rattle.apex_types.specs.Costs.{from_order, in_order, written_costs};
 
     /// The costs of a module whose table writes none.
     pub fn written() -> Self
@@ -103,6 +114,55 @@ impl Costs {
             message: TickCost::known(6),
             service: TickCost::known(4),
             end: TickCost::known(4),
+        }
+    }
+
+    /// The costs in the order of the keys of a module table.
+    pub fn in_order(&self) -> [TickCost; COST_KEYS]
+        ensures { result ≡ in_order self.now }
+    {
+        [
+            self.literal,
+            self.scalar,
+            self.array,
+            self.add,
+            self.mul,
+            self.div,
+            self.logic,
+            self.branch,
+            self.jump,
+            self.call,
+            self.ret,
+            self.create,
+            self.message,
+            self.service,
+            self.end,
+        ]
+    }
+
+    /// The costs that stand in the order of the keys of a module table.
+    pub fn from_order(costs: &[TickCost]) -> Self
+        ensures { result ≡ from_order costs.now }
+    {
+        match costs {
+            [literal, scalar, array, add, mul, div, logic, branch, jump, call, ret, create, message, service, end] => Costs {
+                literal: *literal,
+                scalar: *scalar,
+                array: *array,
+                add: *add,
+                mul: *mul,
+                div: *div,
+                logic: *logic,
+                branch: *branch,
+                jump: *jump,
+                call: *call,
+                ret: *ret,
+                create: *create,
+                message: *message,
+                service: *service,
+                end: *end,
+            },
+            _ => Costs::written(),
         }
     }
 }

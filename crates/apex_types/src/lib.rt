@@ -29,7 +29,7 @@ pub use codes::{
     Discipline, ErrorKind, ErrorLevel, Mode, ModuleAction, PartitionAction, ProcessState, Response,
     ReturnCode, StartCondition,
 };
-pub use cost::{TickCost, Costs, UNKNOWN_COST};
+pub use cost::{COST_KEYS, Costs, TickCost, UNKNOWN_COST};
 pub use denotation::{Denotation, ObjectKind};
 pub use device::{DeviceFault, DeviceInput, DeviceLine};
 pub use event::{Event, EventKind, Events, Subject, Words, copied};

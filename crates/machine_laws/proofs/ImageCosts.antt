@@ -1,10 +1,12 @@
 -- What an image has as one of its version: the costs of the second.
-use Rattle.std.proofs.Common.{◌≡◌, ℕ, ◌^◌, ◌<◌, Bool, true, false, cond, eqb, ltb, List, [], ◌∷◌, ◌++◌, Option, Some, None, Ok, refl, sym, ap, subst, ◌∙◌, arith, lit<}
+use Rattle.std.proofs.Common.{◌≡◌, ℕ, ◌^◌, ◌<◌, Bool, true, false, cond, eqb, ltb, List, [], ◌∷◌, ◌++◌, length, Option, Some, None, Ok, refl, sym, ap, subst, ◌∙◌, arith, lit<}
 use Rattle.std.specs.Prelude.{◌||◌, nat_le}
 use Rattle.std.specs.Int.{w16}
+use Rattle.std.specs.List.{flat_map}
 use Rattle.std.proofs.lemmas.Bool.{and_parts, eqb-true, leb-true}
 use Rattle.apex_types.specs.CostBounds.{is_cost}
-use Rattle.apex_types.specs.Costs.{cost_if, cost_of_ticks}
+use Rattle.apex_types.specs.Costs.{cost_if, cost_of_ticks, from_order, in_order}
+use Rattle.apex_types.specs.declared.cost.TheConstants.{COST_KEYS}
 use Rattle.apex_types.specs.Versions.{number_of}
 use Rattle.apex_types.proofs.TickCosts.{is_of_ticks}
 use Rattle.apex_types.specs.declared.cost.TickCost.{TickCost}
@@ -14,8 +16,10 @@ use Rattle.apex_types.specs.declared.version.TheConstants.{FIRST_VERSION, SECOND
 use Rattle.apex_types.specs.declared.version.ImageVersion.{ImageVersion}
 use Rattle.apex_types.specs.declared.version.ImageVersion.TheVariants.{First, Second}
 use Rattle.machine_meaning.specs.ImageSpelling.{u16, costs, own_fields}
-use Rattle.machine_meaning.specs.ImageReading.{Read, ◌>>=◌, number_at, chosen, cost_at, costs_at, own_fields_at}
-use Rattle.machine_laws.proofs.ImageFields.{IsBytes, bind_ok, ok_is, Takes, Reads, said, made, first}
+use Rattle.machine_meaning.specs.ImageReading.{Read, ◌>>=◌, number_at, chosen, cost_at, costs_at, items_at, own_fields_at}
+use Rattle.machine_meaning.specs.ImageLimits.{EachBeside}
+use Rattle.machine_laws.proofs.ImageLists.{items_take, items_again}
+use Rattle.machine_laws.proofs.ImageFields.{IsBytes, bind_ok, ok_is, Takes, Reads}
 use Rattle.machine_laws.proofs.ImageNumbers.{wide16, number_reads}
 
 abbrev cost : TickCost → List ℕ
@@ -32,7 +36,7 @@ low : (c : TickCost) → c.ticks < 2 ^ 16
 low c = omega (arith, leb-true c.ticks MOST_COST (and_parts (nat_le 1 c.ticks) (nat_le c.ticks MOST_COST) c.within).1)
 
 pub cost_reads : Reads cost_at cost (λ _. Unit {0})
-unfolding cost_at
+unfolding cost_at cost_of_ticks
 cost_reads = record {
   takes = λ bytes x fits e.
       let a = bind_ok (number_at w16 bytes) (λ n. chosen n.1 (cost_of_ticks n.0)) x e in
@@ -45,58 +49,44 @@ cost_reads = record {
       ∙ ap (λ (o : Option TickCost). chosen rest o) (sym (is_of_ticks c.ticks c.within));
 }
 
+-- as many costs as there are keys are those of a table, in its order
+as_many : (xs : List TickCost) → length xs ≡ COST_KEYS → in_order (from_order xs) ≡ xs
+as_many [] count = absurd (omega (arith, count))
+as_many (a ∷ []) count = absurd (omega (arith, count))
+as_many (a ∷ b ∷ []) count = absurd (omega (arith, count))
+as_many (a ∷ b ∷ c ∷ []) count = absurd (omega (arith, count))
+as_many (a ∷ b ∷ c ∷ d ∷ []) count = absurd (omega (arith, count))
+as_many (a ∷ b ∷ c ∷ d ∷ e ∷ []) count = absurd (omega (arith, count))
+as_many (a ∷ b ∷ c ∷ d ∷ e ∷ f ∷ []) count = absurd (omega (arith, count))
+as_many (a ∷ b ∷ c ∷ d ∷ e ∷ f ∷ g ∷ []) count = absurd (omega (arith, count))
+as_many (a ∷ b ∷ c ∷ d ∷ e ∷ f ∷ g ∷ h ∷ []) count = absurd (omega (arith, count))
+as_many (a ∷ b ∷ c ∷ d ∷ e ∷ f ∷ g ∷ h ∷ i ∷ []) count = absurd (omega (arith, count))
+as_many (a ∷ b ∷ c ∷ d ∷ e ∷ f ∷ g ∷ h ∷ i ∷ j ∷ []) count = absurd (omega (arith, count))
+as_many (a ∷ b ∷ c ∷ d ∷ e ∷ f ∷ g ∷ h ∷ i ∷ j ∷ k ∷ []) count = absurd (omega (arith, count))
+as_many (a ∷ b ∷ c ∷ d ∷ e ∷ f ∷ g ∷ h ∷ i ∷ j ∷ k ∷ l ∷ []) count = absurd (omega (arith, count))
+as_many (a ∷ b ∷ c ∷ d ∷ e ∷ f ∷ g ∷ h ∷ i ∷ j ∷ k ∷ l ∷ m ∷ []) count = absurd (omega (arith, count))
+as_many (a ∷ b ∷ c ∷ d ∷ e ∷ f ∷ g ∷ h ∷ i ∷ j ∷ k ∷ l ∷ m ∷ n ∷ []) count = absurd (omega (arith, count))
+as_many (a ∷ b ∷ c ∷ d ∷ e ∷ f ∷ g ∷ h ∷ i ∷ j ∷ k ∷ l ∷ m ∷ n ∷ o ∷ []) count = refl
+as_many (a ∷ b ∷ c ∷ d ∷ e ∷ f ∷ g ∷ h ∷ i ∷ j ∷ k ∷ l ∷ m ∷ n ∷ o ∷ p ∷ rest) count = absurd (omega (arith, count))
+
+each_there : (before xs : List TickCost) → EachBeside (λ _ _. Unit {0}) before xs
+each_there before [] = tt
+each_there before (x ∷ xs) = (tt, each_there (before ++ x ∷ []) xs)
+
 pub costs_reads : Reads costs_at costs (λ _. Unit {0})
 unfolding costs_at costs
-costs_reads = said costs_at _ costs _ (λ _. Unit {0})
-    (first cost_at _ (λ (c : Costs). c.literal) cost (λ c. u16 c.scalar.ticks ++ (u16 c.array.ticks ++ (u16 c.add.ticks ++ (u16 c.mul.ticks ++ (u16 c.div.ticks ++ (u16 c.logic.ticks ++ (u16 c.branch.ticks ++ (u16 c.jump.ticks ++ (u16 c.call.ticks ++ (u16 c.ret.ticks ++ (u16 c.create.ticks ++ (u16 c.message.ticks ++ (u16 c.service.ticks ++ (u16 c.end.ticks ++ [])))))))))))))) _ _
-    cost_reads
-    (λ literal p. first cost_at _ (λ (c : Costs). c.scalar) cost (λ c. u16 c.array.ticks ++ (u16 c.add.ticks ++ (u16 c.mul.ticks ++ (u16 c.div.ticks ++ (u16 c.logic.ticks ++ (u16 c.branch.ticks ++ (u16 c.jump.ticks ++ (u16 c.call.ticks ++ (u16 c.ret.ticks ++ (u16 c.create.ticks ++ (u16 c.message.ticks ++ (u16 c.service.ticks ++ (u16 c.end.ticks ++ []))))))))))))) _ _
-    cost_reads
-    (λ scalar p. first cost_at _ (λ (c : Costs). c.array) cost (λ c. u16 c.add.ticks ++ (u16 c.mul.ticks ++ (u16 c.div.ticks ++ (u16 c.logic.ticks ++ (u16 c.branch.ticks ++ (u16 c.jump.ticks ++ (u16 c.call.ticks ++ (u16 c.ret.ticks ++ (u16 c.create.ticks ++ (u16 c.message.ticks ++ (u16 c.service.ticks ++ (u16 c.end.ticks ++ [])))))))))))) _ _
-    cost_reads
-    (λ array p. first cost_at _ (λ (c : Costs). c.add) cost (λ c. u16 c.mul.ticks ++ (u16 c.div.ticks ++ (u16 c.logic.ticks ++ (u16 c.branch.ticks ++ (u16 c.jump.ticks ++ (u16 c.call.ticks ++ (u16 c.ret.ticks ++ (u16 c.create.ticks ++ (u16 c.message.ticks ++ (u16 c.service.ticks ++ (u16 c.end.ticks ++ []))))))))))) _ _
-    cost_reads
-    (λ add p. first cost_at _ (λ (c : Costs). c.mul) cost (λ c. u16 c.div.ticks ++ (u16 c.logic.ticks ++ (u16 c.branch.ticks ++ (u16 c.jump.ticks ++ (u16 c.call.ticks ++ (u16 c.ret.ticks ++ (u16 c.create.ticks ++ (u16 c.message.ticks ++ (u16 c.service.ticks ++ (u16 c.end.ticks ++ [])))))))))) _ _
-    cost_reads
-    (λ mul p. first cost_at _ (λ (c : Costs). c.div) cost (λ c. u16 c.logic.ticks ++ (u16 c.branch.ticks ++ (u16 c.jump.ticks ++ (u16 c.call.ticks ++ (u16 c.ret.ticks ++ (u16 c.create.ticks ++ (u16 c.message.ticks ++ (u16 c.service.ticks ++ (u16 c.end.ticks ++ []))))))))) _ _
-    cost_reads
-    (λ div p. first cost_at _ (λ (c : Costs). c.logic) cost (λ c. u16 c.branch.ticks ++ (u16 c.jump.ticks ++ (u16 c.call.ticks ++ (u16 c.ret.ticks ++ (u16 c.create.ticks ++ (u16 c.message.ticks ++ (u16 c.service.ticks ++ (u16 c.end.ticks ++ [])))))))) _ _
-    cost_reads
-    (λ logic p. first cost_at _ (λ (c : Costs). c.branch) cost (λ c. u16 c.jump.ticks ++ (u16 c.call.ticks ++ (u16 c.ret.ticks ++ (u16 c.create.ticks ++ (u16 c.message.ticks ++ (u16 c.service.ticks ++ (u16 c.end.ticks ++ []))))))) _ _
-    cost_reads
-    (λ branch p. first cost_at _ (λ (c : Costs). c.jump) cost (λ c. u16 c.call.ticks ++ (u16 c.ret.ticks ++ (u16 c.create.ticks ++ (u16 c.message.ticks ++ (u16 c.service.ticks ++ (u16 c.end.ticks ++ [])))))) _ _
-    cost_reads
-    (λ jump p. first cost_at _ (λ (c : Costs). c.call) cost (λ c. u16 c.ret.ticks ++ (u16 c.create.ticks ++ (u16 c.message.ticks ++ (u16 c.service.ticks ++ (u16 c.end.ticks ++ []))))) _ _
-    cost_reads
-    (λ call p. first cost_at _ (λ (c : Costs). c.ret) cost (λ c. u16 c.create.ticks ++ (u16 c.message.ticks ++ (u16 c.service.ticks ++ (u16 c.end.ticks ++ [])))) _ _
-    cost_reads
-    (λ ret p. first cost_at _ (λ (c : Costs). c.create) cost (λ c. u16 c.message.ticks ++ (u16 c.service.ticks ++ (u16 c.end.ticks ++ []))) _ _
-    cost_reads
-    (λ create p. first cost_at _ (λ (c : Costs). c.message) cost (λ c. u16 c.service.ticks ++ (u16 c.end.ticks ++ [])) _ _
-    cost_reads
-    (λ message p. first cost_at _ (λ (c : Costs). c.service) cost (λ c. u16 c.end.ticks ++ []) _ _
-    cost_reads
-    (λ service p. first cost_at _ (λ (c : Costs). c.end) cost (λ c. []) _ _
-    cost_reads
-    (λ end p. made (record { literal = literal; scalar = scalar; array = array; add = add; mul = mul; div = div; logic = logic; branch = branch; jump = jump; call = call; ret = ret; create = create; message = message; service = service; end = end }))
-    (λ end c p g. ap (λ (c : Costs). c.end) g))
-    (λ service c p g. ap (λ (c : Costs). c.service) g.1))
-    (λ message c p g. ap (λ (c : Costs). c.message) g.1.1))
-    (λ create c p g. ap (λ (c : Costs). c.create) g.1.1.1))
-    (λ ret c p g. ap (λ (c : Costs). c.ret) g.1.1.1.1))
-    (λ call c p g. ap (λ (c : Costs). c.call) g.1.1.1.1.1))
-    (λ jump c p g. ap (λ (c : Costs). c.jump) g.1.1.1.1.1.1))
-    (λ branch c p g. ap (λ (c : Costs). c.branch) g.1.1.1.1.1.1.1))
-    (λ logic c p g. ap (λ (c : Costs). c.logic) g.1.1.1.1.1.1.1.1))
-    (λ div c p g. ap (λ (c : Costs). c.div) g.1.1.1.1.1.1.1.1.1))
-    (λ mul c p g. ap (λ (c : Costs). c.mul) g.1.1.1.1.1.1.1.1.1.1))
-    (λ add c p g. ap (λ (c : Costs). c.add) g.1.1.1.1.1.1.1.1.1.1.1))
-    (λ array c p g. ap (λ (c : Costs). c.array) g.1.1.1.1.1.1.1.1.1.1.1.1))
-    (λ scalar c p g. ap (λ (c : Costs). c.scalar) g.1.1.1.1.1.1.1.1.1.1.1.1.1))
-    (λ literal c p g. ap (λ (c : Costs). c.literal) g.1.1.1.1.1.1.1.1.1.1.1.1.1.1))
-    (λ c. refl)
-    (λ c g. tt)
-    (λ c g. (tt, (tt, (tt, (tt, (tt, (tt, (tt, (tt, (tt, (tt, (tt, (tt, (tt, (tt, (tt, refl))))))))))))))))
+costs_reads = record {
+  takes = λ bytes x fits e.
+      let a = bind_ok (items_at (λ _. cost_at) COST_KEYS [] bytes) (λ y. Ok (from_order y.0, y.1)) x e in
+      let q = items_take (λ _. cost_at) cost (λ _ _. Unit {0}) (λ _. cost_reads) COST_KEYS [] bytes a.0 fits a.1 in
+      let i = ok_is (from_order a.0.0, a.0.1) x a.2 in
+      let count : length a.0.0 ≡ COST_KEYS = ap length q.all_is ∙ q.count in
+      let same : q.new ≡ in_order (from_order a.0.0) = sym q.all_is ∙ sym (as_many a.0.0 count) in
+      let taken : Takes bytes (flat_map cost (in_order (from_order a.0.0))) a.0.1 = subst (λ (y : List TickCost). Takes bytes (flat_map cost y) a.0.1) same q.taken in
+      (subst (λ (y : Costs × List ℕ). Takes bytes (flat_map cost (in_order y.0)) y.1) i taken, tt);
+  again = λ c rest good.
+      ap (λ (y : Read (List TickCost)). y >>= λ z. Ok (from_order z.0, z.1)) (items_again (λ _. cost_at) cost (λ _ _. Unit {0}) (λ _. cost_reads) (in_order c) [] rest (each_there [] (in_order c)));
+}
 
 -- what the version with a number has
 abbrev IsNumbered : ℕ → ImageVersion → Type 0

@@ -9,7 +9,7 @@ use Rattle.std.proofs.lemmas.Slice.Eq.{bytes_eq-Decides}
 use Rattle.apex_types.specs.declared.version.TheConstants.{FIRST_VERSION, SECOND_VERSION}
 use Rattle.apex_types.specs.declared.limits.TheConstants.{MOST_CHANNELS, MOST_FRAME_TICKS, MOST_PARTITIONS, MOST_WINDOWS}
 use Rattle.machine_meaning.specs.Image.{Image}
-use Rattle.machine_meaning.specs.ImageSpelling.{u8, u16, u32, list, module_action, item, window, channel, own_fields, head, spelling}
+use Rattle.machine_meaning.specs.ImageSpelling.{u8, u16, u32, list, module_action, item, window, channel, own_fields, front, head, spelling}
 use Rattle.apex_types.specs.Versions.{number_of}
 use Rattle.machine_meaning.specs.Image.{magic}
 use Rattle.machine_meaning.specs.ImageReading.{Fault, Foreign, Limit, Trailing, Read, ◌>>=◌, number_at, limited_at, bytes_at, choice_at, module_action_of, list_at, item_at, window_at, channel_at, magic_at, version_at, own_fields_at, fields_at, keeps_table_rules, image_at}
@@ -55,7 +55,7 @@ version_reads = record {
 }
 
 pub fields_reads : Reads fields_at spelling IsWithinLimits
-unfolding fields_at spelling head
+unfolding fields_at spelling head front
 fields_reads = said fields_at _ spelling _ IsWithinLimits
     (first version_at _ (λ (image : Image). number_of image.version) (λ n. magic ++ u16 n) (λ image. u32 image.schedule.frame ++ (u8 (module_action image.fault) ++ (own_fields image.version ++ (list item image.items ++ (list window image.schedule.windows ++ list channel image.channels))))) _ _
     version_reads

@@ -3,8 +3,8 @@ pub mod ImageFields
 pub mod ImageNumbers
 pub mod ImageNames
 pub mod ImageLists
-pub mod ImageChoices
 pub mod ImageCosts
+pub mod ImageChoices
 pub mod ImageObjects
 pub mod ImageBodies
 pub mod ImageTables

@@ -5,7 +5,8 @@ use Rattle.std.specs.List.{list_all, list_any}
 use Rattle.std.specs.Str.{bytes_eq}
 use Rattle.std.specs.Int.{Width, w16, w32, w64, byte_len, from_le_bytes, cast_signed}
 use Rattle.apex_types.specs.declared.limits.TheConstants.{GREATEST_PRIORITY, LEAST_STACK_WORDS, MOST_CHANNELS, MOST_DATA_WORDS, MOST_DEPTH, MOST_DESTINATIONS, MOST_FRAME_TICKS, MOST_INSTRUCTIONS, MOST_NAME_BYTES, MOST_OBJECTS, MOST_PARTITIONS, MOST_PORTS, MOST_PROCEDURES, MOST_PROCESSES, MOST_SEMAPHORE_VALUE, MOST_SLOTS, MOST_STACK_WORDS, MOST_TICKS, MOST_WINDOWS, MOST_WORDS}
-use Rattle.apex_types.specs.Costs.{cost_of_ticks}
+use Rattle.apex_types.specs.Costs.{cost_of_ticks, from_order}
+use Rattle.apex_types.specs.declared.cost.TheConstants.{COST_KEYS}
 use Rattle.apex_types.specs.NameText.{is_name}
 use Rattle.apex_types.specs.declared.cost.TickCost.{TickCost}
 use Rattle.apex_types.specs.declared.cost.Costs.{Costs}
@@ -390,22 +391,8 @@ cost_at bytes = do
 -- the costs in the order of a table's keys
 unfoldable pub costs_at : List ℕ → Read Costs
 costs_at bytes = do
-  literal ← cost_at bytes
-  scalar ← cost_at literal.1
-  array ← cost_at scalar.1
-  add ← cost_at array.1
-  mul ← cost_at add.1
-  div ← cost_at mul.1
-  logic ← cost_at div.1
-  branch ← cost_at logic.1
-  jump ← cost_at branch.1
-  call ← cost_at jump.1
-  ret ← cost_at call.1
-  create ← cost_at ret.1
-  message ← cost_at create.1
-  service ← cost_at message.1
-  end ← cost_at service.1
-  Ok (record { literal = literal.0; scalar = scalar.0; array = array.0; add = add.0; mul = mul.0; div = div.0; logic = logic.0; branch = branch.0; jump = jump.0; call = call.0; ret = ret.0; create = create.0; message = message.0; service = service.0; end = end.0 }, end.1)
+  costs ← items_at (λ _. cost_at) COST_KEYS [] bytes
+  Ok (from_order costs.0, costs.1)
 
 -- what an image has as one of the version with this number
 unfoldable pub own_fields_at : ℕ → List ℕ → Read ImageVersion

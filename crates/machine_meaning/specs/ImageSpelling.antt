@@ -182,8 +182,12 @@ unfoldable pub own_fields : ImageVersion → List ℕ
 own_fields First = []
 own_fields (Second c) = costs c
 
+-- what images of every version begin with
+unfoldable pub front : Image → List ℕ
+front image = magic ++ u16 (number_of image.version) ++ u32 image.schedule.frame ++ u8 (module_action image.fault)
+
 unfoldable pub head : Image → List ℕ
-head image = magic ++ u16 (number_of image.version) ++ u32 image.schedule.frame ++ u8 (module_action image.fault) ++ own_fields image.version
+head image = front image ++ own_fields image.version
 
 unfoldable pub spelling : Image → List ℕ
 spelling image = head image ++ list item image.items ++ list window image.schedule.windows ++ list channel image.channels

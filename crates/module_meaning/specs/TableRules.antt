@@ -3,7 +3,7 @@
 use Rattle.std.specs.Prelude.{ℕ, ℤ, codes, eqb, Bool, true, false, ◌&&◌, ◌||◌, is_some, if◌then◌else◌, List, [], ◌∷◌, Option, Some, None, ◌+◌, ◌^◌, pos, refl, ◌+ℤ◌, nat_abs, not, nat_lt, int_lt, is_none, ◌++◌, length, map, unwrap_or, Result, Ok, Err}
 use Rattle.std.specs.Cmp.Lexicographic.{pointwise}
 use Rattle.toml.specs.Data.{Items, no_items, item, Members, no_members, member, get_member, as_str, as_integer, as_bool, as_array, as_table}
-use Rattle.apex_types.specs.Costs.{cost_of_ticks, ticks, written_costs}
+use Rattle.apex_types.specs.Costs.{cost_of_ticks, from_order, ticks, written_costs}
 use Rattle.apex_types.specs.declared.cost.TickCost.{TickCost}
 use Rattle.apex_types.specs.declared.cost.Costs.{Costs}
 use Rattle.apex_types.specs.declared.limits.TheConstants.{MOST_CHANNELS, MOST_COST, MOST_DEPTH, MOST_DESTINATIONS, MOST_FRAME_TICKS, MOST_PARTITIONS, MOST_PORTS, MOST_TICKS, MOST_WINDOWS, MOST_WORDS}
@@ -60,29 +60,12 @@ pub record ChannelText : Type 0 where
   pub source : List ℕ
   pub destinations : List (List ℕ)
 
--- what constructs cost, each key with its number
-pub record CostsText : Type 0 where
-  pub literal : ℤ
-  pub scalar : ℤ
-  pub array : ℤ
-  pub add : ℤ
-  pub mul : ℤ
-  pub div : ℤ
-  pub logic : ℤ
-  pub branch : ℤ
-  pub jump : ℤ
-  pub call : ℤ
-  pub ret : ℤ
-  pub create : ℤ
-  pub message : ℤ
-  pub service : ℤ
-  pub end : ℤ
-
--- no action on a module fault where the text's is not a known one; no costs where the text writes none
+-- no action on a module fault where the text's is not a known one; no costs where the text writes
+-- none, else their numbers in the order of their keys
 pub record TableText : Type 0 where
   pub frame : ℤ
   pub fault : Option ModuleAction
-  pub costs : Option CostsText
+  pub costs : Option (List ℤ)
   pub partitions : List PartitionText
   pub windows : List WindowText
   pub channels : List ChannelText
@@ -123,6 +106,14 @@ table_at key ms = get_member key ms >>= as_table
 
 abbrev pub array_at : List ℕ → Members → Option Items
 array_at key ms = get_member key ms >>= as_array
+
+-- the integers at some keys
+unfoldable pub integers_at : List (List ℕ) → Members → Option (List ℤ)
+integers_at [] ms = Some []
+integers_at (key ∷ keys) ms = do
+  number ← integer_at key ms
+  numbers ← integers_at keys ms
+  Some (number ∷ numbers)
 
 -- the table at a key that may be absent
 abbrev pub optional_table_at : List ℕ → Members → Option (Option Members)
@@ -252,30 +243,19 @@ channel_of ms = do
 
 -- Costs: exactly the fifteen keys.
 
-abbrev pub is_cost_key : List ℕ → Bool
-is_cost_key = is_one_of (codes "literal" ∷ codes "scalar" ∷ codes "array" ∷ codes "add" ∷ codes "mul" ∷ codes "div" ∷ codes "logic" ∷ codes "branch" ∷ codes "jump" ∷ codes "call" ∷ codes "return" ∷ codes "create" ∷ codes "message" ∷ codes "service" ∷ codes "end" ∷ [])
+abbrev pub cost_keys : List (List ℕ)
+cost_keys = codes "literal" ∷ codes "scalar" ∷ codes "array" ∷ codes "add" ∷ codes "mul" ∷ codes "div" ∷ codes "logic" ∷ codes "branch" ∷ codes "jump" ∷ codes "call" ∷ codes "return" ∷ codes "create" ∷ codes "message" ∷ codes "service" ∷ codes "end" ∷ []
 
-unfoldable pub costs_of : Members → Option CostsText
+abbrev pub is_cost_key : List ℕ → Bool
+is_cost_key = is_one_of cost_keys
+
+unfoldable pub costs_of : Members → Option (List ℤ)
 costs_of ms = do
-  literal ← integer_at (codes "literal") ms
-  scalar ← integer_at (codes "scalar") ms
-  array ← integer_at (codes "array") ms
-  add ← integer_at (codes "add") ms
-  mul ← integer_at (codes "mul") ms
-  div ← integer_at (codes "div") ms
-  logic ← integer_at (codes "logic") ms
-  branch ← integer_at (codes "branch") ms
-  jump ← integer_at (codes "jump") ms
-  call ← integer_at (codes "call") ms
-  ret ← integer_at (codes "return") ms
-  create ← integer_at (codes "create") ms
-  message ← integer_at (codes "message") ms
-  service ← integer_at (codes "service") ms
-  end ← integer_at (codes "end") ms
-  if has_only is_cost_key ms then Some (record { literal = literal; scalar = scalar; array = array; add = add; mul = mul; div = div; logic = logic; branch = branch; jump = jump; call = call; ret = ret; create = create; message = message; service = service; end = end }) else None
+  numbers ← integers_at cost_keys ms
+  if has_only is_cost_key ms then Some numbers else None
 
 -- the costs at a key that may be absent
-abbrev pub optional_costs : Option Members → Option (Option CostsText)
+abbrev pub optional_costs : Option Members → Option (Option (List ℤ))
 optional_costs None = Some None
 optional_costs (Some ms) = costs_of ms >>= λ costs. Some (Some costs)
 
@@ -343,19 +323,13 @@ unfoldable pub exceeds_counts : TableText → Bool
 exceeds_counts t =
     is_outside 1 (pos MOST_FRAME_TICKS) t.frame || is_count_outside 1 MOST_PARTITIONS t.partitions || is_count_outside 1 MOST_WINDOWS t.windows || is_count_outside 0 MOST_CHANNELS t.channels
 
-abbrev pub is_outside_cost : ℤ → Bool
-is_outside_cost = is_outside 1 (pos MOST_COST)
+unfoldable pub is_outside_cost : ℤ → Bool
+is_outside_cost z = is_outside 1 (pos MOST_COST) z
 
--- one of the fifteen costs
-unfoldable pub exceeds_costs : CostsText → Bool
-exceeds_costs c =
-    is_outside_cost c.literal || is_outside_cost c.scalar || is_outside_cost c.array || is_outside_cost c.add || is_outside_cost c.mul
-    || is_outside_cost c.div || is_outside_cost c.logic || is_outside_cost c.branch || is_outside_cost c.jump || is_outside_cost c.call
-    || is_outside_cost c.ret || is_outside_cost c.create || is_outside_cost c.message || is_outside_cost c.service || is_outside_cost c.end
-
-abbrev pub has_costs_outside : Option CostsText → Bool
+-- one of the costs
+abbrev pub has_costs_outside : Option (List ℤ) → Bool
 has_costs_outside None = false
-has_costs_outside (Some costs) = exceeds_costs costs
+has_costs_outside (Some numbers) = list_any is_outside_cost numbers
 
 unfoldable pub exceeds_rows : TableText → Bool
 exceeds_rows t = list_any exceeds_window t.windows || list_any exceeds_channel t.channels
@@ -426,16 +400,13 @@ abbrev pub partition_row : PartitionText → Partition
 partition_row p = record { name = p.name; period = nat_abs p.period; duration = nat_abs p.duration; health = unwrap_or p.health all_ignored; ports = map port_row p.ports }
 
 -- a number outside the limits of a cost is one tick until its rule refuses it
-abbrev pub cost_row : ℤ → TickCost
+unfoldable pub cost_row : ℤ → TickCost
 cost_row z = unwrap_or (cost_of_ticks (nat_abs z)) (ticks 1 refl)
 
-unfoldable pub costs_row : CostsText → Costs
-costs_row c = record { literal = cost_row c.literal; scalar = cost_row c.scalar; array = cost_row c.array; add = cost_row c.add; mul = cost_row c.mul; div = cost_row c.div; logic = cost_row c.logic; branch = cost_row c.branch; jump = cost_row c.jump; call = cost_row c.call; ret = cost_row c.ret; create = cost_row c.create; message = cost_row c.message; service = cost_row c.service; end = cost_row c.end }
-
 -- A table that writes no costs has those that are written of Pal.
-abbrev pub costs_or_written : Option CostsText → Costs
+abbrev pub costs_or_written : Option (List ℤ) → Costs
 costs_or_written None = written_costs
-costs_or_written (Some c) = costs_row c
+costs_or_written (Some numbers) = from_order (map cost_row numbers)
 
 unfoldable pub numbered : TableText → Table
 numbered t = record { schedule = record { frame = nat_abs t.frame; windows = map (window_row t.partitions) t.windows }; fault = unwrap_or t.fault module_action.Ignore; costs = costs_or_written t.costs; partitions = map partition_row t.partitions; channels = map (channel_row t.partitions) t.channels }

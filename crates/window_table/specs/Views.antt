@@ -1,7 +1,7 @@
 -- What the code's rows stand for in the definitions.
 use Rattle.std.specs.Prelude.{map, option_map}
 use Rattle.module_meaning.specs.Table.{Table, Partition, Channel}
-use Rattle.module_meaning.specs.TableRules.{KindText, Sampling, Queuing, PortText, PartitionText, WindowText, ChannelText, CostsText, TableText}
+use Rattle.module_meaning.specs.TableRules.{KindText, Sampling, Queuing, PortText, PartitionText, WindowText, ChannelText, TableText}
 use Rattle.window_table.specs.Schedules.{schedule_of}
 use Rattle.window_table.specs.declared.table.ModuleTable.{ModuleTable}
 use Rattle.window_table.specs.declared.table.PartitionRow.{PartitionRow}
@@ -12,7 +12,6 @@ use Rattle.window_table.specs.declared.written.WrittenPort.{WrittenPort}
 use Rattle.window_table.specs.declared.written.WrittenPartition.{WrittenPartition}
 use Rattle.window_table.specs.declared.written.WrittenWindow.{WrittenWindow}
 use Rattle.window_table.specs.declared.written.WrittenChannel.{WrittenChannel}
-use Rattle.window_table.specs.declared.written.WrittenCosts.{WrittenCosts}
 use Rattle.window_table.specs.declared.written.WrittenTable.{WrittenTable}
 
 -- The text.
@@ -33,11 +32,8 @@ window_text w = record { partition = w.partition.now; offset = w.offset; length 
 abbrev pub channel_text : WrittenChannel → ChannelText
 channel_text c = record { name = c.name.now; source = c.source.now; destinations = map (λ d. d.now) c.destinations.items }
 
-abbrev pub costs_text : WrittenCosts → CostsText
-costs_text c = record { literal = c.literal; scalar = c.scalar; array = c.array; add = c.add; mul = c.mul; div = c.div; logic = c.logic; branch = c.branch; jump = c.jump; call = c.call; ret = c.ret; create = c.create; message = c.message; service = c.service; end = c.end }
-
 abbrev pub table_text : WrittenTable → TableText
-table_text t = record { frame = t.frame; fault = t.fault; costs = option_map costs_text t.costs; partitions = map partition_text t.partitions.items; windows = map window_text t.windows.items; channels = map channel_text t.channels.items }
+table_text t = record { frame = t.frame; fault = t.fault; costs = option_map (λ v. v.items) t.costs; partitions = map partition_text t.partitions.items; windows = map window_text t.windows.items; channels = map channel_text t.channels.items }
 
 -- The table.
 

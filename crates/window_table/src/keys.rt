@@ -3,6 +3,8 @@
 ghost use Rattle.std.specs.Prelude.{◌≡◌, ◌∷◌, [], codes};
 ghost use Rattle.module_meaning.specs.TableRules.{is_table_key, is_partition_key, is_window_key, is_error_name, is_cost_key, is_one_of};
 
+use apex_types::COST_KEYS;
+
 /// A part of a module table, by the keys that it may have.
 #[derive(Clone, Copy)]
 pub enum Part {
@@ -76,6 +78,25 @@ fn is_error_name(key: &str) -> bool
             | "HARDWARE_FAULT"
     )
 }
+
+/// The keys of the costs, in their order.
+pub const COST_NAMES: [&str; COST_KEYS] = [
+    "literal",
+    "scalar",
+    "array",
+    "add",
+    "mul",
+    "div",
+    "logic",
+    "branch",
+    "jump",
+    "call",
+    "return",
+    "create",
+    "message",
+    "service",
+    "end",
+];
 
 fn is_cost_key(key: &str) -> bool
     ensures { result ≡ is_cost_key key.now }

@@ -1,16 +1,16 @@
 //! The rows of partitions, within their limits, and the other limits.
 
-ghost use Rattle.std.specs.Prelude.{◌≡◌, ◌||◌, map, pos, not, None, Some, IfOk, IfSome, true, option_map, if◌then◌else◌, int_lt, false, unwrap_or};
+ghost use Rattle.std.specs.Prelude.{◌≡◌, ◌||◌, map, nat_abs, pos, not, None, Some, IfOk, option_map, if◌then◌else◌, int_lt, false, unwrap_or};
 ghost use Rattle.std.specs.List.{list_any};
 ghost use Rattle.apex_types.specs.NameText.{is_name};
-ghost use Rattle.module_meaning.specs.TableRules.{has_many_ports, is_outside, exceeds_kind, exceeds_port, exceeds_partition, exceeds_times, exceeds_window, exceeds_channel, exceeds_counts, exceeds_rows, kind_row, port_row, partition_row, all_ignored, cost_row, costs_or_written, costs_row, exceeds_costs, has_costs_outside, is_outside_cost};
+ghost use Rattle.module_meaning.specs.TableRules.{has_many_ports, is_outside, exceeds_kind, exceeds_port, exceeds_partition, exceeds_times, exceeds_window, exceeds_channel, exceeds_counts, exceeds_rows, kind_row, port_row, partition_row, all_ignored, cost_row, costs_or_written, has_costs_outside, is_outside_cost};
 ghost use Rattle.window_table.specs.Answers.{RefusesLimit};
-ghost use Rattle.window_table.specs.Views.{kind_text, port_text, partition_text, window_text, channel_text, costs_text, table_text, partition_view};
+ghost use Rattle.window_table.specs.Views.{kind_text, port_text, partition_text, window_text, channel_text, table_text, partition_view};
 
 use crate::fault::TableFault;
 use crate::table::PartitionRow;
 use crate::written::{
-    WrittenChannel, WrittenCosts, WrittenKind, WrittenPartition, WrittenPort, WrittenTable, WrittenWindow,
+    WrittenChannel, WrittenKind, WrittenPartition, WrittenPort, WrittenTable, WrittenWindow,
 };
 use apex_types::limits::{
     MOST_CHANNELS, MOST_COST, MOST_DEPTH, MOST_DESTINATIONS, MOST_FRAME_TICKS, MOST_PARTITIONS, MOST_PORTS,
@@ -188,55 +188,61 @@ fn exceeds_channel(channel: &WrittenChannel<'_>) -> bool
         || channel.destinations.len() > MOST_DESTINATIONS as usize
 }
 
-/// The cost that is written as a number, if it is within its limits.
-fn cost_row(number: i64) -> Option<TickCost>
-    ensures kept { IfSome result (λ cost. (is_outside_cost number ≡ false) × (cost ≡ cost_row number)) }
-    ensures refused { result ≡ None → is_outside_cost number ≡ true }
+#[tactic(auto, unfolding(module_meaning::specs::TableRules::is_outside_cost))]
+fn is_outside_cost(number: i64) -> bool
+    ensures { result ≡ is_outside_cost number }
 {
-    if is_outside(1, i64::from(MOST_COST), number) {
+    is_outside(1, i64::from(MOST_COST), number)
+}
+
+#[tactic(auto, unfolding(module_meaning::specs::TableRules::is_outside_cost))]
+fn ticks_row(number: i64) -> u32
+    requires { is_outside_cost number ≡ false }
+    ensures { result ≡ nat_abs number }
+{
+    number as u32
+}
+
+/// The cost of a number of ticks, if it is within its limits.
+fn cost_row(number: i64) -> Option<TickCost>
+    ensures { result ≡ (if is_outside_cost number then None else Some (cost_row number)) }
+{
+    if is_outside_cost(number) {
         return None;
     }
-    TickCost::new(number as u32)
+    TickCost::new(ticks_row(number))
 }
 
-/// The costs that are written, if each is within its limits.
-#[tactic(auto, unfolding(module_meaning::specs::TableRules::exceeds_costs, module_meaning::specs::TableRules::costs_row))]
-fn written_costs(costs: &WrittenCosts) -> Option<Costs>
-    ensures kept { IfSome result
-        (λ row. (exceeds_costs (costs_text costs.now) ≡ false)
-        × (row ≡ costs_row (costs_text costs.now))) }
-    ensures refused { result ≡ None → exceeds_costs (costs_text costs.now) ≡ true }
-{
-    Some(Costs {
-        literal: cost_row(costs.literal)?,
-        scalar: cost_row(costs.scalar)?,
-        array: cost_row(costs.array)?,
-        add: cost_row(costs.add)?,
-        mul: cost_row(costs.mul)?,
-        div: cost_row(costs.div)?,
-        logic: cost_row(costs.logic)?,
-        branch: cost_row(costs.branch)?,
-        jump: cost_row(costs.jump)?,
-        call: cost_row(costs.call)?,
-        ret: cost_row(costs.ret)?,
-        create: cost_row(costs.create)?,
-        message: cost_row(costs.message)?,
-        service: cost_row(costs.service)?,
-        end: cost_row(costs.end)?,
-    })
-}
-
-/// The costs of a table, if each is within its limits; those that are written of Pal where the table writes
-/// none.
-pub fn table_costs(costs: &Option<WrittenCosts>) -> Result<Costs, TableFault>
+/// The costs in the order of their keys, if each is within its limits.
+#[tactic(auto, using(std::proofs::lemmas::List::drop_more))]
+fn cost_rows(alloc: Global, numbers: &[i64]) -> Result<Vec<TickCost>, TableFault>
     ensures kept { IfOk result
-        (λ row. (has_costs_outside (option_map costs_text costs.now) ≡ false)
-        × (row ≡ costs_or_written (option_map costs_text costs.now))) }
-    ensures refused { RefusesLimit result (has_costs_outside (option_map costs_text costs.now)) }
+        (λ r. (list_any is_outside_cost numbers.now ≡ false)
+        × (map cost_row numbers.now ≡ r.items)) }
+    ensures refused { RefusesLimit result (list_any is_outside_cost numbers.now) }
+{
+    let mut rows = Vec::new(alloc);
+    for number in numbers {
+        let row = cost_row(*number).ok_or(TableFault::Limit)?;
+        if rows.push(row).is_err() {
+            return Err(TableFault::Memory);
+        }
+    }
+    Ok(rows)
+}
+
+/// The costs of a table, if each is within its limits; those that are written of Pal if the table
+/// writes none.
+pub fn table_costs(alloc: Global, costs: &Option<Vec<i64>>) -> Result<Costs, TableFault>
+    ensures kept { IfOk result
+        (λ row. (has_costs_outside (option_map (λ v. v.items) costs.now) ≡ false)
+        × (row ≡ costs_or_written (option_map (λ v. v.items) costs.now))) }
+    ensures refused { RefusesLimit result
+        (has_costs_outside (option_map (λ v. v.items) costs.now)) }
 {
     match costs {
         None => Ok(Costs::written()),
-        Some(costs) => written_costs(costs).ok_or(TableFault::Limit),
+        Some(numbers) => Ok(Costs::from_order(&cost_rows(alloc, numbers)?)),
     }
 }
 

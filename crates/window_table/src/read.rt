@@ -44,7 +44,7 @@ fn limited(
     if exceeds_rows(written) {
         return Err(TableFault::Limit);
     }
-    let costs = table_costs(&written.costs)?;
+    let costs = table_costs(alloc, &written.costs)?;
     let rows = partition_rows(alloc, written.frame, written.partitions.as_slice())?;
     Ok((costs, rows))
 }

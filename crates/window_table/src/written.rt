@@ -2,12 +2,12 @@
 
 ghost use Rattle.std.specs.Prelude.{◌≡◌, option_map, map};
 ghost use Rattle.toml.specs.View.{table_view, items_view};
-ghost use Rattle.module_meaning.specs.TableRules.{action_at, health_of, sampling_of, queuing_of, kind_of, port_of, partition_of, window_of, channel_of, costs_of, optional_costs, table_text_of, tables_of, texts_of};
+ghost use Rattle.module_meaning.specs.TableRules.{action_at, health_of, sampling_of, queuing_of, kind_of, port_of, partition_of, window_of, channel_of, costs_of, integers_at, optional_costs, table_text_of, tables_of, texts_of};
 ghost use Rattle.window_table.specs.Answers.{Reads};
-ghost use Rattle.window_table.specs.Views.{kind_text, port_text, partition_text, window_text, channel_text, costs_text, table_text};
+ghost use Rattle.window_table.specs.Views.{kind_text, port_text, partition_text, window_text, channel_text, table_text};
 
 use crate::fault::TableFault;
-use crate::keys::Part;
+use crate::keys::{COST_NAMES, Part};
 use crate::members::{
     array, boolean, has_only, has_texts_only, integer, optional_array, optional_table, subtable,
     text,
@@ -61,33 +61,13 @@ pub struct WrittenChannel<'a> {
     pub destinations: Vec<&'a str>,
 }
 
-/// What constructs cost, key by key.
-#[derive(Clone, Copy)]
-pub struct WrittenCosts {
-    pub literal: i64,
-    pub scalar: i64,
-    pub array: i64,
-    pub add: i64,
-    pub mul: i64,
-    pub div: i64,
-    pub logic: i64,
-    pub branch: i64,
-    pub jump: i64,
-    pub call: i64,
-    pub ret: i64,
-    pub create: i64,
-    pub message: i64,
-    pub service: i64,
-    pub end: i64,
-}
-
 /// A module table: without an action on a module fault where the text's is not a known one, and
-/// without costs where the text writes none.
+/// without costs where the text writes none, else with the number of each key in order.
 #[derive(Drop)]
 pub struct WrittenTable<'a> {
     pub frame: i64,
     pub fault: Option<ModuleAction>,
-    pub costs: Option<WrittenCosts>,
+    pub costs: Option<Vec<i64>>,
     pub partitions: Vec<WrittenPartition<'a>>,
     pub windows: Vec<WrittenWindow<'a>>,
     pub channels: Vec<WrittenChannel<'a>>,
@@ -314,39 +294,46 @@ fn read_channels(alloc: Global, values: &[Value]) -> Result<Vec<WrittenChannel<'
     Ok(channels)
 }
 
+/// The integers at some keys.
+fn read_numbers(alloc: Global, table: &Table, keys: &[&str]) -> Result<Vec<i64>, TableFault>
+    ensures { Reads (λ v. v.items) result
+        (integers_at (map (λ key. key.now) keys.now) (table_view table.now)) }
+{
+    let mut numbers = Vec::new(alloc);
+    for key in keys {
+        let Some(number) = integer(table, key) else {
+            return Err(TableFault::Shape)
+        };
+        if numbers.push(number).is_err() {
+            return Err(TableFault::Memory);
+        }
+    }
+    Ok(numbers)
+}
+
 /// The costs, if there are exactly the fifteen keys.
 #[tactic(auto, unfolding(module_meaning::specs::TableRules::costs_of))]
-fn read_costs(table: &Table) -> Option<WrittenCosts>
-    ensures { option_map costs_text result ≡ costs_of (table_view table.now) }
+fn read_costs(alloc: Global, table: &Table) -> Result<Vec<i64>, TableFault>
+    ensures { Reads (λ v. v.items) result (costs_of (table_view table.now)) }
 {
-    let costs = WrittenCosts {
-        literal: integer(table, "literal")?,
-        scalar: integer(table, "scalar")?,
-        array: integer(table, "array")?,
-        add: integer(table, "add")?,
-        mul: integer(table, "mul")?,
-        div: integer(table, "div")?,
-        logic: integer(table, "logic")?,
-        branch: integer(table, "branch")?,
-        jump: integer(table, "jump")?,
-        call: integer(table, "call")?,
-        ret: integer(table, "return")?,
-        create: integer(table, "create")?,
-        message: integer(table, "message")?,
-        service: integer(table, "service")?,
-        end: integer(table, "end")?,
-    };
-    has_only(table, Part::Cost).then_some(costs)
+    let numbers = read_numbers(alloc, table, &COST_NAMES)?;
+    if !has_only(table, Part::Cost) {
+        return Err(TableFault::Shape);
+    }
+    Ok(numbers)
 }
 
 /// The costs of a table that may write none.
-fn read_optional_costs(table: Option<&Table>) -> Option<Option<WrittenCosts>>
-    ensures { option_map (λ o. option_map costs_text o) result
-        ≡ optional_costs (option_map (λ t. table_view t.now) table) }
+fn read_optional_costs(
+    alloc: Global,
+    table: Option<&Table>,
+) -> Result<Option<Vec<i64>>, TableFault>
+    ensures { Reads (λ o. option_map (λ v. v.items) o) result
+        (optional_costs (option_map (λ t. table_view t.now) table.entry)) }
 {
     match table {
-        Some(table) => Some(Some(read_costs(table)?)),
-        None => Some(None),
+        Some(table) => Ok(Some(read_costs(alloc, table)?)),
+        None => Ok(None),
     }
 }
 
@@ -358,7 +345,7 @@ pub fn read_written(alloc: Global, table: &Table) -> Result<WrittenTable<'_>, Ta
     let frame = integer(table, "frame").ok_or(TableFault::Shape)?;
     let fault = text(table, "fault").ok_or(TableFault::Shape)?;
     let costs = optional_table(table, "cost").ok_or(TableFault::Shape)?;
-    let costs = read_optional_costs(costs).ok_or(TableFault::Shape)?;
+    let costs = read_optional_costs(alloc, costs)?;
     let partitions = array(table, "partition").ok_or(TableFault::Shape)?;
     let windows = array(table, "window").ok_or(TableFault::Shape)?;
     let channels = optional_array(table, "channel").ok_or(TableFault::Shape)?;

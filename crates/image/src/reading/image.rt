@@ -60,7 +60,7 @@ pub fn fields_at(alloc: Global, bytes: &[u8]) -> Result<(Fields, &[u8]), ImageFa
     let (number, rest) = version_at(bytes)?;
     let (frame, rest) = u32_within(rest, 1, MOST_FRAME_TICKS)?;
     let (fault, rest) = module_action_at(rest)?;
-    let (version, rest) = own_fields_at(number, rest)?;
+    let (version, rest) = own_fields_at(alloc, number, rest)?;
     let (partitions, rest) = item_list_at(alloc, frame, rest)?;
     let (windows, rest) = list_at(alloc, rest, 1, MOST_WINDOWS as u32)?;
     let (channels, rest) = channel_list_at(alloc, rest)?;

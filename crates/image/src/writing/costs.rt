@@ -1,40 +1,29 @@
-//! Writing what an image has as one of its version.
+//! Writing the fields that images of a version have.
 
 ghost use Rattle.std.specs.Prelude.{◌≡◌, ◌++◌, OnOk};
 ghost use Rattle.machine_meaning.specs.ImageSpelling.{u16, costs, own_fields};
 
+use crate::writing::rows::{Spelled, put_rows};
 use apex_types::{Costs, ImageVersion, TickCost};
 use std::alloc::AllocError;
 
-fn put_cost(out: &mut Vec<u8>, cost: TickCost) -> Result<(), AllocError>
-    ensures { OnOk result (out.new.items ≡ out.old.items ++ u16 cost.ticks) }
-{
-    out.extend_from_slice(&(cost.ticks as u16).to_le_bytes())
+impl Spelled for TickCost {
+    ghost spelled = { λ cost. u16 cost.ticks };
+
+    fn write(&self, out: &mut Vec<u8>) -> Result<(), AllocError> {
+        out.extend_from_slice(&(self.ticks as u16).to_le_bytes())
+    }
 }
 
-/// The fifteen costs, in the order of the keys of a module table.
+/// The costs, in the order of the keys of a module table.
 #[tactic(auto, unfolding(machine_meaning::specs::ImageSpelling::costs))]
-fn put_costs(out: &mut Vec<u8>, costs: &Costs) -> Result<(), AllocError>
-    ensures { OnOk result (out.new.items ≡ out.old.items ++ costs costs.now) }
+fn put_costs(out: &mut Vec<u8>, own: &Costs) -> Result<(), AllocError>
+    ensures { OnOk result (out.new.items ≡ out.old.items ++ costs own.now) }
 {
-    put_cost(out, costs.literal)?;
-    put_cost(out, costs.scalar)?;
-    put_cost(out, costs.array)?;
-    put_cost(out, costs.add)?;
-    put_cost(out, costs.mul)?;
-    put_cost(out, costs.div)?;
-    put_cost(out, costs.logic)?;
-    put_cost(out, costs.branch)?;
-    put_cost(out, costs.jump)?;
-    put_cost(out, costs.call)?;
-    put_cost(out, costs.ret)?;
-    put_cost(out, costs.create)?;
-    put_cost(out, costs.message)?;
-    put_cost(out, costs.service)?;
-    put_cost(out, costs.end)
+    put_rows(out, &own.in_order())
 }
 
-/// What an image has as one of its version: the first has nothing, the second its costs.
+/// The fields of images of this version: the first has none, the second its costs.
 #[tactic(auto, unfolding(machine_meaning::specs::ImageSpelling::own_fields))]
 pub fn put_own_fields(out: &mut Vec<u8>, version: ImageVersion) -> Result<(), AllocError>
     ensures { OnOk result (out.new.items ≡ out.old.items ++ own_fields version) }
