@@ -108,7 +108,7 @@ fn cost_of_exprs(costs: &Costs, exprs: &[Expr]) -> Cost
 
 /// The writes of the targets of a service.
 fn cost_of_targets(costs: &Costs, targets: &[Place]) -> Cost
-    ensures { result ≡ comes_to (map (λ _. costs.now.scalar) targets.now) }
+    ensures { result ≡ comes_to (map (λ _. costs.now.scalar.ticks) targets.now) }
 {
     let mut cost = Cost::NONE;
     for _ in targets {
@@ -123,7 +123,7 @@ fn cost_of_service(costs: &Costs, service: Service, arguments: &[Expr], targets:
         ≡ comes_to
         (cost.costs_of_exprs costs.now (exprs_of arguments.now)
         ++ (services.cost_of_service costs.now service
-        ∷ map (λ _. costs.now.scalar) targets.now)) }
+        ∷ map (λ _. costs.now.scalar.ticks) targets.now)) }
 {
     cost_of_exprs(costs, arguments).joined_by(service.cost(costs), cost_of_targets(costs, targets))
 }
