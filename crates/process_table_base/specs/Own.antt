@@ -1,4 +1,4 @@
--- What is done to one by its own record.
+-- Changes of a runner by its own record.
 use Rattle.std.specs.Prelude.{Option, Some, None}
 use Rattle.apex_types.specs.declared.identity.Runner.{Runner}
 use Rattle.apex_types.specs.declared.process.ProcessStatus.{ProcessStatus}
@@ -9,10 +9,10 @@ abbrev pub with_record : {X : Type 0} → Option ProcessStatus → X → (Proces
 with_record None x change = x
 with_record (Some r) x change = change r
 
--- a step of one with its record; where there is none, nothing
+-- a step of a runner with its record; without a record, nothing
 abbrev pub own_step : Processes → Runner → (ProcessStatus → Step Processes) → Step Processes
 own_step s p step = with_record (row_of s p) (nothing s) step
 
--- the processes after a change of one with its record; where there is none, the same
+-- the processes after a change of a runner with its record; without a record, unchanged
 abbrev pub own_change : Processes → Runner → (ProcessStatus → Processes) → Processes
 own_change s p change = with_record (row_of s p) s change
