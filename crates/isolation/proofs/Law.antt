@@ -52,7 +52,7 @@ pub members_named : (s : Schedule) (n : ℕ) (items : List Item) → map name_of
 members_named s n [] = refl
 members_named s n (i ∷ is) = ap (λ (ns : List (List ℕ)). name_in i ∷ ns) (members_named s (n + 1) is)
 
--- the record is the same from the windows of its own
+-- its own windows give the same record
 pub same_record : (s : Schedule) (p : ℕ) (item : Item) → record_of s p item ≡ record_of (schedule_of_partition p s) p item
 same_record s p item = ap (λ (ws : List WindowRow). machine_member (record { name = item.partition.name; number = p; period = item.partition.period; duration = item.partition.duration; schedule = record { frame = s.frame; windows = ws }; health = item.partition.health }) item.partition.ports item.section) (sym (filter_twice (λ w. w.partition.0 == p) s.windows))
 

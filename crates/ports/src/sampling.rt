@@ -13,9 +13,10 @@ use crate::ports::Ports;
 use apex_types::{ArrayPlace, Mode, Out, ReturnCode, Service, Words};
 use process_table_base::{Handed, ProcessTable, Request, first_words, is_large_enough, is_length};
 
-/// CREATE_SAMPLING_PORT (ARINC 653 Part 1, interpartition communication): the sampling port of that
-/// number exists, and its output is its number. INVALID_MODE: in normal mode; INVALID_CONFIG: the
-/// partition has no such port in the module table, or it is a queuing port; NO_ACTION: it exists.
+/// CREATE_SAMPLING_PORT (ARINC 653 Part 1, interpartition communication): creates the sampling port
+/// of this number, and returns the number. INVALID_MODE: in normal mode; INVALID_CONFIG: the
+/// partition has no such port in the module table, or it is a queuing port; NO_ACTION: it was
+/// already created.
 pub fn create_sampling_port(
     table: &ProcessTable,
     ports: &mut Ports,
@@ -43,8 +44,8 @@ pub fn create_sampling_port(
     ports.create(place);
 }
 
-/// GET_SAMPLING_PORT_ID (ARINC 653 Part 1, interpartition communication): the number of a sampling
-/// port, as its output. INVALID_CONFIG: no sampling port of this number was created.
+/// GET_SAMPLING_PORT_ID (ARINC 653 Part 1, interpartition communication): returns the number of a
+/// sampling port. INVALID_CONFIG: no sampling port of this number was created.
 pub fn get_sampling_port_id(
     table: &ProcessTable,
     ports: &Ports,
@@ -67,9 +68,9 @@ pub fn get_sampling_port_id(
     }
 }
 
-/// WRITE_SAMPLING_MESSAGE (ARINC 653 Part 1, interpartition communication): the first words of those
-/// that the call hands in take the place of the port's message, until the end of the partition's
-/// window moves it. INVALID_PARAM: no sampling port of this number was created; INVALID_MODE: it is a
+/// WRITE_SAMPLING_MESSAGE (ARINC 653 Part 1, interpartition communication): replaces the port's
+/// message with the first `handed.length` words handed in, until the end of the partition's window
+/// moves it. INVALID_PARAM: no sampling port of this number was created; INVALID_MODE: it is a
 /// destination; INVALID_PARAM: a length below 1, above the port's or above the array's.
 pub fn write_sampling_message(
     table: &ProcessTable,
@@ -104,7 +105,8 @@ pub fn write_sampling_message(
     ports.put_sample(place, first_words(handed.length, words));
 }
 
-/// The port's message goes into the array, and stays in the port. Where there is none nothing is done.
+/// Copies the port's message into the array; the message stays in the port. NO_ACTION: the port
+/// holds no message.
 #[tactic(auto, using(crate::proofs::Reading::reading))]
 fn read(
     table: &ProcessTable,
@@ -141,11 +143,11 @@ fn read(
     }
 }
 
-/// READ_SAMPLING_MESSAGE (ARINC 653 Part 1, interpartition communication): the port's message goes
-/// into the array, and stays in the port; its outputs are its length, and whether it is valid, which
-/// it is as long as its arrival is no longer ago than the port's refresh period. INVALID_PARAM: no
-/// sampling port of this number was created; INVALID_MODE: it is a source; INVALID_PARAM: an array
-/// without room for its longest message; NO_ACTION: no message has arrived.
+/// READ_SAMPLING_MESSAGE (ARINC 653 Part 1, interpartition communication): copies the port's
+/// message into the array; the message stays in the port. Returns its length in words, and whether
+/// it is valid: its arrival is at most the port's refresh period ago. INVALID_PARAM: no sampling
+/// port of this number was created; INVALID_MODE: it is a source; INVALID_PARAM: an array without
+/// room for its longest message; NO_ACTION: no message has arrived.
 pub fn read_sampling_message(
     table: &ProcessTable,
     ports: &mut Ports,
@@ -177,9 +179,9 @@ pub fn read_sampling_message(
     read(table, ports, request, array, place, out);
 }
 
-/// GET_SAMPLING_PORT_STATUS (ARINC 653 Part 1, interpartition communication): the most words of a
-/// message, the direction, the refresh period in ticks, and whether the last message read was valid.
-/// INVALID_PARAM: no sampling port of this number was created.
+/// GET_SAMPLING_PORT_STATUS (ARINC 653 Part 1, interpartition communication): returns the most
+/// words of a message, the direction, the refresh period in ticks, and whether the last message
+/// read was valid. INVALID_PARAM: no sampling port of this number was created.
 pub fn get_sampling_port_status(
     table: &ProcessTable,
     ports: &Ports,

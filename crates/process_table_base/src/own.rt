@@ -1,4 +1,4 @@
-//! Changes of one whose record was looked up, as services make them.
+//! Changes of a runner whose record was looked up, as services make them.
 
 ghost use Rattle.std.specs.Prelude.{◌≡◌, ◌<◌, ◌≤◌, ◌+◌, ◌^◌, ℕ, length};
 ghost use Rattle.apex_types.specs.Room.{HasRoom, Grows};
@@ -14,7 +14,8 @@ use crate::table::ProcessTable;
 use apex_types::{Due, Out, ReturnCode, Service, Wait, Words};
 
 impl ProcessTable {
-    /// It waits in a service, until its due time if it has one. There is no line where it waited before.
+    /// The process waits in a service, until its due time if it has one. Writes no line if it
+    /// waited before.
     pub fn wait(&mut self, found: &Found, service: Service, due: Option<Due>, out: &mut Out)
         requires { HasRoom 1 0 out.old }
         ensures step { IsMade
@@ -25,8 +26,8 @@ impl ProcessTable {
         self.wait_as(found.runner, &found.row, Wait::Service(service), due, out);
     }
 
-    /// The service in which it waits answers with outputs of 0, if it waits in one; then it is ready.
-    /// Those who wait on keep their order.
+    /// The service in which the process waits, if any, answers with outputs of 0; then the process
+    /// is ready. The processes that continue to wait keep their order.
     pub fn release(&mut self, found: &Found, code: ReturnCode, out: &mut Out)
         requires { HasRoom 2 1 out.old }
         ensures order { (disciplines : Key → Discipline) (number : ℕ → ℕ) (next : ℕ)
@@ -39,7 +40,8 @@ impl ProcessTable {
         self.release_as(found.runner, &found.row, code, out);
     }
 
-    /// It becomes ready and goes last. One that is suspended waits on until it is resumed.
+    /// The process becomes READY, and goes last. A suspended process continues to wait until it is
+    /// resumed.
     pub fn wake(&mut self, found: &Found, out: &mut Out)
         requires { HasRoom 1 0 out.old }
         ensures step { IsMade (meaning.wakes self.old found.now.runner found.now.row)
@@ -49,8 +51,8 @@ impl ProcessTable {
         self.wake_as(found.runner, &found.row, out);
     }
 
-    /// It becomes dormant: it is in no list, has no due time, no deadline and nothing left to do, and
-    /// the lock is free if it held it.
+    /// The process becomes dormant: it is in no list, has no due time, no deadline and nothing left
+    /// to do; if it held the lock, the lock is free.
     pub fn rest(&mut self, found: &Found, out: &mut Out)
         requires { HasRoom 1 1 out.old }
         ensures step { IsMade (meaning.rests self.old found.now.runner found.now.row)
@@ -60,8 +62,8 @@ impl ProcessTable {
         self.rest_as(found.runner, &found.row, out);
     }
 
-    /// A receiver takes a message: the words go into its array, its call answers how many they are, and
-    /// it is ready.
+    /// Gives a message to a receiver: the words go into its array, its call answers how many they
+    /// are, and it is ready.
     pub fn give(&mut self, found: &Found, message: Words, out: &mut Out)
         requires { HasRoom 2 2 out.old }
         ensures step { IsMade (gives self.old found.now.runner found.now.row message)
@@ -71,7 +73,7 @@ impl ProcessTable {
         self.give_as(found.runner, &found.row, message, out);
     }
 
-    /// A ready process goes behind its equals.
+    /// Moves a ready process behind its equals.
     pub fn go_last(&mut self, found: &Found)
         ensures { self.new ≡ meaning.put_ready self.old found.now.runner found.now.row }
     {

@@ -11,9 +11,9 @@ use apex_types::{Discipline, ListKey, Mode, Out, ReturnCode, Service, Waiting, W
 use process_table_base::{ProcessTable, Request, is_duration};
 use sync_objects_base::Objects;
 
-/// CREATE_EVENT (ARINC 653 Part 1, intrapartition communication): the event of that number exists,
-/// and its output is its number; it is down. INVALID_MODE: in normal mode; INVALID_CONFIG: no such
-/// event is declared; NO_ACTION: it exists.
+/// CREATE_EVENT (ARINC 653 Part 1, intrapartition communication): creates the event of this number,
+/// down, and returns the number. INVALID_MODE: in normal mode; INVALID_CONFIG: no such event is
+/// declared; NO_ACTION: it was already created.
 pub fn create_event(
     table: &ProcessTable,
     objects: &mut Objects,
@@ -41,8 +41,8 @@ pub fn create_event(
     objects.put_event(place, event.created());
 }
 
-/// GET_EVENT_ID (ARINC 653 Part 1, intrapartition communication): the number of an event, as its
-/// output. INVALID_CONFIG: no event of this number was created.
+/// GET_EVENT_ID (ARINC 653 Part 1, intrapartition communication): returns the number of an event.
+/// INVALID_CONFIG: no event of this number was created.
 pub fn get_event_id(
     table: &ProcessTable,
     objects: &Objects,
@@ -64,8 +64,9 @@ pub fn get_event_id(
     }
 }
 
-/// SET_EVENT (ARINC 653 Part 1, intrapartition communication): an event is up, and all who wait for it
-/// are released in the order in which they came. INVALID_PARAM: no event of this number was created.
+/// SET_EVENT (ARINC 653 Part 1, intrapartition communication): sets an event up, and releases all
+/// processes that wait for it, in order of arrival. INVALID_PARAM: no event of this number was
+/// created.
 pub fn set_event(
     table: &mut ProcessTable,
     objects: &mut Objects,
@@ -89,8 +90,8 @@ pub fn set_event(
     }
 }
 
-/// RESET_EVENT (ARINC 653 Part 1, intrapartition communication): an event is down. INVALID_PARAM: no
-/// event of this number was created.
+/// RESET_EVENT (ARINC 653 Part 1, intrapartition communication): sets an event down. INVALID_PARAM:
+/// no event of this number was created.
 pub fn reset_event(
     table: &ProcessTable,
     objects: &mut Objects,
@@ -113,10 +114,10 @@ pub fn reset_event(
     }
 }
 
-/// WAIT_EVENT (ARINC 653 Part 1, intrapartition communication): while an event is down the caller
-/// waits, at most so many ticks; -1 is without limit. INVALID_PARAM: no event of this number was
+/// WAIT_EVENT (ARINC 653 Part 1, intrapartition communication): if an event is down, blocks the
+/// caller for at most `limit` ticks; -1 is no limit. INVALID_PARAM: no event of this number was
 /// created, or a limit below -1 or above 2^40 ticks; NOT_AVAILABLE: it is down and the limit is 0;
-/// INVALID_MODE: the caller may not wait; TIMED_OUT: it waited for so long.
+/// INVALID_MODE: the caller may not wait; TIMED_OUT: the wait reached the limit.
 pub fn wait_event(
     table: &mut ProcessTable,
     objects: &Objects,
@@ -157,8 +158,9 @@ fn number_of_state(up: bool) -> i64
     if up { 1 } else { 0 }
 }
 
-/// GET_EVENT_STATUS (ARINC 653 Part 1, intrapartition communication): the state of an event, 0 for
-/// down and 1 for up, and how many processes wait. INVALID_PARAM: no event of this number was created.
+/// GET_EVENT_STATUS (ARINC 653 Part 1, intrapartition communication): returns the state of an
+/// event, 0 for down and 1 for up, and the number of waiting processes. INVALID_PARAM: no event of
+/// this number was created.
 pub fn get_event_status(
     table: &ProcessTable,
     objects: &Objects,

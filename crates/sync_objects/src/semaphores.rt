@@ -10,9 +10,9 @@ use apex_types::{ListKey, Mode, Out, ReturnCode, Service, Waiting, Words};
 use process_table_base::{ProcessTable, Request, is_duration};
 use sync_objects_base::Objects;
 
-/// CREATE_SEMAPHORE (ARINC 653 Part 1, intrapartition communication): the semaphore of that number
-/// exists, and its output is its number. INVALID_MODE: in normal mode; INVALID_CONFIG: no such
-/// semaphore is declared; NO_ACTION: it exists.
+/// CREATE_SEMAPHORE (ARINC 653 Part 1, intrapartition communication): creates the semaphore of this
+/// number, and returns the number. INVALID_MODE: in normal mode; INVALID_CONFIG: no such semaphore
+/// is declared; NO_ACTION: it was already created.
 pub fn create_semaphore(
     table: &ProcessTable,
     objects: &mut Objects,
@@ -40,8 +40,8 @@ pub fn create_semaphore(
     objects.put_semaphore(place, semaphore.created());
 }
 
-/// GET_SEMAPHORE_ID (ARINC 653 Part 1, intrapartition communication): the number of a semaphore, as
-/// its output. INVALID_CONFIG: no semaphore of this number was created.
+/// GET_SEMAPHORE_ID (ARINC 653 Part 1, intrapartition communication): returns the number of a
+/// semaphore. INVALID_CONFIG: no semaphore of this number was created.
 pub fn get_semaphore_id(
     table: &ProcessTable,
     objects: &Objects,
@@ -64,11 +64,11 @@ pub fn get_semaphore_id(
     }
 }
 
-/// WAIT_SEMAPHORE (ARINC 653 Part 1, intrapartition communication): the value of a semaphore falls by
-/// one. At 0 the caller waits, at most so many ticks; -1 is without limit. INVALID_PARAM: no
-/// semaphore of this number was created, or a limit below -1 or above 2^40 ticks; NOT_AVAILABLE: the
-/// value is 0 and so is the limit; INVALID_MODE: the caller may not wait; TIMED_OUT: it waited for so
-/// long.
+/// WAIT_SEMAPHORE (ARINC 653 Part 1, intrapartition communication): lowers the value of a semaphore
+/// by one. If it is 0, blocks the caller for at most `limit` ticks; -1 is no limit. INVALID_PARAM:
+/// no semaphore of this number was created, or a limit below -1 or above 2^40 ticks; NOT_AVAILABLE:
+/// the value and the limit are 0; INVALID_MODE: the caller may not wait; TIMED_OUT: the wait
+/// reached the limit.
 pub fn wait_semaphore(
     table: &mut ProcessTable,
     objects: &mut Objects,
@@ -105,9 +105,9 @@ pub fn wait_semaphore(
     table.block(request, limit, waiting, Words::new(), out);
 }
 
-/// SIGNAL_SEMAPHORE (ARINC 653 Part 1, intrapartition communication): the first who waits for a
-/// semaphore is released; where nobody waits, its value rises by one. INVALID_PARAM: no semaphore of
-/// this number was created; NO_ACTION: its value is its maximum.
+/// SIGNAL_SEMAPHORE (ARINC 653 Part 1, intrapartition communication): releases the first process
+/// that waits for a semaphore; if none waits, raises its value by one. INVALID_PARAM: no semaphore
+/// of this number was created; NO_ACTION: its value is its maximum.
 pub fn signal_semaphore(
     table: &mut ProcessTable,
     objects: &mut Objects,
@@ -138,8 +138,9 @@ pub fn signal_semaphore(
     }
 }
 
-/// GET_SEMAPHORE_STATUS (ARINC 653 Part 1, intrapartition communication): the value of a semaphore,
-/// its maximum, and how many processes wait. INVALID_PARAM: no semaphore of this number was created.
+/// GET_SEMAPHORE_STATUS (ARINC 653 Part 1, intrapartition communication): returns the value of a
+/// semaphore, its maximum, and the number of waiting processes. INVALID_PARAM: no semaphore of this
+/// number was created.
 pub fn get_semaphore_status(
     table: &ProcessTable,
     objects: &Objects,

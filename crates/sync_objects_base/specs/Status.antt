@@ -1,4 +1,4 @@
--- What is told of buffers and blackboards in place of their messages.
+-- What the status of buffers and blackboards shows in place of their messages.
 use Rattle.std.specs.Prelude.{ℕ, length, drop, Option, Some, None, is_some, slice_index_or}
 use Rattle.apex_types.specs.declared.codes.Discipline.TheVariants as discipline
 use Rattle.kernel_meaning.specs.Objects.{Objects, Buffer, Blackboard, fresh_buffer, fresh_blackboard}
@@ -19,16 +19,16 @@ buffer_at o place = slice_index_or o.buffers place (fresh_buffer (record { words
 abbrev pub blackboard_at : Objects → ℕ → Blackboard
 blackboard_at o place = slice_index_or o.blackboards place (fresh_blackboard (record { words = 0 }))
 
--- the buffer that a status with its place is of
+-- the buffer of a status with its place
 abbrev pub buffer_of_status : Objects → Option (ℕ × BufferStatus) → Option (ℕ × Buffer)
 buffer_of_status o None = None
 buffer_of_status o (Some f) = Some (f.0, buffer_at o f.0)
 
--- the blackboard that a status with its place is of
+-- the blackboard of a status with its place
 abbrev pub blackboard_of_status : Objects → Option (ℕ × BlackboardStatus) → Option (ℕ × Blackboard)
 blackboard_of_status o None = None
 blackboard_of_status o (Some f) = Some (f.0, blackboard_at o f.0)
 
--- its first message is gone
+-- removes its first message
 abbrev pub without_first : Buffer → Buffer
 without_first x = record x { messages = drop 1 x.messages }

@@ -1,4 +1,4 @@
-//! The objects of a partition, and the few ways in which they change.
+//! The objects of a partition, and the few ways to change them.
 
 ghost use Rattle.std.specs.Prelude.{◌≡◌, ◌<◌, ◌≤◌, ◌++◌, [], ◌∷◌, drop, length, map, replicate, slice_get, IfOk, IfSome, IsNone, OnSome, true};
 ghost use Rattle.apex_types.specs.declared.limits.TheConstants.{MOST_OBJECTS};
@@ -109,7 +109,7 @@ fn clear_blackboards(all: &mut Vec<Blackboard>)
 }
 
 impl Objects {
-    /// No object is created. An error is one of memory.
+    /// Makes the objects, with none created. `AllocError`: out of memory.
     pub fn new(
         alloc: Global,
         semaphores: &[SemaphoreRow],
@@ -133,7 +133,7 @@ impl Objects {
         })
     }
 
-    /// No object is created, and all that they held is gone.
+    /// Resets all objects: none is created, and all that they held is removed.
     pub fn clear(&mut self)
         ensures { self.new ≡ meaning.cleared_objects self.old }
     {
@@ -143,7 +143,7 @@ impl Objects {
         clear_blackboards(&mut self.blackboards);
     }
 
-    /// The semaphore with a number, with its place.
+    /// The semaphore with number `id`, and its place.
     pub fn semaphore(&self, id: i64) -> Option<(u8, Semaphore)>
         ensures found { result ≡ meaning.semaphore self.now id }
         ensures within { IfSome result (λ found. found.0 < MOST_OBJECTS) }
@@ -152,7 +152,7 @@ impl Objects {
         Some((place as u8, self.semaphores[place]))
     }
 
-    /// A semaphore changes.
+    /// Replaces the semaphore at `place`.
     pub fn put_semaphore(&mut self, place: u8, semaphore: Semaphore)
         ensures { self.new ≡ meaning.put_semaphore self.old place semaphore }
     {
@@ -161,7 +161,7 @@ impl Objects {
         }
     }
 
-    /// The event with a number, with its place.
+    /// The event with number `id`, and its place.
     pub fn event(&self, id: i64) -> Option<(u8, ApexEvent)>
         ensures found { result ≡ meaning.event self.now id }
         ensures within { IfSome result (λ found. found.0 < MOST_OBJECTS) }
@@ -170,7 +170,7 @@ impl Objects {
         Some((place as u8, self.events[place]))
     }
 
-    /// An event changes.
+    /// Replaces the event at `place`.
     pub fn put_event(&mut self, place: u8, event: ApexEvent)
         ensures { self.new ≡ meaning.put_event self.old place event }
     {
@@ -179,7 +179,7 @@ impl Objects {
         }
     }
 
-    /// How the buffer with a number stands, with its place.
+    /// The place and the status of the buffer with number `id`.
     pub fn buffer(&self, id: i64) -> Option<(u8, BufferStatus)>
         ensures found { meaning.buffer self.now id ≡ buffer_of_status self.now result }
         ensures status { IfSome result
@@ -190,7 +190,7 @@ impl Objects {
         Some((place as u8, self.buffers[place].status()))
     }
 
-    /// A buffer is created.
+    /// Creates the buffer at `place`.
     pub fn create_buffer(&mut self, place: u8)
         ensures { self.new
             ≡ meaning.put_buffer self.old place
@@ -201,7 +201,7 @@ impl Objects {
         }
     }
 
-    /// A message goes behind the others of a buffer.
+    /// Appends a message to the buffer at `place`.
     pub fn push_message(&mut self, place: u8, message: Words)
         requires { length (buffer_at self.old place).messages
             < (buffer_at self.old place).row.depth }
@@ -215,7 +215,7 @@ impl Objects {
         }
     }
 
-    /// Takes the first message of a buffer.
+    /// Takes the first message of the buffer at `place`.
     pub fn pop_message(&mut self, place: u8) -> Option<Words>
         ensures first { result ≡ slice_get (buffer_at self.old place).messages 0 }
         ensures empty { IsNone result → self.new ≡ self.old }
@@ -231,7 +231,7 @@ impl Objects {
         buffer.pop()
     }
 
-    /// How the blackboard with a number stands, with its place.
+    /// The place and the status of the blackboard with number `id`.
     pub fn blackboard(&self, id: i64) -> Option<(u8, BlackboardStatus)>
         ensures found { meaning.blackboard self.now id ≡ blackboard_of_status self.now result }
         ensures status { IfSome result
@@ -242,7 +242,7 @@ impl Objects {
         Some((place as u8, self.blackboards[place].status()))
     }
 
-    /// A blackboard is created.
+    /// Creates the blackboard at `place`.
     pub fn create_blackboard(&mut self, place: u8)
         ensures { self.new
             ≡ meaning.put_blackboard self.old place
@@ -253,7 +253,7 @@ impl Objects {
         }
     }
 
-    /// A blackboard displays a message, or none.
+    /// Displays a message on the blackboard at `place`, or none.
     pub fn show(&mut self, place: u8, shown: Option<Words>)
         ensures { self.new
             ≡ meaning.put_blackboard self.old place
@@ -264,7 +264,7 @@ impl Objects {
         }
     }
 
-    /// The message that a blackboard displays.
+    /// The message that the blackboard at `place` displays.
     pub fn shown(&self, place: u8) -> Option<Words>
         ensures { result ≡ (blackboard_at self.now place).shown }
     {
