@@ -22,7 +22,7 @@ use Rattle.bursts.specs.Quiet.{IsIdle, HasNothingDue, IsAtRest, IsStill, AreStil
 abbrev pub stays : {C : Type 0} → World C → Moved C
 stays w = record { world = w; lines = [] }
 
--- a tick in which nothing is due and the choice stays is the tick of the one that runs
+-- a tick in which nothing is due and the choice stays is the tick of the running process
 pub running_tick : {C : Type 0} (e : Engine C) (at : At) (w : World C) → chooses_with_handler w.kernel ≡ nothing w.kernel → HasNothingDue at w.kernel → tick e at w ≡ spends_chosen e at w.kernel.processes.running w
 running_tick e at w chosen due =
     ap (λ s. followed_by (followed_by (followed_by (moved at e (of_processes w.kernel s) w) (clearing_phase e at (treats_due at w.kernel).clears)) (choice_phase e at)) (spending_phase e at)) due.treated

@@ -33,7 +33,7 @@ pub record IsStill (origin from limit : ℕ) (k : Kernel) : Type 0 where
   pub due : (t : ℕ) → from ≤ t → t < limit → HasNothingDue (tick_from origin t) k
   pub ports : (port : PortId) → IsAtRest k port
 
--- the same of each partition
+-- each partition is still
 abbrev pub AreStill : {C : Type 0} → ℕ → ℕ → ℕ → List (Member C) → Type 0
 AreStill origin from limit members = (place : ℕ) (x : Member _) → slice_get members place ≡ Some x → IsStill origin from limit x.world.kernel
 

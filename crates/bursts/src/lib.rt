@@ -27,7 +27,8 @@ pub fn still_ticks_are_one_jump()
         ≡ trace_from plan devices m (Some (tick_from origin (t + n))) members }
 {}
 
-/// While nothing is due and the choice stays, ticks of a partition are a burst of the one that runs.
+/// While nothing is due and the choice stays, the ticks of a partition are a burst of its running
+/// process.
 pub fn ticks_are_a_burst_of_the_running_one()
     ensures { (e : Engine MachineControl) (origin : ℕ) (p : Runner) (n m t : ℕ)
         (w : World MachineControl) → w.kernel.processes.running ≡ Some p

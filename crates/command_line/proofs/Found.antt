@@ -1,4 +1,4 @@
--- What was found in the words.
+-- The arguments found in the words.
 use Rattle.std.proofs.Common.{◌≡◌, ◌≢◌, ℕ, Bool, false, List, Option, None, Some, sym, ap, refl, ◌∙◌}
 use Rattle.std.specs.Prelude.{option_map, codes, if◌then◌else◌, true, Box}
 use Rattle.std.specs.Str.{bytes_eq}

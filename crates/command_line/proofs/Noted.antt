@@ -1,4 +1,4 @@
--- What is noted of a refused source.
+-- The note on a refused source.
 use Rattle.std.proofs.Common.{ℕ, List, Option, Some, None, IfSome}
 use Rattle.module_meaning.specs.Table.{Table}
 use Rattle.module_meaning.specs.Accepted.{IsTable}

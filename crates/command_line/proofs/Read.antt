@@ -1,4 +1,4 @@
--- What is read, and what is built of it.
+-- The files that are read, and the image that is built of them.
 use Rattle.std.proofs.Common.{◌≡◌, ℕ, List, [], ◌∷◌, ◌++◌, length, map, drop, Option, Result, Ok, Err, IfOk, IfErr, refl, sym, ap, subst, ◌∙◌, append-nil, Bor}
 use Rattle.module.specs.Building.{IsImageOf}
 use Rattle.module.specs.Costs.{AreCosts}

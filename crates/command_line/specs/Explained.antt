@@ -1,4 +1,4 @@
--- What is told of a refusal: its line and, where that is asked for, an explanation behind it.
+-- The report of a refusal: its line and, on request, an explanation behind it.
 use Rattle.std.specs.Prelude.{◌≡◌, ℕ, Bool, true, false, List, [], ◌∷◌, ◌++◌, if◌then◌else◌, Option, Some, None, string_bytes}
 use Rattle.std.specs.Str.{bytes_eq}
 use Rattle.module_meaning.specs.Table.{Partition, Table}

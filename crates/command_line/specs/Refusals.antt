@@ -72,14 +72,14 @@ abbrev pub IsNotWritten : List ℕ → List (List ℕ) → List ℕ → State �
 IsNotWritten table sources name before after r =
     ((image : List ℕ) × IsBuilt before.files table sources image) × Spares name before.files after.files × IsRefusalOfFile name r
 
--- ---- the commands; want of memory may come at every step
+-- ---- the commands; memory may run out at every step
 
 -- standard output failed if a run, or a replay, says so, and else not
 abbrev pub HasFailedBy : RunFault → Seen → Seen → Type 0
 HasFailedBy faults.Write old new = HasFailed old new
 HasFailedBy _ old new = new.failures ≡ old.failures
 
--- the same of the inputs that a run brings
+-- the same faults for the inputs that a run brings
 abbrev pub HasFailedByInputs : InputsFault → Seen → Seen → Type 0
 HasFailedByInputs input_faults.Write old new = HasFailed old new
 HasFailedByInputs _ old new = new.failures ≡ old.failures
@@ -177,8 +177,9 @@ abbrev pub IsFailure : Order → State → State → Failure Refusal → Type 0
 IsFailure order before after (Refused r) = IsRefused order before after r
 IsFailure order before after (Usage error) = IsUntouched before after × IsWrongTicks order × (kind_of error ≡ ValueValidation)
 
--- Why words are not done, of which the library of command lines has these errors to tell: want of memory; or
--- one of those errors; or, where there is none, why their order is not done.
+-- Why the words of a command line are not done, where the library of command lines reports the
+-- errors `kinds`: memory ran out; or one of those errors; or, without errors, the reason why their
+-- order is not done.
 abbrev pub IsFailureOfWords : Kinds → Order → State → State → Failure Refusal → Type 0
 IsFailureOfWords kinds order before after (Refused Memory) = IsRefused order before after Memory
 IsFailureOfWords kinds order before after (Refused r) = (kinds ≡ []) × IsRefused order before after r

@@ -13,7 +13,8 @@ abbrev pub of_file : String Global → NameFault → Refusal
 of_file name fault.Unavailable = File name
 of_file name fault.Memory = Memory
 
--- The file that a refusal names is the one that failed; where it names none, none did.
+-- The file that a refusal names is noted as failed; with a refusal that names no file, no file is
+-- noted.
 abbrev pub IsOfFailed : List (List ℕ) → List (List ℕ) → Refusal → Type 0
 IsOfFailed old new (File name) = new ≡ old ++ string_bytes name ∷ []
 IsOfFailed old new (Build fault) = new ≡ old
@@ -23,7 +24,7 @@ IsOfFailed old new (Inputs fault) = new ≡ old
 IsOfFailed old new Memory = new ≡ old
 IsOfFailed old new Write = new ≡ old
 
--- the same of a command that is not done
+-- the same condition for a command that is not done
 abbrev pub IsOfFailedFile : List (List ℕ) → List (List ℕ) → Failure Refusal → Type 0
 IsOfFailedFile old new (Refused r) = IsOfFailed old new r
 IsOfFailedFile old new (Usage error) = new ≡ old

@@ -13,7 +13,7 @@ use std::alloc::{AllocError, AllocFailed};
 use std::fmt;
 use streams::NameFault;
 
-/// A refused command. What it shows is its line on standard error.
+/// A refused command. Displays as its line on standard error.
 #[derive(Drop)]
 pub enum Refusal {
     Build(BuildFault),

@@ -1,4 +1,4 @@
--- What was found in the words, and the errors that they have.
+-- The arguments found in the words, and the errors of the words.
 use Rattle.std.proofs.Common.{◌≡◌, ℕ, List, [], map, Option, None, Some, true, ap, refl, ◌∙◌, subst, Bor}
 use Rattle.std.specs.Prelude.{option_map, unwrap_or}
 use Rattle.clap.specs.Faults.{fault_of, is_simple_and_free}

@@ -1,4 +1,4 @@
--- What was told of words that are no command, or that ask for help.
+-- The report on words that are no command, or that ask for help.
 use Rattle.std.specs.Prelude.{◌≡◌, ◌⊎◌, ◌<◌, ◌-◌, ◌^◌, ℕ, List, Option, Result, Err, IfSome}
 use Rattle.clap.specs.Values.{kind_of}
 use Rattle.clap.specs.declared.error.Error.{Error}

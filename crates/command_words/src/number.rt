@@ -15,7 +15,7 @@ pub fn number_of(word: &str) -> Option<u64>
     Some(word.parse().unwrap_or(u64::MAX))
 }
 
-/// Whether there are digits, and nothing else.
+/// Returns true if `bytes` has digits, and nothing else.
 fn is_numeral(bytes: &[u8]) -> bool
     ensures { IsTrue result ↔ IsNumeral 10 bytes.now }
 {

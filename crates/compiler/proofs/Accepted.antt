@@ -1,4 +1,4 @@
--- What is known of a program that was accepted.
+-- The properties of an accepted program.
 use Rattle.std.proofs.Common.{◌≡◌, ℕ, ◌≤◌, min, arith}
 use Rattle.std.proofs.Math.Logic.{∥∥₁_elim}
 use Rattle.std.specs.Coded.{le_prop}

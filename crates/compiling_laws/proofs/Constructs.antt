@@ -1,4 +1,4 @@
--- What is to do unfolds into its simple constructs, each once; their costs are those that are counted.
+-- A list of parts unfolds into its simple constructs, each once; their costs are the counted ones.
 use Rattle.std.proofs.Common.{◌≡◌, pos, List, [], ◌∷◌, ◌++◌, map, refl, sym, ap, ◌∙◌, append_assoc}
 use Rattle.std.proofs.lemmas.List.{map-append}
 use Rattle.apex_types.specs.declared.cost.Costs.{Costs}

@@ -64,7 +64,8 @@ module _ {C D : Type 0} (R : C → D → Type 0) where
   same_world : (k : Kernel) (f : List (Option C)) (g : List (Option D)) (ws i : List ℤ) → SameControls R f g → SameWorld R (world k f ws i) (world k g ws i)
   same_world k f g ws i h = record { kernel = refl; controls = h; words = refl; initial = refl }
 
-  -- what holds of worlds that share kernel and data holds of worlds that have the same
+  -- a property of worlds with the same kernel and data holds of worlds whose kernel and data are
+  -- equal
   shared : (P : World C → World D → Type 0) (v : World C) (w : World D)
       → ((k : Kernel) (f : List (Option C)) (g : List (Option D)) (ws i : List ℤ) → SameControls R f g → P (world k f ws i) (world k g ws i))
       → SameWorld R v w → P v w

@@ -104,7 +104,7 @@ module _ (costs : Costs) (code : Code) (program : Program) (rs : List RoutineRow
       let same = ap length e in
       omega (arith, base_length k.laid c.slots)
 
-  -- the control goes on, with other operands
+  -- the control continues with other operands
   next : (rest : List Part) (vs junk : List ℤ) (n pc sp : ℕ) (stack : List ℤ) → n ≡ length vs → Goes code program.procedures k.limits pc n rest → sp ≡ length here + length vs → stack ≡ here ++ onto vs junk → length stack ≡ c.stack → sp ≤ c.stack → Keeps code program.procedures (moves c rest vs) (record { pc = pc; fp = m.fp; sp = sp; stack = stack; spent = 0; awaits = 0 })
   next rest vs junk n pc sp stack en goes es et el le =
       let count : n ≡ length vs + 0 = omega arith in

@@ -1,4 +1,4 @@
--- What a verdict accepts fits the compiler.
+-- A program that the verdict accepts fits the compiler.
 use Rattle.std.proofs.Common.{◌≡◌, ℕ, zero, suc, ◌+◌, ◌≤◌, ◌<◌, Bool, true, false, not, cond, nat_eq, List, [], ◌∷◌, ◌++◌, length, map, Option, Some, None, Result, Ok, Err, refl, sym, ap, ◌∙◌, subst, arith, append_assoc, length-append}
 use Rattle.std.specs.Prelude.{slice_get, nat_le, nat_lt, filter_map, option_map, unwrap_or, bytes_eq}
 use Rattle.std.specs.List.{list_all, cons_option, sum_by}
@@ -110,7 +110,7 @@ abbrev one_or_none : {A : Type 0} → Option A → List A
 one_or_none None = []
 one_or_none (Some x) = x ∷ []
 
--- the number of a procedure is its place, and it has so many parameters
+-- the number of a procedure is its place, and the procedure has `n` parameters
 abbrev pub NamesProcedure : List program.Procedure → Option Denotation → Type 0
 NamesProcedure procedures (Some (denotation.Procedure f n)) = HasParameters procedures f n
 NamesProcedure procedures _ = Unit {0}
@@ -402,7 +402,7 @@ resolved_fits ports p kinds limits small =
       size = small;
     }
 
--- What the verdict accepts fits the compiler, if its code is not too long.
+-- A program that the verdict accepts fits the compiler, if its code is not too long.
 pub well_formed_fits : (ports : List PortRow) (period : ℕ) (p : written.Program) (r : program.Program) → verdict ports period p ≡ Ok r → size_of r ≤ MOST_INSTRUCTIONS → Fits r
 well_formed_fits ports period p r h small =
     let a = accepted ports period p r h in

@@ -16,7 +16,7 @@ pub fn refused_line(source: &[u8], line: u32) -> &[u8]
     first_line(behind_lines(source, line.saturating_sub(1)))
 }
 
-/// What stands behind that many line feeds.
+/// The text behind the first `count` line feeds.
 fn behind_lines(text: &[u8], count: u32) -> &[u8]
     ensures { result.now ≡ behind_lines count text.now }
 {
@@ -29,7 +29,7 @@ fn behind_lines(text: &[u8], count: u32) -> &[u8]
     rest
 }
 
-/// What stands behind the first line feed.
+/// The text behind the first line feed.
 fn behind_feed(text: &[u8]) -> &[u8]
     ensures { result.now ≡ behind_feed text.now }
 {
@@ -43,7 +43,7 @@ fn behind_feed(text: &[u8]) -> &[u8]
     rest
 }
 
-/// What stands before the first line feed.
+/// The text before the first line feed.
 fn first_line(text: &[u8]) -> &[u8]
     ensures { result.now ≡ first_line text.now }
 {

@@ -20,7 +20,7 @@ pub enum CommandFault {
     Ticks,
     /// The image has no partition of the name.
     Partition,
-    /// More than 65,536 inputs come to a partition.
+    /// A partition gets more than 65,536 inputs.
     Inputs,
     /// A file was not opened, read or written.
     File,

@@ -1,4 +1,4 @@
-//! What a program does with the words of its process.
+//! Runs a program with the words of its process.
 
 ghost use Rattle.std.specs.Prelude.{◌≡◌, ◌≢◌, ◌≤◌, ◌-◌, ◌^◌, ◌<◌, codes};
 ghost use Rattle.streams.specs.States.{TakesLine, seen};
@@ -19,8 +19,7 @@ pub trait Program {
         ensures { result ≤ 2 };
 }
 
-/// Does what the words of the process say. Where there is too little memory for that, `memory` is
-/// told.
+/// Does what the words of the process say. Reports `memory` if memory runs out for that.
 pub fn run<P: Program>(rt: &HostRuntime, program: &mut P, memory: &str) -> ExitCode {
     ExitCode::from(status(rt, program, memory))
 }
@@ -49,8 +48,8 @@ fn words(rt: &(impl Env + AllocGlobal)) -> io::Result<Vec<String>> {
     Ok(env::args(rt)?.collect(rt.alloc())?)
 }
 
-/// The status where the words of the command line are not to be had: they find no memory, or
-/// one is not UTF-8. Its line goes to `err`; what cannot be shown is told by the status alone.
+/// The status if the command line cannot be read: memory runs out, or a word is not UTF-8. Its line
+/// goes to `err`; if `err` does not take it, only the status reports the error.
 fn wordless<E: Stream>(kind: ErrorKind, memory: &str, err: &mut E) -> u8
     requires { E.failures err.old < 2 ^ 64 - 1 }
     ensures memory { kind ≡ ErrorKind.OutOfMemory

@@ -1,5 +1,5 @@
-//! What an integrator reads of an image and of sources: the instructions of each partition, and the
-//! costs of each body.
+//! A listing for an integrator of an image and of sources: the instructions of each partition, and
+//! the costs of each body.
 #![tactic(auto)]
 
 mod code;

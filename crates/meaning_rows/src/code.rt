@@ -1,4 +1,4 @@
-//! Code as it stands, also such as no source becomes: the tick of its error, where it has one.
+//! Literal code, also code that no source compiles to: the tick of its error, if it has one.
 
 ghost use Rattle.std.specs.Prelude.{◌≡◌, ◌∷◌, [], Some, None, pos, negsuc, map};
 ghost use Rattle.apex_types.specs.declared.codes.ErrorKind.TheVariants.{IllegalRequest, MemoryViolation, NumericError, StackOverflow};

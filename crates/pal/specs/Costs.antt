@@ -1,5 +1,5 @@
--- What the report of a program's costs has: a row for each body, INIT, the handler, the processes and
--- the procedures, in this order.
+-- The rows of the report of a program's costs: one for each body, INIT, the handler, the processes
+-- and the procedures, in this order.
 use Rattle.std.specs.Prelude.{List, [], ◌∷◌, ◌++◌, map, Option, Some, None}
 use Rattle.apex_types.specs.declared.cost.Costs.{Costs}
 use Rattle.pal_meaning.specs.Program as cost

@@ -1,4 +1,4 @@
--- What the definitions see of the scope of a body.
+-- The scope of a body as the definitions see it.
 use Rattle.std.specs.Prelude.{ℕ, List}
 use Rattle.pal_meaning.specs.Resolve as resolve
 use Rattle.pal_base.specs.View.{texts}

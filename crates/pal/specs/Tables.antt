@@ -1,4 +1,4 @@
--- What the definitions see of a table of names, and of the counts of declarations.
+-- A table of names and the counts of declarations, as the definitions see them.
 use Rattle.std.specs.Prelude.{List, map}
 use Rattle.pal_meaning.specs.Resolve.{Entry, Counts}
 use Rattle.pal.specs.declared.table.NameTable.{NameTable}

@@ -1,4 +1,4 @@
-//! What the check of a rule answers: nothing, or the line that breaks the rule.
+//! The answer of a check of a rule: nothing, or the line that breaks the rule.
 
 ghost use Rattle.std.specs.Prelude.{◌≡◌, ◌&&◌, is_ok};
 

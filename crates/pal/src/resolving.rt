@@ -1,5 +1,5 @@
-//! The program with its names resolved. What is refused elsewhere stands as 0 here: a number beyond
-//! its limit, and a name that is not of the kind that is wanted.
+//! The program with its names resolved. A value that is refused elsewhere is 0 here: a number
+//! beyond its limit, or a name of the wrong kind.
 
 ghost use Rattle.std.specs.Prelude.{◌≡◌, ◌++◌, ◌-◌, ◌^◌, List, ℕ, pos, map, length, replicate, flat_map, filter_map, option_map, true, IfOk, OnOk};
 ghost use Rattle.std.specs.List.{list_all};

@@ -11,7 +11,7 @@ use indexmap::{IndexMap, IndexSet};
 use pal_base::syntax::NameId;
 use std::alloc::{AllocError, Global};
 
-/// What names stand for, by their texts, in the order in which they were entered.
+/// The meanings of names by their texts, in the order of entry.
 #[derive(Drop)]
 pub struct NameTable<'a> {
     pub entries: IndexMap<&'a str, Denotation>,
@@ -27,7 +27,7 @@ impl<'a> NameTable<'a> {
         }
     }
 
-    /// What the name stands for.
+    /// The meaning of the name with this text.
     pub fn get(&self, text: &str) -> Option<Denotation>
         ensures { result ≡ find text.now (entries_of self.now) }
     {

@@ -1,4 +1,4 @@
--- What two lists of costs come to, one behind the other.
+-- The sum of two lists of costs, one behind the other.
 use Rattle.std.proofs.Common.{◌≡◌, ℕ, zero, suc, ◌+◌, ◌<◌, List, [], ◌∷◌, ◌++◌, length, map, append-nil, drop, get_or, refl, sym, ap, ◌∙◌, arith, append_assoc}
 use Rattle.std.proofs.lemmas.List.{drop_more}
 use Rattle.pal_base.specs.declared.cost.Cost.{Cost}

@@ -1,4 +1,4 @@
--- What a loop has found, followed by what the rest of the repetition finds, is the whole.
+-- The results of a loop, followed by those of the rest of the repetition, are the whole.
 use Rattle.std.proofs.Common.{◌≡◌, ℕ, ◌<◌, Bool, true, false, List, [], ◌∷◌, ◌++◌, length, map, Some, None, Result, Ok, Err, is_ok, refl, sym, ◌∙◌, ap, append_assoc, append-nil, arith, subst}
 use Rattle.std.proofs.lemmas.List.{length-map, map-append}
 use Rattle.pal_meaning.specs.Grammar.{Word}
@@ -38,7 +38,7 @@ pub turn_fails : {A X : Type 0} (view : A → X) (turn : Turn X) (whole : Answer
     whole ≡ after (map view found) (repeat turn ws) → turn ws ≡ Err left → whole ≡ Err left
 turn_fails view turn whole found ws left so_far failed = so_far ∙ ap (after (map view found)) (repeat_fails turn ws left failed)
 
--- the turns of a repetition that goes on as long as the words begin so
+-- the turns of a repetition that continues as long as the words begin so
 pub each_finds : {B X : Type 0} (front : Answer B) (b : B) (read : B → Answer (X × List Word)) (x : X × List Word) → front ≡ Ok b → read b ≡ Ok x → each front read ≡ Ok (Some x)
 each_finds front b read x stands found = ap (λ r. each r read) stands ∙ ap (λ r. r >>= λ y. Ok (Some y)) found
 
@@ -77,7 +77,7 @@ pub gives_more : {A B D : Type 0} (view : A → B) (make : B → D) (whole : A �
 gives_more view make whole (Ok a) r same given = ap (λ t. t >>= λ b. Ok (make b)) given ∙ ap Ok (same a)
 gives_more view make whole (Err error) r same given = refused_by error r (r >>= λ b. Ok (make b)) (λ left e. ap (λ t. t >>= λ b. Ok (make b)) e) given
 
--- where so many words are left, a refusal may say so
+-- if `left` words are left, a refusal may say so
 pub refuses : {D : Type 0} (error : ReadError) (r : Answer D) (left : ℕ) → IsLeft error left → r ≡ Err left → Refuses error r
 refuses Memory r left h e = absurd h
 refuses (Refused misfit) r left h e = e ∙ ap Err (sym h)
@@ -95,7 +95,7 @@ pub until_stops : {B X : Type 0} (t : Bool) (front : Answer B) (read : Answer (X
 until_stops t (Err left) read h k = cc
 until_stops t (Ok b) read h k = refl
 
--- the same of a repetition of one thing behind a mark
+-- a repetition of one thing behind a mark finds the next one
 pub listed_finds : {A X : Type 0} (view : A → X) (mark : List ℕ) (read : Reading X) (whole : Answer (List X × List Word)) (old new : List A) (a : A) (ws vs us : List Word) →
     whole ≡ after (map view old) (listed mark read ws) → expect mark ws ≡ Ok vs → read vs ≡ Ok (view a, us) → length us < length ws → new ≡ old ++ a ∷ [] →
     whole ≡ after (map view new) (listed mark read us)

@@ -22,7 +22,7 @@ IsRefused Limit text = ⊥
 IsRefused Period text = ⊥
 IsRefused Memory text = IsText text
 
--- a refusal has the number of the verdict; want of memory says nothing of it
+-- a refusal has the number of the verdict; a refusal for memory says nothing of the verdict
 abbrev pub Refuses : Refusal → Result resolved.Program Refused → Type 0
 Refuses refusal.Text verdict = ⊥
 Refuses refusal.Grammar verdict = ⊥

@@ -1,4 +1,5 @@
-//! What the grammar looks for where a text leaves it: each kind of word is tried there.
+//! Finds the words that the grammar looks for where a text leaves it: tries each kind of word
+//! there.
 
 ghost use Rattle.std.specs.Prelude.{◌≡◌, ◌++◌, ◌∷◌, [], length, IfOk, OnOk};
 ghost use Rattle.pal_base.specs.Lined.{first_line};
@@ -77,7 +78,7 @@ static KINDS: [WordKind; 50] = [
     WordKind::End,
 ];
 
-/// What the grammar looks for at the first word of a text that does not fit.
+/// The words that the grammar looks for at the first word of a text that does not fit.
 #[derive(Drop)]
 pub struct LookedFor {
     /// How many words stand before that word.
@@ -95,19 +96,19 @@ pub struct LookedFor {
 /// How a word fits behind others.
 #[derive(Clone, Copy)]
 enum Fit {
-    /// Some program goes on with it.
+    /// Some program continues with it.
     Fits,
     /// It opens one level too many.
     TooDeep,
     Misfit,
 }
 
-/// What the grammar looks for at the first word of a text that does not fit; nothing where the text
-/// is in the grammar.
+/// Returns the words that the grammar looks for at the first word of a text that does not fit;
+/// `None` if the text is in the grammar.
 ///
 /// # Errors
 ///
-/// Only where memory ran out.
+/// Only if memory runs out.
 pub fn looked_for(alloc: Global, text: &[u8]) -> Result<Option<LookedFor>, AllocError>
     ensures { IfOk result (λ found. IsLookedFor text.now found) }
 {
@@ -140,7 +141,7 @@ impl Source {
         }
     }
 
-    /// What can stand between these words.
+    /// Returns the words that may stand between `before` and `behind`.
     fn looked_for(
         &self,
         alloc: Global,

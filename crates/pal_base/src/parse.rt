@@ -180,7 +180,7 @@ impl Source {
     }
 
     #[tactic(auto, unfolding(pal_laws::specs::GrammarReading::process_at))]
-    /// What follows the word `process` of that line.
+    /// Reads the process behind the word `process` of that line.
     fn process<'a>(&self, alloc: Global, line: u32, tokens: &'a [Token]) -> Read<'a, Process>
         ensures shorter { IfOk result (λ x. length x.1.now < length tokens.now) }
         ensures exact { Gives (λ x. (process_of (names_of self.now) x.0, seen self.now x.1.now))

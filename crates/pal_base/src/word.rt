@@ -77,7 +77,7 @@ pub fn words_of(alloc: Global, text: &[u8]) -> Result<Words, PalFault>
 }
 
 #[tactic(auto, unfolding(pal_meaning::specs::Grammar::behind_blanks))]
-/// What follows the blanks and the comments at the front, and the line in which it stands.
+/// The text behind the blanks and the comments at the front, and the line in which it begins.
 fn behind_blanks(text: &[u8], line: u32) -> (&[u8], u32)
     ensures text { result.0.now ≡ behind_blanks false text.now }
     ensures few { result.1 + length result.0.now ≤ line + length text.now }

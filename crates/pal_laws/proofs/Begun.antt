@@ -10,7 +10,7 @@ use Rattle.pal_laws.proofs.Spelled.{TurnSpells}
 use Rattle.pal_laws.proofs.Shaped.{TurnShapes}
 use Rattle.pal_laws.proofs.Longer.{Longer}
 
--- these words of which so many are left begin such a thing
+-- these words, of which `left` are left, begin such a thing
 pub record Begun {X : Type 0} (words : X → List Word → List Word) (P : X → Type 0) (ws : List Word) (left : ℕ) : Type 0 where
   pub front : List Word
   pub back : List Word

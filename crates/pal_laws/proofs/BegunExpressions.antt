@@ -117,7 +117,7 @@ arguments_begin k read s p b ws n h = one_way (expect _ ws) _ _ _ h
 abbrev pub DeepBegins : (X : Type 0) → (X → List Word → List Word) → (X → Type 0) → Reading X → Type 0
 DeepBegins X words P read = (ws : List Word) (n : ℕ) → read ws ≡ Err n → (suc (length ws) ≡ n) ⊎ Begun words P ws n
 
--- what stands before the word that opens the level is complete as it stands, or with these words
+-- the words before the word that opens the level are complete by themselves, or with these words
 pub opened : {X Y : Type 0} (words : X → List Word → List Word) (P : X → Type 0) (whole : Y → List Word → List Word) (Q : Y → Type 0) (ws vs : List Word) (n : ℕ) (front : List Word → List Word) (opening : Word) (make : X → Y) (end : List Word) (y : Y) (short : List Word) →
     Front front → ws ≡ front (opening ∷ vs) → ((x : X) → P x → Q (make x)) → ((x : X) (rest : List Word) → whole (make x) rest ≡ front (opening ∷ words x (end ++ rest))) →
     Q y → ((rest : List Word) → whole y rest ≡ front (short ++ rest)) → (suc (length vs) ≡ n) ⊎ Begun words P vs n → Begun whole Q ws n

@@ -20,7 +20,7 @@ shape Stray = Stray
 abbrev pub shapes : List Word → List Word
 shapes ws = map shape ws
 
--- both found something, before words of the same shapes, or both leave so many words
+-- both found something before words of the same shapes, or both leave the same number of words
 unfoldable pub Same : {X Y : Type 0} → Answer (X × List Word) → Answer (Y × List Word) → Type 0
 Same (Ok x) (Ok y) = y.1 ≡ shapes x.1
 Same (Ok x) (Err m) = ⊥

@@ -1,4 +1,4 @@
--- How a reading goes on, step by step, where each part is read.
+-- How a reading continues, step by step, where each part is read.
 use Rattle.std.proofs.Common.{◌≡◌, ℕ, ◌<◌, List, [], ◌∷◌, length, Some, None, Ok, Err, ap, ◌∙◌}
 use Rattle.pal_meaning.specs.Grammar.{Word}
 use Rattle.pal_laws.specs.GrammarReading.{Answer, Turn, ◌>>=◌, either, repeat}

@@ -9,13 +9,13 @@ use Rattle.engine_meaning.specs.Digits.{same}
 use Rattle.pal_laws.specs.GrammarReading.{Answer, Reading, Turn, ◌>>=◌, either, each, until, expect, name_at, number_at, service_at, one_of, operators_of, operator_at, turned, repeat_within, repeat}
 use Rattle.pal_laws.proofs.Begun.{left_is}
 
--- at most so many words are left
+-- at most `n` words are left
 abbrev pub Within : {X : Type 0} → Answer (X × List Word) → ℕ → Type 0
 Within (Ok x) n = length x.1 ≤ n
 Within (Err left) n = left ≤ n
 
--- What was answered where more words follow: the same where a word was left, and nothing that stops before them where
--- none was.
+-- The answer where more words follow: the same if a word was left; nothing that stops before them
+-- if none was.
 abbrev pub StaysFound : {X : Type 0} → List Word → X → List Word → Answer (X × List Word) → Type 0
 StaysFound more x [] b = Within b (length more)
 StaysFound more x (u ∷ us) b = b ≡ Ok (x, u ∷ us ++ more)

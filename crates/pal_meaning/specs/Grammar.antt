@@ -60,8 +60,8 @@ in_name b = is_lower b || is_digit b || (b == 95)
 abbrev pub in_service : ℕ → Bool
 in_service b = is_upper b || (b == 95)
 
--- What follows the blanks and comments at the front; true within a comment, which goes from # to the
--- end of the line.
+-- The text behind the blanks and comments at the front; the flag is true within a comment, which
+-- goes from # to the end of the line.
 unfoldable pub behind_blanks : Bool → List ℕ → List ℕ
 behind_blanks comment [] = []
 behind_blanks comment (b ∷ bs) =

@@ -7,7 +7,7 @@ abbrev pub feeds : List ℕ → ℕ
 feeds [] = 0
 feeds (b ∷ bs) = if b == 10 then suc (feeds bs) else feeds bs
 
--- what stands from the word on that has so many words before it; nothing where there are no more words
+-- the text from the word on that has `n` words before it; nothing if there are no more words
 unfoldable pub from_word : ℕ → List ℕ → List ℕ
 from_word zero text = behind_blanks false text
 from_word (suc n) text = from_word n (word_at (behind_blanks false text)).1

@@ -1,5 +1,5 @@
--- What the names of a program stand for, and the program with its names resolved. The resolution is
--- made for every program: what makes a program not well formed stands as 0 in it.
+-- The meanings of the names of a program, and the program with its names resolved. Every program is
+-- resolved: a part that makes a program not well formed is 0 in the result.
 use Rattle.std.specs.Prelude.{ℕ, ◌+◌, ◌-◌, ◌^◌, ℤ, pos, ◌-ℤ◌, nat_le, nat_lt, if◌then◌else◌, List, [], ◌∷◌, ◌++◌, map, length, take, replicate, flat_map, filter_map, position, Option, Some, None, option_map, unwrap_or, bytes_eq}
 use Rattle.apex_types.specs.declared.limits.TheConstants.{GREATEST_PRIORITY, MOST_DATA_WORDS, MOST_DEPTH, MOST_LOCALS, MOST_OBJECTS, MOST_PORTS, MOST_PROCEDURES, MOST_PROCESSES, MOST_SEMAPHORE_VALUE, MOST_SLOTS, MOST_STACK_WORDS, MOST_TICKS, MOST_WORDS, MOST_WORK_TICKS}
 use Rattle.apex_types.specs.declared.place.Place.{Place}
@@ -43,7 +43,7 @@ pub record Counts : Type 0 where
 abbrev pub no_counts : Counts
 no_counts = record { words = 0; semaphores = 0; events = 0; buffers = 0; blackboards = 0; ports = 0; procedures = 0 }
 
--- a count after so many more, where that is within its limit
+-- a count raised by `more`, if the sum is within the limit
 abbrev pub counted : ℕ → ℕ → ℕ → Option ℕ
 counted limit count more = if nat_le (more + count) limit then Some (more + count) else None
 
@@ -62,12 +62,12 @@ after c (written.Procedure parameters body) = option_map (λ n. record c { proce
 abbrev pub next : ℕ → ℕ → ℕ
 next limit count = unwrap_or (counted limit count 1) 0
 
--- the number of the port of that name in the partition's row, from 1; 0 if there is none
+-- the number of the port `name` in the partition's row, from 1; 0 if no port has that name
 abbrev pub port_number : List PortRow → List ℕ → ℕ
 port_number ports name = unwrap_or (option_map (λ i. i + 1) (position (λ p. bytes_eq p.name name) (take MOST_PORTS ports))) 0
 
--- What a declared name stands for, after so much is declared: variables and arrays lie in the data
--- in the order of declaration, objects are numbered from 1, each kind by itself, procedures from 0.
+-- The meaning of a declared name after the counts `c`: variables and arrays lie in the data in the
+-- order of declaration, objects are numbered from 1, each kind by itself, procedures from 0.
 abbrev pub declared_meaning : List PortRow → Counts → List ℕ → written.Kind → Denotation
 declared_meaning ports c name (written.Variable value) = denotation.Scalar (Data c.words)
 declared_meaning ports c name (written.Array size values) = denotation.Array c.words (pos (within MOST_DATA_WORDS size))
@@ -88,7 +88,7 @@ abbrev pub find : List ℕ → List Entry → Option Denotation
 find name [] = None
 find name (e ∷ es) = if bytes_eq e.name name then Some e.meaning else find name es
 
--- the entries of the declarations, after so much is declared; a count that would pass its limit stays
+-- the entries of the declarations after the counts `c`; a count that would pass its limit stays
 abbrev pub declaration_entries : List PortRow → Counts → List written.Declaration → List Entry
 declaration_entries ports c [] = []
 declaration_entries ports c (d ∷ ds) = record { name = d.name; meaning = declared_meaning ports c d.name d.kind } ∷ declaration_entries ports (unwrap_or (after c d.kind) c) ds
@@ -101,11 +101,11 @@ process_entries count (p ∷ ps) = record { name = p.name; meaning = denotation.
 abbrev pub declared_entries : List PortRow → written.Program → List Entry
 declared_entries ports p = declaration_entries ports no_counts p.declarations ++ process_entries 0 p.processes
 
--- the slot of the parameter or local with so many before it
+-- the slot of the parameter or local with `place` others before it
 abbrev pub slot : ℕ → ℕ
 slot place = if nat_lt place MOST_SLOTS then place else 0
 
--- the entries of the parameters and locals of a body, with so many before them
+-- the entries of the parameters and locals of a body, with `place` others before them
 abbrev pub own_entries : ℕ → List (List ℕ) → List Entry
 own_entries place [] = []
 own_entries place (x ∷ xs) = record { name = x; meaning = denotation.Scalar (Slot (slot place)) } ∷ own_entries (place + 1) xs

@@ -1,6 +1,6 @@
--- What a process still has to do on the source, and what one tick of it does. A compound construct
--- unfolds into its parts without a tick; a simple construct takes the ticks of its cost and has its
--- one effect in the last of them, on the data as it is then.
+-- The parts that a process still has to do on the source, and the effect of one tick. A compound
+-- construct unfolds into its parts without a tick; a simple construct takes the ticks of its cost
+-- and has its one effect in the last of them, on the data as it is then.
 use Rattle.std.specs.Prelude.{ℕ, zero, suc, ◌+◌, ℤ, pos, List, [], ◌∷◌, ◌++◌, Option, Some, None, length, take, drop, reverse, replicate, map, slice_get, slice_set, nat_eq, nat_lt, nat_le, if◌then◌else◌}
 use Rattle.apex_types.specs.declared.codes.ErrorKind.{ErrorKind}
 use Rattle.apex_types.specs.declared.codes.ErrorKind.TheVariants as error
@@ -45,16 +45,16 @@ pub data Part : Type 0 where
   Execute : (stmt : Stmt) → Part
   Do : (construct : Simple) → Part
 
--- an open call that waits for the one that it made: what it has to do then, its values, the last
--- one first, and its slots
+-- an open call that waits for the call that it made: the parts to do after that, its values, the
+-- last one first, and its slots
 pub record OpenCall : Type 0 where
   pub parts : List Part
   pub values : List ℤ
   pub slots : List ℤ
 
--- What the running body still has to do, its values, the last one first, and its slots; the calls
--- that wait, the last one first; the ticks spent on the front construct; the words of an answer
--- that it awaits, 0 for none; and the words of stack of the process.
+-- The parts that the running body still has to do, its values, the last one first, and its slots;
+-- the calls that wait, the last one first; the ticks spent on the front construct; the words of an
+-- answer that it awaits, 0 for none; and the words of stack of the process.
 pub record SourceControl : Type 0 where
   pub parts : List Part
   pub values : List ℤ
@@ -145,7 +145,7 @@ abbrev pub taken : List OpenCall → ℕ
 taken [] = 0
 taken (call ∷ calls) = taken calls + length call.slots + 2 + length call.values
 
--- The control after a tick that went on: what is to do, and the values.
+-- The control after a tick that continued: the parts to do, and the values.
 abbrev pub moves : SourceControl → List Part → List ℤ → SourceControl
 moves c rest values = record { parts = rest; values = values; slots = c.slots; callers = c.callers; spent = 0; awaits = 0; stack = c.stack }
 
@@ -156,27 +156,27 @@ goes_on c rest values words = record { control = moves c rest values; words = wo
 abbrev pub stays : SourceControl → List ℤ → Asks → Ticked SourceControl
 stays c words asks = record { control = c; words = words; asks = asks }
 
--- goes on with a value more, or the error where there is none
+-- continues with one more value, or raises `error` if there is no value
 abbrev pub value_or : ErrorKind → Option ℤ → SourceControl → List Part → List ℤ → List ℤ → Ticked SourceControl
 value_or error None c rest values words = stays c words (Faults error)
 value_or error (Some v) c rest values words = goes_on c rest (v ∷ values) words
 
--- a word of a list, where there is one
+-- the word at a place of a list, if the place is within the list
 abbrev pub word_at : List ℤ → Option ℕ → Option ℤ
 word_at words None = None
 word_at words (Some place) = slice_get words place
 
--- words with one of them written, where there is one
+-- words with the word at a place changed, if the place is within them
 abbrev pub write_at : List ℤ → Option ℕ → ℤ → Option (List ℤ)
 write_at words None v = None
 write_at words (Some place) v = if nat_lt place (length words) then Some (slice_set words place v) else None
 
--- goes on over the data as written, or a memory violation where the place is none
+-- continues with the data as written, or raises a memory violation if the place is outside the data
 abbrev pub writes : Option (List ℤ) → SourceControl → List Part → List ℤ → List ℤ → Ticked SourceControl
 writes None c rest values words = stays c words (Faults error.MemoryViolation)
 writes (Some written) c rest values words = goes_on c rest values written
 
--- the same of the slots of the running body
+-- continues with the slots of the running body as written, or raises a memory violation
 abbrev pub writes_slot : Option (List ℤ) → SourceControl → List Part → List ℤ → List ℤ → Ticked SourceControl
 writes_slot None c rest values words = stays c words (Faults error.MemoryViolation)
 writes_slot (Some slots) c rest values words = record { control = record { parts = rest; values = values; slots = slots; callers = c.callers; spent = 0; awaits = 0; stack = c.stack }; words = words; asks = Nothing }
@@ -200,7 +200,7 @@ opens (Some p) c rest values words =
     }
     else stays c words (Faults error.StackOverflow)
 
--- a call gives its value back to the one that made it
+-- a call gives its value back to its caller
 abbrev pub gives_back : List OpenCall → ℤ → SourceControl → List ℤ → Ticked SourceControl
 gives_back [] v c words = stays c words (Faults error.MemoryViolation)
 gives_back (caller ∷ callers) v c words = record { control = record { parts = caller.parts; values = v ∷ caller.values; slots = caller.slots; callers = callers; spent = 0; awaits = 0; stack = c.stack }; words = words; asks = Nothing }
@@ -254,7 +254,7 @@ abbrev pub source_tick : Costs → Program → SourceControl → List ℤ → Ti
 source_tick costs program c words = tick_awaiting costs program c.awaits c words
 
 -- The words of an answer become values, the code as the last one; an answer of another length than
--- the one that is awaited changes nothing.
+-- the awaited one changes nothing.
 abbrev pub source_reply : SourceControl → List ℤ → SourceControl
 source_reply c answer = if nat_eq (length answer) c.awaits then record { parts = c.parts; values = answer ++ c.values; slots = c.slots; callers = c.callers; spent = c.spent; awaits = 0; stack = c.stack } else c
 

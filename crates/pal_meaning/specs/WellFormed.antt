@@ -91,7 +91,7 @@ abbrev pub is_array : Option Denotation → Bool
 is_array (Some (denotation.Array place size)) = true
 is_array _ = false
 
--- a procedure with so many parameters
+-- a procedure with `n` parameters
 abbrev pub is_procedure : ℕ → Option Denotation → Bool
 is_procedure n (Some (denotation.Procedure number parameters)) = nat_eq parameters n
 is_procedure n _ = false

@@ -28,7 +28,7 @@ pub fn tell(rt: &HostRuntime, row: &Row) -> io::Result<()> {
     Ok(())
 }
 
-/// Whether the table is read, and the source is accepted by the row of its one partition.
+/// Returns true if the table is read, and the source is accepted by the row of its one partition.
 fn tell_table(rt: &HostRuntime, row: &Row) -> bool {
     let Some(table) = table(rt, row) else {
         return false;
@@ -102,8 +102,8 @@ fn built(rt: &HostRuntime, row: &Row) -> Option<Vec<u8>> {
     None
 }
 
-/// Runs the image, one tick after another or by one call, or replays its partition, and tells what was
-/// answered. Whether it was not refused.
+/// Runs the image, one tick after another or by one call, or replays its partition, and prints the
+/// answer. Returns true if the call was not refused.
 fn writes(rt: &HostRuntime, row: &Row, image: &[u8], call: &str) -> bool {
     let mut sink = Narrow::wide(row.trace.as_slice());
     let (devices, inputs) = (row.devices.as_slice(), row.inputs.as_slice());

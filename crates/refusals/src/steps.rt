@@ -12,7 +12,7 @@ use std::fmt::Display;
 
 /// Tells that a call begins.
 pub fn begin(rt: &HostRuntime, call: &str) {
-    // Where the line is lost, whoever reads the others misses it.
+    // If the line is lost, a reader of the other lines misses it.
     let _ = println!(rt; "begin {call}");
 }
 
@@ -74,7 +74,7 @@ fn device_lines(
     }
 }
 
-/// Loads the image, and runs it for so many ticks, one by one, with what the device text says.
+/// Loads the image, and runs it for `ticks` ticks, one by one, with the lines of the device text.
 pub fn drive<S: Sink>(
     rt: &HostRuntime,
     image: &[u8],

@@ -1,4 +1,4 @@
--- What is seen of stacks with one of them changed or selected.
+-- Views of stacks with one of them changed or selected.
 use Rattle.std.proofs.Common.{◌≡◌, ℕ, zero, suc, ◌<◌, List, [], ◌∷◌, length, map, refl, ap, arith}
 use Rattle.std.specs.Prelude.{get_or, slice_get, slice_set, Some}
 use Rattle.std.proofs.lemmas.List.{map-set, get_or-map, get_or-set_same, length-map, length-set}

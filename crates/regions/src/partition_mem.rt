@@ -13,8 +13,8 @@ use std::alloc::{AllocError, Global};
 use std::marker::Model;
 use std::mem;
 
-/// The words of one partition: its data, and the stacks of those that run in it. One of the stacks
-/// is the own stack of the one that runs; the others cannot be reached until they are selected.
+/// The words of one partition: its data, and the stacks of its processes. One of the stacks is the
+/// own stack of the running process; the others cannot be reached until they are selected.
 #[derive(Drop)]
 pub struct PartitionMem {
     reach: Reach,
@@ -44,7 +44,7 @@ fn zeroed_stacks(alloc: Global, lengths: &[u16]) -> Result<Vec<Vec<i64>>, AllocE
     Ok(stacks)
 }
 
-/// The word at a place, where there is one.
+/// The word at a place. The error is a memory violation if `words` has no such place.
 fn word_at(words: &[i64], place: usize) -> Result<i64, ErrorKind>
     ensures { result ≡ ok_or (slice_get words.now place) ErrorKind.MemoryViolation }
 {
@@ -85,7 +85,8 @@ impl PartitionMem {
         }
     }
 
-    /// Changes the word at a place of the data, where there is one.
+    /// Changes the word at a place of the data. The error is a memory violation if the data has no
+    /// such place.
     #[tactic(auto, using(crate::proofs::Lists::stacks))]
     fn store_data(&mut self, place: usize, word: i64) -> Result<(), ErrorKind>
         ensures result { result ≡ allowed (nat_lt place (length self.old.words)) }
@@ -99,7 +100,8 @@ impl PartitionMem {
         Ok(())
     }
 
-    /// Changes the word at a place of the own stack, where there is one.
+    /// Changes the word at a place of the own stack. The error is a memory violation if the stack
+    /// has no such place.
     #[tactic(auto, using(crate::proofs::Lists::stacks))]
     fn store_stack(&mut self, place: usize, word: i64) -> Result<(), ErrorKind>
         ensures result { result ≡ allowed (nat_lt place (length self.old.stack)) }
@@ -130,8 +132,8 @@ impl PartitionMem {
         }
     }
 
-    /// What the one that runs may touch. After the loan it is as the borrower left it, and the other stacks
-    /// are as they were.
+    /// Lends the words that the running process may touch. After the loan they are as the borrower
+    /// left them, and the other stacks are as they were.
     pub fn reach(&mut self) -> &mut Reach
         ensures* back { sem 𝓛 (Lends the_row reach_row self.entry result (λ r. put self.entry.now r.stack.items r.words.items)) }
         ensures words { result.now.words.items ≡ self.old.words }

@@ -1,4 +1,4 @@
-//! What memory a partition is to have.
+//! The memory that a partition is to have.
 
 ghost use Rattle.std.specs.Prelude.{◌<◌, length};
 

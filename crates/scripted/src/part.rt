@@ -12,7 +12,7 @@ use processor::{Burst, Outcome};
 /// A runner with its script.
 #[derive(Drop)]
 pub struct Part {
-    /// What its ticks come to, one after the other. Behind the last one it is busy.
+    /// The outcomes of its ticks, one after the other. After the last one it is busy.
     pub(crate) outcomes: Vec<Outcome>,
     /// The place of the next one, where something is left to do.
     pub(crate) next: Option<usize>,
@@ -67,7 +67,7 @@ impl Part {
         outcome
     }
 
-    /// So many of the script, or those up to the first that asks for something.
+    /// Plays `k` ticks of the script, or those up to the first that asks for something.
     pub(crate) fn advance(&mut self, k: u32) -> Burst
         ensures burst { (scripts : _) (words : List ℤ)
             → record {

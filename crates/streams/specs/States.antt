@@ -1,4 +1,4 @@
--- What is seen of a stream at one time, and what it takes.
+-- The state of a stream at one time, and the bytes that it takes.
 use Rattle.std.specs.Prelude.{◌≡◌, ◌⊎◌, ◌+◌, ℕ, Bool, true, List, [], ◌∷◌, ◌++◌, Option}
 use Rattle.std.specs.Io.KnownBytes.{Appends}
 

@@ -7,10 +7,10 @@ ghost use Rattle.streams.specs.Noted.{IsNoted};
 use crate::names::NameFault;
 use std::alloc::Global;
 
-/// What the commands read and write by name.
+/// The files that the commands read and write by name.
 pub trait Files {
-    /// The bytes of each name, and none where there is no such file; nothing where the files are
-    /// not told.
+    /// The bytes of each name, or `None` if there is no such file; `None` for all if the files are
+    /// not known.
     ghost contents: { Self → Option (List ℕ → Option (List ℕ)) } = { λ _. None };
 
     /// The names of the files that were not read or not written so far, one for each call that

@@ -7,7 +7,7 @@ ghost use Rattle.streams.specs.Noted.{IsNotedFault};
 use std::alloc::{AllocError, Global};
 use std::io::ErrorKind;
 
-/// Why what has a name is not to be had.
+/// Why a named file or text is not available.
 #[derive(Clone, Copy, Debug, PartialEq, Eq)]
 pub enum NameFault {
     /// It cannot be opened, read or written.
@@ -44,8 +44,8 @@ impl FailedNames {
         }
     }
 
-    /// The fault of a call on what has this name and is not there. The name is noted; where there is
-    /// no memory to note it, want of memory is the fault.
+    /// The fault of a call on a file or text of this name that is not available. Notes the name;
+    /// the fault is `Memory` if there is no memory to note it.
     pub fn unavailable(&mut self, alloc: Global, name: &str) -> NameFault
         ensures { IsNotedFault name.now (names_of self.old) (names_of self.new) result }
     {

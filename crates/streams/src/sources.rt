@@ -11,8 +11,8 @@ use std::io::Read;
 pub trait Sources {
     type Reader: Read + Drop;
 
-    /// The text of each name, and none where there is no such text; nothing where the texts are
-    /// not told.
+    /// The text of each name, or `None` if there is no such text; `None` for all if the texts are
+    /// not known.
     ghost texts: { Self → Option (List ℕ → Option (List ℕ)) } = { λ _. None };
 
     /// The names of the texts that were not opened so far, one for each call that failed.

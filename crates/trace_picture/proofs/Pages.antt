@@ -32,7 +32,8 @@ ended outer text tag (before, (attributes, (inside, (h, e)))) =
 finished : (text : List ℕ) → IsBegun [] text → IsPicture (text ++ end_text Svg)
 finished text (attributes, (inside, e)) = (attributes, (inside, ap (λ t. t ++ end_text Svg) e))
 
--- the same of the list of tags elements as the code has it, the innermost last: `tags` and `text` become `after` and `longer`
+-- the same for the list of tags as the code has it, the innermost last: `tags` and `text` become
+-- `after` and `longer`
 
 abbrev pub IsKept : List Tag → List ℕ → Type 0
 IsKept tags text = ∥ IsBegun (reverse tags) text ∥₁

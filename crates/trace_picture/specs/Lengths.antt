@@ -2,7 +2,7 @@
 use Rattle.std.specs.Prelude.{ℕ, ◌+◌, ◌-◌, ◌*◌, ◌/◌, ◌^◌, min}
 use Rattle.trace_picture.specs.declared.length.Length.{Length}
 
--- so many tenths of a pixel
+-- `n` tenths of a pixel
 abbrev pub tenths : ℕ → Length
 tenths n = record { 0 = n }
 

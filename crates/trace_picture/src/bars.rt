@@ -94,7 +94,7 @@ pub fn draw_state(
     title_bar(page, name, stay.state.word(), stay.span)
 }
 
-/// Draws the stay of a partition in a mode, with the mode's word where there is room.
+/// Draws the stay of a partition in a mode, with the mode's word if it fits.
 pub fn draw_mode(
     page: &mut Page,
     axis: Axis,

@@ -1,4 +1,4 @@
-//! What stands around the bars: names, the time axis and the legend.
+//! The frame around the bars: names, the time axis and the legend.
 
 ghost use Rattle.std.specs.Prelude.{◌≡◌, ◌<◌, ◌≤◌, ◌/◌, ◌++◌, ℕ, OnOk, flat_map, string_bytes};
 ghost use Rattle.trace_picture.specs.Axis.{multiples_in};
@@ -17,7 +17,8 @@ use apex_types::{Mode, ProcessState, Ticks};
 use std::alloc::AllocError;
 use trace_stays::Lanes;
 
-/// How far the ground of a partition stands from the edges, and how far it goes on below its rows.
+/// The distance of the ground of a partition from the edges, and the length by which it extends
+/// below its rows.
 const MARGIN: Length = Length(40);
 
 /// Where names begin.

@@ -114,7 +114,7 @@ impl Page {
         self.text(buffer.format(number))
     }
 
-    /// Ends the innermost element; the outermost one goes on.
+    /// Ends the innermost element; the outermost one stays open.
     ///
     /// # Errors
     ///

@@ -1,4 +1,4 @@
-//! What happened in the ticks of a picture.
+//! The events in the ticks of a picture.
 
 ghost use Rattle.std.specs.Prelude.{◌≡◌, ◌+◌, ◌<◌, ◌≤◌, ◌↔◌, ◌++◌, ◌∷◌, [], vec_len, IfOk, IsErrOf, OnErr, OnOk};
 
@@ -235,7 +235,8 @@ impl Picture {
         }))
     }
 
-    /// A message leaves a port. What arrives in this tick behind this line is this message.
+    /// A message leaves a port. Arrivals behind this line in the same tick are of this message,
+    /// until another message leaves.
     fn depart(&mut self, tick: Ticks, from: Stop)
         ensures { self.new.shown ≡ self.old.shown }
     {

@@ -25,7 +25,7 @@ pub struct Rows {
     pub bottom: Length,
 }
 
-/// Who has something to show.
+/// The lanes that have something to show.
 #[derive(Drop)]
 struct Shown {
     outside: bool,

@@ -1,4 +1,4 @@
-//! What a picture shows.
+//! The contents of a picture.
 
 use apex_types::{ErrorKind, Name, Response, Subject, Ticks, Words};
 use trace_stays::{ModeStay, Stay};

@@ -15,7 +15,7 @@ abbrev pub is_before_end : Option Ticks → ℕ → Bool
 is_before_end None t = true
 is_before_end (Some to) t = ltb t to.0
 
--- A line of this tick was read. Without a given end the ticks go on to the last line.
+-- A line of this tick was read. Without a given end the shown ticks end with the last line.
 abbrev pub with_read_if : Bool → ℕ → ShownTicks → ShownTicks
 with_read_if true t s = record s { behind = tick (max s.behind.0 (behind t)) }
 with_read_if false t s = s

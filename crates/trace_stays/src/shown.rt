@@ -60,7 +60,7 @@ impl ShownTicks {
         self.before(self.behind)
     }
 
-    /// The ticks that are shown, before this one if no end is given.
+    /// The ticks that are shown; they end before `last` if no end is given.
     fn before(&self, last: Ticks) -> Span
         ensures { result ≡ between self.now.from (end_of self.now.to last.0) }
     {

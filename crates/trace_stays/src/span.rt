@@ -31,7 +31,7 @@ impl Span {
         }
     }
 
-    /// Whether this is one of the ticks.
+    /// Returns true if `tick` is one of the ticks.
     pub fn has(self, tick: Ticks) -> bool
         ensures { (result ≡ true) ↔ (self.from.0 ≤ tick.0) × (tick.0 < self.until.0) }
     {

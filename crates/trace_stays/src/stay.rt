@@ -52,7 +52,7 @@ impl Held {
 }
 
 /// The first tick that no longer counts for RUNNING, if a line of this tick says that the process
-/// comes to the next state, or that it is gone.
+/// enters the next state, or that it is gone.
 ///
 /// The process has done its last work in this tick, unless it becomes READY: then another one was
 /// chosen before the tick's work.
@@ -66,7 +66,7 @@ fn running_left_at(next: Option<ProcessState>, tick: Ticks) -> Ticks
 }
 
 /// The first tick that no longer counts for a state, if a line of this tick says that the process
-/// comes to the next one, or that it is gone.
+/// enters the next one, or that it is gone.
 fn left_at(state: ProcessState, next: Option<ProcessState>, tick: Ticks) -> Ticks
     ensures { result.0 ≡ left_at state next tick.0 }
 {
@@ -103,8 +103,8 @@ impl StateWatch {
         }
     }
 
-    /// A line of this tick says that the process comes to the next state, or, with none, that it is
-    /// gone. Answers the stay that is over.
+    /// A line of this tick says that the process enters the next state, or, with `None`, that it is
+    /// gone. Returns the stay that is over.
     pub fn turn(&mut self, next: Option<ProcessState>, tick: Ticks) -> Option<Stay>
         ensures ended { result ≡ stay_ended self.old.held next tick.0 }
         ensures held { self.new.held ≡ held_behind self.old.held next tick.0 }

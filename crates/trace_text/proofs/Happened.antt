@@ -1,4 +1,5 @@
--- What happened and its parts: what is read from parts has these parts, and is read again from them.
+-- The kinds of events and their parts: a kind that is read from parts has these parts, and is read
+-- again from them.
 use Rattle.std.proofs.Common.{◌≡◌, ℕ, ℤ, ◌≤◌, Bool, true, false, cond, List, [], ◌∷◌, ◌++◌, length, map, option_map, Option, Some, None, codes, refl, sym, ap, subst, ◌∙◌, arith, append_assoc, append-nil}
 use Rattle.std.specs.Prelude.{nat_le, IsTrue}
 use Rattle.std.specs.Fmt.{signed_decimal}

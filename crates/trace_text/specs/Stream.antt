@@ -18,7 +18,7 @@ ahead_bytes a = slice_range a.buffer.items a.start a.end
 abbrev pub left : {R : Type 0} → (R → Option (List ℕ)) → TraceStream R → Option (List ℕ)
 left remaining s = prepend_known (ahead_bytes s.ahead) (remaining s.reader)
 
--- the number of the next line, behind so many lines; numbers stop at the greatest
+-- the number of the next line, after `lines` lines; numbers stop at the greatest
 abbrev pub next_number : ℕ → ℕ
 next_number lines = min (lines + 1) (2 ^ 64 - 1)
 

@@ -96,7 +96,7 @@ IsReadFrom before text (e ∷ es) = (rest : List ℕ) × IsNext before text e re
 abbrev pub IsReadAs : List ℕ → List Event → Type 0
 IsReadAs text events = IsReadFrom 0 text events
 
--- The lines of a text before the one of this number are those of a trace, and something follows; but no
+-- The lines of a text before the line of this number are those of a trace, and text follows; but no
 -- event can follow there and have its line there.
 pub record IsRefusedAt (text : List ℕ) (line : ℕ) : Type 0 where
   pub read : List Event

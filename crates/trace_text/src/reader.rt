@@ -14,8 +14,8 @@ pub struct TraceFault {
     pub line: u64,
 }
 
-/// A trace that is read from its front on. It goes over the text once, and holds nothing but the
-/// place, the tick and the number of the last line.
+/// A trace that is read from its front on. It goes over the text once, and keeps only the place,
+/// the tick and the number of the last line.
 #[derive(Drop)]
 pub struct TraceReader<'a> {
     rest: &'a [u8],
@@ -50,7 +50,7 @@ impl<'a> TraceReader<'a> {
         }
     }
 
-    /// What was not read yet.
+    /// The text that was not read yet.
     pub(crate) fn rest(&self) -> &'a [u8]
         ensures { result.now ≡ self.now.rest.now }
     {

@@ -37,7 +37,7 @@ share_of ticks all = if all == 0 then 0 else (2000 * min ticks all + all) / (2 *
 abbrev pub ticks_in : Span → Span → ℕ
 ticks_in window span = ticks_of (common span window)
 
--- the ticks in each state, with so many more in this one
+-- the ticks in each state, with `n` more in the given one
 abbrev pub with_ticks : ProcessState → ℕ → StateTicks → StateTicks
 with_ticks state.Running n t = record t { running = capped (t.running + n) }
 with_ticks state.Ready n t = record t { ready = capped (t.ready + n) }
@@ -48,7 +48,7 @@ with_ticks state.Dormant n t = record t { dormant = capped (t.dormant + n) }
 abbrev pub with_stay : Span → Stay → StateTicks → StateTicks
 with_stay window stay t = with_ticks stay.state (ticks_in window stay.span) t
 
--- the ticks in each mode, with so many more in this one
+-- the ticks in each mode, with `n` more in the given one
 abbrev pub with_mode_ticks : Mode → ℕ → ModeTicks → ModeTicks
 with_mode_ticks mode.Normal n t = record t { normal = capped (t.normal + n) }
 with_mode_ticks mode.ColdStart n t = record t { cold_start = capped (t.cold_start + n) }

@@ -1,4 +1,4 @@
--- What one turn of a process changes in its numbers.
+-- The changes of the numbers of a process in one of its turns.
 use Rattle.std.specs.Prelude.{ℕ, ◌+◌, ◌-◌, Bool, true, false, ◌&&◌, nat_le, Option, Some, None}
 use Rattle.std.proofs.Math.Dec.{ltb}
 use Rattle.apex_types.specs.declared.codes.ProcessState.{ProcessState}
@@ -23,7 +23,7 @@ abbrev pub ended_running : Option Stay → Bool
 ended_running None = false
 ended_running (Some stay) = is_running stay.state
 
--- the tick where the stay is over; that of the line if there is none
+-- the tick where the stay is over; if no stay is over, the tick of the line
 abbrev pub ended_at : Option Stay → ℕ → ℕ
 ended_at None t = t
 ended_at (Some stay) t = stay.span.until.0
@@ -37,8 +37,8 @@ has_tick window t = nat_le window.from.0 t && ltb t window.until.0
 abbrev pub begins : Turn → Activation
 begins turn = record { ready = turn.tick; has_run = false }
 
--- A process that is READY and was not RUNNING begins an activation, if its line is in the window. One that was
--- RUNNING is preempted, and goes on with its activation.
+-- A process that is READY and was not RUNNING begins an activation, if its line is in the window. A
+-- process that was RUNNING is preempted, and continues its activation.
 abbrev pub begun_if : Bool → Turn → Tally → Tally
 begun_if true turn t = record t { activations = capped (t.activations + 1); activation = Some (begins turn) }
 begun_if false turn t = record t { activation = None }

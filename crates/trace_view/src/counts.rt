@@ -1,4 +1,4 @@
-//! What was counted, by partitions, processes, ports and channels.
+//! The counts so far, by partitions, processes, ports and channels.
 
 ghost use Rattle.std.specs.Prelude.{◌≡◌, IfOk};
 ghost use Rattle.trace_view.specs.Traffic.{totals_from};
@@ -13,7 +13,7 @@ use apex_types::{ErrorKind, Event, EventKind, Name, ProcessState, ReturnCode, Su
 use std::alloc::Global;
 use trace_stays::{Ended, Lanes, MemoryFull, Span};
 
-/// What was counted so far.
+/// The counts so far.
 #[derive(Drop)]
 pub struct Counts {
     alloc: Global,
@@ -126,7 +126,7 @@ impl Counts {
         Ok(place)
     }
 
-    /// A process comes to a state. The stay that is over is the only one that the line ended.
+    /// A process enters a state. The stay that is over is the only one that the line ended.
     fn turn(
         &mut self,
         event: &Event,

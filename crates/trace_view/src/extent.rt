@@ -52,7 +52,7 @@ impl Extent {
     }
 
     /// All lines are counted. A window without an end ends behind the last line, or where it begins
-    /// if there is none.
+    /// if no line is counted.
     pub fn close(&mut self, to: Option<Ticks>)
         ensures { self.new ≡ closed to self.old }
     {
@@ -68,7 +68,7 @@ impl Extent {
     }
 }
 
-/// Whether the window has this tick.
+/// Returns true if the window has this tick.
 pub fn has_tick(window: Span, tick: Ticks) -> bool
     ensures { result ≡ has_tick window tick.0 }
 {

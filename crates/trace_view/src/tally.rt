@@ -9,7 +9,7 @@ use crate::states::StateTicks;
 use apex_types::{ProcessState, ReturnCode, Ticks};
 use trace_stays::{Span, Stay};
 
-/// A process comes to a state, or is gone.
+/// A process enters a state, or is gone.
 #[derive(Clone, Copy, Debug, PartialEq, Eq)]
 pub struct Turn {
     /// The tick of the line that says so.
@@ -25,7 +25,7 @@ pub struct Turn {
 struct Activation {
     /// The tick of its READY line.
     ready: Ticks,
-    /// Whether it has been RUNNING.
+    /// True if it has been RUNNING.
     has_run: bool,
 }
 
@@ -150,7 +150,7 @@ impl Tally {
 impl Turn {
     ghost use Rattle.trace_view.specs.Tallies.{ended_at, ended_running};
 
-    /// Whether the process was RUNNING.
+    /// Returns true if the process was RUNNING.
     fn was_running(self) -> bool
         ensures { result ≡ ended_running self.ended }
     {

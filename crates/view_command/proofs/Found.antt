@@ -1,4 +1,4 @@
--- What was found in the words.
+-- The arguments found in the words.
 use Rattle.std.proofs.Common.{◌≡◌, inr, ℕ, List, [], Option, None, Some, Result, Ok, Err, sym, ap, refl, subst, ◌∙◌, Bor}
 use Rattle.std.specs.Prelude.{option_map, true, IfErr}
 use Rattle.clap.specs.Kinds.{Kinds}

@@ -1,4 +1,4 @@
--- What each status means.
+-- The meaning of each exit status.
 use Rattle.std.specs.Prelude.{◌≡◌, ◌⊎◌, ◌≤◌, ℕ, List, [], ◌∷◌, ◌++◌, Option, Some, Result, Ok, Err, string_bytes}
 use Rattle.clap.specs.Kinds.{Kinds, IsAmong}
 use Rattle.clap.specs.Values.{kind_of}
@@ -17,7 +17,7 @@ use Rattle.command_words.specs.declared.failure.Failure.TheVariants.{Refused, Us
 use Rattle.view_command.specs.declared.refusal.Refusal.{Refusal}
 use Rattle.view_command.specs.declared.refusal.Refusal.TheVariants.{Open, Read, Line, TooMany, Memory, Write}
 
--- ---- why a trace is not shown; want of memory may come at every step
+-- ---- why a trace is not shown; memory may run out at every step
 
 -- the text that a reader has, which is called so, is not read to its end, or not taken
 abbrev pub IsUnread : Option (List ℕ) → List ℕ → Refusal → Type 0
@@ -94,7 +94,7 @@ pub record IsAnswer (kinds : Kinds) (entered : Entered) (texts : Option Contents
   pub refused : status ≡ 1 → (r : Refusal) × IsRefusedFor kinds entered texts before after r × TakesLine old_err new_err (line_of r)
   pub usage : status ≡ 2 → IsUntouched before after × AreNoCommand kinds entered × IsWritten old_err new_err
 
--- ---- what was told of an outcome
+-- ---- the report of an outcome
 
 abbrev pub IsTold : Result (Unit {0}) (Failure Refusal) → Seen → Seen → Seen → Seen → ℕ → Type 0
 IsTold (Ok done) old_out new_out old_err new_err status = (status ≡ 0) × (new_out ≡ old_out) × (new_err ≡ old_err)

@@ -1,4 +1,4 @@
--- What the words ask for.
+-- The request in the words.
 use Rattle.std.specs.Prelude.{◌≡◌, ◌≢◌, ◌⊎◌, ℕ, ◌≤◌, List, [], Option, Some, None, codes}
 use Rattle.std.specs.Str.Parse.{IsNumeral}
 use Rattle.clap.specs.Walk.{Row, first_of}

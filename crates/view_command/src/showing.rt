@@ -111,7 +111,7 @@ fn of_view(fault: ViewFault) -> Refusal
     }
 }
 
-/// What a text is called in a line for a reader.
+/// The name of a text in a line for a reader.
 fn called(trace: &str) -> &str
     ensures { result.now ≡ called trace.now }
 {

@@ -1,4 +1,4 @@
--- What a dump calls its scopes and variables.
+-- The names of scopes and variables in a dump.
 use Rattle.std.specs.Prelude.{ℕ, List, ◌++◌, codes, Option, Some, None}
 use Rattle.std.specs.Fmt.{decimal}
 use Rattle.apex_types.specs.CodeWords.{error_word}

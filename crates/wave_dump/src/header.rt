@@ -68,7 +68,7 @@ fn write_module<W: Write>(pulses: &[PulseLane], out: &mut W) -> io::Result<()> {
     Ok(())
 }
 
-/// The scope of one group of pulses, if there are any.
+/// Writes the scope of one group of pulses, if the group has any.
 fn write_group<W: Write>(
     group: Group,
     partition: Option<usize>,

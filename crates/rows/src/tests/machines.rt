@@ -28,7 +28,7 @@ fn machine_of(rt: &impl Abort, alloc: Global, image: &[u8]) -> Machine {
     Machine::load(alloc, image).expect(rt, "memory")
 }
 
-/// What the ticks answer where the sink takes the lines of tick 0, and no more.
+/// The answers of the ticks if the sink takes the lines of tick 0, and no more.
 static ANSWERS: [Result<(), RunFault>; 7] = [
     Ok(()),
     Ok(()),

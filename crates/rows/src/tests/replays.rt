@@ -44,7 +44,8 @@ fn a_partition_alone(rt: HostRuntime) {
     }
 }
 
-/// Wrong texts for the smallest module, and how they are told of a replay and of the inputs of a run.
+/// Wrong texts for the smallest module, and the refusals of a replay and of the inputs of a run
+/// over them.
 static WRONG: [(&str, &str, &str); 4] = [
     (
         "1 FAULT a",

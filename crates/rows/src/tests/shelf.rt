@@ -92,7 +92,7 @@ impl<'a> Files for Shelf<'a> {
     }
 }
 
-/// A copy of the bytes of a file, if there is one.
+/// A copy of the bytes of a file, if the file exists.
 fn held(alloc: Global, bytes: Option<&[u8]>) -> Result<Option<Vec<u8>>, NameFault>
     ensures { IfErr result (λ fault. fault ≡ NameFault.Memory) }
 {

@@ -99,8 +99,8 @@ fn class_of(tag: &str) -> &str {
     }
 }
 
-/// Whether this line begins an element of this class whose title begins so. A title stands on one
-/// line with the tag of its element.
+/// Returns true if this line begins an element of this class whose title begins with `front`. A
+/// title stands on one line with the tag of its element.
 fn has_title(line: &str, class: &str, front: &str) -> bool {
     match line.split_once("<title>") {
         Some((tag, title)) => class_of(tag) == class && title.starts_with(front),
@@ -149,7 +149,7 @@ fn expect_titles(
     drawing.shapes()
 }
 
-/// What the picture of the first 2,500 ticks shows. The bars were counted by hand.
+/// The bars in the picture of the first 2,500 ticks, counted by hand.
 static BARS: [Counted; 27] = [
     ("running", "INIT RUNNING, ", 1),
     ("running", "fast RUNNING, ", 4),
@@ -202,7 +202,7 @@ fn rate_groups(rt: HostRuntime) {
     assert_eq!(rt; shapes, 26);
 }
 
-/// What the picture of some ticks in their middle shows, all of it cut at its edges.
+/// The bars in the picture of some ticks in the middle, all cut at its edges.
 static PART: [Counted; 5] = [
     ("running", "fast RUNNING, ticks 550 to 599 (50)</title>", 1),
     ("ready", "medium READY, ticks 550 to 599 (50)</title>", 1),
@@ -288,7 +288,7 @@ fn flags_and_reports(rt: HostRuntime) {
     let _ = expect_titles(&rt, rt.alloc(), RESTARTS, 0, None, &FLAGS);
 }
 
-/// A trace and a window in which nothing is to be seen.
+/// A trace and a window that show nothing.
 static EMPTY: [(&str, u64, Option<u64>); 6] = [
     ("", 0, None),
     ("", 7, Some(7)),
@@ -298,7 +298,7 @@ static EMPTY: [(&str, u64, Option<u64>); 6] = [
     ("0000000000000 p MODE NORMAL\n", 20_000, None),
 ];
 
-/// A trace without a line, and ticks of which there are none, or none that has a line.
+/// Draws a trace without lines, windows without ticks, and a window without lines.
 #[test]
 fn nothing(rt: HostRuntime) {
     for (trace, from, to) in &EMPTY {
@@ -349,7 +349,7 @@ fn change_at(name: Name, change: u64) -> Event {
     }
 }
 
-/// Adds a process that changes its state so many times.
+/// Adds a process that changes its state `changes` times.
 fn add_changes(picture: &mut Picture, name: Name, changes: u64) -> Result<(), PictureFault> {
     for change in 0..changes {
         picture.add(&change_at(name, change))?;
@@ -357,7 +357,7 @@ fn add_changes(picture: &mut Picture, name: Name, changes: u64) -> Result<(), Pi
     Ok(())
 }
 
-/// The picture of a process that changes its state so many times.
+/// The picture of a process that changes its state `changes` times.
 fn restless(alloc: Global, name: Name, changes: u64) -> Result<Drawing, PictureFault> {
     let mut picture = Picture::new(alloc, Ticks(0), None);
     match add_changes(&mut picture, name, changes) {
@@ -380,7 +380,7 @@ fn too_many(rt: HostRuntime) {
     }
 }
 
-/// Whether this line begins an element of this class with this attribute.
+/// Returns true if this line begins an element of this class with this attribute.
 fn has_attribute(line: &str, class: &str, attribute: &str) -> bool {
     class_of(line) == class && line.contains(attribute)
 }
@@ -436,7 +436,7 @@ fn arrival(partition: Name, tick: u64) -> Event {
     }
 }
 
-/// Adds so many messages in tick 9, by turns to one partition and the other.
+/// Adds `pairs` pairs of messages in tick 9, to one partition and the other by turns.
 fn add_messages(picture: &mut Picture, a: Name, b: Name, pairs: u64) -> Result<(), PictureFault> {
     for _ in 0..pairs {
         picture.add(&arrival(a, 9))?;
