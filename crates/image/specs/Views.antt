@@ -1,5 +1,5 @@
--- What contracts see of the code's values: they are those of the definitions, apart from where they
--- lie in memory.
+-- The values of the code as contracts see them: those of the definitions, apart from their place in
+-- memory.
 use Rattle.std.specs.Prelude.{◌≡◌, ℕ, Result, Ok, Err, IfSome}
 use Rattle.image.specs.declared.value.Image as code_image
 use Rattle.image.specs.declared.reading.image.Fields as code_fields

@@ -17,17 +17,17 @@ use Rattle.kernel_meaning.specs.Step.{message}
 
 -- ---- pieces of a text
 
--- what stands before the first byte that is this one, or the whole text
+-- the text before the first byte `mark`, or the whole text
 abbrev pub piece : ℕ → List ℕ → List ℕ
 piece mark bs = front (λ b. not (b == mark)) bs
 
--- what stands behind each byte that is this one, up to the next
+-- the text behind each byte `mark`, up to the next
 unfoldable pub pieces_behind_marks : ℕ → List ℕ → List (List ℕ)
 pieces_behind_marks mark [] = []
 pieces_behind_marks mark (b ∷ bs) =
     if b == mark then piece mark bs ∷ pieces_behind_marks mark bs else pieces_behind_marks mark bs
 
--- what stands before, between and behind the bytes that are this one
+-- the text before, between and behind the bytes `mark`
 abbrev pub pieces : ℕ → List ℕ → List (List ℕ)
 pieces mark bs = piece mark bs ∷ pieces_behind_marks mark bs
 
@@ -174,7 +174,7 @@ named rows channels count tick (Message channel ws) = taken_message rows count t
 named rows channels count tick ModuleFault = within (is_room count) tick input.ModuleFault
 named rows channels count tick (PartitionFault name) = taken_fault count tick (first_from 1 (λ p. same p.name name) rows)
 
--- A line, by what it says, behind so many others, the last of them of this tick.
+-- A line with its meaning, behind `count` others, the last of them of tick `before`.
 abbrev pub taken : List Partition → List Channel → (count before : ℕ) → Option WrittenLine → Result DeviceLine DeviceFault
 taken rows channels count before None = Err fault.Form
 taken rows channels count before (Some l) =
@@ -195,7 +195,7 @@ abbrev pub and_then : Result DeviceLine DeviceFault → (DeviceLine → Result (
 and_then (Err f) rest = Err f
 and_then (Ok l) rest = put_line l (rest l)
 
--- the lines of these pieces, behind so many others, the last of them of this tick
+-- the lines of these pieces, behind `count` others, the last of them of tick `before`
 unfoldable pub lines_from : List Partition → List Channel → (count before : ℕ) → List (List ℕ) → Result (List DeviceLine) DeviceFault
 lines_from rows channels count before [] = Ok []
 lines_from rows channels count before (last ∷ []) = ends_with last

@@ -1,5 +1,5 @@
--- What the sources of a module mean: the trace. Kernel, windows and trace are those of an image too; here the processes run on their
--- sources.
+-- The meaning of the sources of a module: the trace. Kernel, windows and trace are those of an
+-- image too; here the processes run on their sources.
 use Rattle.std.specs.Prelude.{ℕ, ◌+◌, List, [], ◌∷◌, map, is_some, ◌≡◌, ◌^◌, ◌≤◌, Ok}
 use Rattle.apex_types.specs.declared.limits.TheConstants.{MOST_TICKS}
 use Rattle.apex_types.specs.declared.device.DeviceLine.{DeviceLine}
@@ -46,8 +46,8 @@ source_module t sources = record { plan = record { schedule = t.schedule; channe
 abbrev pub source_trace : Table → List program.Program → List DeviceLine → ℕ → List Event
 source_trace t sources devices n = trace (source_module t sources) devices n
 
--- Table and sources are accepted as this table and these programs, and the device text as these lines for
--- them, to be run for so many ticks.
+-- Table and sources are accepted as this table and these programs, and the device text as these
+-- lines for them, for a run of `n` ticks.
 pub record IsAcceptedRun (table : List ℕ) (sources : List (List ℕ)) (devices : List ℕ) (n : ℕ) (t : Table) (programs : List Program) (lines : List DeviceLine) : Type 0 where
   pub accepted : IsModule table sources t programs
   pub taken : verdict t.partitions t.channels devices ≡ Ok lines

@@ -1,5 +1,6 @@
--- What the text of a module table says, and the rules that it has to keep. A text is a TOML document whose keys are those of a module
--- table, each with a value of its type. The verdict on it is its table, or the first rule that it breaks.
+-- The text of a module table, and the rules that it has to keep. A text is a TOML document whose
+-- keys are those of a module table, each with a value of its type. The verdict on it is its table,
+-- or the first rule that it breaks.
 use Rattle.std.specs.Prelude.{ℕ, ℤ, codes, eqb, Bool, true, false, ◌&&◌, ◌||◌, is_some, if◌then◌else◌, List, [], ◌∷◌, Option, Some, None, ◌+◌, ◌^◌, pos, ◌+ℤ◌, nat_abs, not, nat_lt, int_lt, is_none, ◌++◌, length, map, unwrap_or, Result, Ok, Err}
 use Rattle.std.specs.Cmp.Lexicographic.{pointwise}
 use Rattle.toml.specs.Data.{Items, no_items, item, Members, no_members, member, get_member, as_str, as_integer, as_bool, as_array, as_table}
@@ -23,9 +24,9 @@ use Rattle.apex_types.specs.declared.row.WindowRow.{WindowRow}
 use Rattle.apex_types.specs.declared.row.ChannelEnd.{ChannelEnd}
 use Rattle.apex_types.specs.declared.row.ChannelEnd.TheVariants as ends
 
--- What the text of a module table says: a TOML document whose keys are those of a module table,
--- each with a value of its type. Names are texts and numbers any, as they stand; the rules that
--- they have to keep stand in `TableRules`.
+-- The contents of the text of a module table: a TOML document whose keys are those of a module
+-- table, each with a value of its type. Names are texts and numbers any, as they are written; the
+-- rules that they have to keep stand in `TableRules`.
 
 -- what only a port of its kind has
 pub data KindText : Type 0 where
@@ -85,7 +86,7 @@ unfoldable pub partition_action_of : List ℕ → Option PartitionAction
 partition_action_of word =
     if same word (codes "IGNORE") then Some partition_action.Ignore else (if same word (codes "IDLE") then Some partition_action.Idle else (if same word (codes "WARM_START") then Some partition_action.WarmStart else (if same word (codes "COLD_START") then Some partition_action.ColdStart else None)))
 
--- The value of a type at a key: none where there is no such key or a value of another type.
+-- The value of a type at a key; none if the key is missing or has a value of another type.
 
 abbrev pub text_at : List ℕ → Members → Option (List ℕ)
 text_at key ms = get_member key ms >>= as_str
@@ -333,7 +334,7 @@ has_unknown_end ps c = is_none (end_of ps c.source) || list_any (λ d. is_none (
 unfoldable pub has_unknown_name : TableText → Bool
 has_unknown_name t = list_any (is_unknown_window t.partitions) t.windows || list_any (has_unknown_end t.partitions) t.channels
 
--- The table that a text describes. What no table has stands as 0, the device or IGNORE until its
+-- The table that a text describes. A value that no table has is 0, the device or IGNORE until its
 -- rule refuses it.
 
 abbrev pub window_row : List PartitionText → WindowText → WindowRow

@@ -12,7 +12,7 @@ use text_lines::{are_digits, number_at_most, plain_number};
 /// The digits of a tick.
 const TICK_DIGITS: usize = 13;
 
-/// The last tick with as many digits as a line has for it.
+/// The last tick of 13 digits.
 const LAST_TICK: u64 = 9_999_999_999_999;
 
 static MODES: [Mode; 4] = [Mode::Idle, Mode::ColdStart, Mode::WarmStart, Mode::Normal];

@@ -3,7 +3,7 @@
 use std::alloc::{AllocError, AllocFailed};
 use thiserror::Error;
 
-/// Why a module table is refused. Where several rules are broken, the first of this order is told.
+/// Why a module table is refused: the first broken rule in this order.
 #[derive(Clone, Copy, Debug, PartialEq, Eq, Error)]
 pub enum TableFault {
     #[error("not a TOML document")]

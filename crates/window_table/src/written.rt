@@ -16,7 +16,7 @@ use apex_types::{Discipline, HealthTable, ModuleAction, PartitionAction, PortDir
 use std::alloc::Global;
 use toml::{Table, Value};
 
-/// What only a port of its kind has.
+/// The members of only one kind of port.
 #[derive(Clone, Copy)]
 pub enum WrittenKind {
     Sampling { refresh: i64 },
@@ -291,7 +291,7 @@ fn read_channels(alloc: Global, values: &[Value]) -> Result<Vec<WrittenChannel<'
     Ok(channels)
 }
 
-/// What a document says, if its keys, types and words are those of a module table.
+/// The table that a document describes, if its keys, types and words are those of a module table.
 #[tactic(auto, unfolding(module_meaning::specs::TableRules::table_text_of))]
 pub fn read_written(alloc: Global, table: &Table) -> Result<WrittenTable<'_>, TableFault>
     ensures { Reads table_text result (table_text_of (table_view table.now)) }

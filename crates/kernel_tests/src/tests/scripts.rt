@@ -64,7 +64,8 @@ const HEALTH: HealthTable = HealthTable {
     hardware_fault: PartitionAction::Ignore,
 };
 
-/// What the ticks of the process come to: it asks for the time in the second, and is faulty in the third.
+/// The outcomes of the ticks of the process: it asks for the time in the second, and is faulty in
+/// the third.
 fn fault_script(alloc: Global) -> Result<Vec<Outcome>, AllocError> {
     let time = Outcome::Call(Call::GetTime);
     let fault = Outcome::Fault(ErrorKind::NumericError);
