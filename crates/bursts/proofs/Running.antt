@@ -1,4 +1,4 @@
--- While nothing is due and the choice stays, ticks of a partition are ticks of its running process.
+-- While nothing is due and the choice stays, ticks of a partition are ticks of its current runner.
 use Rattle.std.proofs.Common.{◌≤◌, ◌≡◌, ℕ, zero, suc, ◌+◌, ◌-◌, ◌<◌, ℤ, Bool, true, false, cond, List, [], ◌∷◌, refl, ap, sym, ◌∙◌, arith, subst}
 use Rattle.std.specs.Prelude.{None, Option, Some, slice_set}
 use Rattle.apex_types.specs.Runners.{place_of}
@@ -89,7 +89,7 @@ law_ends e origin t m p w here =
     ap (λ k. advances_by e origin k w t) one_more ∙ ap shows here ∙ ap (λ u. shows (treated_at e origin p w u b)) now
 
 -- While nothing is due and the choice stays, the ticks of a partition up to the end of a burst of
--- its running process are this burst. What the process asked last is treated once.
+-- its current runner are this burst. What the runner asked last is treated once.
 pub running_burst : {C : Type 0} (e : Engine C) (origin : ℕ) (p : Runner) (n m t : ℕ) (w : World C)
     → w.kernel.processes.running ≡ Some p → chooses_with_handler w.kernel ≡ nothing w.kernel → ((i : ℕ) → i < n → HasNothingDue (tick_from origin (t + i)) w.kernel)
     → Law e origin p w t m (burst_of e n p w)
@@ -182,7 +182,7 @@ pub burst_some_ticks : {C : Type 0} (e : Engine C) (n : ℕ) (p : Runner) (w : W
 burst_some_ticks e zero p w h = absurd (omega (arith, h))
 burst_some_ticks e (suc n) p w h = ticks_some (ticked e) n (control_at w.controls (place_of p)) w.words
 
--- A burst of the running process with its last request treated, from what is known of the burst.
+-- A burst of the current runner with its last request treated, from what is known of the burst.
 pub goes_as : {C : Type 0} (e : Engine C) (origin : ℕ) (p : Runner) (n t : ℕ) (w v : World C) (lines : List Event) (asks : Asks) (ticks : ℕ)
     → w.kernel.processes.running ≡ Some p → chooses_with_handler w.kernel ≡ nothing w.kernel → ((i : ℕ) → i < n → HasNothingDue (tick_from origin (t + i)) w.kernel)
     → ticks ≡ (burst_of e n p w).ticks → asks ≡ (burst_of e n p w).told → 0 < ticks

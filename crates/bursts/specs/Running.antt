@@ -16,7 +16,7 @@ is_silent (e ∷ es) = false
 abbrev pub partition_tick : {C : Type 0} → Engine C → (origin : ℕ) → World C → ℕ → Told (World C) ℕ (List Event)
 partition_tick e origin w t = let m = tick e (tick_from origin t) w in record { control = m.world; words = t + 1; told = m.lines }
 
--- n ticks of a partition from a tick on, or those up to the first with a line
+-- n ticks of a partition from tick `t`, or those up to the first with a line
 abbrev pub advances_by : {C : Type 0} → Engine C → (origin : ℕ) → ℕ → World C → ℕ → Burst (World C) ℕ (List Event)
 advances_by e origin n w t = until is_silent [] (partition_tick e origin) n w t
 
@@ -24,7 +24,7 @@ advances_by e origin n w t = until is_silent [] (partition_tick e origin) n w t
 abbrev pub with_control : {C : Type 0} → World C → Runner → Option C → List ℤ → World C
 with_control w p control words = record { kernel = w.kernel; controls = slice_set w.controls (place_of p) control; words = words; initial = w.initial }
 
--- the burst of the running process
+-- the burst of the current runner
 abbrev pub burst_of : {C : Type 0} → Engine C → ℕ → Runner → World C → Burst (Option C) (List ℤ) Asks
 burst_of e n p w = burst (ticked e) n (control_at w.controls (place_of p)) w.words
 

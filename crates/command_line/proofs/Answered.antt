@@ -42,7 +42,7 @@ memory_refused (Inputs image partition devices ticks) s = (inr refl, (refl, (ref
 memory_refused (Cost table sources) s = ((refl, (refl, refl)), tt)
 memory_refused (Dis image) s = ((refl, (refl, refl)), tt)
 
--- words that it takes, whose order is not done
+-- words that the library takes, whose order is not done
 pub order_failed : (kinds : Kinds) (own order : Order) (before after : State) (answer : Result (Unit {0}) (Failure Refusal)) → kinds ≡ [] → own ≡ order
     → IfErr answer (λ f. IsFailure own before after f) → IfErr answer (λ f. IsFailureOfWords kinds order before after f)
 order_failed kinds own order before after answer none same h = go answer (subst (λ o. IfErr answer (λ f. IsFailure o before after f)) same h)

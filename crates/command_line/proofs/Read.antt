@@ -18,7 +18,7 @@ drop-all : {X : Type 0} (xs : List X) → drop (length xs) xs ≡ []
 drop-all [] = refl
 drop-all (x ∷ xs) = drop-all xs
 
--- all of them are read
+-- all files are read
 pub all_held : (files : Option Contents) (names : List (Bor (List ℕ))) (i : ℕ) (texts : List (List ℕ)) → i ≡ length names
     → ((more : List (List ℕ)) → HoldAll files (map (λ s. s.now) (drop i names)) more → HoldAll files (map (λ s. s.now) names) (texts ++ more))
     → HoldAll files (map (λ s. s.now) names) texts

@@ -17,7 +17,7 @@ use Rattle.command_words.specs.declared.failure.Failure.TheVariants.{Refused, Us
 use Rattle.command_line.specs.declared.refusal.Refusal.{Refusal}
 use Rattle.command_line.specs.declared.refusal.Refusal.TheVariants.{Write}
 
--- the words are no command, or the word for its ticks is no row of digits
+-- the words are no command, or the word for its ticks is not written in digits
 abbrev pub AreNoCommand : Kinds → Order → Type 0
 AreNoCommand kinds order = AreMistaken kinds ⊎ ((kinds ≡ []) × IsWrongTicks order)
 

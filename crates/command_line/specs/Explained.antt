@@ -59,14 +59,15 @@ sentence_of (File name) = command_sentence command.File
 sentence_of Memory = command_sentence command.Memory
 sentence_of Write = command_sentence command.Write
 
--- The line alone; or the line and its explanation: what was noted of a refused source, else the sentence.
+-- The line alone, or the line and its explanation: the note on a refused source, or else the
+-- sentence.
 abbrev pub told_text : Bool → Refusal → Note → List ℕ
 told_text false r note = line_of r ++ 10 ∷ []
 told_text true r Unwanted = line_of r ++ 10 ∷ sentence_of r ++ 10 ∷ []
 told_text true r Wanted = line_of r ++ 10 ∷ sentence_of r ++ 10 ∷ []
 told_text true r (Source text) = line_of r ++ 10 ∷ string_bytes text
 
--- ---- what is noted of a refused source
+-- ---- the note on a refused source
 
 -- the source of the partition of this name, one source standing for each partition
 abbrev pub source_of : List Partition → List (List ℕ) → List ℕ → Option (List ℕ)
@@ -77,7 +78,7 @@ source_of _ _ name = None
 abbrev pub IsExplainedWith : Table → List (List ℕ) → List ℕ → PalFault → List ℕ → Type 0
 IsExplainedWith t sources name fault text = (source : List ℕ) × (source_of t.partitions sources name ≡ Some source) × IsExplanationOf source fault text
 
--- so it does with the table of this text, which is accepted
+-- the text explains it with the table of this text, which is accepted
 abbrev pub IsExplained : List ℕ → List (List ℕ) → List ℕ → PalFault → List ℕ → Type 0
 IsExplained table sources name fault text = (t : Table) × IsTable table t × IsExplainedWith t sources name fault text
 

@@ -1,4 +1,4 @@
--- Why a command is refused, and what it has left then.
+-- Why a command is refused, and the state after that.
 use Rattle.std.specs.Prelude.{◌≡◌, ◌⊎◌, ℕ, List, [], ◌∷◌, Option, Err, string_bytes}
 use Rattle.std.specs.Str.Parse.{IsNumeral, digits_value}
 use Rattle.clap.specs.Kinds.{Kinds, IsAmong}
@@ -74,7 +74,7 @@ IsNotWritten table sources name before after r =
 
 -- ---- the commands; memory may run out at every step
 
--- standard output failed if a run, or a replay, says so, and else not
+-- standard output failed exactly if the run or the replay says so
 abbrev pub HasFailedBy : RunFault → Seen → Seen → Type 0
 HasFailedBy faults.Write old new = HasFailed old new
 HasFailedBy _ old new = new.failures ≡ old.failures
@@ -137,7 +137,7 @@ IsStoredRefused old new Memory = IsSilent old new
 IsStoredRefused old new Write = HasFailed old new × IsFirstRun old.taken new.taken is_ok
 IsStoredRefused old new _ = ⊥
 
--- where standard output took no more, it has a beginning of the listing
+-- if standard output took no more, it has a beginning of the listing
 abbrev pub IsCostRefused : List ℕ → List (List ℕ) → State → State → Refusal → Type 0
 IsCostRefused table sources before after Write =
     HasFailed before.out after.out × (after.files ≡ before.files)
@@ -165,7 +165,7 @@ IsRefused (inputs image partition devices ticks) before after r =
 
 -- ---- the words
 
--- the word for the ticks is no row of digits
+-- the word for the ticks is not written in digits
 abbrev pub IsWrongTicks : Order → Type 0
 IsWrongTicks (run image devices ticks) = IsNumeral 10 ticks → ⊥
 IsWrongTicks (replay image partition text ticks) = IsNumeral 10 ticks → ⊥

@@ -1,4 +1,4 @@
--- The refusal that each fault of a file is, and what was noted where a command is refused.
+-- The refusal for each fault of a file, and the names that are noted when a command is refused.
 use Rattle.std.specs.Prelude.{◌≡◌, ℕ, List, [], ◌∷◌, ◌++◌, string_bytes}
 use Rattle.std.specs.declared.alloc.Global.{Global}
 use Rattle.std.specs.declared.string.String.{String}

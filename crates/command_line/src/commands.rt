@@ -69,7 +69,7 @@ fn asks(matches: &ArgMatches<'_>) -> bool
     }
 }
 
-/// Does what was found in the words.
+/// Does the command that was found in the words.
 fn obey<F: Files, O: Stream>(
     alloc: Global,
     matches: &ArgMatches<'_>,

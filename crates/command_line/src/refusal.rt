@@ -29,7 +29,7 @@ pub enum Refusal {
 }
 
 impl Refusal {
-    /// The refusal where the file of that name was not read or not written.
+    /// The refusal if the file of that name was not read or not written.
     pub fn of_file(name: String, fault: NameFault) -> Refusal
         ensures { result ≡ of_file name fault }
     {

@@ -179,7 +179,7 @@ fn inputs_named<F: Files, O: Stream>(
     Ok(out.flush()?)
 }
 
-/// Writes what a run of an image brings a partition, as a replay text.
+/// Writes the inputs that a run of an image brings a partition, as a replay text.
 fn tell_inputs<O: Stream>(
     alloc: Global,
     image: &[u8],

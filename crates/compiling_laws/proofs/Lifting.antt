@@ -130,7 +130,7 @@ module _ {C D : Type 0} (R : C → D → Type 0) where
     same_ticked (Some x) None ws h = absurd h
     same_ticked (Some x) (Some y) ws h = let t = s.tick x y ws h in record { control = t.control; words = t.words; asks = t.asks }
 
-    -- what is asked, over the data after the tick
+    -- the request, over the data after the tick
     same_asked : (at : At) (p : Runner) (k : Kernel) (f : List (Option C)) (g : List (Option D)) (i : List ℤ) (ws vs : List ℤ) (a b : Asks)
         → SameControls R f g → ws ≡ vs → a ≡ b
         → SameMoved R (moved at c (treats_asked at k p a (given a ws)) (world k f ws i)) (moved at d (treats_asked at k p b (given b vs)) (world k g vs i))
@@ -254,7 +254,7 @@ module _ {I C D : Type 0} (R : I → C → D → Type 0) where
       shared (R i) (λ v w. SameMoved (R i) (goes_out at channel m (record { engine = x.engine; world = v })) (goes_out at channel m (record { engine = y.engine; world = w }))) x.world y.world
       (λ k f g ws n c. record { world = same_world (R i) k f g ws n c; lines = refl }) h.world
 
-  -- ---- what is seen of a partition
+  -- ---- views of a partition
 
   sees_same : {B : Type 0} (none : B) (p : Member C → B) (q : Member D → B)
       → ((i : I) (x : Member C) (y : Member D) → SameMember (R i) x y → p x ≡ q y)

@@ -27,7 +27,7 @@ test_held : {A B : Type 0} (b : Bool) (e : B) (x : Result A B) (r : A) → cond 
 test_held true e x r h = (refl, h)
 test_held false e x r h = absurd cc
 
--- what an accepted program keeps to, and what it resolves to
+-- the bounds that an accepted program keeps, and the program that it resolves to
 pub record Accepted (ports : List PortRow) (period : ℕ) (p : written.Program) (r : program.Program) : Type 0 where
   pub names : names_hold ports p ≡ true
   pub kinds : kinds_hold ports p ≡ true
@@ -43,7 +43,7 @@ accepted ports period p r h =
     let d = test_held (periods_hold period p) _ _ r c.1 in
     record { names = a.0; kinds = b.0; limits = c.0; periods = d.0; is = cc }
 
--- ---- what a name stands for
+-- ---- the meaning of a name
 
 -- each entry's meaning
 abbrev pub EachEntry : (Option Denotation → Type 0) → List Entry → Type 0

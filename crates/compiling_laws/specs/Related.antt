@@ -41,8 +41,8 @@ pub record Limits : Type 0 where
   pub room : ℕ
   pub returns : Bool
 
--- The code of an expression, a statement or a block stands at pc; it fits its body, and where n
--- values wait its own have room.
+-- The code of an expression, a statement or a block stands at pc; it fits its body, and its values
+-- have room while n values wait.
 pub record ExprAt (code : Code) (procedures : List Procedure) (k : Limits) (pc n : ℕ) (e : Expr) : Type 0 where
   pub has : HasAt code pc (expr_code e)
   pub fits : FitsExpr procedures k.slots e

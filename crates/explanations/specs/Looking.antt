@@ -16,7 +16,7 @@ is_above_127 byte = nat_lt 127 byte
 abbrev pub text_choice : List ℕ → Choice
 text_choice source = if list_any is_above_127 source then choice.Ascii else choice.Length
 
--- Each rule looks for one thing; of the grammar, which looks for many, nothing is said here.
+-- Each rule looks for one thing; nothing is said here of the grammar, which looks for many.
 abbrev pub IsLookedFor : List ℕ → Refusal → Sought → Type 0
 IsLookedFor source refusal.Text s = s ≡ sought.Choice (text_choice source)
 IsLookedFor source refusal.Grammar s = Unit {0}

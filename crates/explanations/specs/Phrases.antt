@@ -1,4 +1,4 @@
--- How words of the grammar, and what else is looked for, stand in an explanation.
+-- The spelling of words of the grammar, and of the other choices, in an explanation.
 use Rattle.std.specs.Prelude.{ℕ, List, ◌++◌, codes}
 use Rattle.explanations.specs.declared.sought.Choice.{Choice}
 use Rattle.explanations.specs.declared.sought.Choice.TheVariants as choice

@@ -65,7 +65,7 @@ fn first_line(text: &[u8]) -> &[u8]
 ///
 /// # Errors
 ///
-/// Only where memory ran out.
+/// Only if memory runs out.
 pub fn shown(alloc: Global, line: &[u8]) -> Result<String, AllocError>
     ensures { IfOk result (λ text. string_bytes text ≡ shown line.now) }
 {

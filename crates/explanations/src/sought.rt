@@ -14,7 +14,7 @@ pub enum Sought {
 }
 
 impl Sought {
-    /// The phrase that says so.
+    /// The phrase in an explanation.
     pub fn phrase(self) -> &'static str
         ensures { result.now ≡ phrase self }
     {
@@ -60,7 +60,7 @@ pub enum Choice {
 }
 
 impl Choice {
-    /// The phrase that says so.
+    /// The phrase in an explanation.
     pub fn phrase(self) -> &'static str
         ensures { result.now ≡ choice_phrase self }
     {

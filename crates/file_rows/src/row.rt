@@ -18,7 +18,7 @@ pub struct Row<'a> {
 /// The text that a row compares.
 #[derive(Clone, Copy)]
 enum Asked<'a> {
-    /// The answer to `check`, which `build` repeats where it refuses.
+    /// The answer to `check`, which `build` repeats if it refuses.
     Verdict,
     /// The trace of this number of ticks of the image that is built of the table and the sources.
     Trace(&'a str),
@@ -32,13 +32,13 @@ enum Asked<'a> {
     /// The inputs that this number of ticks of such an image brings this partition, or the reason
     /// why they are refused.
     Inputs(&'a str, &'a str),
-    /// The answer to `build` or `cost`, or to `dis` for the image that lies there.
+    /// The answer to `build` or `cost`, or to `dis` for the image in the folder.
     Answer(&'a str),
 }
 
 impl<'a> Row<'a> {
-    /// The row of a line of the list. A line that begins with no command and folder is none, and
-    /// neither is one that lacks its ticks or its partition.
+    /// The row of a line of the list; `None` if the line does not begin with a command and a
+    /// folder, or lacks its ticks or its partition.
     pub fn of_line(alloc: Global, line: &'a str) -> Result<Option<Self>, AllocError> {
         let mut words = line.split_whitespace();
         let (Some(command), Some(folder)) = (words.next(), words.next()) else {

@@ -12,7 +12,7 @@ use streams::{Stream, WriterStream, tell_line};
 
 /// A program, as far as its words and its streams are known.
 pub trait Program {
-    /// Does what the words say, the program's name first, and answers the exit status.
+    /// Does what the words say, the program's name first, and returns the exit status.
     fn obey<O: Stream, E: Stream>(&mut self, words: &[String], out: &mut O, err: &mut E) -> u8
         requires out { O.failures out.old < 2 ^ 64 - 1 }
         requires err { E.failures err.old < 2 ^ 64 - 1 }
@@ -24,7 +24,7 @@ pub fn run<P: Program>(rt: &HostRuntime, program: &mut P, memory: &str) -> ExitC
     ExitCode::from(status(rt, program, memory))
 }
 
-/// Does what the words of the process say, and answers the exit status.
+/// Does what the words of the process say, and returns the exit status.
 fn status<P: Program>(rt: &HostRuntime, program: &mut P, memory: &str) -> u8
     ensures { result ≤ 2 }
 {
@@ -39,7 +39,7 @@ fn status<P: Program>(rt: &HostRuntime, program: &mut P, memory: &str) -> u8
     };
     let mut out = WriterStream::new(&mut writer);
     let status = program.obey(words.as_slice(), &mut out, &mut err);
-    // What was not flushed was not taken, and is not written again.
+    // Bytes that were not flushed were not taken, and are not written again.
     let _ = writer.into_parts();
     status
 }

@@ -80,7 +80,7 @@ single_table name frame = plain_table frame (plain_partition name frame frame �
 abbrev pub lines : List (List ℕ) → List ℕ
 lines texts = flat_map (λ text. text ++ 10 ∷ []) texts
 
--- what follows from something, where it is there
+-- the next step, if the step before has a result
 infixl 10 ◌>>=◌
 abbrev ◌>>=◌ : {A B : Type 0} → Option A → (A → Option B) → Option B
 (Some x) >>= f = f x

@@ -1,4 +1,4 @@
--- The text of the devices: what each line says, and why a line is refused.
+-- The text of the devices: the meaning of each line, and why a line is refused.
 use Rattle.std.specs.Prelude.{ℕ, zero, suc, ◌+◌, ◌-◌, ◌^◌, ℤ, pos, negsuc, Bool, true, false, not, ◌&&◌, ◌==◌, nat_lt, nat_le, if◌then◌else◌, List, [], ◌∷◌, length, codes, Option, Some, None, Result, Ok, Err}
 use Rattle.std.specs.List.{list_all}
 use Rattle.apex_types.specs.declared.limits.TheConstants.{MOST_DEVICE_LINES, MOST_TICKS}
@@ -72,7 +72,7 @@ words (t ∷ ts) = put_word (word t) (words ts)
 
 -- ---- the forms of a line
 
--- what a device does, by the names of the text
+-- the input of a device, by the names of the text
 pub data Written : Type 0 where
   Message : (channel : List ℕ) (words : List ℤ) → Written
   ModuleFault : Written
@@ -140,12 +140,12 @@ abbrev pub is_device : ChannelEnd → Bool
 is_device ends.Device = true
 is_device _ = false
 
--- the place of the first that is so, from a place on, with it
+-- the first item that passes the test, with its place, counted from a place
 unfoldable pub first_from : {A : Type 0} → ℕ → (A → Bool) → List A → Option (ℕ × A)
 first_from place test [] = None
 first_from place test (x ∷ xs) = if test x then Some (place, x) else first_from (place + 1) test xs
 
--- ---- what a line is taken as
+-- ---- the meaning of a line
 
 -- the line of an input, unless too many stand before it, or its message is too long
 abbrev pub within : Bool → ℕ → DeviceInput → Result DeviceLine DeviceFault

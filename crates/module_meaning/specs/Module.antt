@@ -23,8 +23,8 @@ use Rattle.kernel_meaning.specs.Partition.{Member, Moved, with_world, cold_start
 use Rattle.kernel_meaning.specs.Objects.{Port}
 use Rattle.kernel_meaning.specs.Windows.{Schedule, tick_from, owner, ended}
 
--- what no tick of the module changes: the major frame with its windows, the channels, and what is done on a
--- fault of the module
+-- the parts of a module that no tick changes: the major frame with its windows, the channels, and
+-- the action on a fault of the module
 pub record Plan : Type 0 where
   pub schedule : Schedule
   pub channels : List Channel
@@ -216,7 +216,7 @@ abbrev pub ticks_owner : {C : Type 0} → At → List (Member C) → Option ℕ 
 ticks_owner at members None = still members
 ticks_owner at members (Some p) = steps (advances at) members p
 
--- what moves, then the tick of the owner
+-- the moves of messages, then the tick of the owner
 abbrev pub moves_and_ticks : {C : Type 0} → Plan → At → List (Member C) → Course C
 moves_and_ticks plan at members =
     goes_on at (then_goes (moves_ended plan.channels at members (ended plan.schedule at)) (λ ms. ticks_owner at ms (owner plan.schedule at)))

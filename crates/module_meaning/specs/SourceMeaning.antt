@@ -38,7 +38,7 @@ source_members schedule number [] sources = []
 source_members schedule number (p ∷ ps) [] = []
 source_members schedule number (p ∷ ps) (s ∷ ss) = source_member (fixed_of schedule number p) p.ports s ∷ source_members schedule (number + 1) ps ss
 
--- what a table and the programs of its partitions mean
+-- the module of a table and the programs of its partitions
 abbrev pub source_module : Table → List program.Program → Module SourceControl
 source_module t sources = record { plan = record { schedule = t.schedule; channels = t.channels; fault = t.fault }; members = source_members t.schedule 1 t.partitions sources }
 

@@ -39,7 +39,7 @@ abbrev pub at_number : {A : Type 0} → List A → ℕ → Option A
 at_number xs zero = None
 at_number xs (suc place) = slice_get xs place
 
--- what is fixed of the partition with a number
+-- the fixed part of the partition with a number
 abbrev pub fixed_of : Schedule → ℕ → Partition → Fixed
 fixed_of schedule number p = record { name = p.name; number = number; period = p.period; duration = p.duration; schedule = schedule_of_partition number schedule; health = p.health }
 
@@ -97,7 +97,7 @@ lacks_release_from n windows (p ∷ ps) = not (has_release windows n) || lacks_r
 abbrev pub lacks_release : List WindowRow → List Partition → Bool
 lacks_release windows ps = lacks_release_from 1 windows ps
 
--- Ends: what a channel connects.
+-- Ends: the ends of a channel.
 
 abbrev pub ends_of : Channel → List ChannelEnd
 ends_of c = c.source ∷ c.destinations
@@ -157,7 +157,7 @@ is_queuing_port ps = port_is ps (λ row. is_queuing row.kind)
 abbrev pub differ : List Partition → ChannelEnd → ChannelEnd → Bool
 differ ps d e = port_is ps (λ a. port_is ps (λ b. not (is_same_kind a.kind b.kind) || not (a.words == b.words)) e) d
 
--- a source that is none, or a destination that is none
+-- a source that is a destination port, or a destination that is a source port
 abbrev pub has_wrong_direction : List Partition → Channel → Bool
 has_wrong_direction ps c = is_destination_port ps c.source || list_any (is_source_port ps) c.destinations
 

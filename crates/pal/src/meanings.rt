@@ -28,7 +28,7 @@ const PROCESSES: u32 = MOST_PROCESSES as u32;
 /// The most objects of a kind.
 const OBJECTS: u32 = MOST_OBJECTS as u32;
 
-/// How many words of data and how many of each kind are declared.
+/// The numbers of declared words of data and of declarations of each kind.
 #[derive(Clone, Copy)]
 pub struct Counts {
     pub words: u32,

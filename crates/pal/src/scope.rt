@@ -119,7 +119,7 @@ impl<'a> Scope<'a> {
         }
     }
 
-    /// Checks that the name stands for something. The error is its line.
+    /// Checks that the name has a meaning. The error is its line.
     pub fn check_known(&self, name: Identifier) -> Check
         ensures { is_ok result ≡ is_some (sees self.now (name_of (names_of self.now) name)) }
     {

@@ -1,4 +1,4 @@
-//! Tables of what the names of a program stand for.
+//! Tables of the meanings of a program's names.
 
 ghost use Rattle.std.specs.Prelude.{◌≡◌, ◌++◌, ◌∷◌, ◌&&◌, [], List, ℕ, not, is_some, true, IfOk, OnOk};
 ghost use Rattle.pal_meaning.specs.Resolve.{Entry, find};
@@ -18,7 +18,7 @@ pub struct NameTable<'a> {
 }
 
 impl<'a> NameTable<'a> {
-    /// A table in which no name stands for anything.
+    /// An empty table.
     pub fn new(alloc: Global) -> Self
         ensures { entries_of result ≡ [] }
     {
@@ -34,8 +34,7 @@ impl<'a> NameTable<'a> {
         self.entries.get(text).copied()
     }
 
-    /// Lets the name stand for a meaning, unless it stands for one already; answers whether it is
-    /// new.
+    /// Gives the name a meaning, unless it has one already. Returns true if the name is new.
     pub fn enter(&mut self, text: &'a str, meaning: Denotation) -> Result<bool, AllocError>
         ensures sees { OnOk result
             ((name : List ℕ) (rest : List Entry)

@@ -68,11 +68,11 @@ pub refused_by : {B D : Type 0} (error : ReadError) (r : Answer B) (s : Answer D
 refused_by Memory r s h given = tt
 refused_by (Refused misfit) r s h given = h misfit.left given
 
--- what is found is found by each way of reading that reads the same
+-- a result is found by each way of reading that reads the same
 pub gives_same : {A B : Type 0} (view : A → B) (answer : Result A ReadError) (r s : Answer B) → r ≡ s → Gives view answer r → Gives view answer s
 gives_same view answer r s same = subst (λ t. Gives view answer t) same
 
--- what is made of what is found
+-- a value made of the result
 pub gives_more : {A B D : Type 0} (view : A → B) (make : B → D) (whole : A → D) (answer : Result A ReadError) (r : Answer B) → ((a : A) → make (view a) ≡ whole a) → Gives view answer r → Gives whole answer (r >>= λ b. Ok (make b))
 gives_more view make whole (Ok a) r same given = ap (λ t. t >>= λ b. Ok (make b)) given ∙ ap Ok (same a)
 gives_more view make whole (Err error) r same given = refused_by error r (r >>= λ b. Ok (make b)) (λ left e. ap (λ t. t >>= λ b. Ok (make b)) e) given

@@ -12,7 +12,7 @@ use Rattle.pal_base.specs.declared.fault.Refusal.TheVariants as refusal
 abbrev pub HasText : tree.Program → Type 0
 HasText program = (text : List ℕ) × IsProgramOf text program
 
--- where each refusal is answered; memory may run out on each source text
+-- the condition of each refusal; memory may run out on each source text
 abbrev pub IsRefused : Refusal → List ℕ → Type 0
 IsRefused Text text = IsText text → ⊥
 IsRefused Grammar text = IsText text × ((program : tree.Program) → IsProgramOf text program → ⊥)

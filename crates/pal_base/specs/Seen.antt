@@ -31,7 +31,7 @@ looseness rank.Product = 0
 abbrev pub names_of : Source → List (List ℕ)
 names_of s = texts s.names.keys
 
--- the words that these tokens of the source are
+-- the words of these tokens of the source
 abbrev pub seen : Source → List Token → List grammar.Word
 seen s ts = map (token_of (names_of s)) ts
 

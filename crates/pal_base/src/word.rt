@@ -144,7 +144,7 @@ fn belongs(byte: u8, run: Run) -> bool
     }
 }
 
-/// The word at the front, and what follows it.
+/// The word at the front, and the text behind it.
 #[tactic(auto, unfolding(pal_meaning::specs::Grammar::word_at, pal_meaning::specs::Grammar::lower_word, pal_meaning::specs::Grammar::upper_word, pal_meaning::specs::Grammar::sign_word))]
 fn word_at<'a>(
     alloc: Global,
@@ -246,7 +246,7 @@ fn service_of(run: &[u8]) -> Option<Service>
     None
 }
 
-/// The longest sign at the front, and what follows it.
+/// The longest sign at the front, and the text behind it.
 fn sign_at(text: &[u8]) -> Option<(Mark, &[u8])>
     ensures sign { option_map (λ x. mark_text x.0) result
         ≡ find (λ sign. starts_with nat_eq text.now sign) grammar.signs }

@@ -9,7 +9,7 @@ use Rattle.engine_meaning.specs.Digits.{same}
 use Rattle.pal_meaning.specs.Grammar.{Word, Name, Number, ServiceWord, Mark, Stray, operator_mark}
 use Rattle.pal_laws.specs.GrammarReading.{Answer, Reading, Turn, ◌>>=◌, either, each, until, expect, name_at, number_at, service_at, one_of, turned, repeat_within, repeat}
 
--- a word without what tells it from others of its kind
+-- a word without its difference from others of its kind
 abbrev pub shape : Word → Word
 shape (Name text) = Name []
 shape (Number value) = Number None

@@ -26,7 +26,7 @@ repeat_reads P words turn (x ∷ xs) rest one longer all ends =
     let vs = all_words words xs rest in
     repeat_reads_on turn (words x vs) vs rest x xs (one x vs all.0) (longer x vs) (repeat_reads P words turn xs rest one longer all.1 ends)
 
--- where nothing is asked of the things
+-- the condition that is always true
 abbrev pub Any : {X : Type 0} → X → Type 0
 Any x = Unit {0}
 

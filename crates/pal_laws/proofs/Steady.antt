@@ -28,8 +28,8 @@ abbrev pub Stays : {X : Type 0} → List Word → Answer (X × List Word) → An
 Stays more (Ok x) b = StaysFound more x.0 x.1 b
 Stays more (Err n) b = StaysRefused more n b
 
--- A reading that looks so far. It leaves no more words than it was given; behind a word that opens a level it may
--- refuse that word, too.
+-- A reading that looks at no word behind the place where it stops. It leaves at most `d` of the
+-- number of words that it was given; behind a word that opens a level it may refuse that word, too.
 abbrev pub SteadyBy : {X : Type 0} → (ℕ → ℕ) → Reading X → Type 0
 SteadyBy d read = (ws more : List Word) → Within (read ws) (d (length ws)) × Stays more (read ws) (read (ws ++ more))
 

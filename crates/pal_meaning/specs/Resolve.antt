@@ -26,11 +26,11 @@ abbrev pub value_or_zero : Option ℕ → ℕ
 value_or_zero None = 0
 value_or_zero (Some n) = n
 
--- the word that a number with its sign is
+-- the word of a number with its sign
 abbrev pub signed_word : written.Integer → ℤ
 signed_word i = if i.negative then pos 0 -ℤ pos (value_or_zero i.magnitude) else pos (value_or_zero i.magnitude)
 
--- how many words of data and how many of each kind are declared
+-- the numbers of declared words of data and of declarations of each kind
 pub record Counts : Type 0 where
   pub words : ℕ
   pub semaphores : ℕ
@@ -78,12 +78,12 @@ declared_meaning ports c name (written.Blackboard words) = denotation.Object obj
 declared_meaning ports c name written.Port = denotation.Object object.Port (port_number ports name)
 declared_meaning ports c name (written.Procedure parameters body) = denotation.Procedure c.procedures (length parameters)
 
--- a name and what it stands for
+-- a name and its meaning
 pub record Entry : Type 0 where
   pub name : List ℕ
   pub meaning : Denotation
 
--- what a name stands for by the first entry that has it
+-- the meaning of a name by the first entry that has it
 abbrev pub find : List ℕ → List Entry → Option Denotation
 find name [] = None
 find name (e ∷ es) = if bytes_eq e.name name then Some e.meaning else find name es
@@ -110,7 +110,7 @@ abbrev pub own_entries : ℕ → List (List ℕ) → List Entry
 own_entries place [] = []
 own_entries place (x ∷ xs) = record { name = x; meaning = denotation.Scalar (Slot (slot place)) } ∷ own_entries (place + 1) xs
 
--- what each name stands for in a body: a parameter or local, or what is declared of that name
+-- the meaning of each name in a body: a parameter or local, or the declaration of that name
 abbrev pub Scope : Type 0
 Scope = List ℕ → Option Denotation
 
@@ -121,7 +121,7 @@ or_else None other = other
 abbrev pub scope_of : List Entry → List Entry → Scope
 scope_of own declared name = or_else (find name own) (find name declared)
 
--- what stands for a name of the kind that is wanted; for any other name it is 0
+-- the resolution of a name of the wanted kind; 0 for any other name
 abbrev pub place_of : Option Denotation → Place
 place_of (Some (denotation.Scalar place)) = place
 place_of _ = Data 0
@@ -161,7 +161,7 @@ abbrev mutual
   resolve_exprs scope written.NoExpr = program.NoExpr
   resolve_exprs scope (written.MoreExprs first rest) = program.MoreExprs (resolve_expr scope first) (resolve_exprs scope rest)
 
--- what an expression stands for as the name of an argument
+-- the meaning of an expression as the name of an argument
 abbrev pub named : Scope → written.Expr → Option Denotation
 named scope (written.Name name) = scope name
 named scope _ = None

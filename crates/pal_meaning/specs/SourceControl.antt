@@ -39,7 +39,7 @@ pub data Simple : Type 0 where
   Ask : (service : Service) → Simple
   EndBody : Simple
 
--- a part of what is still to do
+-- a part that is still to do
 pub data Part : Type 0 where
   Evaluate : (expr : Expr) → Part
   Execute : (stmt : Stmt) → Part
@@ -64,7 +64,7 @@ pub record SourceControl : Type 0 where
   pub awaits : ℕ
   pub stack : ℕ
 
--- the front construct, and what is to do after it
+-- the front construct, and the parts to do after it
 pub record Front : Type 0 where
   pub construct : Simple
   pub rest : List Part
@@ -113,7 +113,7 @@ front_of_stmt (Work ticks) rest = front (Spend ticks) rest
 front_of_stmt (Return value) rest = front_of_expr value (Do ReturnValue ∷ rest)
 front_of_stmt (CallService service arguments targets) rest = front_of_exprs arguments (Ask service) (targets_then targets rest)
 
--- where nothing is to do the body is at its end
+-- if nothing is to do, the body is at its end
 abbrev pub front_of : List Part → Front
 front_of [] = front EndBody []
 front_of (Evaluate expr ∷ rest) = front_of_expr expr rest
@@ -181,7 +181,7 @@ abbrev pub writes_slot : Option (List ℤ) → SourceControl → List Part → L
 writes_slot None c rest values words = stays c words (Faults error.MemoryViolation)
 writes_slot (Some slots) c rest values words = record { control = record { parts = rest; values = values; slots = slots; callers = c.callers; spent = 0; awaits = 0; stack = c.stack }; words = words; asks = Nothing }
 
--- what is to do in a procedure: its block, then `return 0`
+-- the parts of a procedure: its block, then `return 0`
 abbrev pub parts_of_procedure : Procedure → List Part
 parts_of_procedure p = block_then p.block (Do (Value (pos 0)) ∷ Do ReturnValue ∷ [])
 
@@ -213,8 +213,8 @@ asks_service service call c rest values words =
     then record { control = record { parts = rest; values = values; slots = c.slots; callers = c.callers; spent = 0; awaits = answer_words service; stack = c.stack }; words = words; asks = Calls call }
     else stays c words (Faults error.MemoryViolation)
 
--- The effect of a simple construct, given what is to do after it and the values. The last line is
--- a construct that finds too few values, which a program with its names resolved never does.
+-- The effect of a simple construct, given the parts to do after it and the values. The last line is
+-- a construct that finds too few values, which a program with its names resolved never has.
 abbrev pub effect : Program → Simple → List Part → SourceControl → List ℤ → List ℤ → Ticked SourceControl
 effect program (Value v) rest c values words = goes_on c rest (v ∷ values) words
 effect program (ReadScalar (Data x)) rest c values words = value_or error.MemoryViolation (slice_get words x) c rest values words
@@ -264,7 +264,7 @@ body_of_process p = p.body
 abbrev pub source_body : Program → Runner → Body
 source_body program p = body_at program.init program.handler (map body_of_process program.processes) p
 
--- what is to do in the body of INIT, of the handler or of a process: its block, then its end
+-- the parts of the body of INIT, of the handler or of a process: its block, then its end
 abbrev pub parts_of_body : Body → List Part
 parts_of_body b = block_then b.block (Do EndBody ∷ [])
 

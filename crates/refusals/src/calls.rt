@@ -1,5 +1,5 @@
-//! The calls that take memory, each with a line when it begins and one with its answer. Where one is
-//! refused it is made again, so that a single refusal is followed by the right answer.
+//! The calls that take memory, each with a line when it begins and one with its answer. A refused
+//! call is made again, so that a single refusal is followed by the right answer.
 
 use crate::row::Row;
 use crate::sinks::Narrow;
@@ -56,7 +56,7 @@ fn table(rt: &HostRuntime, row: &Row) -> Option<ModuleTable> {
     None
 }
 
-/// The program that the source is, if it is accepted.
+/// The program of the source, if it is accepted.
 fn checked(rt: &HostRuntime, row: &Row, partition: &PartitionRow) -> Option<Checked> {
     let program = parsed(rt, row)?;
     begin(rt, "check");
@@ -72,7 +72,7 @@ fn checked(rt: &HostRuntime, row: &Row, partition: &PartitionRow) -> Option<Chec
     }
 }
 
-/// The program that the source is.
+/// The program of the source.
 fn parsed(rt: &HostRuntime, row: &Row) -> Option<Program> {
     for _ in 0..2 {
         begin(rt, "parse");
@@ -123,7 +123,8 @@ fn writes(rt: &HostRuntime, row: &Row, image: &[u8], call: &str) -> bool {
     answer.is_ok()
 }
 
-/// Tells what was answered, and what the sink has taken.
+/// Prints the answer, and whether the sink has taken the trace, or the number of bytes that it has
+/// taken.
 fn tell_answer(rt: &HostRuntime, answer: &Result<(), RunFault>, sink: &Narrow<'_>) {
     match answer {
         Ok(()) if sink.has_all() => end(rt, "the trace"),

@@ -6,8 +6,8 @@ use std::alloc::{AllocError, Global};
 use std::io;
 use std::str::SplitWhitespace;
 
-/// Tells what a damaged copy of the image is answered: `runs`, or the refusal. The extent is its length and the
-/// ticks of its run; the words say which bytes are changed.
+/// Prints the answer to a damaged copy of the image: `runs`, or the refusal. The extent is its
+/// length and the ticks of its run; the words say which bytes are changed.
 pub fn tell<'a>(
     rt: &HostRuntime,
     base: &[u8],

@@ -66,8 +66,8 @@ struct Counts {
     failed: usize,
 }
 
-/// Runs the module into sinks that fail, and tells for each way how many runs and machines had a beginning
-/// and answered Write, and how many ticks after that were Failed and put nothing.
+/// Runs the module into sinks that fail, and prints for each way how many runs and machines had a
+/// beginning and answered Write, and how many ticks after that were Failed and put nothing.
 pub fn tell(rt: &HostRuntime, row: &Row) -> io::Result<()> {
     let built = build(rt.alloc(), row.table.as_slice(), &[row.source.as_slice()]);
     let Ok(image) = built else {

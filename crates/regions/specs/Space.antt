@@ -1,4 +1,4 @@
--- The memory of one partition: its data, and the stacks of those that run in it.
+-- The memory of one partition: its data, and the stacks of its runners.
 use Rattle.std.specs.Prelude.{ℕ, ℤ, pos, Bool, true, false, List, [], Option, Result, Ok, Err, length, map, get_or, nat_lt, replicate, slice_get, slice_set}
 use Rattle.apex_types.specs.declared.codes.ErrorKind.{ErrorKind}
 use Rattle.apex_types.specs.declared.codes.ErrorKind.TheVariants.{MemoryViolation}
@@ -6,7 +6,7 @@ use Rattle.regions.specs.declared.region.Region.{Region}
 use Rattle.regions.specs.declared.region.Region.TheVariants.{Code, Data, Stack}
 use Rattle.regions.specs.declared.plan.MemoryPlan.{MemoryPlan}
 
--- The data, the own stack of the running process, all stacks with an empty list in place of the own
+-- The data, the own stack of the current runner, all stacks with an empty list in place of the own
 -- one, and the place of the own one among them.
 pub record Space : Type 0 where
   pub words : List ℤ

@@ -13,8 +13,8 @@ use std::alloc::{AllocError, Global};
 use std::marker::Model;
 use std::mem;
 
-/// The words of one partition: its data, and the stacks of its processes. One of the stacks is the
-/// own stack of the running process; the others cannot be reached until they are selected.
+/// The words of one partition: its data, and the stacks of its runners. One of the stacks is the
+/// own stack of the current runner; the others cannot be reached until they are selected.
 #[derive(Drop)]
 pub struct PartitionMem {
     reach: Reach,
@@ -56,7 +56,8 @@ impl PartitionMem {
     ghost use Rattle.regions.specs.contracts.partition_mem.PartitionMem.{the_row};
     ghost use Rattle.regions.specs.contracts.reach.Reach.{the_row as reach_row};
 
-    /// The initial data and stacks of zeros; the first stack is selected. An error is one of memory.
+    /// The initial data and stacks of zeros; the first stack is selected. Fails only if memory runs
+    /// out.
     pub(crate) fn new(alloc: Global, plan: &MemoryPlan) -> Result<PartitionMem, AllocError>
         ensures { IfOk result (λ memory. memory ≡ planned plan.now) }
     {
@@ -132,7 +133,7 @@ impl PartitionMem {
         }
     }
 
-    /// Lends the words that the running process may touch. After the loan they are as the borrower
+    /// Lends the words that the current runner may touch. After the loan they are as the borrower
     /// left them, and the other stacks are as they were.
     pub fn reach(&mut self) -> &mut Reach
         ensures* back { sem 𝓛 (Lends the_row reach_row self.entry result (λ r. put self.entry.now r.stack.items r.words.items)) }
@@ -164,7 +165,7 @@ impl PartitionMem {
         self.reach.stack.len()
     }
 
-    /// The data become these words, which are as many.
+    /// Replaces the data by these words, which are as many.
     pub fn restore(&mut self, words: &[i64])
         requires { length words.now ≡ length self.old.words }
         ensures { self.new ≡ put self.old self.old.stack words.now }
@@ -180,8 +181,8 @@ impl PartitionMem {
         self.reach.stack.fill(0);
     }
 
-    /// The stack at a place becomes the own one. The answer is whether there is one; if not,
-    /// nothing changes.
+    /// Selects the stack at a place as the own one. Returns false, and changes nothing, if there is
+    /// no such stack.
     #[tactic(auto, using(crate::proofs::Lists::stacks))]
     pub fn select(&mut self, place: usize) -> bool
         ensures there { result ≡ nat_lt place (length self.old.rest) }

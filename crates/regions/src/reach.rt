@@ -1,8 +1,8 @@
-//! The words that the running process may touch.
+//! The words that the current runner may touch.
 
 ghost use Rattle.std.specs.Prelude.{◌≤◌, length};
 
-/// The words that the running process may touch: its partition's data, and its own stack of at most
+/// The words that the current runner may touch: its partition's data, and its own stack of at most
 /// 65,535 words.
 #[derive(Drop)]
 pub struct Reach {

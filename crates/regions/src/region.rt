@@ -1,4 +1,4 @@
-//! The regions of a partition's memory, and what may be done with each.
+//! The regions of a partition's memory, and the rights to each.
 
 ghost use Rattle.std.specs.Prelude.{⊤, ◌≡◌, [], ◌∷◌, codes};
 ghost use Rattle.regions.specs.Rights.{is_readable, is_writable, region_at, rights_of};
@@ -46,7 +46,7 @@ pub enum Region {
     Code,
     /// The partition's data, which all its processes share.
     Data,
-    /// The stack of the running process.
+    /// The stack of the current runner.
     Stack,
 }
 

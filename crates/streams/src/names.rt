@@ -1,4 +1,4 @@
-//! The names of what failed, and why it did.
+//! The names of failed files and texts, and the reasons.
 
 ghost use Rattle.std.specs.Prelude.{◌≡◌, ◌++◌, ◌∷◌, [], OnOk, OnErr};
 ghost use Rattle.streams.specs.Names.{names_of};
@@ -55,7 +55,7 @@ impl FailedNames {
         }
     }
 
-    /// The fault where a call on what has this name failed by an error of this kind.
+    /// The fault of a call on this name that failed with an error of this kind.
     pub fn fault_of(&mut self, alloc: Global, name: &str, kind: ErrorKind) -> NameFault
         ensures memory { kind ≡ ErrorKind.OutOfMemory → result ≡ NameFault.Memory }
         ensures noted { IsNotedFault name.now (names_of self.old) (names_of self.new) result }

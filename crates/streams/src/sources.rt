@@ -18,8 +18,8 @@ pub trait Sources {
     /// The names of the texts that were not opened so far, one for each call that failed.
     ghost unopened: { Self → List (List ℕ) };
 
-    /// A reader at the front of the text of that name; `-` is the standard input. Want of memory is
-    /// no failure of the text.
+    /// A reader at the front of the text of that name; `-` is the standard input. Running out of
+    /// memory is no failure of the text.
     fn open(&mut self, name: &str) -> Result<Self::Reader, NameFault>
         ensures opened { IfOk result
             (λ reader. Opens (texts self.old) name.now (Self.Reader.remaining reader)) }

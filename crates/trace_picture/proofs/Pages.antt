@@ -13,7 +13,7 @@ use Rattle.trace_picture.specs.declared.element.Tag.TheVariants.{Svg}
 seam : (xs ys zs : List ℕ) → (xs ++ ys) ++ zs ≡ xs ++ (ys ++ zs)
 seam xs ys zs = rw append_assoc
 
--- what stands in the innermost element grows at its end
+-- the contents of the innermost element grow at their end
 grown : (tags : List Tag) (text more : List ℕ) (grow : Inside → Inside) → ((i : Inside) → inside_text (grow i) ≡ inside_text i ++ more) → IsBegun tags text → IsBegun tags (text ++ more)
 grown [] text more grow is (attributes, (inside, e)) =
     (attributes, (grow inside, rw (e, is inside, append_assoc)))

@@ -6,11 +6,11 @@ use Rattle.trace_picture.specs.declared.length.Length.{Length}
 abbrev pub tenths : ℕ → Length
 tenths n = record { 0 = n }
 
--- so far behind a place
+-- the place `far` behind a place
 abbrev pub behind : Length → Length → Length
 behind place far = tenths (min (place.0 + far.0) (2 ^ 64 - 1))
 
--- so far before a place, and 0 if that is further
+-- the place `far` before a place, and 0 if that is further
 abbrev pub before : Length → Length → Length
 before place far = tenths (place.0 - far.0)
 

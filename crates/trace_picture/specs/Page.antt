@@ -20,7 +20,7 @@ inside_text (then_text before text) = inside_text before ++ escaped text
 inside_text (then_empty before tag attributes) = inside_text before ++ empty_text tag attributes
 inside_text (then_element before tag attributes inside) = inside_text before ++ (start_text tag attributes ++ inside_text inside ++ end_text tag)
 
--- an element that has begun, with what stands in it so far
+-- an element that has begun, with its contents so far
 abbrev pub begun_text : Tag → List Attribute → Inside → List ℕ
 begun_text tag attributes inside = start_text tag attributes ++ inside_text inside
 

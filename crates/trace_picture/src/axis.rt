@@ -47,8 +47,8 @@ pub struct Axis {
 }
 
 impl Axis {
-    /// Where a tick begins. A tick before the first stands at the left end, and one behind the last
-    /// at the right end.
+    /// The place where a tick begins. A tick before the first stands at the left end, and one
+    /// behind the last at the right end.
     pub fn place(self, tick: Ticks) -> Length
         ensures { result.0 ≡ place self.span tick.0 }
     {

@@ -152,7 +152,7 @@ fn draw_mark(page: &mut Page, axis: Axis, tick: Ticks, bottom: Length) -> Result
     draw_text(page, "tick", x, AXIS - Length(90), buffer.format(tick.0))
 }
 
-/// Draws what the bars and marks mean.
+/// Draws the legend of the bars and marks.
 pub fn draw_legend(page: &mut Page, bottom: Length) -> Result<(), AllocError> {
     let first = bottom + Length(160);
     let second = first + Length(260);
@@ -215,7 +215,7 @@ fn draw_arrow_sample(
     draw_text(page, "process", left + Length(400), top + LINE, word)
 }
 
-/// Draws a flag or a mark, so far down in its row, and its word in a column of the legend.
+/// Draws a flag or a mark, `down` below the top of its row, and its word in a column of the legend.
 fn draw_mark_sample(
     page: &mut Page,
     top: Length,

@@ -138,7 +138,7 @@ impl Page {
         Ok(())
     }
 
-    /// Ends all elements. Answers the text.
+    /// Ends all elements. Returns the text.
     ///
     /// # Errors
     ///

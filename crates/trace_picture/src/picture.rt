@@ -79,7 +79,7 @@ impl Picture {
         self.mark(event)
     }
 
-    /// The picture as it is drawn. No event comes any more.
+    /// The picture as it is drawn. No event follows.
     ///
     /// # Errors
     ///

@@ -14,7 +14,7 @@ pub const ROW: Length = Length(220);
 /// The room between two partitions.
 pub const GAP: Length = Length(180);
 
-/// The tops of the rows. Who has nothing to show has no row.
+/// The tops of the rows. A lane with nothing to show has no row.
 #[derive(Drop)]
 pub struct Rows {
     pub outside: Option<Length>,

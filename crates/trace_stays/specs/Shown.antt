@@ -23,7 +23,7 @@ with_read_if false t s = s
 abbrev pub with_read : ℕ → ShownTicks → ShownTicks
 with_read t s = with_read_if (is_before_end s.to t) t s
 
--- the ticks from one on and before the other; none if that is not later
+-- the ticks from one on and before the other; none if the other is not later
 abbrev pub between : Ticks → ℕ → Span
 between from until = span from.0 (max from.0 until)
 

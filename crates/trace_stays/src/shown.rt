@@ -28,8 +28,8 @@ impl ShownTicks {
         }
     }
 
-    /// A line of this tick is read. Answers whether it stands before the end of the ticks; one that
-    /// does not changes nothing.
+    /// A line of this tick is read. Returns true if it stands before the end of the ticks;
+    /// otherwise nothing changes.
     pub fn read(&mut self, tick: Ticks) -> bool
         ensures before { result ≡ is_before_end self.old.to tick.0 }
         ensures read { self.new ≡ with_read tick.0 self.old }

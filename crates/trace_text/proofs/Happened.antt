@@ -74,7 +74,7 @@ message_again [] good = absurd (omega (arith, good.some))
 message_again (w ∷ ws) good =
     ap few (words_again (w ∷ ws) good.fit) ∙ cond-true (nat_le (length (w ∷ ws)) 16) (Some (message (w ∷ ws))) None (le-leb (length (w ∷ ws)) 16 good.few)
 
--- ---- the parts of what happened
+-- ---- the parts of a kind of event
 
 abbrev pub parts_of : EventKind → List (List ℕ)
 parts_of (event.State who state) = codes "STATE" ∷ subject_text who ∷ state_word state ∷ []
@@ -249,7 +249,7 @@ unfolding IsRead
 kind_back [] k e = cc
 kind_back (w ∷ fields) k e = by_keyword (keyword_of w) w fields k refl e
 
--- ---- from what happened
+-- ---- from a kind of event
 
 both_some : {A B C : Type 0} (f : A → B → C) (a : Option A) (b : Option B) (x : A) (z : B) → a ≡ Some x → b ≡ Some z → both f a b ≡ Some (f x z)
 both_some f a b x z e g = cc
@@ -259,7 +259,7 @@ message_found what name m named good =
     ap (option_map (λ (x : List ℕ × ArrayVec ℤ). what x.0 x.1))
     (both_some (λ (x : List ℕ) (y : ArrayVec ℤ). (x, y)) (name_of name) (words_of (map signed_decimal m.items)) name m (name_spells.again name named) (message_again m.items good))
 
--- what happened is read again from its parts
+-- a kind of event is read again from its parts
 pub kind_again : (k : EventKind) → HasParts k → kind_of (parts_of k) ≡ Some k
 kind_again (event.State who state) good = both_some event.State (subject_of (subject_text who)) (state_of (state_word state)) who state (subject_spells.again who good) (state_spells.again state tt)
 kind_again (event.Return who service code) good =

@@ -137,7 +137,7 @@ read_front text front behind e f b h =
 pub no_feed : (text : List ℕ) (e : Event) (rest : List ℕ) → CanBeWritten e → text ≡ line_of e ++ rest → pieces_behind_marks 10 text ≡ [] → ⊥
 no_feed text e rest can is none = let f = at_front text e rest can is in let clash : pieces 10 rest ≡ [] = sym f.behind ∙ none in cc
 
--- behind the line at the front stands what stands behind the first line feed
+-- the text behind the line at the front is the text behind the first line feed
 pub same_rest : (text : List ℕ) (e : Event) (rest behind : List ℕ) → CanBeWritten e → text ≡ line_of e ++ rest → pieces_behind_marks 10 text ≡ pieces 10 behind → rest ≡ behind
 same_rest text e rest behind can is b = same_pieces rest behind (sym (at_front text e rest can is).behind ∙ b)
 

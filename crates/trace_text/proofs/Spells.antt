@@ -1,4 +1,5 @@
--- Fields and their texts: what is read as a value is its text, and the text of a lawful value is read as it.
+-- Fields and their texts: a text that is read as a value is the text of the value, and the text of
+-- a lawful value is read as it.
 use Rattle.std.proofs.Common.{◌≡◌, ℕ, Bool, true, false, cond, List, [], ◌∷◌, Option, Some, refl, sym, ap, ◌∙◌}
 use Rattle.std.specs.Prelude.{find}
 use Rattle.std.specs.Cmp.Lexicographic.{same_text}

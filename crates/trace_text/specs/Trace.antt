@@ -81,7 +81,8 @@ IsTraceFrom before (e ∷ es) = CanBeWritten e × (before ≤ e.tick.0) × IsTra
 abbrev pub IsTrace : List Event → Type 0
 IsTrace events = IsTraceFrom 0 events
 
--- the line of this event stands at the front of a text, behind one of that tick, and that is what follows
+-- the line of this event stands at the front of a text, behind a line of tick `before`, and this is
+-- the text that follows
 pub record IsNext (before : ℕ) (text : List ℕ) (e : Event) (rest : List ℕ) : Type 0 where
   pub can : CanBeWritten e
   pub in_order : before ≤ e.tick.0

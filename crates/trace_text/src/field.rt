@@ -97,7 +97,7 @@ pub fn subject_of(text: &[u8]) -> Option<Subject>
     }
 }
 
-/// Whose an error is; `-` for one that belongs to no process.
+/// The process that an error belongs to; `-` for an error that belongs to no process.
 pub fn culprit_of(text: &[u8]) -> Option<Option<Subject>>
     ensures { result ≡ meant.culprit_of text.now }
 {

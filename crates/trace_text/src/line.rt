@@ -19,7 +19,7 @@ pub struct LineFault;
 ///
 /// # Errors
 ///
-/// It is the line of no event that can be written.
+/// No event that can be written has this line.
 pub fn read_line(line: &[u8]) -> Result<Event, LineFault>
     ensures written { IfOk result (λ e. CanBeWritten e × (line_of e ≡ line.now)) }
     ensures read_back { (e : Event) → CanBeWritten e → line_of e ≡ line.now → result ≡ Ok e }

@@ -68,8 +68,8 @@ impl<'a> TraceReader<'a> {
     ///
     /// # Errors
     ///
-    /// The next line is no line of a trace here. The reader stays where it is, so that it answers
-    /// the same again.
+    /// The next line is no line of a trace here. The reader stays where it is, so the next call
+    /// fails in the same way.
     pub fn next_event(&mut self) -> Result<Option<Event>, TraceFault>
         ensures read { IfOk result
             (λ o. IfSome o (λ e. IsNext self.old.before.0 self.old.rest.now e self.new.rest.now)) }

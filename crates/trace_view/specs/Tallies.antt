@@ -61,7 +61,7 @@ abbrev pub over : Option Activation → ℕ → Tally → Tally
 over None tick t = t
 over (Some a) tick t = record t { to_end = Some (with_time t.to_end (tick - a.ready.0)); activation = None }
 
--- what the state that begins changes; a process that is gone leaves its activation unmeasured
+-- the changes by the state that begins; a process that is gone leaves its activation unmeasured
 abbrev pub entered : Option ProcessState → Span → Turn → Tally → Tally
 entered None window turn t = record t { activation = None }
 entered (Some state.Ready) window turn t = begun (ended_running turn.ended) window turn t
@@ -69,7 +69,7 @@ entered (Some state.Running) window turn t = run t.activation turn.tick.0 t
 entered (Some state.Waiting) window turn t = over t.activation (ended_at turn.ended turn.tick.0) t
 entered (Some state.Dormant) window turn t = over t.activation (ended_at turn.ended turn.tick.0) t
 
--- what the stay that is over adds
+-- the ticks that the stay that is over adds
 abbrev pub with_ended : Span → Option Stay → Tally → Tally
 with_ended window None t = t
 with_ended window (Some stay) t = record t { ticks = with_stay window stay t.ticks }
@@ -77,7 +77,7 @@ with_ended window (Some stay) t = record t { ticks = with_stay window stay t.tic
 abbrev pub turned : Span → Turn → Tally → Tally
 turned window turn t = entered turn.next window turn (with_ended window turn.ended t)
 
--- a process of which nothing was counted
+-- a process without counts
 abbrev pub nothing_counted : Tally
 nothing_counted = record {
   ticks = record { running = 0; ready = 0; waiting = 0; dormant = 0 };

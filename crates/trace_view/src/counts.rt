@@ -40,7 +40,7 @@ impl Counts {
         }
     }
 
-    /// Counts the next event. An event before the window only tells how the window begins.
+    /// Counts the next event. An event before the window only determines how the window begins.
     ///
     /// # Errors
     ///
@@ -176,7 +176,7 @@ impl Counts {
         }
     }
 
-    /// Counts what a line tells besides states and modes.
+    /// Counts the parts of a line besides states and modes.
     fn count_kind(&mut self, event: &Event) -> Result<(), MemoryFull> {
         let Some(name) = &event.partition else {
             return Ok(());

@@ -9,8 +9,8 @@ use apex_types::{Event, Ticks};
 use std::alloc::Global;
 use trace_stays::MemoryFull;
 
-/// Counts the events of a trace, one by one. Its memory grows with the partitions, processes, ports
-/// and channels alone.
+/// Counts the events of a trace, one by one. Its memory grows only with the partitions, processes,
+/// ports and channels.
 #[derive(Drop)]
 pub struct Summary {
     to: Option<Ticks>,
@@ -52,7 +52,7 @@ impl Summary {
         Ok(())
     }
 
-    /// All that was counted.
+    /// Returns all counts.
     ///
     /// # Errors
     ///

@@ -49,7 +49,7 @@ impl Tally {
     ghost use Rattle.trace_view.specs.Counting.{capped, with_answer};
     ghost use Rattle.trace_view.specs.Tallies.{begun, ended_running, nothing_counted, over, run, turned, with_ended};
 
-    /// A process of which nothing was counted.
+    /// A process without counts.
     pub fn new() -> Tally
         ensures { result ≡ nothing_counted }
     {

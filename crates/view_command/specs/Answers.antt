@@ -19,7 +19,7 @@ use Rattle.view_command.specs.declared.refusal.Refusal.TheVariants.{Open, Read, 
 
 -- ---- why a trace is not shown; memory may run out at every step
 
--- the text that a reader has, which is called so, is not read to its end, or not taken
+-- the text of the reader, which has this name, is not read to its end, or not taken
 abbrev pub IsUnread : Option (List ℕ) → List ℕ → Refusal → Type 0
 IsUnread text name (Read shown) = string_bytes shown ≡ name
 IsUnread text name (Line number shown) = (string_bytes shown ≡ name) × IsRefusedLine text number
@@ -27,8 +27,9 @@ IsUnread text name TooMany = Unit {0}
 IsUnread text name Memory = Unit {0}
 IsUnread text name _ = ⊥
 
--- The trace of this name is not shown. Of a text that is not opened, that is noted; a line is refused if it is
--- the first that is no line of a trace there. Only of a whole trace something was written, which failed.
+-- The trace of this name is not shown. A text that is not opened is noted; a line is refused if it
+-- is the first that is no line of a trace there. Something was written only of a whole trace, and
+-- that failed.
 abbrev pub IsRefused : Option Contents → List ℕ → State → State → Refusal → Type 0
 IsRefused texts name before after Write = HasFailed before.out after.out × (after.unopened ≡ before.unopened) × IsTraceIn texts name
 IsRefused texts name before after (Open shown) = (after.out ≡ before.out) × (string_bytes shown ≡ called name) × (after.unopened ≡ before.unopened ++ name ∷ [])
@@ -37,7 +38,7 @@ IsRefused texts name before after (Line number shown) = IsUntouched before after
 IsRefused texts name before after TooMany = IsUntouched before after
 IsRefused texts name before after Memory = IsUntouched before after
 
--- ---- the words, of which the library of command lines has these errors to tell
+-- ---- the words, for which the library of command lines reports these errors
 
 -- they are no command
 abbrev pub AreNoCommand : Kinds → Entered → Type 0

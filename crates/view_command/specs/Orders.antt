@@ -10,7 +10,7 @@ abbrev pub trace_of : Entered → List ℕ
 trace_of None = []
 trace_of (Some entered) = word_at (codes "TRACE") entered.1
 
--- the tick of a word that may be there
+-- the tick of an optional word
 abbrev pub IsTickOf : Option (List ℕ) → Option ℕ → Type 0
 IsTickOf None None = Unit {0}
 IsTickOf (Some word) (Some n) = IsNumeral 10 word × (n ≡ number_in word)
@@ -21,12 +21,12 @@ abbrev pub from_in : Option (List ℕ) → ℕ
 from_in None = 0
 from_in (Some word) = number_in word
 
--- the word that is there is no row of digits
+-- the word is there, and is not written in digits
 abbrev pub IsNoTick : Option (List ℕ) → Type 0
 IsNoTick None = ⊥
 IsNoTick (Some word) = IsNumeral 10 word → ⊥
 
--- there is no tick from the one before the other
+-- no tick is from the first one on and before the second
 abbrev pub AreNoTicks : Option (List ℕ) → Option (List ℕ) → Type 0
 AreNoTicks from None = ⊥
 AreNoTicks from (Some to) = number_in to ≤ from_in from

@@ -32,7 +32,7 @@ use telling::tell;
 /// the usage on `err`. Help goes to `out`, with status 0.
 ///
 /// Nothing is written to `out` before the whole trace was read. With status 0 all of it was written
-/// and flushed. If `err` does not take the report, only the status reports the refusal.
+/// and flushed. If `err` cannot be written, only the status reports the failure.
 pub fn view<S: AsStr, F: Sources, O: Stream, E: Stream>(
     alloc: Global,
     words: &[S],

@@ -49,7 +49,7 @@ pub fn show<F: Sources, O: Stream>(
     Ok(write_bytes(out, bytes.as_slice())?)
 }
 
-/// Reads every line of a trace, which is called so.
+/// Reads every line of the trace `name`.
 fn read_all<R: Read + Drop>(
     alloc: Global,
     name: String,

@@ -20,7 +20,7 @@ use Rattle.wave_dump.specs.declared.variable.Variable.TheVariants as variable
 
 -- ---- pulses
 
--- what a line shows in its tick; a state, a mode and the end of a service show nothing
+-- the pulse of a line in its tick; a state, a mode and the end of a service show nothing
 abbrev pub pulse_of : EventKind → Option Pulse
 pulse_of (event.Move port words) = Some (pulse.Move port)
 pulse_of (event.Arrive port words) = Some (pulse.Arrive port)

@@ -1,11 +1,11 @@
-//! The beginning of a dump: what its variables are, and their first values.
+//! The beginning of a dump: its variables, and their first values.
 
 use crate::pulse::{GROUPS, Group, PulseLane, subject_text};
 use crate::variable::{MODES, STATES, Variable};
 use std::io::{self, Write};
 use trace_stays::{Lanes, Span};
 
-/// Writes what stands before the changes.
+/// Writes the part before the changes.
 pub fn write_header<W: Write>(
     span: Span,
     lanes: &Lanes,

@@ -102,7 +102,7 @@ impl Display for Pulse {
     }
 }
 
-/// The name of who it is, as a trace has it.
+/// The name of a subject, as a trace has it.
 pub fn subject_text(who: &Subject) -> &str
     ensures { result.now ≡ line.subject_text who.now }
 {

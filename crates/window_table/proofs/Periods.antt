@@ -1,4 +1,4 @@
--- How long it is until a release, and what one period of many says of them all.
+-- The ticks until a release, and the conclusion from one period to all.
 use Rattle.std.proofs.Common.{◌≡◌, ℕ, zero, suc, ◌+◌, ◌*◌, ◌/◌, ◌<◌, ◌≤◌, min, Bool, true, false, ◌||◌, cond, nat_lt, List, [], ◌∷◌, refl, sym, ap, ◌∙◌, arith, inl, inr}
 use Rattle.std.proofs.Common.{mul-le-mul_right, ◌⊎◌}
 use Rattle.std.proofs.lemmas.Bool.{false≢true, le-ltb}

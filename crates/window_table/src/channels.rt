@@ -143,7 +143,7 @@ fn differ<P: HasRow>(partitions: &[P], first: ChannelEnd, second: ChannelEnd) ->
     }
 }
 
-/// The ends of a channel, its source first. An error is one of memory.
+/// The ends of a channel, its source first. Fails only if memory runs out.
 fn ends_of(alloc: Global, channel: &ChannelRow) -> Result<Vec<ChannelEnd>, AllocError>
     ensures { IfOk result (λ v. v.items ≡ ends_of (channel_view channel.now)) }
 {

@@ -26,7 +26,7 @@ pub enum TableFault {
     Ends,
     #[error("a health table has not exactly the seven errors, or an action is unknown")]
     Health,
-    /// This says nothing of the table.
+    /// Memory ran out. This says nothing of the table.
     #[error("out of memory")]
     Memory,
 }

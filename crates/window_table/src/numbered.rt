@@ -58,8 +58,8 @@ fn placed_row(window: &WrittenWindow<'_>, end: u32, partition: PartitionId) -> W
     }
 }
 
-/// The rows of the windows: refused where a window begins before the end of the one before it, or
-/// ends past the frame.
+/// The rows of the windows: refused if a window begins before the end of the one before it, or ends
+/// after the frame.
 #[tactic(auto, using(std::proofs::lemmas::List::drop_more), unfolding(module_meaning::specs::TableRules::overlaps_after))]
 pub fn window_rows(
     alloc: Global,

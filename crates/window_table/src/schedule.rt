@@ -34,7 +34,8 @@ fn ends_at(frame: u32, place: Ticks, window: &WindowRow) -> bool
     (u64::from(window.offset) + u64::from(window.length)) % u64::from(frame) == place.0
 }
 
-/// How many ticks after a place of a frame an edge comes; how many are left of the frame where none does.
+/// The ticks from a place of a frame to an edge; the ticks left of the frame if the edge does not
+/// follow.
 fn until_edge(frame: u32, place: Ticks, edge: u64) -> u64
     requires within { place.0 < frame }
     ensures computed { result ≡ until_edge frame place.0 edge }
@@ -105,7 +106,7 @@ impl Schedule {
         })
     }
 
-    /// The same frame with the windows of one partition alone. An error is one of memory.
+    /// The same frame with the windows of one partition alone. Fails only if memory runs out.
     pub fn of_partition(
         &self,
         alloc: Global,
@@ -162,7 +163,7 @@ impl Schedule {
         None
     }
 
-    /// How many ticks it is from a place of the frame to the next edge of a window, or to the frame's end.
+    /// The ticks from a place of the frame to the next edge of a window, or to the frame's end.
     #[tactic(auto, using(std::proofs::lemmas::List::drop_more, crate::proofs::Changes::until_one))]
     fn until_next_edge(&self, place: Ticks) -> u64
         requires within { place.0 < self.now.frame }
@@ -190,7 +191,7 @@ impl Schedule {
         self.until_next_edge(self.phase(at.now.0 - at.origin.0))
     }
 
-    /// How many ticks after a tick, at least one and at most a frame, a window starts next.
+    /// The ticks from a tick until a window starts next: at least one, and at most a frame.
     fn until_start(&self, window: &WindowRow, moment: Moment) -> Ticks
         ensures { result.0 ≡ until_start (schedule_of self.now) window.now moment.at }
     {
@@ -200,7 +201,7 @@ impl Schedule {
         Ticks(1 + (u64::from(window.offset) + frame - place.0) % frame)
     }
 
-    /// How many ticks after a tick, at most a frame, a release window of a partition starts next.
+    /// The ticks from a tick until a release window of a partition starts next: at most a frame.
     #[tactic(auto, using(std::proofs::lemmas::List::drop_more, crate::proofs::Periods::until_first))]
     fn until_release(&self, partition: PartitionId, moment: Moment) -> Ticks
         ensures computed { result.0
@@ -216,7 +217,7 @@ impl Schedule {
         least
     }
 
-    /// The tick of the next release; of a partition without a release window a frame later.
+    /// The tick of the next release; without a release window, a tick one frame later.
     fn release_after(&self, partition: PartitionId, moment: Moment) -> Ticks
         ensures computed { result.0 ≡ next_release (schedule_of self.now) partition.0 moment.at }
         ensures soon { result.0 ≤ LATEST_RELEASE_POINT }

@@ -60,7 +60,7 @@ fn errors(rt: &impl Abort, alloc: Global, waiting: u8) -> Errors {
     errors
 }
 
-/// A table in which INIT has created the handler, and what the call told.
+/// A table in which INIT has created the handler; `out` gets the output of the call.
 fn with_handler(rt: &impl Abort, alloc: Global, out: &mut Out) -> ProcessTable
     requires { HasRoom 1 1 out.old }
 {
@@ -99,7 +99,7 @@ fn raised() -> WaitingError {
     }
 }
 
-/// Expects that a step told this line last, as that of partition `a` at tick 3.
+/// Expects that a step wrote this line last, as that of partition `a` at tick 3.
 fn expect_line(rt: &impl Abort, alloc: Global, out: &mut Out, line: &str) {
     let event = Event {
         tick: Ticks(3),

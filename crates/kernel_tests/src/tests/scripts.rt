@@ -165,7 +165,7 @@ fn schedule(rt: &impl Abort, alloc: Global) -> Schedule {
     }
 }
 
-/// In how many of the thousand ticks from a tick on nothing happens.
+/// The number of the thousand ticks from a tick on in which nothing happens.
 fn still(partition: &Partition<Scripted>, now: u8) -> u32 {
     let moment = Moment {
         at: At {

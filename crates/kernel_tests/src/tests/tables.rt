@@ -9,7 +9,7 @@ struct Case {
     partitions: &'static str,
     windows: &'static str,
     channels: &'static str,
-    /// The number of the refusal, or 0 where the table is accepted.
+    /// The number of the refusal, or 0 if the table is accepted.
     number: u8,
 }
 

@@ -92,7 +92,7 @@ source = \"DEVICE\"
 destinations = [\"a.p\", \"a.q\"]
 ";
 
-/// Messages that bring two inputs each, as many as a replay text has lines for, and what they bring.
+/// Messages that bring two inputs each, as many as a replay text has lines for, and these inputs.
 static DOUBLED: LongText = LongText {
     head: "",
     line: "0 MSG c 1\n",

@@ -23,7 +23,7 @@ pub fn text_of(rt: &impl Abort, alloc: Global, long: &LongText) -> String {
     text
 }
 
-/// Builds what lies on the shelf, expects that an image is written, and answers its length.
+/// Builds what lies on the shelf, expects that an image is written, and returns its length.
 pub fn built(rt: &impl Abort, alloc: Global, shelf: &mut Shelf<'_>) -> usize {
     let words = ["mb", "build", "table", "image", "source"];
     let mut out = Vec::new(alloc);
@@ -37,7 +37,7 @@ pub fn built(rt: &impl Abort, alloc: Global, shelf: &mut Shelf<'_>) -> usize {
     }
 }
 
-/// Checks a source, expects that it is accepted, and has this trace, and answers the length of its
+/// Checks a source, expects that it is accepted and has this trace, and returns the length of its
 /// image.
 fn expect_trace(rt: &impl Abort, alloc: Global, source: &str, ticks: &str, trace: &str) -> usize {
     let sources = [source];

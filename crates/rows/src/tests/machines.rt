@@ -7,7 +7,7 @@ use module::{Machine, RunFault, split_tick};
 use std::alloc::Global;
 use std::process::Abort;
 
-/// Expects what a tick without lines of the devices answers.
+/// Expects this answer of a tick without lines of the devices.
 fn expect_tick(
     rt: &impl Abort,
     machine: &mut Machine,

@@ -1,4 +1,4 @@
-//! One partition of an image alone, and what a run brings it.
+//! One partition of an image alone, and the inputs that a run brings it.
 
 use super::shelf::{Shelf, command_into, expect_command, smallest_shelf};
 use super::texts::{SMALLEST, SMALLEST_TRACE};

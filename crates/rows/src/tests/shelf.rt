@@ -111,7 +111,7 @@ fn copy(alloc: Global, bytes: &[u8]) -> Result<Vec<u8>, NameFault>
     }
 }
 
-/// Does what the words say, with these writers, and answers the status.
+/// Does what the words say, with these writers, and returns the status.
 pub fn command_into<O: Write, E: Write>(
     alloc: Global,
     words: &[&str],

@@ -166,7 +166,7 @@ struct Outcome {
     err: Vec<u8>,
 }
 
-/// Does what the words say, with these writers, and answers the status.
+/// Does what the words say, with these writers, and returns the status.
 fn view_into<O: Write, E: Write>(alloc: Global, words: &[&str], out: &mut O, err: &mut E) -> u8 {
     let mut texts = Texts {
         alloc,

@@ -128,7 +128,7 @@ fn titles(rt: &impl Abort, drawing: &Drawing) -> usize {
 /// A class, the beginning of titles, and how many elements of this class have such a title.
 type Counted = (&'static str, &'static str, usize);
 
-/// Expects these titles in the picture of a trace. Answers how many shapes it has.
+/// Expects these titles in the picture of a trace. Returns its number of shapes.
 fn expect_titles(
     rt: &impl Abort,
     alloc: Global,

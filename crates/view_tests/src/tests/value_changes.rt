@@ -44,7 +44,7 @@ pub struct Waves<'a> {
     inner: Option<&'a str>,
 }
 
-/// Reads a dump, and stops the test where it is none.
+/// Reads a dump, and stops the test if the text is no dump.
 pub fn read_waves<'a>(rt: &impl Abort, alloc: Global, text: &'a str) -> Waves<'a> {
     let mut waves = Waves {
         variables: Vec::new(alloc),
