@@ -39,7 +39,7 @@ abbrev pub SoFar : {C : Type 0} → Engine C → (origin k done : ℕ) → World
 SoFar e origin k done w t v lines =
     advances_by e origin k w t ≡ (if is_silent lines then later done (advances_by e origin (k - done) v (t + done)) else record { control = v; words = t + done; told = lines; ticks = done })
 
--- what p asked last is treated
+-- the last request of p is treated
 abbrev pub treated_at : {C : Type 0} → Engine C → (origin : ℕ) → Runner → World C → ℕ → Burst (Option C) (List ℤ) Asks → Moved C
 treated_at e origin p w t b = moved (tick_from origin t) e (treats_asked (tick_from origin t) w.kernel p b.told (given b.told b.words)) (with_control w p b.control b.words)
 

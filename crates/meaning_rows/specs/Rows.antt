@@ -113,7 +113,8 @@ number_of_verdict (Err ByPeriod) = 6
 abbrev pub refusal_number : Partition → List ℕ → ℕ
 refusal_number p source = unwrap_or (option_map (λ tree. number_of_verdict (verdict p.ports p.period tree)) (tree_of source)) 2
 
--- what each body of a program is: its instructions, the words of its frame, and the sum of its costs
+-- the numbers of each body of a program: its instructions, the words of its frame, and the sum of
+-- its costs
 abbrev pub body_costs : Body → ℕ × ℕ × ℕ
 body_costs b = (size_of_body b, frame_of_body b, cost_of_body written_costs b)
 

@@ -1,4 +1,4 @@
--- The programs with resolved names as which source texts are accepted.
+-- When a source text is accepted as a program with its names resolved.
 use Rattle.std.specs.Prelude.{◌≡◌, ℕ, List, Ok}
 use Rattle.apex_types.specs.declared.row.PortRow.{PortRow}
 use Rattle.pal_meaning.specs.Program.{Program}

@@ -89,7 +89,7 @@ fn line_beyond_ascii(text: &[u8]) -> Option<u32>
     None
 }
 
-/// The line in which the text behind this one begins.
+/// The line in which the text behind `text` begins.
 fn line_behind(text: &[u8]) -> u32 {
     let mut line = 1u32;
     for byte in text {

@@ -80,7 +80,7 @@ module _ {A B : Type 0} (F : A × List Word → Answer (B × List Word)) (next :
 pub then_steady : {A B : Type 0} (d : ℕ → ℕ) (read : Reading A) (F : A × List Word → Answer (B × List Word)) → SteadyBy d read → ((x : A) → Steady (λ us. F (x, us))) → SteadyBy d (λ ws. read ws >>= F)
 then_steady d read F s next ws more = let r = s ws more in (within_then F next (read ws) (d (length ws)) r.0, stays_then F next more (read ws) (read (ws ++ more)) r.1)
 
--- what is found without reading on
+-- a result found without reading on
 found_so : {X : Type 0} (x : X) (ws more : List Word) → StaysFound more x ws (Ok (x, ws ++ more))
 found_so x [] more = omega arith
 found_so x (w ∷ ws) more = refl

@@ -12,6 +12,7 @@ unfoldable pub from_word : ℕ → List ℕ → List ℕ
 from_word zero text = behind_blanks false text
 from_word (suc n) text = from_word n (word_at (behind_blanks false text)).1
 
--- The line of that word is one more than there are line feeds before it. Where there are no more words, it is the last line.
+-- The line of that word is one more than the number of line feeds before it; without more words, it
+-- is the last line.
 abbrev pub word_line : List ℕ → ℕ → ℕ
 word_line text n = suc (feeds text - feeds (from_word n text))

@@ -243,7 +243,7 @@ unfolding IsRead
 by_keyword None w fields k is e = cc
 by_keyword (Some kw) w fields k is e = subst (λ (x : List ℕ). IsRead (x ∷ fields) k) (keyword_spells.takes w kw is).0 (kind_by_back kw fields k e)
 
--- what is read from parts has these parts
+-- a kind of event that is read from parts has these parts
 pub kind_back : (parts : List (List ℕ)) (k : EventKind) → kind_of parts ≡ Some k → (parts_of k ≡ parts) × HasParts k
 unfolding IsRead
 kind_back [] k e = cc

@@ -74,7 +74,7 @@ event_back (t ∷ p ∷ ks) e h =
       record { tick = a.1; partition = b.1; parts = c.1; place = g.place },
     )
 
--- what is read from a line without its line feed has this line, and can be written
+-- an event that is read from a line without its line feed has this line, and can be written
 pub body_back : (body : List ℕ) (e : Event) → event_in body ≡ Some e → (body_of e ≡ body) × CanBeWritten e
 body_back body e h =
     let g = event_back (pieces 32 body) e h in
@@ -124,7 +124,7 @@ at_front text e rest can is =
 pub same_pieces : (a b : List ℕ) → pieces 10 a ≡ pieces 10 b → a ≡ b
 same_pieces a b e = sym (join_pieces 10 a) ∙ ap (join_with_byte 10) e ∙ join_pieces 10 b
 
--- what was read from the first piece has its line at the front
+-- an event that is read from the first piece has its line at the front
 pub read_front : (text front behind : List ℕ) (e : Event) → front ≡ piece 10 text → pieces_behind_marks 10 text ≡ pieces 10 behind → event_in front ≡ Some e → CanBeWritten e × (text ≡ line_of e ++ behind)
 read_front text front behind e f b h =
     let g = body_back front e h in

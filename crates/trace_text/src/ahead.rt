@@ -45,7 +45,7 @@ impl Ahead {
         &all[start..end]
     }
 
-    /// Keeps the last `count` bytes alone.
+    /// Drops all bytes except the last `count`.
     pub fn keep_last(&mut self, count: usize)
         requires { count ≤ length (ahead_bytes self.old) }
         ensures { ahead_bytes self.new

@@ -56,7 +56,7 @@ IsTicksFailure rows (Refused Memory) = Unit {0}
 IsTicksFailure rows (Refused _) = ⊥
 IsTicksFailure rows (Usage error) = AreWrongTicks rows × IsMistake (kind_of error)
 
--- what was found asks for nothing, or memory ran out
+-- the words found ask for nothing, or memory ran out
 abbrev pub IsNothingAsked : Entered → Failure Refusal → Type 0
 IsNothingAsked entered (Refused Memory) = Unit {0}
 IsNothingAsked entered (Refused _) = ⊥

@@ -35,7 +35,7 @@ AreNoTicks from (Some to) = number_in to ≤ from_in from
 abbrev pub AreWrongTicks : List Row → Type 0
 AreWrongTicks rows = IsNoTick (first_of (codes "from") rows) ⊎ IsNoTick (first_of (codes "to") rows) ⊎ AreNoTicks (first_of (codes "from") rows) (first_of (codes "to") rows)
 
--- what was found asks for no view
+-- the words found ask for no view
 abbrev pub AsksForNothing : Entered → Type 0
 AsksForNothing None = Unit {0}
 AsksForNothing (Some entered) =
