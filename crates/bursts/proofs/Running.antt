@@ -174,7 +174,7 @@ goes_idle e origin (suc n) t w runs chosen due m =
     ∙ ap (λ k. later k (rest (t + 1 + n))) count
     ∙ ap (λ u. later (suc n) (rest u)) there
 
--- how many ticks a burst has
+-- the number of ticks of a burst
 pub burst_ticks : {C : Type 0} (e : Engine C) (n : ℕ) (p : Runner) (w : World C) → (burst_of e n p w).ticks ≤ n
 burst_ticks e n p w = ticks_most (ticked e) n (control_at w.controls (place_of p)) w.words
 

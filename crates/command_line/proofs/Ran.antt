@@ -57,7 +57,7 @@ pub told_as : {A E : Type 0} (P : E → Type 0) (f : E) (answer : Result A E) �
 told_as P f (Ok x) h p = tt
 told_as P f (Err e) h p = subst P (sym h.1) p
 
--- how often a run failed on its sink
+-- the number of failures of a run on its sink
 pub failed_by : (old new : Seen) (answer : Result (Unit {0}) RunFault) → (IsErrOf answer Write → new.failures ≡ old.failures + 1) → IfErr answer (λ f. f ≢ Write → new.failures ≡ old.failures) → IfErr answer (λ f. HasFailedBy f old new)
 failed_by old new (Ok x) write quiet = tt
 failed_by old new (Err Write) write quiet = write refl

@@ -82,7 +82,8 @@ IsExplainedWith t sources name fault text = (source : List ℕ) × (source_of t.
 abbrev pub IsExplained : List ℕ → List (List ℕ) → List ℕ → PalFault → List ℕ → Type 0
 IsExplained table sources name fault text = (t : Table) × IsTable table t × IsExplainedWith t sources name fault text
 
--- Where an explanation was wanted, the refused source may be explained: that of the partition that the fault names.
+-- If an explanation was wanted, the refused source may be explained: that of the partition that the
+-- fault names.
 abbrev pub IsNoteOf : List ℕ → List (List ℕ) → BuildFault → Note → Note → Type 0
 IsNoteOf table sources (build.Pal name fault) Wanted (Source text) = IsExplained table sources name fault (string_bytes text)
 IsNoteOf table sources fault old new = new ≡ old

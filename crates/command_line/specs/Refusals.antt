@@ -99,7 +99,7 @@ IsBuildRefused table name sources before after r =
     IsSilent before.out after.out
     × (((after.files ≡ before.files) × IsNotBuilt before.files table sources r) ⊎ IsNotWritten table sources name before after r)
 
--- of a run of n ticks
+-- why a run of n ticks is refused
 abbrev pub IsRunRefused : List ℕ → List ℕ → ℕ → State → State → Refusal → Type 0
 IsRunRefused image devices n before after (File name) = IsUntouched before after × IsFirstUnread before.files (image ∷ devices ∷ []) (string_bytes name)
 IsRunRefused image devices n before after (Run fault) =
@@ -109,7 +109,7 @@ IsRunRefused image devices n before after Memory = IsUntouched before after
 IsRunRefused image devices n before after Write = HasFailed before.out after.out × IsRunDone image devices n before after
 IsRunRefused image devices n before after _ = ⊥
 
--- of a replay of a partition for n ticks
+-- why a replay of a partition for n ticks is refused
 abbrev pub IsReplayRefused : List ℕ → List ℕ → List ℕ → ℕ → State → State → Refusal → Type 0
 IsReplayRefused image partition text n before after (File name) = IsUntouched before after × IsFirstUnread before.files (image ∷ text ∷ []) (string_bytes name)
 IsReplayRefused image partition text n before after (Replay fault) =
@@ -119,7 +119,7 @@ IsReplayRefused image partition text n before after Memory = IsUntouched before 
 IsReplayRefused image partition text n before after Write = HasFailed before.out after.out × IsReplayDone image partition text n before after
 IsReplayRefused image partition text n before after _ = ⊥
 
--- of the inputs that n ticks of a run bring a partition
+-- why the inputs that n ticks of a run bring a partition are refused
 abbrev pub AreInputsRefused : List ℕ → List ℕ → List ℕ → ℕ → State → State → Refusal → Type 0
 AreInputsRefused image partition devices n before after (File name) = IsUntouched before after × IsFirstUnread before.files (image ∷ devices ∷ []) (string_bytes name)
 AreInputsRefused image partition devices n before after (Inputs fault) =
@@ -129,7 +129,7 @@ AreInputsRefused image partition devices n before after Memory = IsUntouched bef
 AreInputsRefused image partition devices n before after Write = HasFailed before.out after.out × AreInputsDone image partition devices n before after
 AreInputsRefused image partition devices n before after _ = ⊥
 
--- of the run of the stored module, over standard output
+-- why the run of the stored module is refused, over standard output
 abbrev pub IsStoredRefused : Seen → Seen → Refusal → Type 0
 IsStoredRefused old new (Build fault) = (new.failures ≡ old.failures) × IsFirstRun old.taken new.taken (Err (both.Build fault))
 IsStoredRefused old new (Run fault) = HasFailedBy fault old new × IsFirstRun old.taken new.taken (Err (both.Run fault))

@@ -350,7 +350,7 @@ module _ (ports : List PortRow) (p : written.Program) (procedures : List program
       } in
       subst (FitsProcedure procedures) is made
 
-  -- of a declaration that is a procedure, and of the others
+  -- a declaration that is a procedure, and the others
   procedures_go_on : (k : written.Kind) (rest : List program.Procedure) → holds_of_procedure (kinds_hold_in_body (declared_entries ports p)) k ≡ true → keeps_kind (declared_entries ports p) k ≡ true
       → ((f : ℕ) (r : program.Procedure) → slice_get rest f ≡ Some r → FitsProcedure procedures r)
       → (f : ℕ) (r : program.Procedure) → slice_get (cons_option (procedure_of (declared_entries ports p) k) rest) f ≡ Some r → FitsProcedure procedures r

@@ -92,7 +92,7 @@ abbrev pub procedures_code : ℕ → List Procedure → List Instr
 procedures_code at [] = []
 procedures_code at (p ∷ ps) = procedure_code at p ++ procedures_code (at + size_of_procedure p) ps
 
--- where the handler, the processes and the procedures begin
+-- the places where the handler, the processes and the procedures begin
 abbrev pub handler_place : Program → ℕ
 handler_place p = size_of_body p.init
 

@@ -35,7 +35,7 @@ abbrev pub HasAt : Code → ℕ → List Instr → Type 0
 HasAt code pc [] = Unit {0}
 HasAt code pc (i ∷ is) = Fetches code pc i × HasAt code (pc + 1) is
 
--- of a body: its slots, how many values may wait, and whether it may return
+-- the limits of a body: its slots, the number of values that may wait, and whether it may return
 pub record Limits : Type 0 where
   pub slots : ℕ
   pub room : ℕ

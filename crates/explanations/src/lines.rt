@@ -8,8 +8,8 @@ use std::alloc::{AllocError, Global};
 /// The most characters of a line that are shown.
 const MOST_SHOWN: usize = 80;
 
-/// The line of that number, counted from 1, without its line feed. Where a text has fewer lines it
-/// is empty.
+/// The line of that number, counted from 1, without its line feed. It is empty if the text has
+/// fewer lines.
 pub fn refused_line(source: &[u8], line: u32) -> &[u8]
     ensures { result.now ≡ line_at line source.now }
 {

@@ -1,4 +1,4 @@
-//! Whose tick it is, whose window ends, and the next release.
+//! The owner of a tick, the end of a window, and the next release.
 
 ghost use Rattle.std.specs.Prelude.{◌≡◌, ◌∷◌, [], Some, None, map};
 ghost use Rattle.meaning_rows.specs.Rows.{at_ticks, sparse_schedule, split_schedule};

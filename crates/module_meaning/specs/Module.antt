@@ -47,8 +47,8 @@ still members = record { members = members; lines = [] }
 abbrev pub then_goes : {C : Type 0} → Advanced C → (List (Member C) → Advanced C) → Advanced C
 then_goes a rest = let b = rest a.members in record { members = b.members; lines = a.lines ++ b.lines }
 
--- A step that may start the module again, or shut it down: the members after it, its lines, and the tick with
--- the origin that counts from here on; it is none where the module is shut down.
+-- A step that may start the module again, or shut it down: the members after it, its lines, and the
+-- tick with the origin that counts from here on; none if the module is shut down.
 pub record Course (Control : Type 0) : Type 0 where
   pub at : Option At
   pub members : List (Member Control)
@@ -205,7 +205,7 @@ moves_ports zero number channels at p members = still members
 moves_ports (suc n) number channels at p members =
     then_goes (moves_port channels at p (record { 0 = number }) members) (moves_ports n (number + 1) channels at p)
 
--- of the partition whose window has ended the source ports move, in number order
+-- the moves of the partition whose window has ended: those of its source ports, in number order
 abbrev pub moves_ended : {C : Type 0} → List Channel → At → List (Member C) → Option ℕ → Advanced C
 moves_ended channels at members None = still members
 moves_ended channels at members (Some p) = moves_ports (length (ports_from members p)) 1 channels at (record { 0 = p }) members

@@ -375,7 +375,7 @@ has_unknown_action t = is_none t.fault || list_any (λ p. is_none p.health) t.pa
 
 -- The verdict.
 
--- of a table whose text keeps its limits and names
+-- the verdict on a table whose text keeps its limits and names
 unfoldable pub judge_table : TableText → Table → Result Table Refusal
 judge_table text t =
     if overlaps text then Err Overlap else (if has_odd_period t.schedule.frame t.partitions then Err Period else (if has_short_period t.schedule t.partitions then Err Duration else (if lacks_release t.schedule.windows t.partitions then Err Release else (if has_wrong_ends t.partitions t.channels then Err Ends else (if has_unknown_action text then Err Health else Ok t)))))

@@ -63,7 +63,7 @@ fewer view xs ys h = omega (arith, length-map xs view, length-map ys view)
 pub as_many : (s : Source) (ts : List Token) → length (seen s ts) ≡ length ts
 as_many s ts = length-map ts (token_of (names_of s))
 
--- where one reading refuses, the other refuses
+-- if one reading refuses, the other refuses
 pub refused_by : {B D : Type 0} (error : ReadError) (r : Answer B) (s : Answer D) → ((left : ℕ) → r ≡ Err left → s ≡ Err left) → Refuses error r → Refuses error s
 refused_by Memory r s h given = tt
 refused_by (Refused misfit) r s h given = h misfit.left given

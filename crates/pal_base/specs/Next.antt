@@ -40,7 +40,7 @@ IsLookedFor text (Some looked_for) =
     LeavesAt (words_of text) looked_for.place × (HasFewLines text → looked_for.line ≡ word_line text looked_for.place) ×
     AreNext (take looked_for.place (words_of text)) looked_for.words.items
 
--- where these words leave the grammar, if they do
+-- the place where these words leave the grammar, or none
 abbrev pub IsMisfit : List Word → Option Misfit → Type 0
 IsMisfit words None = IsWhole words
 IsMisfit words (Some misfit) = (misfit.left ≤ length words) × LeavesAt words (length words - misfit.left)

@@ -20,7 +20,7 @@ rank_of rank.Comparison = grammar.Comparison
 rank_of rank.Sum = grammar.Sum
 rank_of rank.Product = grammar.Product
 
--- how many ranks bind more
+-- the number of ranks that bind more
 abbrev pub looseness : Rank → ℕ
 looseness rank.Disjunction = 4
 looseness rank.Conjunction = 3

@@ -81,7 +81,7 @@ static KINDS: [WordKind; 50] = [
 /// The words that the grammar looks for at the first word of a text that does not fit.
 #[derive(Drop)]
 pub struct LookedFor {
-    /// How many words stand before that word.
+    /// The number of words before that word.
     pub place: usize,
     /// The line of that word, or the last line of the text.
     pub line: u32,
@@ -130,7 +130,7 @@ pub fn looked_for(alloc: Global, text: &[u8]) -> Result<Option<LookedFor>, Alloc
 }
 
 impl Source {
-    /// Where these words leave the grammar, if they do.
+    /// The place where these words leave the grammar; `None` if they do not.
     fn misfit(&self, alloc: Global, tokens: &[Token]) -> Result<Option<Misfit>, AllocError>
         ensures { IfOk result (λ found. IsMisfit (seen self.now tokens.now) found) }
     {
@@ -193,7 +193,7 @@ impl Source {
         }
     }
 
-    /// How this word fits behind those: it does not where the words leave the grammar before their
+    /// How this word fits behind those. It does not if the words leave the grammar before their
     /// end.
     fn fit_of_word(&self, alloc: Global, before: &[Token], word: Word) -> Result<Fit, AllocError>
         ensures { IfOk result
@@ -226,7 +226,7 @@ fn note(
     Ok(())
 }
 
-/// How the last of some words fits that leave the grammar there.
+/// How the last of some words fits, if the words leave the grammar there.
 fn fit_at(misfit: Misfit) -> Fit
     ensures { IsFitAt result misfit }
 {

@@ -16,10 +16,10 @@ use apex_types::{BinaryOperator, Discipline, Service};
 use indexmap::IndexSet;
 use std::alloc::{AllocError, AllocFailed};
 
-/// Where the words of a text leave the grammar.
+/// The place where the words of a text leave the grammar.
 #[derive(Clone, Copy, Debug, PartialEq, Eq)]
 pub struct Misfit {
-    /// How many words stand there and behind.
+    /// The number of words there and behind.
     pub left: usize,
     /// The word there would open one level too many.
     pub is_too_deep: bool,
@@ -108,7 +108,7 @@ fn operators_of(rank: Rank) -> &'static [BinaryOperator]
     }
 }
 
-/// How an operator is written.
+/// The mark of an operator.
 fn mark_of(operator: BinaryOperator) -> Mark
     ensures { mark_text result ≡ reading.operator_mark operator }
 {

@@ -14,7 +14,7 @@ use apex_types::Service;
 use apex_types::limits::MOST_LEVELS;
 use std::alloc::Global;
 
-/// How many levels may be opened in a body, which opens the first.
+/// The number of levels that may be opened in a body, which opens the first.
 const LEVELS_IN_BODY: u32 = MOST_LEVELS - 1;
 
 impl Source {

@@ -1,4 +1,4 @@
--- Where the words of an expression are refused, those before that place begin one.
+-- If the words of an expression are refused, those before that place begin one.
 use Rattle.std.proofs.Common.{◌≡◌, ℕ, zero, suc, ◌-◌, ◌≤◌, Bool, true, false, cond, nat_eq, inl, inr, List, [], ◌∷◌, ◌++◌, length, Some, Ok, Err, refl, sym, ap, ◌∙◌, subst, arith}
 use Rattle.std.specs.Prelude.{codes, ◌⊎◌}
 use Rattle.apex_types.specs.declared.instruction.BinaryOperator.{BinaryOperator}
@@ -193,7 +193,7 @@ pub expr_begins : (k : ℕ) → Begins tree.Expr expr_words (Fits k 5) (expr_at 
 unfolding expr_at
 expr_begins k ws n h = whole_begins k (unary_at k) (unary_at_spells k) (unary_at_shapes k) (unary_at_begins k) ws n h
 
--- where a level is opened, one is left, or the word that opens it is refused
+-- if a level is opened, one is left, or the word that opens it is refused
 pub level : {B : Type 0} (k left n : ℕ) (t : Bool) (o : Answer B) → (t ≡ false → 1 ≤ k) → cond t (Err left) o ≡ Err n → (left ≡ n) ⊎ ((1 ≤ k) × (o ≡ Err n))
 level k left n true o le h = inl (left_is left n h)
 level k left n false o le h = inr (le refl, h)

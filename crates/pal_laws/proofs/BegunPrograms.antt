@@ -1,4 +1,4 @@
--- Where the words of a program are refused, those before that place begin one.
+-- If the words of a program are refused, those before that place begin one.
 use Rattle.std.proofs.Common.{◌≡◌, ℕ, true, false, List, [], ◌∷◌, ◌++◌, length, Option, Some, None, Err, refl, sym, ap, ◌∙◌, subst}
 use Rattle.std.specs.Prelude.{codes}
 use Rattle.apex_types.specs.declared.codes.Discipline.TheVariants as discipline

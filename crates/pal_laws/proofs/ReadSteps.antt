@@ -9,7 +9,7 @@ use Rattle.pal_laws.proofs.Repeats.{repeat_ends, repeat_goes_on}
 pub then_reads : {A B : Type 0} (o : Answer A) (f : A → Answer B) (a : A) (y : Answer B) → o ≡ Ok a → f a ≡ y → (o >>= f) ≡ y
 then_reads o f a y e g = ap (λ p. p >>= f) e ∙ g
 
--- the second of two ways, where the first finds nothing
+-- the second of two ways, if the first finds nothing
 pub other_way : {A B : Type 0} (o : Answer A) (f : A → Answer B) (left : ℕ) (other y : Answer B) → o ≡ Err left → other ≡ y → either o f other ≡ y
 other_way o f left other y e g = ap (λ p. either p f other) e ∙ g
 

@@ -166,7 +166,7 @@ abbrev pub targets_words : List (List ℕ) → List Word → List Word
 targets_words [] rest = rest
 targets_words (x ∷ xs) rest = Mark (codes "->") ∷ names_words (x ∷ xs) rest
 
--- how a unary operator is written
+-- the spelling of a unary operator
 abbrev pub sign_of : UnaryOperator → List ℕ
 sign_of unary.Negate = codes "-"
 sign_of unary.Not = codes "not"

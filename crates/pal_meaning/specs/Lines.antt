@@ -2,7 +2,7 @@
 use Rattle.std.specs.Prelude.{ℕ, zero, suc, ◌-◌, ◌==◌, false, if◌then◌else◌, List, [], ◌∷◌}
 use Rattle.pal_meaning.specs.Grammar.{behind_blanks, word_at}
 
--- how many line feeds a text has
+-- the number of line feeds of a text
 abbrev pub feeds : List ℕ → ℕ
 feeds [] = 0
 feeds (b ∷ bs) = if b == 10 then suc (feeds bs) else feeds bs

@@ -133,7 +133,7 @@ cost_of_procedure costs p = sum (costs_of_procedure costs p)
 abbrev pub cost_of_body : Costs → Body → ℕ
 cost_of_body costs b = sum (costs_of_body costs b)
 
--- how many constructs there are, and so how many instructions
+-- the number of constructs, which is the number of instructions
 abbrev mutual
   pub size_of_expr : Expr → ℕ
   size_of_expr (Literal value) = 1

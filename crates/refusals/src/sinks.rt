@@ -1,4 +1,4 @@
-//! Where the traces go.
+//! The sinks of the traces.
 
 ghost use Rattle.std.specs.Prelude.{◌≡◌, None};
 

@@ -40,7 +40,7 @@ loaded region offset s = slice_get (words_in region s) offset
 abbrev pub is_within : Region → ℕ → Space → Bool
 is_within region offset s = nat_lt offset (length (words_in region s))
 
--- A word of a region changed. Where the region has no such offset, nothing changes.
+-- A word of a region changed. If the region has no such offset, nothing changes.
 abbrev pub stored : Region → ℕ → ℤ → Space → Space
 stored Code offset word s = s
 stored Data offset word s = put s s.stack (slice_set s.words offset word)

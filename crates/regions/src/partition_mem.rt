@@ -150,14 +150,14 @@ impl PartitionMem {
         &self.reach.words
     }
 
-    /// How many words the data have.
+    /// The number of words of the data.
     pub fn data_len(&self) -> usize
         ensures { result ≡ length self.now.words }
     {
         self.reach.words.len()
     }
 
-    /// How many words the own stack has, at most 65,535.
+    /// The number of words of the own stack, at most 65,535.
     pub fn stack_len(&self) -> usize
         ensures words { result ≡ length self.now.stack }
         ensures most { result ≤ 65_535 }

@@ -16,7 +16,7 @@ use trace_stays::{Lanes, ModeStay, Span, Stay};
 /// The least width of a bar.
 const LEAST: Length = Length(10);
 
-/// Where a bar of this kind stands in its row, from the row's top, and how high it is.
+/// The place of a bar of this kind in its row, from the row's top, and its height.
 #[derive(Clone, Copy)]
 pub struct Bar {
     pub class: &'static str,

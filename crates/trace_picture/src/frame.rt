@@ -21,16 +21,16 @@ use trace_stays::Lanes;
 /// below its rows.
 const MARGIN: Length = Length(40);
 
-/// Where names begin.
+/// The place where names begin.
 const NAMES: Length = Length(160);
 
-/// How far names of processes stand further to the right.
+/// The indent of the names of processes.
 const INDENT: Length = Length(120);
 
-/// Where the line of a text stands in its row.
+/// The place of the line of a text in its row.
 const LINE: Length = Length(160);
 
-/// Where the axis stands.
+/// The place of the axis.
 const AXIS: Length = Length(300);
 
 /// The columns of the legend.
@@ -175,7 +175,7 @@ pub fn draw_legend(page: &mut Page, bottom: Length) -> Result<(), AllocError> {
     draw_mark_sample(page, second, REPORT_DOWN, "report", REPORT, "report")
 }
 
-/// Where a column of the legend begins.
+/// The place where a column of the legend begins.
 fn column_left(column: usize) -> Length {
     Length(LEFT) + COLUMN.times(column as u64)
 }

@@ -256,8 +256,8 @@ impl Picture {
         self.beside = Some(Beside { tick, place });
     }
 
-    /// Where the message of a line of this tick comes from: from the port that a message left last
-    /// in this tick, or from outside.
+    /// The start of the message of a line of this tick: the port that a message left last in this
+    /// tick, or outside.
     fn source(&mut self, tick: Ticks) -> Stop
         ensures { self.new.shown ≡ self.old.shown }
     {

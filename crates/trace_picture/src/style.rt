@@ -1,4 +1,4 @@
-//! How the picture looks.
+//! The look of the picture.
 
 use crate::element::{Key, Tag, at, set};
 use crate::length::Length;

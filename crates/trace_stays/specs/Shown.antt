@@ -1,4 +1,4 @@
--- Which ticks of a trace are shown.
+-- The ticks of a trace that are shown.
 use Rattle.std.specs.Prelude.{ℕ, ◌-◌, ◌^◌, max, Bool, true, false, Option, Some, None}
 use Rattle.std.proofs.Math.Dec.{ltb}
 use Rattle.apex_types.specs.declared.identity.Ticks.{Ticks}
@@ -35,6 +35,6 @@ end_of (Some to) last = to.0
 abbrev pub shown_ticks : ShownTicks → Span
 shown_ticks s = between s.from (end_of s.to s.behind.0)
 
--- those that are shown whatever follows
+-- the ticks that are shown whatever follows
 abbrev pub open_ticks : ShownTicks → Span
 open_ticks s = between s.from (end_of s.to (2 ^ 64 - 1))

@@ -14,7 +14,7 @@ pub struct Span {
 impl Span {
     ghost use Rattle.trace_stays.specs.Stays.{ticks_of, common};
 
-    /// How many ticks these are.
+    /// The number of these ticks.
     pub fn ticks(self) -> u64
         ensures { result ≡ ticks_of self }
     {

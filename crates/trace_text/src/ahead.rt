@@ -8,7 +8,7 @@ ghost use Rattle.apex_types.specs.declared.limits.TheConstants.{MOST_LINE_BYTES}
 use std::alloc::{AllocError, Global};
 use std::io::{Error, ErrorKind, Read, Result};
 
-/// How many bytes are held at most.
+/// The most bytes that are held.
 const CAPACITY: usize = 8192;
 
 /// `buffer[start..end]` was read, and no event was made of it yet.

@@ -152,7 +152,7 @@ pub fn code_of(text: &[u8]) -> Option<ReturnCode>
     RETURN_CODES.get(number as usize).copied()
 }
 
-/// How an error is handled, by the words of its level and its action.
+/// The response to an error, by the words of its level and its action.
 pub fn response_of(level: &[u8], action: &[u8]) -> Option<Response>
     ensures { result ≡ meant.response_of level.now action.now }
 {

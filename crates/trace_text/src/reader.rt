@@ -57,7 +57,7 @@ impl<'a> TraceReader<'a> {
         self.rest
     }
 
-    /// How many lines were read.
+    /// The number of lines that were read.
     pub fn lines(&self) -> u64
         ensures { result ≡ self.now.lines }
     {

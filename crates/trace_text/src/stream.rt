@@ -80,7 +80,7 @@ impl<R: Read> TraceStream<R> {
         })
     }
 
-    /// How many lines were read. The count stops at `u64::MAX`.
+    /// The number of lines that were read. The count stops at `u64::MAX`.
     pub fn lines(&self) -> u64
         ensures { result ≡ self.now.lines }
     {

@@ -124,7 +124,7 @@ abbrev pub stays_in : Option Held → List StateLine → ℕ → List Stay
 stays_in held [] until = and_stay (stay_left held until) []
 stays_in held (line ∷ lines) until = and_stay (stay_ended held (Some line.state) line.tick) (stays_in (held_behind held (Some line.state) line.tick) lines until)
 
--- where the last of them ends
+-- the tick where the last of them ends
 abbrev pub stays_until : Held → List StateLine → ℕ → ℕ
 stays_until held [] until = max held.since.0 until
 stays_until held (line ∷ lines) until = stays_until (record { state = line.state; since = tick (stay_until held (Some line.state) line.tick) }) lines until

@@ -229,7 +229,7 @@ impl Counts {
         Ok(totals)
     }
 
-    /// Those of the first partition, then those of the next one, and so on.
+    /// The totals of the first partition, then those of the next one, and so on.
     fn process_totals(
         &self,
         partitions: &[PartitionTotal],
@@ -249,7 +249,7 @@ impl Counts {
         Ok(totals)
     }
 
-    /// Those of the first partition, then those of the next one, and so on.
+    /// The totals of the first partition, then those of the next one, and so on.
     #[tactic(auto, using(std::proofs::lemmas::List::drop_more))]
     fn route_totals(&self, partitions: &[PartitionTotal]) -> Result<Vec<RouteTotal>, MemoryFull>
         ensures { IfOk result

@@ -1,4 +1,4 @@
-//! Which lines and ticks were counted.
+//! The lines and ticks that were counted.
 
 ghost use Rattle.std.specs.Prelude.{◌≡◌};
 ghost use Rattle.trace_view.specs.Tallies.{has_tick};
@@ -6,7 +6,7 @@ ghost use Rattle.trace_view.specs.Tallies.{has_tick};
 use apex_types::Ticks;
 use trace_stays::Span;
 
-/// Which lines and ticks were counted.
+/// The lines and ticks that were counted.
 #[derive(Clone, Copy, Debug, PartialEq, Eq)]
 pub struct Extent {
     pub lines: u64,

@@ -19,7 +19,7 @@ pub fn turns_are_counted()
         → AreNumbersOf window turns (tally_after window nothing_counted turns) }
 {}
 
-/// Of stays that follow one another each tick counts for one state: the ticks in the four states
+/// In stays that follow one another each tick counts for one state: the ticks in the four states
 /// together are all ticks from the first stay to the last.
 pub fn each_tick_counts_once()
     ensures { (window : Span) (from until : ℕ) (stays : List Stay) → AreContiguous from stays until

@@ -33,7 +33,7 @@ struct Activation {
 #[derive(Clone, Copy, Debug, PartialEq, Eq)]
 pub struct Tally {
     pub ticks: StateTicks,
-    /// How often it became READY without being preempted.
+    /// The number of times that it became READY without being preempted.
     pub activations: u64,
     /// The ticks from the READY of an activation to its first RUNNING.
     pub to_running: Option<Extremes>,

@@ -39,7 +39,7 @@ fn is_same(one: &Route, other: &Route) -> bool
     }
 }
 
-/// How many messages passed at each port and each channel of each partition, in the order of their
+/// The numbers of messages at each port and each channel of each partition, in the order of their
 /// first lines.
 #[derive(Drop)]
 pub struct Traffic {

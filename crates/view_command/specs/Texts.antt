@@ -4,7 +4,7 @@ use Rattle.apex_types.specs.declared.event.Event.{Event}
 use Rattle.streams.specs.Contents.{Contents}
 use Rattle.trace_text.specs.Trace.{IsReadAs, IsRefusedAt}
 
--- ---- a text, where it is known
+-- ---- a text, if it is known
 
 -- it is a trace
 abbrev pub IsTraceOf : Option (List ℕ) → Type 0

@@ -1,4 +1,4 @@
--- How far it is to the next edge of a window.
+-- The distance to the next edge of a window.
 use Rattle.std.specs.Prelude.{ℕ, ◌+◌, ◌-◌, ◌%◌, min, nat_lt, if◌then◌else◌, List, [], ◌∷◌}
 use Rattle.apex_types.specs.declared.row.WindowRow.{WindowRow}
 

@@ -3,7 +3,7 @@
 use std::alloc::Global;
 use window_table::read_table;
 
-/// A text in four parts, so that a case tells only what is its own.
+/// A text in four parts, so that a case has only its own parts.
 struct Case {
     head: &'static str,
     partitions: &'static str,

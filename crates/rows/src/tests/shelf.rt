@@ -19,7 +19,7 @@ pub struct Shelf<'a> {
     sources: &'a [&'a str],
     pub devices: &'a str,
     pub image: Option<Vec<u8>>,
-    /// How often a file was to be written.
+    /// The number of attempts to write a file.
     pub writes: u64,
     failed: FailedNames,
 }

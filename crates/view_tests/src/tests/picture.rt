@@ -108,7 +108,7 @@ fn has_title(line: &str, class: &str, front: &str) -> bool {
     }
 }
 
-/// How many elements of this class have a title that begins so.
+/// The number of elements of this class whose title begins with `front`.
 fn count(svg: &str, class: &str, front: &str) -> usize {
     let mut count = 0usize;
     for line in svg.lines() {
@@ -119,7 +119,7 @@ fn count(svg: &str, class: &str, front: &str) -> usize {
     count
 }
 
-/// How many titles a picture has.
+/// The number of titles in a picture.
 fn titles(rt: &impl Abort, drawing: &Drawing) -> usize {
     let svg = drawing.text().expect(rt, "memory");
     svg.as_str().matches("<title>").count()
@@ -385,7 +385,7 @@ fn has_attribute(line: &str, class: &str, attribute: &str) -> bool {
     class_of(line) == class && line.contains(attribute)
 }
 
-/// How many elements of this class have this attribute.
+/// The number of elements of this class with this attribute.
 fn count_with(svg: &str, class: &str, attribute: &str) -> usize {
     let mut count = 0usize;
     for line in svg.lines() {
@@ -406,8 +406,8 @@ const SHORT: &str = "0000000000000 a MODE NORMAL
 0000000000008 b STATE p WAITING
 ";
 
-/// Of a million ticks each bar is a pixel wide at least. The places were worked out by hand: the rows
-/// of `a` begin at 58 and those of `b` at 120 pixels, and each row is 22 high.
+/// In a picture of a million ticks each bar is at least a pixel wide. The places were worked out by
+/// hand: the rows of `a` begin at 58 and those of `b` at 120 pixels, and each row is 22 high.
 static NARROW: [(&str, &str); 3] = [
     ("ready", "x=\"150\" y=\"91\" width=\"1\" height=\"8\""),
     ("running", "x=\"150\" y=\"83\" width=\"1\" height=\"16\""),
@@ -445,8 +445,9 @@ fn add_messages(picture: &mut Picture, a: Name, b: Name, pairs: u64) -> Result<(
     Ok(())
 }
 
-/// Of ten ticks the last one begins at 1068 pixels, so the first 21 messages in it stand left of 1194, each
-/// 6 pixels from the one before, and all others at 1194. The picture is 1200 wide.
+/// In a picture of ten ticks the last tick begins at 1068 pixels, so the first 21 messages in it
+/// stand left of 1194, each 6 pixels from the one before, and all others at 1194. The picture is
+/// 1200 wide.
 #[test]
 fn messages_stand_in_the_picture(rt: HostRuntime) {
     let a = Name::new(b"a").expect(&rt, "a name");
