@@ -79,7 +79,7 @@ abbrev pub HasFailedBy : RunFault → Seen → Seen → Type 0
 HasFailedBy faults.Write old new = HasFailed old new
 HasFailedBy _ old new = new.failures ≡ old.failures
 
--- the same faults for the inputs that a run brings
+-- the same for the inputs that a run brings
 abbrev pub HasFailedByInputs : InputsFault → Seen → Seen → Type 0
 HasFailedByInputs input_faults.Write old new = HasFailed old new
 HasFailedByInputs _ old new = new.failures ≡ old.failures

@@ -167,7 +167,7 @@ record AreWithin (c : Counts) : Type 0 where
   blackboards : c.blackboards ≤ MOST_OBJECTS
   procedures : c.procedures ≤ MOST_PROCEDURES
 
--- the totals of the declarations `ds` after the counts `c`
+-- the totals of the declarations `ds`, added to the counts `c`, are within their limits
 pub record Totals (declared : List Entry) (c : Counts) (ds : List written.Declaration) : Type 0 where
   pub words : c.words + length (flat_map (λ (d : written.Declaration). words_of d.kind) ds) ≤ MOST_DATA_WORDS
   pub semaphores : c.semaphores + length (filter_map (λ (d : written.Declaration). semaphore_of d.kind) ds) ≤ MOST_OBJECTS

@@ -1,4 +1,4 @@
--- The choice that the rule of a refusal looks for in a source.
+-- The word or the choice that the rule of a refusal looks for in a source.
 use Rattle.std.specs.Prelude.{◌≡◌, ℕ, Bool, List, if◌then◌else◌, nat_lt}
 use Rattle.std.specs.List.{list_any}
 use Rattle.pal_base.specs.declared.fault.Refusal.{Refusal}

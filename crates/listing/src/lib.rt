@@ -1,5 +1,5 @@
-//! A listing for an integrator of an image and of sources: the instructions of each partition, and
-//! the costs of each body.
+//! Listings of images and sources for an integrator: the instructions of each partition, and the
+//! costs of each body.
 #![tactic(auto)]
 
 mod code;

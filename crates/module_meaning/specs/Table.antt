@@ -97,7 +97,7 @@ lacks_release_from n windows (p ∷ ps) = not (has_release windows n) || lacks_r
 abbrev pub lacks_release : List WindowRow → List Partition → Bool
 lacks_release windows ps = lacks_release_from 1 windows ps
 
--- Ends: the ends of a channel.
+-- Ends: the ends that a channel connects.
 
 abbrev pub ends_of : Channel → List ChannelEnd
 ends_of c = c.source ∷ c.destinations

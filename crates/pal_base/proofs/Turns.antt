@@ -111,7 +111,7 @@ pub listed_fails : {A X : Type 0} (view : A → X) (mark : List ℕ) (read : Rea
 listed_fails view mark read whole found ws vs error so_far stands given =
     refused_by error (read vs) whole (λ left failed. turn_fails view (λ ws. each (expect mark ws) read) whole found ws left so_far (each_fails (expect mark ws) vs read left stands failed)) given
 
--- and of a repetition up to a mark
+-- a repetition up to a mark finds the next one
 pub up_to_finds : {A X : Type 0} (view : A → X) (mark : List ℕ) (read : Reading X) (whole : Answer (List X × List Word)) (old new : List A) (a : A) (ws us : List Word) (t : Bool) →
     whole ≡ after (map view old) (up_to mark read ws) → t ≡ is_ok (expect mark ws) → t ≡ false → read ws ≡ Ok (view a, us) → length us < length ws → new ≡ old ++ a ∷ [] →
     whole ≡ after (map view new) (up_to mark read us)

@@ -28,7 +28,7 @@ Begins X words P read = (ws : List Word) (n : ℕ) → read ws ≡ Err n → Beg
 abbrev pub TurnBegins : (X : Type 0) → (X → List Word → List Word) → (X → Type 0) → Turn X → Type 0
 TurnBegins X words P turn = (ws : List Word) (n : ℕ) → turn ws ≡ Err n → Begun words P ws n
 
--- words before others
+-- words in front of others
 abbrev pub Front : (List Word → List Word) → Type 0
 Front front = (rest more : List Word) → front (rest ++ more) ≡ front rest ++ more
 

@@ -3,15 +3,13 @@
 //!
 //! It answers lines of the standard input:
 //!
-//! - `calls FOLDER TICKS` makes the calls that take memory, one after another, on the module in that
-//! folder, and runs it for `TICKS` ticks. Each call has a line when it begins and one with its
-//! answer.
-//! A refused call is made again.
+//! - `calls FOLDER TICKS` makes the calls that take memory, one after another, on the module in
+//!   that folder, and runs it for `TICKS` ticks. Each call has a line when it begins and one with
+//!   its answer. A refused call is made again.
 //! - `sinks FOLDER TICKS` runs the module into sinks that fail, each after another number of bytes.
 //! - `base FILE` reads an image.
 //! - `image LENGTH TICKS PLACE=BYTE ..` copies it to `LENGTH` bytes, changes bytes, and runs the
-//!   copy for
-//! `TICKS` ticks.
+//!   copy for `TICKS` ticks.
 //!
 //! In the folder lie a table, the source of its one partition `a`, a device text, the inputs that
 //! it brings the partition, and the trace.

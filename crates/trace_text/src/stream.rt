@@ -151,8 +151,7 @@ impl<R: Read> TraceStream<R> {
     }
 }
 
-/// Returns true if `bytes` has its first line to the end, or more bytes than a line of a trace can
-/// have.
+/// Returns true if the first line, if it is a line of a trace, ends within `bytes`.
 fn has_line(bytes: &[u8]) -> bool
     ensures found { result ≡ true
         → (pieces_behind_marks 10 bytes.now ≢ []) ⊎ (MOST_LINE_BYTES ≤ length bytes.now) }

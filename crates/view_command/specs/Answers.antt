@@ -28,8 +28,8 @@ IsUnread text name Memory = Unit {0}
 IsUnread text name _ = ⊥
 
 -- The trace of this name is not shown. A text that is not opened is noted; a line is refused if it
--- is the first that is no line of a trace there. Something was written only of a whole trace, and
--- that failed.
+-- is the first that is no line of a trace there; only a whole trace is written, and that write
+-- failed.
 abbrev pub IsRefused : Option Contents → List ℕ → State → State → Refusal → Type 0
 IsRefused texts name before after Write = HasFailed before.out after.out × (after.unopened ≡ before.unopened) × IsTraceIn texts name
 IsRefused texts name before after (Open shown) = (after.out ≡ before.out) × (string_bytes shown ≡ called name) × (after.unopened ≡ before.unopened ++ name ∷ [])

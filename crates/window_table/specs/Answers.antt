@@ -9,20 +9,20 @@ use Rattle.window_table.specs.Refusals.{IsOf, IsRefused}
 use Rattle.window_table.specs.Views.{table_of}
 use Rattle.module_meaning.specs.Accepted.{IsDocument}
 
--- the result of reading a part of a document, which is refused if it has not the shape, unless
--- memory runs out
+-- the result of reading a part of a document, which is refused if its shape is wrong; memory may
+-- run out
 abbrev pub Reads : {A B : Type 0} → (A → B) → Result A TableFault → Option B → Type 0
 Reads view (Ok x) read = read ≡ Some (view x)
 Reads view (Err fault.Memory) read = Unit {0}
 Reads view (Err fault.Shape) read = read ≡ None
 Reads view (Err _) read = ⊥
 
--- the verdict, unless memory runs out
+-- the verdict; memory may run out
 abbrev pub Judges : {A B : Type 0} → (A → B) → Result A TableFault → Result B Refusal → Type 0
 Judges view (Ok x) judged = judged ≡ Ok (view x)
 Judges view (Err f) judged = IsOf f judged
 
--- refused by one rule only if it is broken, unless memory runs out
+-- refused by one rule, if the rule is broken; memory may run out
 abbrev pub RefusesLimit : {A : Type 0} → Result A TableFault → Bool → Type 0
 RefusesLimit (Ok x) broken = Unit {0}
 RefusesLimit (Err fault.Memory) broken = Unit {0}
@@ -35,7 +35,7 @@ RefusesOverlap (Err fault.Memory) broken = Unit {0}
 RefusesOverlap (Err fault.Overlap) broken = broken ≡ true
 RefusesOverlap (Err _) broken = ⊥
 
--- The answer to a text: no document, or the verdict on the document, or that memory ran out.
+-- The answer to a text: it is no document, the verdict on the document, or memory ran out.
 abbrev pub AnswersText : List ℕ → Result ModuleTable TableFault → Type 0
 AnswersText bytes (Err f) = IsRefused bytes f
 AnswersText bytes (Ok table) = (ms : Members) × IsDocument bytes ms × (verdict ms ≡ Ok (table_of table))

@@ -67,7 +67,7 @@ fn body_at(bytes: &[u8]) -> Result<(BodyRow, &[u8]), ImageFault>
     Ok((row, rest))
 }
 
-/// The duration of a word: -1 is an infinite one.
+/// The duration that a word stands for; -1 stands for none.
 fn duration_of(word: i64) -> Option<Option<u64>>
     ensures { result ≡ duration_of word }
 {

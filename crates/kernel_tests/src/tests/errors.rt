@@ -133,7 +133,7 @@ fn expect_words(rt: &impl Abort, out: &mut Out, at: i64, written: &[i64]) {
     }
 }
 
-/// The lines of the start of the handler, if `waiting` errors wait.
+/// The output of the start of the handler, if `waiting` errors wait.
 fn started(rt: &impl Abort, alloc: Global, waiting: u8) -> Out {
     let mut out = Out::new();
     let mut table = with_handler(rt, alloc, &mut out);

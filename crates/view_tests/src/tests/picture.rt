@@ -298,7 +298,8 @@ static EMPTY: [(&str, u64, Option<u64>); 6] = [
     ("0000000000000 p MODE NORMAL\n", 20_000, None),
 ];
 
-/// Draws a trace without lines, windows without ticks, and a window without lines.
+/// Expects an empty picture of a trace without lines, of windows without ticks, and of a window
+/// without lines.
 #[test]
 fn nothing(rt: HostRuntime) {
     for (trace, from, to) in &EMPTY {
