@@ -90,7 +90,7 @@ pub words_from_more : (b : ℕ) (bs : List ℕ) → words_from (b ∷ bs) ≡ (w
 unfolding words_from words_within
 words_from_more b bs = ap (λ ws. (word_at (b ∷ bs)).0 ∷ ws) (bounds_agree (length bs) _ _ (omega (arith, next_shorter b bs)) (omega arith))
 
--- the text behind the first word is shorter: of a text that is not empty, and of an empty text
+-- the words of a text that is not empty, and of an empty text
 pub next_short : (bs : List ℕ) → 0 < length bs → length (behind_blanks false (word_at bs).1) < length bs
 next_short [] h = absurd (omega arith)
 next_short (b ∷ bs) h = next_shorter b bs
