@@ -179,7 +179,7 @@ image_of t programs = record { schedule = t.schedule; fault = t.fault; items = i
 abbrev pub text_of_built : Table → List (List ℕ) → ℕ → Option (List ℕ)
 text_of_built t sources n = option_map (λ programs. text_of (machine_trace (image_of t programs) [] n)) (programs_of t.partitions sources)
 
--- its bytes
+-- the bytes of that image
 abbrev pub image_of_sources : Table → List (List ℕ) → Option (List ℕ)
 image_of_sources t sources = option_map (λ programs. spelling (image_of t programs)) (programs_of t.partitions sources)
 

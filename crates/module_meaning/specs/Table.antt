@@ -81,7 +81,8 @@ unfoldable pub falls_short : ℕ → ℕ → ℕ → ℕ → List WindowRow → 
 falls_short zero partition period duration windows = false
 falls_short (suc k) partition period duration windows = nat_lt (offered partition (k * period) ((k + 1) * period) windows) duration || falls_short k partition period duration windows
 
--- whether that is so of one of the partitions, which are numbered from a number on
+-- whether a period of one of the partitions, which are numbered from `n`, offers less than its
+-- duration
 unfoldable pub falls_short_from : ℕ → Schedule → List Partition → Bool
 falls_short_from n s [] = false
 falls_short_from n s (p ∷ ps) = falls_short (s.frame / p.period) n p.period p.duration s.windows || falls_short_from (n + 1) s ps

@@ -12,7 +12,7 @@ use Rattle.pal.specs.declared.report.BodyCost.{BodyCost}
 use Rattle.pal.specs.declared.report.BodyName.{BodyName}
 use Rattle.pal.specs.declared.report.BodyName.TheVariants as name
 
--- its instructions, its frame, and the sum of the costs of its constructs
+-- the row of a body: its instructions, its frame, and the sum of the costs of its constructs
 abbrev pub cost_of_body : Costs → BodyName → Body → BodyCost
 cost_of_body costs n b = record {
   name = n;

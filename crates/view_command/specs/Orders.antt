@@ -31,7 +31,7 @@ abbrev pub AreNoTicks : Option (List ℕ) → Option (List ℕ) → Type 0
 AreNoTicks from None = ⊥
 AreNoTicks from (Some to) = number_in to ≤ from_in from
 
--- its words for ticks are no ticks, or leave none
+-- the words for ticks are no ticks, or leave none
 abbrev pub AreWrongTicks : List Row → Type 0
 AreWrongTicks rows = IsNoTick (first_of (codes "from") rows) ⊎ IsNoTick (first_of (codes "to") rows) ⊎ AreNoTicks (first_of (codes "from") rows) (first_of (codes "to") rows)
 
