@@ -122,7 +122,7 @@ answered kinds order asked explained note before mid old_failed new_failed new_o
 answered kinds order asked explained note before mid old_failed new_failed new_out old_err new_err status (Err (Usage e)) quiet_if none done flushed failed unfailed named told =
     of_usage kinds order asked before mid old_failed new_failed new_out old_err new_err status e failed named told (help_or (kind_of e))
 
--- output can take the help: no write to it has failed yet
+-- output can take the help: nothing was written to it before
 pub can_take_help : (kinds : Kinds) (order : Order) (before mid : State) (outcome : Result (Unit {0}) (Failure Refusal)) → IfErr outcome (λ f. IsFailureOfWords kinds order before mid f) → before.out.failures < 2 ^ 64 - 1 → CanTakeHelp outcome mid.out.failures
 can_take_help kinds order before mid (Ok x) failed low = tt
 can_take_help kinds order before mid (Err (Refused r)) failed low = tt

@@ -74,7 +74,7 @@ IsNotWritten table sources name before after r =
 
 -- ---- the commands; memory may run out at every step
 
--- standard output failed exactly if the run or the replay says so
+-- standard output failed if and only if the run or the replay says so
 abbrev pub HasFailedBy : RunFault → Seen → Seen → Type 0
 HasFailedBy faults.Write old new = HasFailed old new
 HasFailedBy _ old new = new.failures ≡ old.failures

@@ -273,8 +273,7 @@ limits_hold ports p = let declared = declared_entries ports p in
 
 -- PERIODS: the finite period of a process is a multiple of its partition's.
 
--- whether a number as it is written is a multiple of the partition's period; a number above 2^63 -
--- 1 is not
+-- whether a written number is a multiple of the partition's period; a number above 2^63 - 1 is not
 abbrev pub is_written_multiple : ℕ → Option ℕ → Bool
 is_written_multiple partition None = false
 is_written_multiple partition (Some n) = nat_lt 0 partition && nat_eq (n % partition) 0

@@ -123,8 +123,8 @@ fn writes(rt: &HostRuntime, row: &Row, image: &[u8], call: &str) -> bool {
     answer.is_ok()
 }
 
-/// Prints the answer, and whether the sink has taken the trace, or the number of bytes that it has
-/// taken.
+/// Prints whether the sink has taken the trace or, for a fault, the fault and the number of bytes
+/// that the sink has taken.
 fn tell_answer(rt: &HostRuntime, answer: &Result<(), RunFault>, sink: &Narrow<'_>) {
     match answer {
         Ok(()) if sink.has_all() => end(rt, "the trace"),

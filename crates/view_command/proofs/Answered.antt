@@ -81,7 +81,7 @@ answered kinds entered texts before mid new_out old_err new_err status (Err (Ref
 answered kinds entered texts before mid new_out old_err new_err status (Err (Usage e)) none trace opened flushed failed told =
     of_usage kinds entered texts before mid new_out old_err new_err status e failed told (help_or (kind_of e))
 
--- output can take the help: no write to it has failed yet
+-- output can take the help: nothing was written to it before
 pub can_take_help : (kinds : Kinds) (entered : Entered) (texts : Option Contents) (before mid : State) (outcome : Result (Unit {0}) (Failure Refusal))
     → IfErr outcome (λ f. IsFailure kinds entered texts before mid f) → before.out.failures < 2 ^ 64 - 1 → CanTakeHelp outcome mid.out.failures
 can_take_help kinds entered texts before mid (Ok x) failed low = tt

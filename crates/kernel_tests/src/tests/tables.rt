@@ -3,7 +3,7 @@
 use std::alloc::Global;
 use window_table::read_table;
 
-/// A text in four parts, so that a case has only its own parts.
+/// A text in four parts, so that a case states only the parts that differ.
 struct Case {
     head: &'static str,
     partitions: &'static str,
