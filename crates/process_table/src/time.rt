@@ -55,18 +55,8 @@ fn wait_for(table: &mut ProcessTable, request: Request, delay: i64, out: &mut Ou
     let service = Service::TimedWait;
     let caller = request.caller;
     if delay == 0 {
-        let found = table.found(caller);
-        answer(
-            caller,
-            name_of(&found),
-            service,
-            ReturnCode::NoError,
-            &[],
-            out,
-        );
-        if let Some(found) = &found {
-            table.go_last(found);
-        }
+        table.answer(caller, service, ReturnCode::NoError, &[], out);
+        table.go_last(caller);
     } else {
         let found = table.found(caller);
         let due = Due::Delay(Ticks(request.moment.at.now.0 + delay as u64));

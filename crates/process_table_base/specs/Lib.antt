@@ -9,3 +9,4 @@ pub mod States
 pub mod Timed
 pub mod Treating
 pub mod View
+pub mod Yielding

@@ -110,10 +110,7 @@ impl ProcessTable {
     pub fn subject(&self, runner: Runner) -> Subject
         ensures { result ≡ meaning.subject self.now runner }
     {
-        match self.row(runner) {
-            Some(row) => row.who,
-            None => Subject::Init,
-        }
+        self.name_in(runner).unwrap_or(Subject::Init)
     }
 
     /// The runner becomes READY with this record, and goes last. A suspended process continues to

@@ -8,10 +8,11 @@ ghost use Rattle.kernel_meaning.specs.Processes as meaning;
 ghost use Rattle.kernel_meaning.specs.Made.{IsMade};
 ghost use Rattle.kernel_meaning.specs.Sharing.{gives};
 ghost use Rattle.kernel_laws.specs.WaitingOrder.{AreQueues};
+ghost use Rattle.process_table_base.specs.Yielding.{yields_in};
 
 use crate::found::Found;
 use crate::table::ProcessTable;
-use apex_types::{Due, Out, ReturnCode, Service, Wait, Words};
+use apex_types::{Due, Out, ReturnCode, Runner, Service, Wait, Words};
 
 impl ProcessTable {
     /// The process waits in a service, until its due time if it has one. Writes no line if it
@@ -73,10 +74,13 @@ impl ProcessTable {
         self.give_as(found.runner, &found.row, message, out);
     }
 
-    /// Moves a ready process behind its equals.
-    pub fn go_last(&mut self, found: &Found)
-        ensures { self.new ≡ meaning.put_ready self.old found.now.runner found.now.row }
+    /// A ready process goes behind the others of its priority. Its record stays as it is.
+    #[tactic(auto, using(crate::proofs::Yielding::yielded))]
+    pub fn go_last(&mut self, runner: Runner)
+        ensures { self.new ≡ yields_in self.old runner }
     {
-        self.put_ready(found.runner, &found.row);
+        if let Some(priority) = self.priority(runner) {
+            self.go_behind(runner, priority);
+        }
     }
 }

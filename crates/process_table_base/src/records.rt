@@ -148,6 +148,23 @@ impl Records {
         found_at(&self.rows, runner)
     }
 
+    /// The name of a runner; `None` if there is no such runner.
+    pub(crate) fn name(&self, runner: Runner) -> Option<Subject>
+        ensures { result ≡ option_map (λ row. row.who) (slice_get self.now (place_of runner)) }
+    {
+        name_at(&self.rows, runner.place())
+    }
+
+    /// The current priority of a runner; `None` if there is no such runner.
+    #[tactic(auto, using(crate::proofs::Bounds::bounds))]
+    pub(crate) fn priority(&self, runner: Runner) -> Option<Priority>
+        ensures priority { result
+            ≡ option_map (λ row. row.current_priority) (slice_get self.now (place_of runner)) }
+        ensures within { IfSome result (λ priority. place_of runner < MOST_RUNNERS) }
+    {
+        priority_at(&self.rows, runner.place())
+    }
+
     /// Replaces the record of `runner`, if it has one.
     pub(crate) fn put(&mut self, runner: Runner, row: &ProcessStatus)
         requires { IsBounded row.now }
@@ -219,6 +236,24 @@ fn ready_init(rows: &mut Vec<ProcessStatus>)
 {
     if let Some(row) = rows.get_mut(0) {
         row.state = ProcessState::Ready;
+    }
+}
+
+fn name_at(rows: &[ProcessStatus], place: usize) -> Option<Subject>
+    ensures { result ≡ option_map (λ row. row.who) (slice_get rows.now place) }
+{
+    match rows.get(place) {
+        Some(row) => Some(row.who),
+        None => None,
+    }
+}
+
+fn priority_at(rows: &[ProcessStatus], place: usize) -> Option<Priority>
+    ensures { result ≡ option_map (λ row. row.current_priority) (slice_get rows.now place) }
+{
+    match rows.get(place) {
+        Some(row) => Some(row.current_priority),
+        None => None,
     }
 }
 

@@ -1,6 +1,6 @@
 //! The records of a partition's processes, and the few ways to change them.
 
-ghost use Rattle.std.specs.Prelude.{◌≡◌, ◌<◌, ◌≤◌, ◌+◌, ◌-◌, ◌^◌, ℕ, length, map, IfOk, IfSome};
+ghost use Rattle.std.specs.Prelude.{◌≡◌, ◌<◌, ◌≤◌, ◌+◌, ◌-◌, ◌^◌, ℕ, length, map, option_map, IfOk, IfSome};
 ghost use Rattle.apex_types.specs.Runners.{place_of};
 ghost use Rattle.kernel_meaning.specs.PartitionServices.{cleared_processes};
 ghost use Rattle.kernel_meaning.specs.Partition.{first_ready};
@@ -17,7 +17,8 @@ ghost use Rattle.process_table_base.specs.Timed.{AreQuiet, deadlines, due_times}
 use crate::found::Found;
 use crate::records::{ProcessRows, Records};
 use apex_types::{
-    Entry, Lock, MOST_RUNNERS, Mode, ProcessRow, ProcessState, ProcessStatus, Runner, Ticks, Words,
+    Entry, Lock, MOST_RUNNERS, Mode, Priority, ProcessRow, ProcessState, ProcessStatus, Runner,
+    Subject, Ticks, Words,
 };
 use links::{ReadyLists, WaitingLists};
 use std::alloc::{AllocError, Global};
@@ -197,6 +198,33 @@ impl ProcessTable {
     {
         let priority = row.current_priority;
         self.records.put(runner, row);
+        if let Runner::Process(process) = runner {
+            self.ready.push_back(Entry { process, priority });
+        }
+    }
+
+    /// The name of a runner; `None` if there is no such runner.
+    pub(crate) fn name_in(&self, runner: Runner) -> Option<Subject>
+        ensures { result ≡ option_map (λ row. row.who) (meaning.row_of self.now runner) }
+    {
+        self.records.name(runner)
+    }
+
+    /// The current priority of a runner; `None` if there is no such runner.
+    pub(crate) fn priority(&self, runner: Runner) -> Option<Priority>
+        ensures priority { result
+            ≡ option_map (λ row. row.current_priority) (meaning.row_of self.now runner) }
+        ensures within { IfSome result (λ priority. place_of runner < MOST_RUNNERS) }
+    {
+        self.records.priority(runner)
+    }
+
+    /// A ready process goes behind the others of this priority.
+    pub(crate) fn go_behind(&mut self, runner: Runner, priority: Priority)
+        requires { place_of runner < MOST_RUNNERS }
+        ensures { self.new
+            ≡ record self.old { ready = meaning.goes_last runner priority self.old.ready } }
+    {
         if let Runner::Process(process) = runner {
             self.ready.push_back(Entry { process, priority });
         }
