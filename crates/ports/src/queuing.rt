@@ -13,7 +13,7 @@ ghost use Rattle.ports.specs.Status.{placed_port, port_status};
 use crate::deliver::deliver;
 use crate::port::PortStatus;
 use crate::ports::Ports;
-use apex_types::{ArrayPlace, Discipline, ListKey, Mode, Out, ReturnCode, Service, Waiting, Words};
+use apex_types::{ArrayPlace, Discipline, ListKey, Out, ReturnCode, Service, Waiting, Words};
 use process_table_base::{
     Handed, ProcessTable, Request, first_words, is_duration, is_large_enough, is_length,
 };
@@ -36,17 +36,12 @@ pub fn create_queuing_port(
     ensures grows { Grows 1 1 out.old out.new }
 {
     let service = Service::CreateQueuingPort;
-    if request.mode == Mode::Normal {
-        return table.refuse(request.caller, service, ReturnCode::InvalidMode, out);
+    let found = ports
+        .queuing(name)
+        .map(|(place, port)| (place, port.created));
+    if let Some(place) = table.answer_create(&request, service, name, found, out) {
+        ports.create(place);
     }
-    let Some((place, port)) = ports.queuing(name) else {
-        return table.refuse(request.caller, service, ReturnCode::InvalidConfig, out);
-    };
-    if port.created {
-        return table.refuse(request.caller, service, ReturnCode::NoAction, out);
-    }
-    table.answer(request.caller, service, ReturnCode::NoError, &[name], out);
-    ports.create(place);
 }
 
 /// GET_QUEUING_PORT_ID (ARINC 653 Part 1, interpartition communication): returns the number of a
@@ -65,12 +60,8 @@ pub fn get_queuing_port_id(
     ensures grows { Grows 1 1 out.old out.new }
 {
     let service = Service::GetQueuingPortId;
-    match ports.queuing(name) {
-        Some((_, port)) if port.created => {
-            table.answer(request.caller, service, ReturnCode::NoError, &[name], out)
-        }
-        _ => table.refuse(request.caller, service, ReturnCode::InvalidConfig, out),
-    }
+    let created = ports.queuing(name).is_some_and(|(_, port)| port.created);
+    table.answer_id(request.caller, service, name, created, out);
 }
 
 /// Appends a message to a port. If the port is full, blocks the caller for at most `limit` ticks.

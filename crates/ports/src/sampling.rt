@@ -10,7 +10,7 @@ ghost use Rattle.ports.specs.Status.{placed_port};
 use crate::deliver::deliver;
 use crate::port::validity_number;
 use crate::ports::Ports;
-use apex_types::{ArrayPlace, Mode, Out, ReturnCode, Service, Words};
+use apex_types::{ArrayPlace, Out, ReturnCode, Service, Words};
 use process_table_base::{Handed, ProcessTable, Request, first_words, is_large_enough, is_length};
 
 /// CREATE_SAMPLING_PORT (ARINC 653 Part 1, interpartition communication): creates the sampling port
@@ -31,17 +31,12 @@ pub fn create_sampling_port(
     ensures grows { Grows 1 1 out.old out.new }
 {
     let service = Service::CreateSamplingPort;
-    if request.mode == Mode::Normal {
-        return table.refuse(request.caller, service, ReturnCode::InvalidMode, out);
+    let found = ports
+        .sampling(name)
+        .map(|(place, port)| (place, port.created));
+    if let Some(place) = table.answer_create(&request, service, name, found, out) {
+        ports.create(place);
     }
-    let Some((place, port)) = ports.sampling(name) else {
-        return table.refuse(request.caller, service, ReturnCode::InvalidConfig, out);
-    };
-    if port.created {
-        return table.refuse(request.caller, service, ReturnCode::NoAction, out);
-    }
-    table.answer(request.caller, service, ReturnCode::NoError, &[name], out);
-    ports.create(place);
 }
 
 /// GET_SAMPLING_PORT_ID (ARINC 653 Part 1, interpartition communication): returns the number of a
@@ -60,12 +55,8 @@ pub fn get_sampling_port_id(
     ensures grows { Grows 1 1 out.old out.new }
 {
     let service = Service::GetSamplingPortId;
-    match ports.sampling(name) {
-        Some((_, port)) if port.created => {
-            table.answer(request.caller, service, ReturnCode::NoError, &[name], out)
-        }
-        _ => table.refuse(request.caller, service, ReturnCode::InvalidConfig, out),
-    }
+    let created = ports.sampling(name).is_some_and(|(_, port)| port.created);
+    table.answer_id(request.caller, service, name, created, out);
 }
 
 /// WRITE_SAMPLING_MESSAGE (ARINC 653 Part 1, interpartition communication): replaces the port's

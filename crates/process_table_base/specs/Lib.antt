@@ -5,6 +5,7 @@ pub mod ShortFact
 pub mod DueMask
 pub mod LeastNumber
 pub mod RecordView
+pub mod Sharing
 pub mod States
 pub mod Timed
 pub mod Treating

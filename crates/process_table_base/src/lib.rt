@@ -19,6 +19,7 @@ mod records;
 mod request;
 mod rooms;
 mod serve;
+mod sharing;
 mod start;
 mod table;
 mod timers;

@@ -14,7 +14,7 @@ ghost use Rattle.sync_objects.specs.Both.{number_of_occupied};
 ghost use Rattle.process_table_base.specs.declared.rooms.TheConstants.{ACTIONS_TO_GIVE_ALL, LINES_TO_GIVE_ALL};
 
 use apex_types::{
-    Action, ArrayPlace, Discipline, ListKey, Mode, Out, ReturnCode, Service, Waiting, Words,
+    Action, ArrayPlace, Discipline, ListKey, Out, ReturnCode, Service, Waiting, Words,
 };
 use process_table_base::{
     Handed, ProcessTable, Request, first_words, is_duration, is_large_enough, is_length,
@@ -38,17 +38,12 @@ pub fn create_blackboard(
     ensures grows { Grows 1 1 out.old out.new }
 {
     let service = Service::CreateBlackboard;
-    if request.mode == Mode::Normal {
-        return table.refuse(request.caller, service, ReturnCode::InvalidMode, out);
+    let found = objects
+        .blackboard(name)
+        .map(|(place, blackboard)| (place, blackboard.created));
+    if let Some(place) = table.answer_create(&request, service, name, found, out) {
+        objects.create_blackboard(place);
     }
-    let Some((place, blackboard)) = objects.blackboard(name) else {
-        return table.refuse(request.caller, service, ReturnCode::InvalidConfig, out);
-    };
-    if blackboard.created {
-        return table.refuse(request.caller, service, ReturnCode::NoAction, out);
-    }
-    table.answer(request.caller, service, ReturnCode::NoError, &[name], out);
-    objects.create_blackboard(place);
 }
 
 /// GET_BLACKBOARD_ID (ARINC 653 Part 1, intrapartition communication): returns the number of a
@@ -67,12 +62,10 @@ pub fn get_blackboard_id(
     ensures grows { Grows 1 1 out.old out.new }
 {
     let service = Service::GetBlackboardId;
-    match objects.blackboard(name) {
-        Some((_, blackboard)) if blackboard.created => {
-            table.answer(request.caller, service, ReturnCode::NoError, &[name], out)
-        }
-        _ => table.refuse(request.caller, service, ReturnCode::InvalidConfig, out),
-    }
+    let created = objects
+        .blackboard(name)
+        .is_some_and(|(_, blackboard)| blackboard.created);
+    table.answer_id(request.caller, service, name, created, out);
 }
 
 /// Answers the caller. The blackboard displays the message, and all waiting processes take it in

@@ -12,7 +12,7 @@ ghost use Rattle.kernel_meaning.specs.Sharing.{both};
 ghost use Rattle.sync_objects.specs.Both.{delivers};
 
 use apex_types::{
-    Action, ArrayPlace, Discipline, ListKey, Mode, Out, ReturnCode, Service, Waiting, Words,
+    Action, ArrayPlace, Discipline, ListKey, Out, ReturnCode, Service, Waiting, Words,
 };
 use process_table_base::{
     Handed, ProcessTable, Request, first_words, is_duration, is_large_enough, is_length,
@@ -36,17 +36,12 @@ pub fn create_buffer(
     ensures grows { Grows 1 1 out.old out.new }
 {
     let service = Service::CreateBuffer;
-    if request.mode == Mode::Normal {
-        return table.refuse(request.caller, service, ReturnCode::InvalidMode, out);
+    let found = objects
+        .buffer(name)
+        .map(|(place, buffer)| (place, buffer.created));
+    if let Some(place) = table.answer_create(&request, service, name, found, out) {
+        objects.create_buffer(place);
     }
-    let Some((place, buffer)) = objects.buffer(name) else {
-        return table.refuse(request.caller, service, ReturnCode::InvalidConfig, out);
-    };
-    if buffer.created {
-        return table.refuse(request.caller, service, ReturnCode::NoAction, out);
-    }
-    table.answer(request.caller, service, ReturnCode::NoError, &[name], out);
-    objects.create_buffer(place);
 }
 
 /// GET_BUFFER_ID (ARINC 653 Part 1, intrapartition communication): returns the number of a buffer.
@@ -64,12 +59,10 @@ pub fn get_buffer_id(
     ensures grows { Grows 1 1 out.old out.new }
 {
     let service = Service::GetBufferId;
-    match objects.buffer(name) {
-        Some((_, buffer)) if buffer.created => {
-            table.answer(request.caller, service, ReturnCode::NoError, &[name], out)
-        }
-        _ => table.refuse(request.caller, service, ReturnCode::InvalidConfig, out),
-    }
+    let created = objects
+        .buffer(name)
+        .is_some_and(|(_, buffer)| buffer.created);
+    table.answer_id(request.caller, service, name, created, out);
 }
 
 /// Gives the message to the first waiting receiver; without one, appends it to the buffer. If the

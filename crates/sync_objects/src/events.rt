@@ -7,7 +7,7 @@ ghost use Rattle.kernel_meaning.specs.Made.{IsMade};
 ghost use Rattle.kernel_meaning.specs.Sharing.{both};
 ghost use Rattle.process_table_base.specs.declared.rooms.TheConstants.{ACTIONS_TO_RELEASE_ALL, LINES_TO_RELEASE_ALL};
 
-use apex_types::{Discipline, ListKey, Mode, Out, ReturnCode, Service, Waiting, Words};
+use apex_types::{Discipline, ListKey, Out, ReturnCode, Service, Waiting, Words};
 use process_table_base::{ProcessTable, Request, is_duration};
 use sync_objects_base::Objects;
 
@@ -28,17 +28,12 @@ pub fn create_event(
     ensures grows { Grows 1 1 out.old out.new }
 {
     let service = Service::CreateEvent;
-    if request.mode == Mode::Normal {
-        return table.refuse(request.caller, service, ReturnCode::InvalidMode, out);
+    let found = objects
+        .event(name)
+        .map(|(place, event)| (place, event.is_created()));
+    if let Some(place) = table.answer_create(&request, service, name, found, out) {
+        objects.create_event(place);
     }
-    let Some((place, event)) = objects.event(name) else {
-        return table.refuse(request.caller, service, ReturnCode::InvalidConfig, out);
-    };
-    if event.is_created() {
-        return table.refuse(request.caller, service, ReturnCode::NoAction, out);
-    }
-    table.answer(request.caller, service, ReturnCode::NoError, &[name], out);
-    objects.put_event(place, event.created());
 }
 
 /// GET_EVENT_ID (ARINC 653 Part 1, intrapartition communication): returns the number of an event.
@@ -56,12 +51,10 @@ pub fn get_event_id(
     ensures grows { Grows 1 1 out.old out.new }
 {
     let service = Service::GetEventId;
-    match objects.event(name) {
-        Some((_, event)) if event.is_created() => {
-            table.answer(request.caller, service, ReturnCode::NoError, &[name], out)
-        }
-        _ => table.refuse(request.caller, service, ReturnCode::InvalidConfig, out),
-    }
+    let created = objects
+        .event(name)
+        .is_some_and(|(_, event)| event.is_created());
+    table.answer_id(request.caller, service, name, created, out);
 }
 
 /// SET_EVENT (ARINC 653 Part 1, intrapartition communication): sets an event up, and releases all

@@ -6,7 +6,7 @@ ghost use Rattle.kernel_meaning.specs.SemaphoreServices as meaning;
 ghost use Rattle.kernel_meaning.specs.Made.{IsMade};
 ghost use Rattle.kernel_meaning.specs.Sharing.{both};
 
-use apex_types::{ListKey, Mode, Out, ReturnCode, Service, Waiting, Words};
+use apex_types::{ListKey, Out, ReturnCode, Service, Waiting, Words};
 use process_table_base::{ProcessTable, Request, is_duration};
 use sync_objects_base::Objects;
 
@@ -27,17 +27,12 @@ pub fn create_semaphore(
     ensures grows { Grows 1 1 out.old out.new }
 {
     let service = Service::CreateSemaphore;
-    if request.mode == Mode::Normal {
-        return table.refuse(request.caller, service, ReturnCode::InvalidMode, out);
+    let found = objects
+        .semaphore(name)
+        .map(|(place, semaphore)| (place, semaphore.is_created()));
+    if let Some(place) = table.answer_create(&request, service, name, found, out) {
+        objects.create_semaphore(place);
     }
-    let Some((place, semaphore)) = objects.semaphore(name) else {
-        return table.refuse(request.caller, service, ReturnCode::InvalidConfig, out);
-    };
-    if semaphore.is_created() {
-        return table.refuse(request.caller, service, ReturnCode::NoAction, out);
-    }
-    table.answer(request.caller, service, ReturnCode::NoError, &[name], out);
-    objects.put_semaphore(place, semaphore.created());
 }
 
 /// GET_SEMAPHORE_ID (ARINC 653 Part 1, intrapartition communication): returns the number of a
@@ -56,12 +51,10 @@ pub fn get_semaphore_id(
     ensures grows { Grows 1 1 out.old out.new }
 {
     let service = Service::GetSemaphoreId;
-    match objects.semaphore(name) {
-        Some((_, semaphore)) if semaphore.is_created() => {
-            table.answer(request.caller, service, ReturnCode::NoError, &[name], out)
-        }
-        _ => table.refuse(request.caller, service, ReturnCode::InvalidConfig, out),
-    }
+    let created = objects
+        .semaphore(name)
+        .is_some_and(|(_, semaphore)| semaphore.is_created());
+    table.answer_id(request.caller, service, name, created, out);
 }
 
 /// WAIT_SEMAPHORE (ARINC 653 Part 1, intrapartition communication): lowers the value of a semaphore

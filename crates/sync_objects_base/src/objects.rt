@@ -3,7 +3,7 @@
 ghost use Rattle.std.specs.Prelude.{◌≡◌, ◌<◌, ◌≤◌, ◌++◌, [], ◌∷◌, drop, length, map, replicate, slice_get, IfOk, IfSome, IsNone, OnSome, true};
 ghost use Rattle.apex_types.specs.declared.limits.TheConstants.{MOST_OBJECTS};
 ghost use Rattle.kernel_meaning.specs.Objects as meaning;
-ghost use Rattle.sync_objects_base.specs.Status.{buffer_at, buffer_of_status, buffer_status, blackboard_at, blackboard_of_status, blackboard_status, without_first};
+ghost use Rattle.sync_objects_base.specs.Status.{buffer_at, buffer_of_status, buffer_status, blackboard_at, blackboard_of_status, blackboard_status, event_at, semaphore_at, without_first};
 
 use crate::blackboard::{Blackboard, BlackboardStatus};
 use crate::buffer::{Buffer, BufferStatus};
@@ -146,10 +146,22 @@ impl Objects {
     /// The semaphore with number `id`, and its place.
     pub fn semaphore(&self, id: i64) -> Option<(u8, Semaphore)>
         ensures found { result ≡ meaning.semaphore self.now id }
+        ensures at { IfSome result (λ found. found.1 ≡ semaphore_at self.now found.0) }
         ensures within { IfSome result (λ found. found.0 < MOST_OBJECTS) }
     {
         let place = place_of(&self.semaphores, id)?;
         Some((place as u8, self.semaphores[place]))
+    }
+
+    /// Creates the semaphore at `place`.
+    pub fn create_semaphore(&mut self, place: u8)
+        ensures { self.new
+            ≡ meaning.put_semaphore self.old place
+            (record (semaphore_at self.old place) { created = true }) }
+    {
+        if let Some(semaphore) = self.semaphores.get_mut(usize::from(place)) {
+            *semaphore = semaphore.created();
+        }
     }
 
     /// Replaces the semaphore at `place`.
@@ -164,10 +176,22 @@ impl Objects {
     /// The event with number `id`, and its place.
     pub fn event(&self, id: i64) -> Option<(u8, ApexEvent)>
         ensures found { result ≡ meaning.event self.now id }
+        ensures at { IfSome result (λ found. found.1 ≡ event_at self.now found.0) }
         ensures within { IfSome result (λ found. found.0 < MOST_OBJECTS) }
     {
         let place = place_of(&self.events, id)?;
         Some((place as u8, self.events[place]))
+    }
+
+    /// Creates the event at `place`.
+    pub fn create_event(&mut self, place: u8)
+        ensures { self.new
+            ≡ meaning.put_event self.old place
+            (record (event_at self.old place) { created = true }) }
+    {
+        if let Some(event) = self.events.get_mut(usize::from(place)) {
+            *event = event.created();
+        }
     }
 
     /// Replaces the event at `place`.

@@ -67,7 +67,7 @@ impl Semaphore {
     }
 
     /// The same semaphore, created.
-    pub fn created(self) -> Semaphore
+    pub(crate) fn created(self) -> Semaphore
         ensures { result ≡ record self { created = true } }
     {
         Semaphore {
