@@ -1,5 +1,5 @@
 -- Records that stay bounded.
-use Rattle.std.proofs.Common.{◌≡◌, ◌≤◌, ◌^◌, ℕ, zero, suc, List, [], ◌∷◌, map, length, refl, ap, arith}
+use Rattle.std.proofs.Common.{◌≡◌, ◌≤◌, ℕ, zero, suc, List, [], ◌∷◌, map, length, refl, ap, arith}
 use Rattle.std.proofs.lemmas.List.{length-map}
 use Rattle.std.specs.Prelude.{slice_set, slice_get, Option, Some, None, IfSome}
 use Rattle.apex_types.specs.declared.limits.TheConstants.{LATEST_RELEASE_POINT, MOST_PROCESSES, MOST_RUNNERS, MOST_TICKS}

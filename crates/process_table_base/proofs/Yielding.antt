@@ -20,9 +20,9 @@ there : (s : Processes) (p : Runner) (priority : Priority) (o : Option ProcessSt
 there s p priority None at is = absurd cc
 there s p priority (Some r) at is =
     sym (
-      ap (λ (o : Option ProcessStatus). (yields s p o).part) at
-      ∙ ap (λ (rows : List ProcessStatus). record s { rows = rows; ready = goes_last p r.current_priority s.ready }) (same_rows s.rows (place_of p) r at)
-      ∙ ap (λ (q : Priority). record s { ready = goes_last p q s.ready }) (same_Some r.current_priority priority is)
+    ap (λ (o : Option ProcessStatus). (yields s p o).part) at
+    ∙ ap (λ (rows : List ProcessStatus). record s { rows = rows; ready = goes_last p r.current_priority s.ready }) (same_rows s.rows (place_of p) r at)
+    ∙ ap (λ (q : Priority). record s { ready = goes_last p q s.ready }) (same_Some r.current_priority priority is)
     )
 
 pub yielded : (s : Processes) (p : Runner) (priority : Priority) → Some priority ≡ option_map (λ row. row.current_priority) (row_of s p) → record s { ready = goes_last p priority s.ready } ≡ yields_in s p

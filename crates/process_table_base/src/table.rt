@@ -198,9 +198,7 @@ impl ProcessTable {
     {
         let priority = row.current_priority;
         self.records.put(runner, row);
-        if let Runner::Process(process) = runner {
-            self.ready.push_back(Entry { process, priority });
-        }
+        self.go_behind(runner, priority);
     }
 
     /// The name of a runner; `None` if there is no such runner.
