@@ -1,5 +1,5 @@
--- What the services that all kinds of objects and ports have answer, as steps of the processes alone. What is found by a number
--- is a place, and whether the object or the port there is created.
+-- What the services answer that all kinds of objects and ports have, as steps of the processes alone. Where a number is declared,
+-- what is found is a place, and whether the object or the port there is created.
 use Rattle.std.specs.Prelude.{ℕ, ℤ, Bool, false, not, [], ◌∷◌, Option, Some, None, is_some, if◌then◌else◌}
 use Rattle.apex_types.specs.declared.codes.Mode.{Mode}
 use Rattle.apex_types.specs.declared.codes.ReturnCode.TheVariants as code
@@ -12,7 +12,7 @@ abbrev pub is_created : Option (ℕ × Bool) → Bool
 is_created None = false
 is_created (Some f) = f.1
 
--- an object that is to be created is declared, and is not created
+-- not in normal mode; one that is declared, and once
 abbrev pub answers_create : Mode → Processes → Runner → Service → ℤ → Option (ℕ × Bool) → Step Processes
 answers_create m s p service name found =
     row (refuses s p service)
@@ -22,12 +22,12 @@ answers_create m s p service name found =
     ∷ [])
     (answers s p service code.NoError (name ∷ []))
 
--- the place of the one that is to be created, unless the service is refused
+-- the place of the one that is to be created now; none where the service is refused
 abbrev pub to_create : Mode → Option (ℕ × Bool) → Option ℕ
 to_create m None = None
 to_create m (Some f) = if is_normal m then None else if f.1 then None else Some f.0
 
--- the number of one that is created, or none
+-- the number of one that is created
 abbrev pub answers_id : Processes → Runner → Service → ℤ → Bool → Step Processes
 answers_id s p service name is_created =
     row (refuses s p service)

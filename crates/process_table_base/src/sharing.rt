@@ -1,4 +1,5 @@
-//! What the services that all kinds of objects and ports have answer.
+//! What the services answer that all kinds of objects and ports have. Both functions are inlined,
+//! so that the compiler knows the service, and with it the outputs of a refusal.
 
 ghost use Rattle.std.specs.Prelude.{◌≡◌};
 ghost use Rattle.apex_types.specs.Room.{HasRoom, Grows};
@@ -10,9 +11,11 @@ use crate::table::ProcessTable;
 use apex_types::{Mode, Out, ReturnCode, Runner, Service};
 
 impl ProcessTable {
-    /// Answers a `service` that creates an object or a port, whose output is its number, `name`.
-    /// INVALID_MODE: in normal mode; INVALID_CONFIG: `found` is none, since nothing of this number is
-    /// declared; NO_ACTION: it is created. Otherwise the result is its place, and it is to be created.
+    /// Answers a `service` that creates an object or a port. Its output is `name`, the number;
+    /// `found` has the place of the one of that number, and whether it is created. INVALID_MODE: in
+    /// normal mode; INVALID_CONFIG: none is declared; NO_ACTION: it is created. Otherwise the result
+    /// is the place of the one that is to be created now.
+    #[inline(always)]
     pub fn answer_create(
         &self,
         request: &Request,
@@ -28,21 +31,29 @@ impl ProcessTable {
         ensures place { result ≡ meaning.to_create request.now.mode found }
         ensures grows { Grows 1 1 out.old out.new }
     {
-        let code = match found {
-            _ if request.mode == Mode::Normal => ReturnCode::InvalidMode,
-            None => ReturnCode::InvalidConfig,
-            Some((_, true)) => ReturnCode::NoAction,
+        if request.mode == Mode::Normal {
+            self.refuse(request.caller, service, ReturnCode::InvalidMode, out);
+            return None;
+        }
+        match found {
+            None => {
+                self.refuse(request.caller, service, ReturnCode::InvalidConfig, out);
+                None
+            }
+            Some((_, true)) => {
+                self.refuse(request.caller, service, ReturnCode::NoAction, out);
+                None
+            }
             Some((place, false)) => {
                 self.answer(request.caller, service, ReturnCode::NoError, &[name], out);
-                return Some(place);
+                Some(place)
             }
-        };
-        self.refuse(request.caller, service, code, out);
-        None
+        }
     }
 
-    /// Answers a `service` that looks up the number of an object or a port, whose output is this
-    /// number, `name`. INVALID_CONFIG: it is not `created`.
+    /// Answers a `service` that looks up an object or a port. Its output is `name`, the number.
+    /// INVALID_CONFIG: none of that number is `created`.
+    #[inline(always)]
     pub fn answer_id(
         &self,
         runner: Runner,
