@@ -1,4 +1,4 @@
--- Each service is the one of its number, and none has a number above how many there are.
+-- Each service has its own number, and no number above the count of services names one.
 use Rattle.std.proofs.Common.{◌≡◌, ◌∙◌, ℕ, zero, suc, ◌+◌, ◌-◌, ◌<◌, ◌≤◌, List, [], ◌∷◌, Some, None, nat_eq, true, false, refl, sym, ap, inl, inr, rules, arith}
 use Rattle.std.specs.Prelude.{length, slice_get, IsNone, is_some}
 use Rattle.std.proofs.lemmas.Bool.Decides.{nat_tests}

@@ -1,4 +1,5 @@
--- What the constructs of a program and the instructions of the processor cost in ticks, and what an operator with two operands does.
+-- The costs in ticks of the constructs of a program and of the instructions of the processor, and
+-- the effect of an operator with two operands.
 use Rattle.std.specs.Prelude.{ℕ, Bool, true, false, ◌≡◌, refl, List, [], ◌∷◌, Option, Some, None}
 use Rattle.apex_types.specs.CostBounds.{is_cost}
 use Rattle.apex_types.specs.declared.cost.TickCost.{TickCost}

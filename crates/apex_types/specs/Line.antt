@@ -1,4 +1,5 @@
--- The text of a trace: the exact bytes of each event's line; and when a sink takes a beginning of a text.
+-- The text of a trace: the exact bytes of each event's line; and when a sink takes a prefix of a
+-- text.
 use Rattle.std.specs.Prelude.{ℕ, ◌+◌, ◌/◌, ◌%◌, ℤ, List, [], ◌∷◌, ◌++◌, map, flat_map, codes, Option, Some, None, ◌≤◌, length, take}
 use Rattle.std.specs.Fmt.{decimal, signed_decimal}
 use Rattle.apex_types.specs.CodeWords.{return_code_number, mode_word, state_word, error_word, level_word, level_of_response, action_word}
@@ -25,7 +26,7 @@ subject_text subject.Init = codes "INIT"
 subject_text subject.Handler = codes "HANDLER"
 subject_text (subject.Process name) = name
 
--- whose an error is, or `-` for a device fault
+-- the subject of an error, or `-` for a device fault
 abbrev pub culprit_text : Option Subject → List ℕ
 culprit_text None = codes "-"
 culprit_text (Some who) = subject_text who
@@ -34,7 +35,7 @@ culprit_text (Some who) = subject_text who
 abbrev pub words_text : List ℤ → List ℕ
 words_text words = flat_map (λ word. 32 ∷ signed_decimal word) words
 
--- what happened
+-- the text of an event
 abbrev pub kind_text : EventKind → List ℕ
 kind_text (event.State who state) = codes "STATE " ++ subject_text who ++ codes " " ++ state_word state
 kind_text (event.Return who service code) = codes "RET " ++ subject_text who ++ codes " " ++ service_word service ++ codes " " ++ decimal (return_code_number code)
@@ -46,7 +47,7 @@ kind_text (event.Arrive port words) = codes "ARRIVE " ++ port ++ words_text word
 kind_text (event.Lost port words) = codes "LOST " ++ port ++ words_text words.items
 kind_text (event.Out channel words) = codes "OUT " ++ channel ++ words_text words.items
 
--- the line of an event: its tick, its partition, what happened, a line feed
+-- the line of an event: its tick, its partition, the text of the event, a line feed
 abbrev pub line_of : Event → List ℕ
 line_of event = thirteen_digits event.tick.0 ++ codes " " ++ partition_text event.partition ++ codes " " ++ kind_text event.kind ++ 10 ∷ []
 
@@ -54,6 +55,6 @@ line_of event = thirteen_digits event.tick.0 ++ codes " " ++ partition_text even
 abbrev pub text_of : List Event → List ℕ
 text_of events = flat_map line_of events
 
--- the bytes taken grew by a beginning of the text
+-- the bytes taken grew by a prefix of the text
 abbrev pub TakesBeginning : Option (List ℕ) → Option (List ℕ) → List ℕ → Type 0
 TakesBeginning old new text = (k : ℕ) × (k ≤ length text) × Appends old new (take k text)

@@ -8,11 +8,11 @@ use Rattle.apex_types.specs.declared.limits.TheConstants.{MOST_EVENTS, MOST_LINE
 use Rattle.apex_types.specs.Line.{line_of, text_of}
 use Rattle.apex_types.specs.declared.event.Event.{Event}
 
--- for how many lines more there is room behind this text
+-- the number of further lines that fit behind this text
 abbrev pub lines_left : List ℕ → ℕ
 lines_left text = (MOST_STEP_BYTES - length text) / MOST_LINE_BYTES
 
--- ---- what a log of events keeps to
+-- ---- the rules of a log of events
 
 pub text_of_both : (before after : List Event) → text_of (before ++ after) ≡ text_of before ++ text_of after
 text_of_both before after = flat_map-append line_of before after
@@ -26,7 +26,7 @@ pub no_text : (events : List Event) → text_of events ≡ [] → events ≡ []
 no_text [] none = refl
 no_text (e ∷ es) none = absurd (true≢false (ap is_some_text none))
 
--- without lines there is room for those of a phase
+-- an empty text has room for the lines of a phase
 pub whole_room : (text : List ℕ) → text ≡ [] → MOST_EVENTS ≤ lines_left text
 whole_room text none = subst (λ t. MOST_EVENTS ≤ lines_left t) (sym none) (le_refl MOST_EVENTS)
 

@@ -1,4 +1,4 @@
--- The place from 0 of what has a number from 1.
+-- The place, from 0, of what is numbered from 1.
 use Rattle.std.specs.Prelude.{ℕ, zero, suc, Option, Some, None}
 
 abbrev pub place_of_number : ℕ → Option ℕ

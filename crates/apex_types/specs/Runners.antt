@@ -1,4 +1,4 @@
--- Who runs in a partition, and where each stands in its lists.
+-- The runners of a partition, and the index of each in its lists.
 use Rattle.std.specs.Prelude.{ℕ, suc}
 use Rattle.apex_types.specs.declared.identity.Runner.{Runner}
 use Rattle.apex_types.specs.declared.identity.Runner.TheVariants as runner

@@ -72,7 +72,7 @@ call_of service.CreateErrorHandler words = call.CreateErrorHandler
 call_of service.GetErrorStatus words = call.GetErrorStatus (array_argument words 0)
 call_of service.RaiseApplicationError words = call.RaiseApplicationError (argument words 0) (array_argument words 1) (argument words 3)
 
--- the array argument of a call, where it has one
+-- the array argument of a call, if it has one
 abbrev pub array_of : Call → Option ArrayPlace
 array_of (call.SendBuffer _ a _ _) = Some a
 array_of (call.ReceiveBuffer _ a _) = Some a

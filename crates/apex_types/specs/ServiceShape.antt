@@ -1,6 +1,6 @@
--- The shape of each service, a row a service: its number in this profile, its name in the standard,
--- what its arguments have to be, how many outputs it has beside its code, and whether it creates.
--- What a service takes, answers and costs follows from its row.
+-- The shape of each service, one row per service: its number in this profile, its name in the
+-- standard, the kinds of its arguments, the number of its outputs besides its code, and whether it
+-- creates. What a service takes, answers and costs follows from its row.
 use Rattle.std.specs.Prelude.{ℕ, ◌+◌, Bool, true, false, List, [], ◌∷◌, codes, if◌then◌else◌, ◌-◌, nat_eq, Option, None, slice_get}
 use Rattle.std.specs.List.{sum_by, list_any}
 use Rattle.apex_types.specs.declared.cost.Costs.{Costs}
@@ -90,11 +90,11 @@ number_of s = (shape s).number
 abbrev pub service_word : Service → List ℕ
 service_word s = (shape s).word
 
--- what the arguments of a service have to be, in their order
+-- the kinds of the arguments of a service, in order
 abbrev pub arguments_of : Service → List ArgumentKind
 arguments_of s = (shape s).arguments
 
--- the words that an argument takes: an array is two, its place and its size
+-- the number of words that an argument takes: an array takes two, its place and its size
 abbrev pub words_of_kind : ArgumentKind → ℕ
 words_of_kind argument.Array = 2
 words_of_kind _ = 1
@@ -102,7 +102,7 @@ words_of_kind _ = 1
 abbrev pub argument_words : Service → ℕ
 argument_words s = sum_by words_of_kind (arguments_of s)
 
--- the words of an answer: the code and the outputs; STOP_SELF has none
+-- the number of words of an answer: the code and the outputs; STOP_SELF has no answer
 abbrev pub answer_words : Service → ℕ
 answer_words service.StopSelf = 0
 answer_words s = 1 + (shape s).outputs
@@ -114,7 +114,7 @@ is_array _ = false
 abbrev pub class_of : Service → ServiceClass
 class_of s = if (shape s).creates then Creation else if list_any is_array (arguments_of s) then WithArray else Other
 
--- what a service of each class costs in ticks
+-- the cost in ticks of a service of each class
 abbrev pub cost_of_class : Costs → ServiceClass → ℕ
 cost_of_class costs Creation = costs.create.ticks
 cost_of_class costs WithArray = costs.message.ticks

@@ -212,7 +212,7 @@ pub fn call_of(service: Service, words: &[i64]) -> Call
     }
 }
 
-/// The array argument of a call, where it has one.
+/// The array argument of a call, if it has one.
 pub fn array_of(call: Call) -> Option<ArrayPlace>
     ensures { result ≡ array_of call }
 {
@@ -232,7 +232,8 @@ pub fn array_of(call: Call) -> Option<ArrayPlace>
     }
 }
 
-/// Each service has its own number, from 1 on, and there is none of a number above how many they are.
+/// Services are numbered from 1 on, each with its own number; no number above the count of services
+/// names one.
 pub fn services_are_numbered()
     ensures each { (service : Service) → service_of (number_of service) ≡ Some service }
     ensures others { (number : ℕ) → length services < number → service_of number ≡ None }

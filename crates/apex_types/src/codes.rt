@@ -2,7 +2,8 @@
 
 ghost use Rattle.std.specs.Prelude.{◌≡◌, ◌≤◌, length};
 
-/// What a service answers (`RETURN_CODE_TYPE`). As a number it is what a program's target receives.
+/// The return code of a service (`RETURN_CODE_TYPE`). Its number is what a program's target
+/// receives.
 #[derive(Clone, Copy, Debug, PartialEq, Eq)]
 pub enum ReturnCode {
     NoError = 0,
@@ -109,7 +110,7 @@ impl ErrorKind {
     }
 }
 
-/// Why a partition started last (`START_CONDITION_TYPE`).
+/// The reason for a partition's last start (`START_CONDITION_TYPE`).
 #[derive(Clone, Copy, Debug, PartialEq, Eq)]
 pub enum StartCondition {
     NormalStart = 0,
@@ -142,7 +143,7 @@ impl ErrorLevel {
     }
 }
 
-/// What a partition's health table asks for an error.
+/// The action that a partition's health table sets for an error.
 #[derive(Clone, Copy, Debug, PartialEq, Eq)]
 pub enum PartitionAction {
     Ignore = 0,
@@ -168,7 +169,7 @@ impl PartitionAction {
     }
 }
 
-/// What the module table asks for a module fault.
+/// The action that the module table sets for a module fault.
 #[derive(Clone, Copy, Debug, PartialEq, Eq)]
 pub enum ModuleAction {
     Ignore = 0,
@@ -192,8 +193,8 @@ impl ModuleAction {
     }
 }
 
-/// How an error is handled: its level, and the action of that level. At process level the
-/// action is always the partition's error handler.
+/// The response to an error: its level, and the action of that level. At process level the action
+/// is always the partition's error handler.
 #[derive(Clone, Copy, Debug, PartialEq, Eq)]
 pub enum Response {
     Handler,
@@ -228,7 +229,8 @@ impl Response {
     }
 }
 
-/// The order in which those who wait for an object are released (`QUEUING_DISCIPLINE_TYPE`).
+/// The order in which the processes that wait for an object are released
+/// (`QUEUING_DISCIPLINE_TYPE`).
 #[derive(Clone, Copy, Debug, PartialEq, Eq)]
 pub enum Discipline {
     Fifo = 0,

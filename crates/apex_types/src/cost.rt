@@ -1,5 +1,5 @@
-//! What each construct of a program, and each service, costs in ticks. The instruction that a construct
-//! becomes costs the same.
+//! The cost in ticks of each construct of a program, and of each service. The instruction that a
+//! construct becomes costs the same.
 
 ghost use Rattle.std.specs.Prelude.{◌≡◌, true};
 ghost use Rattle.apex_types.specs.CostBounds.{is_cost};
@@ -47,13 +47,14 @@ impl TickCost {
     }
 }
 
-/// What the constructs of a program and the instructions of the processor cost.
+/// The costs of the constructs of a program and of the instructions of the processor.
 ///
-/// `work n` costs n ticks, and what names no number of ticks or no service that there is costs
-/// [`UNKNOWN_COST`], whatever stands here.
+/// `work n` costs n ticks. A construct that names no valid number of ticks, or no existing service,
+/// costs [`UNKNOWN_COST`], whatever the fields say.
 #[derive(Clone, Copy, Debug, PartialEq, Eq)]
 pub struct Costs {
-    /// A literal, and the name of an object or a process; of an array that is handed on, its place and its size.
+    /// A literal, and the name of an object or a process; for an array that is passed on, its place
+    /// and its size.
     pub literal: TickCost,
     /// The read or the write of a scalar, and of each target of a service.
     pub scalar: TickCost,
@@ -77,7 +78,7 @@ pub struct Costs {
     pub ret: TickCost,
     /// A service that creates a process, an object or a port, or the error handler.
     pub create: TickCost,
-    /// A service that creates nothing and one argument of which is an array.
+    /// A service that creates nothing and has an array argument.
     pub message: TickCost,
     /// Every other service.
     pub service: TickCost,
@@ -85,10 +86,10 @@ pub struct Costs {
     pub end: TickCost,
 }
 
-/// How many keys the costs of a module table have.
+/// The number of keys that the costs of a module table have.
 pub const COST_KEYS: usize = 15;
 
-/// An instruction that names no number of ticks or no service that there is.
+/// The cost of an instruction that names no valid number of ticks, or no existing service.
 pub const UNKNOWN_COST: u32 = 1;
 
 impl Costs {

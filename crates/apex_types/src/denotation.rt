@@ -1,4 +1,4 @@
-//! What the names of a program stand for.
+//! The meanings of the names of a program.
 
 use crate::place::Place;
 
@@ -13,7 +13,7 @@ pub enum ObjectKind {
     Process,
 }
 
-/// What a name of a program stands for.
+/// The meaning of a name of a program.
 #[derive(Clone, Copy)]
 pub enum Denotation {
     /// A variable, a parameter or a local.
@@ -22,6 +22,6 @@ pub enum Denotation {
     Array(u32, i64),
     /// An object, a port or a process, by its number.
     Object(ObjectKind, u32),
-    /// A procedure by its number, from 0, and how many parameters it has.
+    /// A procedure by its number, from 0, and the number of its parameters.
     Procedure(u32, usize),
 }

@@ -1,14 +1,14 @@
-//! What the devices of a module do to it.
+//! The inputs of a module from its devices.
 
 ghost use Rattle.std.specs.Prelude.{◌≡◌};
 
 use crate::event::Words;
 use crate::identity::{ChannelIndex, PartitionId, Ticks};
 
-/// What a device does to the module.
+/// An input of the module from a device.
 #[derive(Debug, PartialEq, Eq, Drop)]
 pub enum DeviceInput {
-    /// A message comes by a channel whose source is the device.
+    /// A message arrives by a channel whose source is the device.
     Message(ChannelIndex, Words),
     /// A fault of the module's hardware.
     ModuleFault,
@@ -16,7 +16,7 @@ pub enum DeviceInput {
     PartitionFault(PartitionId),
 }
 
-/// A line of a device text: what a device does, and in which tick.
+/// A line of a device text: an input of a device, and its tick.
 #[derive(Debug, PartialEq, Eq, Drop)]
 pub struct DeviceLine {
     pub tick: Ticks,
@@ -32,7 +32,7 @@ impl DeviceLine {
     }
 }
 
-/// Why a line of a device text is refused. Of several reasons the first one here counts.
+/// Why a line of a device text is refused. Of several reasons, the first in this list counts.
 #[derive(Clone, Copy, Debug, PartialEq, Eq)]
 pub enum DeviceFault {
     /// It has none of the forms of a line.
@@ -41,6 +41,6 @@ pub enum DeviceFault {
     Order = 2,
     /// Its channel or partition is unknown, or the source of its channel is no device.
     Name = 3,
-    /// Its message has more words than its channel takes, or 65,536 lines stand before it.
+    /// Its message has more words than its channel takes, or 65,536 lines precede it.
     Size = 4,
 }

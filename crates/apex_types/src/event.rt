@@ -1,4 +1,4 @@
-//! What a trace is made of.
+//! The parts of a trace.
 
 ghost use Rattle.std.specs.Prelude.{◌≡◌};
 
@@ -15,7 +15,7 @@ pub type Words = ArrayVec<i64, MOST_WORDS>;
 /// The events of one phase, in order.
 pub type Events = ArrayVec<Event, MOST_EVENTS>;
 
-/// Who an event of a process is about.
+/// The subject of an event of a process.
 #[derive(Clone, Copy, PartialEq, Eq, Debug)]
 pub enum Subject {
     /// The initialisation of the partition.
@@ -34,7 +34,7 @@ pub enum EventKind {
     Return(Subject, Service, ReturnCode),
     /// The partition entered a mode.
     Mode(Mode),
-    /// An error, whose it is (none for a device fault), and how it is handled.
+    /// An error, its subject (none for a device fault), and the response.
     Error(ErrorKind, Option<Subject>, Response),
     /// An application message.
     Report(Subject, Words),
@@ -48,7 +48,7 @@ pub enum EventKind {
     Out(Name, Words),
 }
 
-/// The same message once more.
+/// A copy of the message.
 pub fn copied(message: &Words) -> Words
     ensures { result ≡ message.now }
 {
@@ -58,7 +58,7 @@ pub fn copied(message: &Words) -> Words
 }
 
 impl EventKind {
-    /// The same once more.
+    /// A copy of the event.
     pub fn copied(&self) -> EventKind
         ensures { result ≡ self.now }
     {
@@ -76,7 +76,7 @@ impl EventKind {
     }
 }
 
-/// One line of a trace: its tick, its partition (none for the module itself), and what happened.
+/// One line of a trace: its tick, its partition (none for the module itself), and the event.
 #[derive(Drop)]
 pub struct Event {
     pub tick: Ticks,

@@ -60,7 +60,7 @@ pub struct ChannelIndex(pub u8);
 #[derive(Clone, Copy, Debug, Default, PartialEq, Eq)]
 pub struct ProcessIndex(pub u8);
 
-/// Who runs in a partition: its initialisation, its error handler, or a process.
+/// A runner of a partition: its initialisation, its error handler, or a process.
 #[derive(Clone, Copy, Debug, PartialEq, Eq)]
 pub enum Runner {
     Init,
@@ -71,8 +71,8 @@ pub enum Runner {
 impl Runner {
     ghost use Rattle.apex_types.specs.Runners.{place_of};
 
-    /// The place of this one in the lists of a partition, which have INIT first, then the handler,
-    /// then the processes.
+    /// The index of this runner in the lists of a partition: INIT 0, the handler 1, then the
+    /// processes.
     pub fn place(self) -> usize
         ensures { result ≡ place_of self }
     {

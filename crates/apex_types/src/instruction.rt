@@ -25,7 +25,7 @@ pub enum BinaryOperator {
 impl BinaryOperator {
     ghost use Rattle.apex_types.specs.Costs.{cost_of_binary};
 
-    /// What this operator costs in ticks.
+    /// The cost of this operator in ticks.
     pub fn cost(self, costs: &Costs) -> u32
         ensures { result ≡ cost_of_binary costs.now self }
     {

@@ -1,12 +1,12 @@
 //! The limits of a module, of its programs and of a run, and what follows from them.
 //!
-//! Each limit stands here alone. Code, definitions and proofs name it from here.
+//! Each limit is defined only here. Code, definitions and proofs use it from here.
 
 /// The most ticks of a run. No tick, duration, period, time capacity, delay, time-out or refresh period
 /// is greater.
 pub const MOST_TICKS: u64 = 1 << 40;
 
-/// The latest tick of a release point, which comes at most a major frame after a tick of the run.
+/// The latest tick of a release point, which is at most a major frame after a tick of the run.
 pub const LATEST_RELEASE_POINT: u64 = 2 * MOST_TICKS;
 
 /// The most ticks of a major frame.
@@ -30,10 +30,10 @@ pub const MOST_DESTINATIONS: u8 = 16;
 /// The most ports of a partition.
 pub const MOST_PORTS: u8 = 16;
 
-/// The most processes of a partition, beside INIT and the error handler.
+/// The most processes of a partition, besides INIT and the error handler.
 pub const MOST_PROCESSES: u8 = 31;
 
-/// The most that run in a partition: INIT, the error handler and the processes.
+/// The most runners of a partition: INIT, the error handler and the processes.
 pub const MOST_RUNNERS: u8 = MOST_PROCESSES + 2;
 
 /// The most objects of a kind in a partition.
@@ -99,18 +99,19 @@ pub const MOST_DEVICE_LINES: u32 = 65_536;
 /// The most words of an application message, and of the message of an error.
 pub const MOST_REPORT_WORDS: u8 = 16;
 
-/// The most events of a phase of a tick, and the most lines of a step: each process may be released, miss
-/// its deadline and change its state once, and the choice and the end of a service tell a few more.
+/// The most events of a phase of a tick, and the most lines of a step: each process may be
+/// released, miss its deadline and change its state once, and the choice and the end of a service
+/// add a few more.
 pub const MOST_EVENTS: usize = 256;
 
-/// The most that a phase of a tick asks of the processor, the data and the error queue: the words of a
-/// message and an answer for each process, the answer to a call, and the three of a Clear.
+/// The most actions of a phase of a tick, on the processor, the data and the error queue: the words
+/// of a message and an answer for each process, the answer to a call, and the three of a Clear.
 pub const MOST_ACTIONS: usize = 2 * MOST_PROCESSES as usize + 4;
 
 /// The most bytes of a word in a line: its digits, its sign and the space before it.
 pub const MOST_WORD_BYTES: usize = 21;
 
-/// The most bytes that a line has beside the words of a message: a tick, two names, and what happened.
+/// The most bytes that a line has besides the words of a message: a tick, two names, and the event.
 pub const MOST_HEAD_BYTES: usize = 176;
 
 /// The most bytes of a line of a trace.

@@ -1,4 +1,4 @@
-//! Where the events of a step are told.
+//! Where the events of a step are recorded.
 
 ghost use Rattle.std.specs.Prelude.{◌≡◌, ◌≤◌, ◌<◌, ◌+◌, ◌-◌, ◌++◌, ◌↔◌, ℕ, List, [], ◌∷◌, length, IsTrue};
 
@@ -6,26 +6,26 @@ use crate::event::{Event, EventKind, Events};
 use crate::identity::Ticks;
 use crate::name::Name;
 
-/// A place for the events of a step, which are told one after another.
+/// A recorder of the events of a step, one after another.
 ///
-/// It holds a list of pieces: a list of events holds the events themselves, and a buffer of a trace the
-/// bytes of their lines. No call takes memory.
+/// It holds a list of pieces: a list of events holds the events themselves, and a buffer of a trace
+/// the bytes of their lines. No call allocates memory.
 pub trait EventLog {
     ghost use Rattle.apex_types.specs.declared.event.Event.{Event};
     ghost use Rattle.apex_types.specs.declared.limits.TheConstants.{MOST_EVENTS};
 
     ghost Piece: { Type 0 };
 
-    /// What it holds.
+    /// The pieces that it holds.
     ghost held: { Self → List Piece };
 
-    /// What it holds of events that were told.
+    /// The pieces that it holds for a list of events.
     ghost pieces: { List Event → List Piece };
 
-    /// For how many more events there is room, whatever they are.
+    /// The number of further events that it has room for, whatever they are.
     ghost room: { Self → ℕ };
 
-    /// Tells an event of a partition, or of the module itself.
+    /// Records an event of a partition, or of the module itself.
     fn tell(&mut self, tick: Ticks, partition: &Option<Name>, kind: &EventKind)
         requires { 0 < room self.old }
         ensures held { held self.new

@@ -1,4 +1,4 @@
-//! What a step of the kernel gives beside its new state.
+//! The output of a step of the kernel, besides its new state.
 
 use crate::event::EventKind;
 use crate::limits::{MOST_ACTIONS, MOST_EVENTS};
@@ -8,10 +8,10 @@ use arrayvec::ArrayVec;
 /// What happens in one phase, in order.
 pub type Happenings = ArrayVec<EventKind, MOST_EVENTS>;
 
-/// What is asked of the processor, the data and the error queue, in order.
+/// The actions on the processor, the data and the error queue, in order.
 pub type Actions = ArrayVec<Action, MOST_ACTIONS>;
 
-/// What happens in a step, and what it asks for.
+/// The lines of a step, and its actions.
 #[derive(Drop)]
 pub struct Out {
     pub lines: Happenings,
@@ -21,7 +21,7 @@ pub struct Out {
 impl Out {
     ghost use Rattle.apex_types.specs.Room.{IsEmpty};
 
-    /// Nothing happened, and nothing is asked for.
+    /// Without lines or actions.
     pub fn new() -> Out
         ensures { IsEmpty result }
     {
@@ -31,7 +31,7 @@ impl Out {
         }
     }
 
-    /// Drops all that happened and all that is asked for.
+    /// Drops all lines and all actions.
     pub fn clear(&mut self)
         ensures { IsEmpty self.new }
     {

@@ -1,4 +1,4 @@
-//! Where a scalar variable lies.
+//! The place of a scalar variable.
 
 /// A word of the partition's data, or a slot of the running body (parameters first, then locals).
 #[derive(Clone, Copy, Debug, PartialEq, Eq)]

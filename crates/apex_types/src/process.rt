@@ -1,4 +1,4 @@
-//! What the kernel keeps of a process, and what it asks of the processor that runs one.
+//! The kernel's record of a process, and its actions on the processor that runs one.
 
 use crate::codes::{Discipline, ErrorKind, ProcessState};
 use crate::event::{Subject, Words};
@@ -14,7 +14,7 @@ pub enum Wait {
     NormalStart(Ticks),
     /// It is started, and its due time is its first release.
     FirstRelease,
-    /// A service on time or a suspension of its own, which answers at its due time or before it.
+    /// A service on time or a suspension of its own, which answers at its due time or earlier.
     Service(Service),
     /// A service on an object or a port: it is in the waiting list of that object, and a receiver has
     /// this array.
@@ -42,7 +42,7 @@ pub enum Due {
     Release(Ticks),
     /// The end of a delay.
     Delay(Ticks),
-    /// The end of a wait that was in vain.
+    /// The end of a wait in vain.
     TimeOut(Ticks),
 }
 
@@ -51,9 +51,9 @@ pub enum Due {
 pub struct ProcessStatus {
     pub who: Subject,
     pub base_priority: Priority,
-    /// Ticks from one release to the next; an aperiodic process has none.
+    /// Ticks from one release to the next; `None` for an aperiodic process.
     pub period: Option<Ticks>,
-    /// Ticks from a release to its deadline; none is without limit.
+    /// Ticks from a release to its deadline; `None` for no limit.
     pub capacity: Option<Ticks>,
     pub created: bool,
     pub state: ProcessState,
@@ -66,7 +66,7 @@ pub struct ProcessStatus {
     pub deadline: Option<Ticks>,
 }
 
-/// A process in a list of those that are ready or that wait, with its priority when it came there.
+/// A process in a list of ready or waiting processes, with its priority when it joined the list.
 #[derive(Clone, Copy, Debug, Default, PartialEq, Eq)]
 pub struct Entry {
     pub process: ProcessIndex,
@@ -82,8 +82,8 @@ pub enum Lock {
     Held { level: u8, holder: ProcessIndex },
 }
 
-/// An error that waits for the error handler: what it is, the process that it is of, and the message
-/// of one that the process raised.
+/// An error that waits for the error handler: its kind, its process, and the message of an error
+/// that the process raised.
 #[derive(Drop)]
 pub struct WaitingError {
     pub kind: ErrorKind,
@@ -91,7 +91,7 @@ pub struct WaitingError {
     pub words: Words,
 }
 
-/// What a step of the kernel asks of the processor, of the partition's data and of its error
+/// An action of a step of the kernel, on the processor, on the partition's data or on its error
 /// queue.
 #[derive(Default, Drop)]
 pub enum Action {

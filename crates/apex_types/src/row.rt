@@ -4,7 +4,7 @@ use crate::codes::{Discipline, PartitionAction};
 use crate::identity::{PartitionId, PortId, Priority};
 use crate::name::Name;
 
-/// What a partition's health table asks for each error of partition level.
+/// The actions that a partition's health table sets for the errors at partition level.
 #[derive(Clone, Copy, Debug, PartialEq, Eq)]
 pub struct HealthTable {
     pub deadline_missed: PartitionAction,
@@ -22,12 +22,12 @@ pub enum PortDirection {
     Destination = 1,
 }
 
-/// The kind of a port, with what only that kind has.
+/// The kind of a port, with the fields that only this kind has.
 #[derive(Clone, Copy, Debug, PartialEq, Eq)]
 pub enum PortKind {
-    /// A read message is valid for this many ticks from its arrival.
+    /// A message that is read is valid for this many ticks after its arrival.
     Sampling { refresh: u64 },
-    /// Room for this many messages, and the order of those who wait.
+    /// Room for this many messages, and the order of the waiting processes.
     Queuing { depth: u8, discipline: Discipline },
 }
 
@@ -40,8 +40,8 @@ pub struct PortRow {
     pub words: u8,
 }
 
-/// A window of the major frame: the partition runs from `offset` on for `length` ticks. The start of
-/// a window marked release is where a periodic process that was started is released first; its later
+/// A window of the major frame: the partition runs from `offset` on for `length` ticks. A periodic
+/// process that was started is first released at the start of a window marked release; its later
 /// releases follow a period apart.
 #[derive(Clone, Copy, Debug, PartialEq, Eq)]
 pub struct WindowRow {
@@ -107,13 +107,13 @@ pub struct ProcessRow {
     pub body: BodyRow,
 }
 
-/// What a partition's source becomes: its initial data, its objects, its bodies and its code.
-/// An instruction is 16 bytes, little endian.
+/// The result of compiling a partition's source: its initial data, its objects, its bodies and its
+/// code. An instruction is 16 bytes, little endian.
 #[derive(Drop)]
 pub struct Section {
     pub initial: Vec<i64>,
     pub semaphores: Vec<SemaphoreRow>,
-    /// How many events there are.
+    /// The number of events.
     pub events: u8,
     pub buffers: Vec<BufferRow>,
     pub blackboards: Vec<BlackboardRow>,

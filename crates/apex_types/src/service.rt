@@ -125,7 +125,7 @@ pub static SERVICES: [Service; 57] = [
     Service::RaiseApplicationError,
 ];
 
-/// The service at an index, where there is one.
+/// The service at an index; `None` past the end.
 fn service_at(services: &[Service], index: usize) -> Option<Service>
     ensures { result ≡ slice_get services.now index }
 {
@@ -142,7 +142,7 @@ impl Service {
         self as u32
     }
 
-    /// The service of a number, where there is one.
+    /// The service with this number; `None` if no service has it.
     #[tactic(auto, using(crate::proofs::Numbers::service_of_above, crate::proofs::Numbers::service_of_positive, crate::proofs::Numbers::number_of_service))]
     pub fn from_number(number: u32) -> Option<Service>
         ensures service { result ≡ service_of number }

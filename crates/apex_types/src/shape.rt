@@ -1,4 +1,4 @@
-//! The shape of each service: what it is called, takes and answers, and what it costs.
+//! The shape of each service: its name, its arguments, its outputs, and its cost.
 
 ghost use Rattle.std.specs.Prelude.{◌≡◌, ◌≤◌, length, true, false};
 
@@ -11,7 +11,7 @@ use crate::service::Service;
 pub enum ServiceClass {
     /// It creates an object, a port, a process or the handler.
     Creation,
-    /// An argument of it is an array.
+    /// It has an array argument.
     WithArray,
     Other,
 }
@@ -19,7 +19,7 @@ pub enum ServiceClass {
 impl ServiceClass {
     ghost use Rattle.apex_types.specs.ServiceShape.{cost_of_class};
 
-    /// What a service of this class costs in ticks.
+    /// The cost of a service of this class in ticks.
     pub fn cost(self, costs: &Costs) -> u32
         ensures { result ≡ cost_of_class costs.now self }
     {
@@ -31,7 +31,7 @@ impl ServiceClass {
     }
 }
 
-/// What an argument of a service has to be.
+/// The kind that an argument of a service must have.
 #[derive(Clone, Copy, Debug, PartialEq, Eq)]
 pub enum ArgumentKind {
     /// An expression.
@@ -45,7 +45,7 @@ pub enum ArgumentKind {
 impl ArgumentKind {
     ghost use Rattle.apex_types.specs.ServiceShape.{words_of_kind};
 
-    /// How many words such an argument takes: an array is two, its place and its size.
+    /// The number of words that such an argument takes: an array takes two, its place and its size.
     pub fn words(self) -> u32
         ensures words { result ≡ words_of_kind self }
         ensures few { result ≤ 2 }
@@ -57,14 +57,14 @@ impl ArgumentKind {
     }
 }
 
-/// What a service is called, takes and answers.
+/// The name of a service, its arguments, and its outputs.
 #[derive(Clone, Copy)]
 pub struct Shape {
     /// Its name in the standard, as traces and source texts have it.
     pub word: &'static str,
-    /// What its arguments have to be, in their order.
+    /// The kinds of its arguments, in order.
     pub arguments: &'static [ArgumentKind],
-    /// How many outputs it has beside its code.
+    /// The number of its outputs besides the code.
     pub outputs: u8,
     /// Whether it creates an object, a port, a process or the handler.
     pub creates: bool,
@@ -200,7 +200,7 @@ impl Service {
         self.shape().word
     }
 
-    /// What the arguments of this service have to be, in their order.
+    /// The kinds of the arguments of this service, in order.
     pub fn arguments(self) -> &'static [ArgumentKind]
         ensures kinds { result.now ≡ arguments_of self }
         ensures few { length result.now ≤ 4 }
@@ -208,14 +208,16 @@ impl Service {
         self.shape().arguments
     }
 
-    /// The words of this service's arguments: an array argument is two, its place and its size.
+    /// The number of words of this service's arguments: an array argument takes two, its place and
+    /// its size.
     pub fn argument_words(self) -> u32
         ensures { result ≡ argument_words self }
     {
         self.arguments().iter().map(|kind| kind.words()).sum()
     }
 
-    /// The words of this service's answer: the code and the outputs; STOP_SELF has none.
+    /// The number of words of this service's answer: the code and the outputs; STOP_SELF has no
+    /// answer.
     pub fn answer_words(self) -> u8
         ensures { result ≡ answer_words self }
     {
@@ -225,7 +227,8 @@ impl Service {
         }
     }
 
-    /// The class of this service: those that create, those with an array argument, and all others.
+    /// The class of this service: services that create, services with an array argument, and all
+    /// others.
     pub fn class(self) -> ServiceClass
         ensures { result ≡ class_of self }
     {
@@ -239,7 +242,7 @@ impl Service {
         }
     }
 
-    /// What this service costs in ticks.
+    /// The cost of this service in ticks.
     pub fn cost(self, costs: &Costs) -> u32
         ensures { result ≡ cost_of_service costs.now self }
     {

@@ -1,4 +1,4 @@
-//! Where a trace goes.
+//! The destination of a trace.
 
 ghost use Rattle.std.specs.Prelude.{◌≡◌, ℕ, ◌+◌, ◌-◌, ◌^◌, ◌<◌, List, Option, OnErr, OnOk};
 ghost use Rattle.std.specs.Io.{WritesAtMost};
@@ -12,14 +12,14 @@ use std::io::Write;
 #[derive(Clone, Copy, Debug, PartialEq, Eq)]
 pub struct SinkFault;
 
-/// A place for bytes. It takes the first so many of the bytes offered, or fails and takes none;
-/// taking none of some bytes counts as a failure too.
+/// A destination for bytes. It takes a prefix of the bytes offered, or fails and takes none; taking
+/// none of a nonempty offer counts as a failure too.
 pub trait Sink {
-    /// The bytes taken so far, where the sink tells them.
+    /// The bytes taken so far, if the sink makes them known.
     ghost taken: { Self → Option (List ℕ) };
-    /// The failures so far.
+    /// The number of failures so far.
     ghost failures: { Self → ℕ };
-    /// Answers how many of the bytes were taken.
+    /// Returns how many of the bytes were taken.
     fn put(&mut self, bytes: &[u8]) -> Result<usize, SinkFault>
         requires { failures self.old < 2 ^ 64 - 1 }
         ensures bound { WritesAtMost result bytes.now }
@@ -46,7 +46,7 @@ impl<W: Write> WriterSink<W> {
         }
     }
 
-    /// The failures so far.
+    /// The number of failures so far.
     pub fn failures(&self) -> u64
         ensures { result ≡ self.now.failures }
     {
@@ -75,8 +75,8 @@ impl<W: Write> Sink for WriterSink<W> {
     }
 }
 
-/// Puts all of the bytes, in as many calls as the sink needs. An error is answered only where
-/// the sink failed; then a beginning of the bytes is out.
+/// Writes all of the bytes, in as many calls as the sink needs. Fails only if the sink fails; then
+/// a prefix of the bytes is out.
 pub fn put_all<S: Sink>(sink: &mut S, bytes: &[u8]) -> Result<(), SinkFault>
     requires { S.failures sink.old < 2 ^ 64 - 1 }
     ensures ok { OnOk result (Appends (S.taken sink.old) (S.taken sink.new) bytes.now) }

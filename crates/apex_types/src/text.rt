@@ -60,8 +60,8 @@ impl Stamp {
         &self.digits
     }
 
-    /// The stamp of another tick. Most ticks are of the same thousand as the one before, and share its
-    /// first ten digits.
+    /// Changes the stamp to another tick. Most ticks are of the same thousand as the one before,
+    /// and share its first ten digits.
     fn renew(&mut self, tick: Ticks)
         ensures { self.new ≡ tick }
     {
@@ -77,8 +77,7 @@ impl Stamp {
     }
 }
 
-/// Writes the line of an event. An error is answered only where the sink failed; then a
-/// beginning of the line is out.
+/// Writes the line of an event. Fails only if the sink fails; then a prefix of the line is out.
 pub fn write_event<S: Sink>(event: &Event, sink: &mut S) -> Result<(), SinkFault>
     requires { S.failures sink.old < 2 ^ 64 - 1 }
     ensures ok { OnOk result (Appends (S.taken sink.old) (S.taken sink.new) (line_of event.now)) }
@@ -93,8 +92,8 @@ pub fn write_event<S: Sink>(event: &Event, sink: &mut S) -> Result<(), SinkFault
     put_all(sink, line.as_slice())
 }
 
-/// The lines of a step until they are written. An event becomes its line at once; the digits of the last
-/// tick are kept for the lines that come.
+/// The lines of a step until they are written. An event becomes its line at once; the digits of the
+/// last tick are kept for the next lines.
 #[derive(Drop)]
 pub struct TraceBuffer {
     pub text: Lines,
@@ -119,8 +118,8 @@ impl TraceBuffer {
         self.text.clear();
     }
 
-    /// Writes the lines; then none are left. An error is answered only where the sink failed; then a
-    /// beginning of their text is out.
+    /// Writes the lines; then none are left. Fails only if the sink fails; then a prefix of their
+    /// text is out.
     pub fn write_events<S: Sink>(&mut self, sink: &mut S) -> Result<(), SinkFault>
         requires { S.failures sink.old < 2 ^ 64 - 1 }
         ensures ok { OnOk result
@@ -168,7 +167,7 @@ impl EventLog for TraceBuffer {
     }
 }
 
-/// Puts the line of an event behind those that are there.
+/// Appends the line of an event.
 fn push_line<const N: usize>(
     line: &mut ArrayVec<u8, N>,
     digits: &[u8; 13],
@@ -234,7 +233,7 @@ fn digits(number: u64) -> [u8; 13]
     ]
 }
 
-/// The digits of a number become those of another one of the same thousand.
+/// Changes the digits of a number to those of another number of the same thousand.
 #[tactic(auto, using(crate::proofs::Digits::same_thousand))]
 fn put_last_digits(digits: &mut [u8; 13], number: u64)
     ensures { (other : ℕ) → digits.old ≡ thirteen_digits other → other / 1000 ≡ number / 1000
@@ -300,7 +299,7 @@ fn push_words<const N: usize>(line: &mut ArrayVec<u8, N>, words: &[i64])
     }
 }
 
-/// The name of a port or channel, and the words of its message.
+/// Appends the name of a port or channel, and the words of its message.
 fn push_message<const N: usize>(line: &mut ArrayVec<u8, N>, name: &Name, words: &[i64])
     requires { array_vec_len line.old + MOST_NAME_BYTES + MOST_WORD_BYTES * length words.now ≤ N }
     ensures items { line.new.items ≡ line.old.items ++ name.now ++ words_text words.now }

@@ -104,7 +104,7 @@ nobody_tick plan devices origin t members h =
     ∙ ap (λ o. meaning.goes_on at (then_goes (moves_ended plan.channels at members o) (λ ms. ticks_owner at ms (owner plan.schedule at)))) h.ended
     ∙ ap (λ o. meaning.goes_on at (ticks_owner at members o)) h.owner
 
--- n of them are one jump
+-- n ticks without an owner are one jump
 pub empty_piece : {C : Type 0} (plan : Plan) (devices : List DeviceLine) (origin n m t : ℕ) (members : List (Member C)) → ((i : ℕ) → i < n → HasNobody plan devices origin (t + i))
     → trace_from plan devices (n + m) (Some (tick_from origin t)) members ≡ trace_from plan devices m (Some (tick_from origin (t + n))) members
 empty_piece plan devices origin zero m t members h =

@@ -1,4 +1,4 @@
--- Ticks in which nothing happens are none: n of them are one jump.
+-- Ticks in which nothing happens change nothing: n of them are one jump.
 use Rattle.std.proofs.Common.{◌≡◌, inl, inr, ℕ, zero, suc, ◌+◌, ◌<◌, ◌≤◌, List, [], ◌∷◌, ◌++◌, refl, ap, sym, ◌∙◌, arith, length, subst}
 use Rattle.std.specs.Prelude.{Option, Some, None, slice_get, slice_set, option_map}
 use Rattle.std.proofs.lemmas.Option.{none-some, same_Some}
@@ -22,7 +22,7 @@ use Rattle.bursts.specs.Quiet.{IsIdle, HasNothingDue, IsAtRest, IsStill, AreStil
 abbrev pub stays : {C : Type 0} → World C → Moved C
 stays w = record { world = w; lines = [] }
 
--- a tick in which nothing is due and the choice stays is the tick of the one that runs
+-- a tick in which nothing is due and the choice stays is the tick of the current runner
 pub running_tick : {C : Type 0} (e : Engine C) (at : At) (w : World C) → chooses_with_handler w.kernel ≡ nothing w.kernel → HasNothingDue at w.kernel → tick e at w ≡ spends_chosen e at w.kernel.processes.running w
 running_tick e at w chosen due =
     ap (λ s. followed_by (followed_by (followed_by (moved at e (of_processes w.kernel s) w) (clearing_phase e at (treats_due at w.kernel).clears)) (choice_phase e at)) (spending_phase e at)) due.treated

@@ -1,4 +1,4 @@
--- While nothing is due and the choice stays, ticks of a partition are ticks of the one that runs.
+-- While nothing is due and the choice stays, ticks of a partition are ticks of its current runner.
 use Rattle.std.proofs.Common.{◌≤◌, ◌≡◌, ℕ, zero, suc, ◌+◌, ◌-◌, ◌<◌, ℤ, Bool, true, false, cond, List, [], ◌∷◌, refl, ap, sym, ◌∙◌, arith, subst}
 use Rattle.std.specs.Prelude.{None, Option, Some, slice_set}
 use Rattle.apex_types.specs.Runners.{place_of}
@@ -88,8 +88,8 @@ law_ends e origin t m p w here =
     let shows : Moved _ → Burst (World _) ℕ (List Event) = λ x. cond (is_silent x.lines) (later 1 (advances_by e origin m x.world (t + 1))) (record { control = x.world; words = t + 1; told = x.lines; ticks = 1 }) in
     ap (λ k. advances_by e origin k w t) one_more ∙ ap shows here ∙ ap (λ u. shows (treated_at e origin p w u b)) now
 
--- While nothing is due and the choice stays, the ticks of a partition up to the end of a burst of the one that
--- runs are this burst, with what was asked last treated once.
+-- While nothing is due and the choice stays, the ticks of a partition up to the end of a burst of
+-- its current runner are this burst. What the runner asked last is treated once.
 pub running_burst : {C : Type 0} (e : Engine C) (origin : ℕ) (p : Runner) (n m t : ℕ) (w : World C)
     → w.kernel.processes.running ≡ Some p → chooses_with_handler w.kernel ≡ nothing w.kernel → ((i : ℕ) → i < n → HasNothingDue (tick_from origin (t + i)) w.kernel)
     → Law e origin p w t m (burst_of e n p w)
@@ -174,7 +174,7 @@ goes_idle e origin (suc n) t w runs chosen due m =
     ∙ ap (λ k. later k (rest (t + 1 + n))) count
     ∙ ap (λ u. later (suc n) (rest u)) there
 
--- how many ticks a burst has
+-- the number of ticks of a burst
 pub burst_ticks : {C : Type 0} (e : Engine C) (n : ℕ) (p : Runner) (w : World C) → (burst_of e n p w).ticks ≤ n
 burst_ticks e n p w = ticks_most (ticked e) n (control_at w.controls (place_of p)) w.words
 
@@ -182,7 +182,7 @@ pub burst_some_ticks : {C : Type 0} (e : Engine C) (n : ℕ) (p : Runner) (w : W
 burst_some_ticks e zero p w h = absurd (omega (arith, h))
 burst_some_ticks e (suc n) p w h = ticks_some (ticked e) n (control_at w.controls (place_of p)) w.words
 
--- A burst of the one that runs, with what it asked last treated, by what is known of it.
+-- A burst of the current runner with its last request treated, from what is known of the burst.
 pub goes_as : {C : Type 0} (e : Engine C) (origin : ℕ) (p : Runner) (n t : ℕ) (w v : World C) (lines : List Event) (asks : Asks) (ticks : ℕ)
     → w.kernel.processes.running ≡ Some p → chooses_with_handler w.kernel ≡ nothing w.kernel → ((i : ℕ) → i < n → HasNothingDue (tick_from origin (t + i)) w.kernel)
     → ticks ≡ (burst_of e n p w).ticks → asks ≡ (burst_of e n p w).told → 0 < ticks
@@ -229,7 +229,7 @@ so_far_more e origin k done n t w v u lines before goes few within =
     ∙ joined (is_silent lines)
     ∙ ap (λ r. cond (is_silent lines) (later (done + n) (advances_by e origin left u r)) (record { control = u; words = r; told = lines; ticks = done + n })) when
 
--- all are done, or something is told
+-- all ticks are done, or a line is written
 pub so_far_all : {C : Type 0} (e : Engine C) (origin k done t : ℕ) (w v : World C) (lines : List Event)
     → SoFar e origin k done w t v lines → (is_silent lines ≡ true → k ≡ done)
     → advances_by e origin k w t ≡ record { control = v; words = t + done; told = lines; ticks = done }

@@ -27,16 +27,16 @@ IsAtRest k port =
     (messages_to_move (at_number k.ports.ports port.0) ≡ None)
     ⊎ ((messages_to_move (at_number k.ports.ports port.0) ≡ Some 0) × (arrival.admits (with_ports k) (place_of_port port) ≡ nothing (with_ports k)))
 
--- A partition in which nothing happens in any tick from one on, before a limit.
+-- A partition in which nothing happens in any tick from `from` on, before `limit`.
 pub record IsStill (origin from limit : ℕ) (k : Kernel) : Type 0 where
   pub idle : IsIdle k
   pub due : (t : ℕ) → from ≤ t → t < limit → HasNothingDue (tick_from origin t) k
   pub ports : (port : PortId) → IsAtRest k port
 
--- the same of each partition
+-- each partition is still
 abbrev pub AreStill : {C : Type 0} → ℕ → ℕ → ℕ → List (Member C) → Type 0
 AreStill origin from limit members = (place : ℕ) (x : Member _) → slice_get members place ≡ Some x → IsStill origin from limit x.world.kernel
 
--- no line of the devices is of a tick from one on, before another
+-- no line of the devices has a tick from the first number on, before the second
 abbrev pub HaveNoLines : ℕ → ℕ → List DeviceLine → Type 0
 HaveNoLines from limit lines = (t : ℕ) → from ≤ t → t < limit → of_tick t lines ≡ []

@@ -1,7 +1,7 @@
 //! Laws on many ticks at once.
 //!
-//! A burst is a number of ticks, or those up to the first that tells something: of a process one
-//! that asks the kernel, of a partition one that writes a line.
+//! A burst is a number of ticks, or those up to the first that reports something: a request to the
+//! kernel by a process, a line by a partition.
 #![tactic(auto)]
 
 ghost use Rattle.std.specs.Prelude.{◌≡◌, ℕ, ◌+◌, ◌<◌, ◌≤◌, Some, List, if◌then◌else◌};
@@ -27,7 +27,8 @@ pub fn still_ticks_are_one_jump()
         ≡ trace_from plan devices m (Some (tick_from origin (t + n))) members }
 {}
 
-/// While nothing is due and the choice stays, ticks of a partition are a burst of the one that runs.
+/// While nothing is due and the choice stays, ticks of a partition are a burst of its current
+/// runner.
 pub fn ticks_are_a_burst_of_the_running_one()
     ensures { (e : Engine MachineControl) (origin : ℕ) (p : Runner) (n m t : ℕ)
         (w : World MachineControl) → w.kernel.processes.running ≡ Some p

@@ -1,4 +1,4 @@
--- From what a command came to, to its status.
+-- From the outcome of a command to its exit status.
 use Rattle.std.proofs.Common.{◌≡◌, ◌⊎◌, inl, inr, ℕ, ◌+◌, ◌-◌, ◌^◌, ◌<◌, Bool, true, false, List, [], Some, Result, Ok, Err, refl, sym, ap, subst, ◌∙◌, arith}
 use Rattle.std.specs.Prelude.{IfErr, OnOk}
 use Rattle.clap.specs.Faults.{is_simple_and_free}
@@ -31,7 +31,7 @@ mb_is_free = refl
 
 -- ---- the words
 
--- want of memory may come before anything is done
+-- memory may run out before anything is done
 pub memory_refused : (order : Order) (s : State) → IsRefused order s s refusal.Memory
 memory_refused First s = (refl, (refl, refl))
 memory_refused (Check table sources) s = ((refl, (refl, refl)), tt)
@@ -42,7 +42,7 @@ memory_refused (Inputs image partition devices ticks) s = (inr refl, (refl, (ref
 memory_refused (Cost table sources) s = ((refl, (refl, refl)), tt)
 memory_refused (Dis image) s = ((refl, (refl, refl)), tt)
 
--- words that it takes, whose order is not done
+-- words that the library takes, whose order is not done
 pub order_failed : (kinds : Kinds) (own order : Order) (before after : State) (answer : Result (Unit {0}) (Failure Refusal)) → kinds ≡ [] → own ≡ order
     → IfErr answer (λ f. IsFailure own before after f) → IfErr answer (λ f. IsFailureOfWords kinds order before after f)
 order_failed kinds own order before after answer none same h = go answer (subst (λ o. IfErr answer (λ f. IsFailure o before after f)) same h)
@@ -122,7 +122,7 @@ answered kinds order asked explained note before mid old_failed new_failed new_o
 answered kinds order asked explained note before mid old_failed new_failed new_out old_err new_err status (Err (Usage e)) quiet_if none done flushed failed unfailed named told =
     of_usage kinds order asked before mid old_failed new_failed new_out old_err new_err status e failed named told (help_or (kind_of e))
 
--- the help that is told was not yet written
+-- output can take the help: nothing was written to it before
 pub can_take_help : (kinds : Kinds) (order : Order) (before mid : State) (outcome : Result (Unit {0}) (Failure Refusal)) → IfErr outcome (λ f. IsFailureOfWords kinds order before mid f) → before.out.failures < 2 ^ 64 - 1 → CanTakeHelp outcome mid.out.failures
 can_take_help kinds order before mid (Ok x) failed low = tt
 can_take_help kinds order before mid (Err (Refused r)) failed low = tt

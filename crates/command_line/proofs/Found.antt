@@ -1,4 +1,4 @@
--- What was found in the words.
+-- The arguments found in the words.
 use Rattle.std.proofs.Common.{◌≡◌, ◌≢◌, ℕ, Bool, false, List, Option, None, Some, sym, ap, refl, ◌∙◌}
 use Rattle.std.specs.Prelude.{option_map, codes, if◌then◌else◌, true, Box}
 use Rattle.std.specs.Str.{bytes_eq}
@@ -22,7 +22,7 @@ mb_is_simple = refl
 abbrev pub entry : List ℕ → List Row → Option (List ℕ × List Row)
 entry name rows = Some (name, rows)
 
--- what was entered, by each of the two
+-- the command that was entered, by its name and its rows
 pub both_are : {A : Type 0} (name : A → List ℕ) (rows : A → List Row) (given : A) (entered : Option (List ℕ × List Row))
     → Some (name given) ≡ option_map (λ p. p.0) entered → Some (rows given) ≡ option_map (λ p. p.1) entered → entered ≡ entry (name given) (rows given)
 both_are name rows given None e f = absurd cc

@@ -1,4 +1,4 @@
--- What runs have written.
+-- The text that runs have written.
 use Rattle.std.proofs.Common.{◌≡◌, ◌≢◌, ℕ, ◌≤◌, ◌<◌, ◌+◌, ◌-◌, ◌^◌, List, [], ◌∷◌, Option, Result, Ok, Err, refl, sym, subst, arith, min}
 use Rattle.std.specs.Io.KnownBytes.{Keeps}
 use Rattle.std.proofs.KnownBytes.{Appends-kept}
@@ -33,7 +33,7 @@ kept_run read devices n old mid new (image, lines, r, out) kept = (image, lines,
 pub kept_first : (table : List ℕ) (sources : List (List ℕ)) (devices : List ℕ) (n : ℕ) (old mid new : Option (List ℕ)) → Means table sources devices n old mid (Ok tt) → Keeps mid new → Means table sources devices n old new (Ok tt)
 kept_first table sources devices n old mid new (t, programs, lines, r, out) kept = (t, programs, lines, r, Appends-kept old mid new (text_of (source_trace t programs lines n)) out kept)
 
--- ---- the number of a word, and what 64 bits hold of it
+-- ---- the number in a word, and its value in 64 bits
 
 pub few_same : (n v : ℕ) → n ≡ min v (2 ^ 64 - 1) → n ≤ MOST_TICKS → n ≡ v
 few_same n v is few = omega (arith, is, few)
@@ -57,7 +57,7 @@ pub told_as : {A E : Type 0} (P : E → Type 0) (f : E) (answer : Result A E) �
 told_as P f (Ok x) h p = tt
 told_as P f (Err e) h p = subst P (sym h.1) p
 
--- how often a run failed on its sink
+-- the number of failures of a run on its sink
 pub failed_by : (old new : Seen) (answer : Result (Unit {0}) RunFault) → (IsErrOf answer Write → new.failures ≡ old.failures + 1) → IfErr answer (λ f. f ≢ Write → new.failures ≡ old.failures) → IfErr answer (λ f. HasFailedBy f old new)
 failed_by old new (Ok x) write quiet = tt
 failed_by old new (Err Write) write quiet = write refl

@@ -1,4 +1,4 @@
--- What is read, and what is built of it.
+-- The files that are read, and the image that is built of them.
 use Rattle.std.proofs.Common.{◌≡◌, ℕ, List, [], ◌∷◌, ◌++◌, length, map, drop, Option, Result, Ok, Err, IfOk, IfErr, refl, sym, ap, subst, ◌∙◌, append-nil, Bor}
 use Rattle.module.specs.Building.{IsImageOf}
 use Rattle.module.specs.Costs.{AreCosts}
@@ -18,7 +18,7 @@ drop-all : {X : Type 0} (xs : List X) → drop (length xs) xs ≡ []
 drop-all [] = refl
 drop-all (x ∷ xs) = drop-all xs
 
--- all of them are read
+-- all files are read
 pub all_held : (files : Option Contents) (names : List (Bor (List ℕ))) (i : ℕ) (texts : List (List ℕ)) → i ≡ length names
     → ((more : List (List ℕ)) → HoldAll files (map (λ s. s.now) (drop i names)) more → HoldAll files (map (λ s. s.now) names) (texts ++ more))
     → HoldAll files (map (λ s. s.now) names) texts

@@ -1,4 +1,4 @@
--- What replays have written, and what was written of the inputs that a run brings.
+-- The texts that replays have written, and the inputs of a run that were written.
 use Rattle.std.proofs.Common.{◌≡◌, ◌≢◌, ℕ, ◌+◌, ◌-◌, ◌^◌, List, Option, Result, Ok, Err, refl, subst, min}
 use Rattle.std.specs.Prelude.{IsErrOf, IfErr}
 use Rattle.std.specs.Io.KnownBytes.{Keeps}
@@ -27,7 +27,7 @@ kept_replay read name text n old mid new (slice, lines, r, out) kept = (slice, l
 pub kept_inputs : (read : Result Image Fault) (name devices : List ℕ) (n : ℕ) (old mid new : Option (List ℕ)) → Tells read name devices n old mid is_ok → Keeps mid new → Tells read name devices n old new is_ok
 kept_inputs read name devices n old mid new (row, inputs, r, (few, again, out)) kept = (row, inputs, r, (few, again, Appends-kept old mid new _ out kept))
 
--- ---- the number of a word, and what 64 bits hold of it
+-- ---- the number in a word, and its value in 64 bits
 
 pub replays_by : (read : Result Image Fault) (name text : List ℕ) (n v : ℕ) (old new : Option (List ℕ)) (answer : Result (Unit {0}) RunFault) → n ≡ min v (2 ^ 64 - 1) → Replays read name text n old new answer → Replays read name text v old new answer
 replays_by read name text n v old new (Ok x) is h = subst (λ k. Replays read name text k old new (Ok x)) (few_same n v is h.2.few) h

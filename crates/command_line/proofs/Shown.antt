@@ -1,4 +1,4 @@
--- What listings have written.
+-- The text that listings have written.
 use Rattle.std.proofs.Common.{ℕ, List, length, Option, Result, Ok, Err, sym, subst, arith}
 use Rattle.std.proofs.Math.Seq.{take-length}
 use Rattle.std.specs.Prelude.{OnErr}

@@ -1,4 +1,4 @@
--- What each status of a command means.
+-- The meaning of each exit status of a command.
 use Rattle.std.specs.Prelude.{◌≡◌, ◌⊎◌, ◌≤◌, ℕ, Bool, false, List, [], Some, Result, Ok, Err}
 use Rattle.clap.specs.Kinds.{Kinds}
 use Rattle.command_words.specs.Kinds.{AreMistaken, AskForHelp}
@@ -17,7 +17,7 @@ use Rattle.command_words.specs.declared.failure.Failure.TheVariants.{Refused, Us
 use Rattle.command_line.specs.declared.refusal.Refusal.{Refusal}
 use Rattle.command_line.specs.declared.refusal.Refusal.TheVariants.{Write}
 
--- the words are no command, or the word for its ticks is no row of digits
+-- the words are no command, or the word for its ticks is not written in digits
 abbrev pub AreNoCommand : Kinds → Order → Type 0
 AreNoCommand kinds order = AreMistaken kinds ⊎ ((kinds ≡ []) × IsWrongTicks order)
 
@@ -46,7 +46,7 @@ pub record IsAnswer (kinds : Kinds) (order : Order) (asked : Bool) (before after
   pub refused : status ≡ 1 → (r : Refusal) × IsRefusedFor kinds order before after r × IsOfFailed old_failed new_failed r × IsRefusalTold asked old_err new_err r
   pub usage : status ≡ 2 → IsUntouched before after × (new_failed ≡ old_failed) × AreNoCommand kinds order × IsWritten old_err new_err
 
--- ---- what was told of an outcome
+-- ---- the report of an outcome
 
 abbrev pub IsTold : Result (Unit {0}) (Failure Refusal) → Bool → Note → Seen → Seen → Seen → Seen → ℕ → Type 0
 IsTold (Ok done) asked note old_out new_out old_err new_err status = (status ≡ 0) × (new_out ≡ old_out) × (new_err ≡ old_err)

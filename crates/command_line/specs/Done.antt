@@ -1,4 +1,4 @@
--- What a command that is done has left.
+-- The effect of a command that is done.
 use Rattle.std.specs.Prelude.{◌≡◌, ℕ, List, [], ◌∷◌, ◌++◌, length, Option, Result, Ok, codes}
 use Rattle.std.specs.Fmt.{decimal}
 use Rattle.std.specs.Io.KnownBytes.{Appends}
@@ -47,7 +47,7 @@ pub record IsImageIn (files : Option Contents) (name : List ℕ) (image : Image)
   pub in_image : Holds files name image_bytes
   pub loaded : image_at image_bytes ≡ Ok image
 
--- An image and a text of what comes from outside, in the files of these names.
+-- An image and a text of inputs from outside, in the files of these names.
 pub record ImageAndText (files : Option Contents) (image text : List ℕ) : Type 0 where
   pub image_bytes : List ℕ
   pub text_bytes : List ℕ
@@ -59,23 +59,23 @@ pub record ImageAndText (files : Option Contents) (image text : List ℕ) : Type
 abbrev pub accepted_text : List ℕ
 accepted_text = codes "accepted" ++ 10 ∷ []
 
--- how long the image is
+-- the line with the length of the image
 abbrev pub size_text : ℕ → List ℕ
 size_text n = codes "built " ++ decimal n ++ codes " bytes" ++ 10 ∷ []
 
--- what a run of n ticks with this answer has written
+-- the output of a run of n ticks with this answer
 abbrev pub IsRunOf : {files : Option Contents} {image devices : List ℕ} → ImageAndText files image devices → ℕ → Option (List ℕ) → Option (List ℕ) → Result (Unit {0}) RunFault → Type 0
 IsRunOf given n old new answer = Runs (image_at given.image_bytes) given.text_bytes n old new answer
 
--- what a replay of a partition for n ticks with this answer has written
+-- the output of a replay of a partition for n ticks with this answer
 abbrev pub IsReplayOf : {files : Option Contents} {image inputs : List ℕ} → ImageAndText files image inputs → List ℕ → ℕ → Option (List ℕ) → Option (List ℕ) → Result (Unit {0}) RunFault → Type 0
 IsReplayOf given partition n old new answer = Replays (image_at given.image_bytes) partition given.text_bytes n old new answer
 
--- what was written with this answer of the inputs that n ticks of a run bring a partition
+-- the output, with this answer, of the inputs that n ticks of a run bring a partition
 abbrev pub AreInputsOf : {files : Option Contents} {image devices : List ℕ} → ImageAndText files image devices → List ℕ → ℕ → Option (List ℕ) → Option (List ℕ) → Result (Unit {0}) InputsFault → Type 0
 AreInputsOf given partition n old new answer = Tells (image_at given.image_bytes) partition given.text_bytes n old new answer
 
--- what the run of the stored module with this answer has written
+-- the output of the run of the stored module with this answer
 abbrev pub IsFirstRun : Option (List ℕ) → Option (List ℕ) → Result (Unit {0}) BuildAndRunFault → Type 0
 IsFirstRun old new answer = Means TABLE.now (SOURCE.now ∷ []) [] TICKS old new answer
 

@@ -1,4 +1,4 @@
--- What is told of a refusal: its line and, where that is asked for, an explanation behind it.
+-- The report of a refusal: its line and, on request, an explanation behind it.
 use Rattle.std.specs.Prelude.{◌≡◌, ℕ, Bool, true, false, List, [], ◌∷◌, ◌++◌, if◌then◌else◌, Option, Some, None, string_bytes}
 use Rattle.std.specs.Str.{bytes_eq}
 use Rattle.module_meaning.specs.Table.{Partition, Table}
@@ -59,14 +59,15 @@ sentence_of (File name) = command_sentence command.File
 sentence_of Memory = command_sentence command.Memory
 sentence_of Write = command_sentence command.Write
 
--- The line alone; or the line and its explanation: what was noted of a refused source, else the sentence.
+-- The line alone, or the line and its explanation: the note on a refused source, or else the
+-- sentence.
 abbrev pub told_text : Bool → Refusal → Note → List ℕ
 told_text false r note = line_of r ++ 10 ∷ []
 told_text true r Unwanted = line_of r ++ 10 ∷ sentence_of r ++ 10 ∷ []
 told_text true r Wanted = line_of r ++ 10 ∷ sentence_of r ++ 10 ∷ []
 told_text true r (Source text) = line_of r ++ 10 ∷ string_bytes text
 
--- ---- what is noted of a refused source
+-- ---- the note on a refused source
 
 -- the source of the partition of this name, one source standing for each partition
 abbrev pub source_of : List Partition → List (List ℕ) → List ℕ → Option (List ℕ)
@@ -77,11 +78,12 @@ source_of _ _ name = None
 abbrev pub IsExplainedWith : Table → List (List ℕ) → List ℕ → PalFault → List ℕ → Type 0
 IsExplainedWith t sources name fault text = (source : List ℕ) × (source_of t.partitions sources name ≡ Some source) × IsExplanationOf source fault text
 
--- so it does with the table of this text, which is accepted
+-- the text explains it with the table of this text, which is accepted
 abbrev pub IsExplained : List ℕ → List (List ℕ) → List ℕ → PalFault → List ℕ → Type 0
 IsExplained table sources name fault text = (t : Table) × IsTable table t × IsExplainedWith t sources name fault text
 
--- Where an explanation was wanted, the refused source may be explained: that of the partition that the fault names.
+-- If an explanation was wanted, the refused source may be explained: that of the partition that the
+-- fault names.
 abbrev pub IsNoteOf : List ℕ → List (List ℕ) → BuildFault → Note → Note → Type 0
 IsNoteOf table sources (build.Pal name fault) Wanted (Source text) = IsExplained table sources name fault (string_bytes text)
 IsNoteOf table sources fault old new = new ≡ old

@@ -1,4 +1,4 @@
--- What the words of a command line order.
+-- The command that the words of a command line ask for.
 use Rattle.std.specs.Prelude.{ℕ, Bool, false, List, Some, None, if◌then◌else◌, codes}
 use Rattle.std.specs.Str.{bytes_eq}
 use Rattle.clap.specs.Walk.{Row}

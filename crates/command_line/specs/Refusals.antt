@@ -1,4 +1,4 @@
--- Why a command is refused, and what it has left then.
+-- Why a command is refused, and the state after that.
 use Rattle.std.specs.Prelude.{◌≡◌, ◌⊎◌, ℕ, List, [], ◌∷◌, Option, Err, string_bytes}
 use Rattle.std.specs.Str.Parse.{IsNumeral, digits_value}
 use Rattle.clap.specs.Kinds.{Kinds, IsAmong}
@@ -72,14 +72,14 @@ abbrev pub IsNotWritten : List ℕ → List (List ℕ) → List ℕ → State �
 IsNotWritten table sources name before after r =
     ((image : List ℕ) × IsBuilt before.files table sources image) × Spares name before.files after.files × IsRefusalOfFile name r
 
--- ---- the commands; want of memory may come at every step
+-- ---- the commands; memory may run out at every step
 
--- standard output failed if a run, or a replay, says so, and else not
+-- standard output failed if and only if the run or the replay says so
 abbrev pub HasFailedBy : RunFault → Seen → Seen → Type 0
 HasFailedBy faults.Write old new = HasFailed old new
 HasFailedBy _ old new = new.failures ≡ old.failures
 
--- the same of the inputs that a run brings
+-- the same for the inputs that a run brings
 abbrev pub HasFailedByInputs : InputsFault → Seen → Seen → Type 0
 HasFailedByInputs input_faults.Write old new = HasFailed old new
 HasFailedByInputs _ old new = new.failures ≡ old.failures
@@ -99,7 +99,7 @@ IsBuildRefused table name sources before after r =
     IsSilent before.out after.out
     × (((after.files ≡ before.files) × IsNotBuilt before.files table sources r) ⊎ IsNotWritten table sources name before after r)
 
--- of a run of n ticks
+-- why a run of n ticks is refused
 abbrev pub IsRunRefused : List ℕ → List ℕ → ℕ → State → State → Refusal → Type 0
 IsRunRefused image devices n before after (File name) = IsUntouched before after × IsFirstUnread before.files (image ∷ devices ∷ []) (string_bytes name)
 IsRunRefused image devices n before after (Run fault) =
@@ -109,7 +109,7 @@ IsRunRefused image devices n before after Memory = IsUntouched before after
 IsRunRefused image devices n before after Write = HasFailed before.out after.out × IsRunDone image devices n before after
 IsRunRefused image devices n before after _ = ⊥
 
--- of a replay of a partition for n ticks
+-- why a replay of a partition for n ticks is refused
 abbrev pub IsReplayRefused : List ℕ → List ℕ → List ℕ → ℕ → State → State → Refusal → Type 0
 IsReplayRefused image partition text n before after (File name) = IsUntouched before after × IsFirstUnread before.files (image ∷ text ∷ []) (string_bytes name)
 IsReplayRefused image partition text n before after (Replay fault) =
@@ -119,7 +119,7 @@ IsReplayRefused image partition text n before after Memory = IsUntouched before 
 IsReplayRefused image partition text n before after Write = HasFailed before.out after.out × IsReplayDone image partition text n before after
 IsReplayRefused image partition text n before after _ = ⊥
 
--- of the inputs that n ticks of a run bring a partition
+-- why the inputs that n ticks of a run bring a partition are refused
 abbrev pub AreInputsRefused : List ℕ → List ℕ → List ℕ → ℕ → State → State → Refusal → Type 0
 AreInputsRefused image partition devices n before after (File name) = IsUntouched before after × IsFirstUnread before.files (image ∷ devices ∷ []) (string_bytes name)
 AreInputsRefused image partition devices n before after (Inputs fault) =
@@ -129,7 +129,7 @@ AreInputsRefused image partition devices n before after Memory = IsUntouched bef
 AreInputsRefused image partition devices n before after Write = HasFailed before.out after.out × AreInputsDone image partition devices n before after
 AreInputsRefused image partition devices n before after _ = ⊥
 
--- of the run of the stored module, over standard output
+-- why the run of the stored module is refused, over standard output
 abbrev pub IsStoredRefused : Seen → Seen → Refusal → Type 0
 IsStoredRefused old new (Build fault) = (new.failures ≡ old.failures) × IsFirstRun old.taken new.taken (Err (both.Build fault))
 IsStoredRefused old new (Run fault) = HasFailedBy fault old new × IsFirstRun old.taken new.taken (Err (both.Run fault))
@@ -137,7 +137,7 @@ IsStoredRefused old new Memory = IsSilent old new
 IsStoredRefused old new Write = HasFailed old new × IsFirstRun old.taken new.taken is_ok
 IsStoredRefused old new _ = ⊥
 
--- where standard output took no more, it has a beginning of the listing
+-- if standard output took no more, it has a beginning of the listing
 abbrev pub IsCostRefused : List ℕ → List (List ℕ) → State → State → Refusal → Type 0
 IsCostRefused table sources before after Write =
     HasFailed before.out after.out × (after.files ≡ before.files)
@@ -165,7 +165,7 @@ IsRefused (inputs image partition devices ticks) before after r =
 
 -- ---- the words
 
--- the word for the ticks is no row of digits
+-- the word for the ticks is not written in digits
 abbrev pub IsWrongTicks : Order → Type 0
 IsWrongTicks (run image devices ticks) = IsNumeral 10 ticks → ⊥
 IsWrongTicks (replay image partition text ticks) = IsNumeral 10 ticks → ⊥
@@ -177,8 +177,9 @@ abbrev pub IsFailure : Order → State → State → Failure Refusal → Type 0
 IsFailure order before after (Refused r) = IsRefused order before after r
 IsFailure order before after (Usage error) = IsUntouched before after × IsWrongTicks order × (kind_of error ≡ ValueValidation)
 
--- Why words are not done, of which the library of command lines has these errors to tell: want of memory; or
--- one of those errors; or, where there is none, why their order is not done.
+-- Why the words of a command line are not done, where the library of command lines reports the
+-- errors `kinds`: memory ran out; or one of those errors; or, without errors, the reason why their
+-- order is not done.
 abbrev pub IsFailureOfWords : Kinds → Order → State → State → Failure Refusal → Type 0
 IsFailureOfWords kinds order before after (Refused Memory) = IsRefused order before after Memory
 IsFailureOfWords kinds order before after (Refused r) = (kinds ≡ []) × IsRefused order before after r

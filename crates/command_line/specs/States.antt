@@ -1,4 +1,4 @@
--- What a command can change, as it is seen at one time.
+-- The state that a command can change, at one time.
 use Rattle.std.specs.Prelude.{◌≡◌, Option}
 use Rattle.streams.specs.States.{Seen}
 use Rattle.streams.specs.Contents.{Contents}

@@ -1,4 +1,4 @@
--- The refusal that each fault of a file is, and what was noted where a command is refused.
+-- The refusal for each fault of a file, and the names that are noted when a command is refused.
 use Rattle.std.specs.Prelude.{◌≡◌, ℕ, List, [], ◌∷◌, ◌++◌, string_bytes}
 use Rattle.std.specs.declared.alloc.Global.{Global}
 use Rattle.std.specs.declared.string.String.{String}
@@ -13,7 +13,8 @@ abbrev pub of_file : String Global → NameFault → Refusal
 of_file name fault.Unavailable = File name
 of_file name fault.Memory = Memory
 
--- The file that a refusal names is the one that failed; where it names none, none did.
+-- The file that a refusal names is noted as failed; with a refusal that names no file, no file is
+-- noted.
 abbrev pub IsOfFailed : List (List ℕ) → List (List ℕ) → Refusal → Type 0
 IsOfFailed old new (File name) = new ≡ old ++ string_bytes name ∷ []
 IsOfFailed old new (Build fault) = new ≡ old
@@ -23,7 +24,7 @@ IsOfFailed old new (Inputs fault) = new ≡ old
 IsOfFailed old new Memory = new ≡ old
 IsOfFailed old new Write = new ≡ old
 
--- the same of a command that is not done
+-- the same condition for a command that is not done
 abbrev pub IsOfFailedFile : List (List ℕ) → List (List ℕ) → Failure Refusal → Type 0
 IsOfFailedFile old new (Refused r) = IsOfFailed old new r
 IsOfFailedFile old new (Usage error) = new ≡ old

@@ -1,4 +1,4 @@
-//! What each command does.
+//! The action of each command.
 
 ghost use Rattle.std.specs.Prelude.{◌≡◌, ◌-◌, ◌^◌, ◌<◌, [], map, false, IfErr, OnOk};
 ghost use Rattle.clap.specs.Faults.{fault_of};
@@ -24,8 +24,8 @@ use std::alloc::Global;
 use std::convert::AsStr;
 use streams::{Files, Stream, write_line};
 
-/// Does what the words say. `asked` becomes true if they ask for an explanation of a refusal; `note`
-/// gets what is to be told of a refused source then.
+/// Does what the words say. Sets `asked` to true if they ask for an explanation of a refusal;
+/// `note` then gets the explanation of a refused source.
 pub fn perform<S: AsStr, F: Files, O: Stream>(
     alloc: Global,
     words: &[S],
@@ -59,7 +59,7 @@ pub fn perform<S: AsStr, F: Files, O: Stream>(
     obey(alloc, &matches, files, out, note)
 }
 
-/// Whether the words ask for an explanation of a refusal.
+/// Returns true if the words ask for an explanation of a refusal.
 fn asks(matches: &ArgMatches<'_>) -> bool
     ensures { result ≡ asks (subcommand_rows_of matches.now) }
 {
@@ -69,7 +69,7 @@ fn asks(matches: &ArgMatches<'_>) -> bool
     }
 }
 
-/// Does what was found in the words.
+/// Does the command that was found in the words.
 fn obey<F: Files, O: Stream>(
     alloc: Global,
     matches: &ArgMatches<'_>,

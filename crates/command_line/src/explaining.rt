@@ -17,7 +17,7 @@ use std::alloc::Global;
 use std::fmt;
 use window_table::{ModuleTable, PartitionRow, read_table};
 
-/// What is noted of a refused source, to be told behind the line of its refusal.
+/// The explanation of a refused source, for the lines behind that of its refusal.
 #[derive(Drop)]
 pub enum Note {
     /// Nobody asked for an explanation.
@@ -181,7 +181,7 @@ fn inputs_sentence(fault: &InputsFault) -> &'static str
     }
 }
 
-/// A refusal as it is told: its line, and an explanation behind it if that was asked for.
+/// The report of a refusal: its line, and an explanation behind it if the words asked for one.
 #[derive(Drop)]
 pub struct Told {
     pub refusal: Refusal,

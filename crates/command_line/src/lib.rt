@@ -1,7 +1,7 @@
 //! The command line of `mb`.
 //!
-//! `command` answers the status. It reads the words as its library does, takes files by name, and
-//! writes to two streams; its one contract says for each status what has changed of these.
+//! `command` returns the exit status. It reads the words as its library does, takes files by name,
+//! and writes to two streams; its one contract says for each status how these have changed.
 #![tactic(auto)]
 
 ghost use Rattle.std.specs.Prelude.{◌≡◌, ◌≤◌, ◌-◌, ◌^◌, ◌<◌, map};
@@ -32,10 +32,10 @@ use std::convert::AsStr;
 use streams::{Files, Stream};
 use telling::tell;
 
-/// Does what the words of a command line say, the program's name first, and answers the exit
+/// Does what the words of a command line say, the program's name first, and returns the exit
 /// status: 0; 1 for a refused command, with its line on `err`, and an explanation behind it if the
-/// words ask for one; 2 for words that are no command,
-/// with the usage on `err`. Help goes to `out`, with status 0.
+/// words ask for one; 2 for words that are no command, with the usage on `err`. Help goes to `out`,
+/// with status 0.
 ///
 /// Faults are met in this order: the words, the files read in the order of the words, the build,
 /// the run or what is listed, the file written, the lines printed. An image is written only if it

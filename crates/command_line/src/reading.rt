@@ -151,7 +151,7 @@ pub fn load_named<F: Files>(alloc: Global, name: &str, files: &mut F) -> Result<
     Ok(load(alloc, bytes.as_slice())?)
 }
 
-/// The image that the bytes are.
+/// The image in the bytes.
 fn load(alloc: Global, bytes: &[u8]) -> Result<Image, RunFault>
     ensures loaded { IfOk result (λ image. image_at bytes.now ≡ Ok (image_of image)) }
     ensures refused { IfErr result (λ fault. IsRefused (image_at bytes.now) fault) }

@@ -13,7 +13,7 @@ use std::alloc::{AllocError, AllocFailed};
 use std::fmt;
 use streams::NameFault;
 
-/// A refused command. What it shows is its line on standard error.
+/// A refused command. Displays as its line on standard error.
 #[derive(Drop)]
 pub enum Refusal {
     Build(BuildFault),
@@ -29,7 +29,7 @@ pub enum Refusal {
 }
 
 impl Refusal {
-    /// The refusal where the file of that name was not read or not written.
+    /// The refusal if the file of that name was not read or not written.
     pub fn of_file(name: String, fault: NameFault) -> Refusal
         ensures { result ≡ of_file name fault }
     {

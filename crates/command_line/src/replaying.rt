@@ -50,7 +50,7 @@ pub fn replay<F: Files, O: Stream>(
     Ok(replay_named(alloc, image, partition, inputs, number, files, out)?)
 }
 
-/// Replays a partition of an image for so many ticks.
+/// Replays a partition of an image for `ticks` ticks.
 fn replay_named<F: Files, O: Stream>(
     alloc: Global,
     image: &str,
@@ -141,7 +141,7 @@ pub fn inputs<F: Files, O: Stream>(
     Ok(inputs_named(alloc, image, partition, devices, number, files, out)?)
 }
 
-/// Writes the inputs that so many ticks of an image bring a partition.
+/// Writes the inputs that `ticks` ticks of an image bring a partition.
 fn inputs_named<F: Files, O: Stream>(
     alloc: Global,
     image: &str,
@@ -179,7 +179,7 @@ fn inputs_named<F: Files, O: Stream>(
     Ok(out.flush()?)
 }
 
-/// Writes what a run of an image brings a partition, as a replay text.
+/// Writes the inputs that a run of an image brings a partition, as a replay text.
 fn tell_inputs<O: Stream>(
     alloc: Global,
     image: &[u8],

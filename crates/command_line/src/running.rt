@@ -49,7 +49,7 @@ pub fn run<F: Files, O: Stream>(
     Ok(run_named(alloc, image, devices, number, files, out)?)
 }
 
-/// Runs an image for so many ticks.
+/// Runs an image for `ticks` ticks.
 fn run_named<F: Files, O: Stream>(
     alloc: Global,
     image: &str,

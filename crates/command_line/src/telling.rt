@@ -1,4 +1,4 @@
-//! What is told of what a command came to.
+//! Reports the outcome of a command.
 
 ghost use Rattle.std.specs.Prelude.{◌-◌, ◌^◌, ◌<◌};
 ghost use Rattle.command_line.specs.Answers.{IsTold};
@@ -10,8 +10,8 @@ use crate::refusal::Refusal;
 use command_words::{Failure, tell_usage};
 use streams::{Stream, tell_text};
 
-/// Tells what a command came to, and answers its status. A refusal is explained if that was asked
-/// for.
+/// Reports the outcome of a command and returns its exit status. Explains a refusal if `asked` is
+/// true.
 pub fn tell<O: Stream, E: Stream>(
     outcome: Result<(), Failure<Refusal>>,
     asked: bool,
@@ -34,7 +34,7 @@ pub fn tell<O: Stream, E: Stream>(
                 explained: asked,
                 note,
             };
-            // What standard error does not take is told by the status alone.
+            // If standard error does not take it, only the status reports the refusal.
             tell_text(err, told);
             1
         }

@@ -1,4 +1,5 @@
--- Each kind of error is want of memory or another, and asks for help or is a mistake.
+-- Each kind of error means that memory ran out, or something else; and it asks for help, or is a
+-- mistake.
 use Rattle.std.proofs.Common.{◌≡◌, ◌≢◌, ◌⊎◌, inl, inr, refl}
 use Rattle.clap.specs.declared.error.kind.ErrorKind.{ErrorKind}
 use Rattle.clap.specs.declared.error.kind.ErrorKind.TheVariants as kind

@@ -1,4 +1,4 @@
--- What was found in the words, and the errors that they have.
+-- The arguments found in the words, and the errors of the words.
 use Rattle.std.proofs.Common.{◌≡◌, ℕ, List, [], map, Option, None, Some, true, ap, refl, ◌∙◌, subst, Bor}
 use Rattle.std.specs.Prelude.{option_map, unwrap_or}
 use Rattle.clap.specs.Faults.{fault_of, is_simple_and_free}
@@ -35,7 +35,7 @@ pub entered_is : (app : App) (words : List (List ℕ)) (command : Command) (m : 
     → IsCommand command app → is_simple app ≡ true → HasMatchesOf (app_of command) words m → subcommand_rows_of m ≡ subcommand_of app words
 entered_is app words command m is simple h = (h (ap is_simple is.reads ∙ simple)).1 ∙ ap (λ a. subcommand_of a words) is.reads
 
--- what is proved of the errors that a command has to tell is so of those of its arguments
+-- a property of the errors of a command holds for the errors of its arguments
 pub of_kinds : (app : App) (words : List (List ℕ)) (command : Command) (P : Kinds → Type 0)
     → IsCommand command app → is_simple_and_free app ≡ true → (is_simple_and_free (app_of command) ≡ true → P (fault_of (app_of command) words)) → P (fault_of app words)
 of_kinds app words command P is free h = subst (λ a. P (fault_of a words)) is.reads (h (ap is_simple_and_free is.reads ∙ free))

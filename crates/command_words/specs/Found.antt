@@ -1,4 +1,4 @@
--- What was found in words.
+-- The arguments found in the words.
 use Rattle.std.specs.Prelude.{ℕ, List, [], Option, unwrap_or}
 use Rattle.clap.specs.Walk.{Row, first_of, all_of}
 

@@ -6,11 +6,11 @@ use Rattle.clap.specs.declared.builder.action.ArgAction.TheVariants.{Set, SetTru
 use Rattle.clap.specs.declared.builder.command.Command.{Command}
 use Rattle.clap.specs.declared.builder.command.Command.TheViews.{out-Command}
 
--- one word that has to be there
+-- one required word
 abbrev pub word_rule : List ℕ → Rule
 word_rule name = record (new_rule name) { required = true; action = Some Set }
 
--- a word with two dashes that may be there
+-- an optional word with two dashes
 abbrev pub flag_rule : List ℕ → Rule
 flag_rule name = record (new_rule name) { long = Some name; action = Some SetTrue }
 

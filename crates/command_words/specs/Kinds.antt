@@ -1,4 +1,4 @@
--- Kinds of errors that the library of command lines has to tell of words.
+-- The kinds of errors that the library of command lines reports for words.
 use Rattle.std.specs.Prelude.{◌≡◌, ◌≢◌, ◌⊎◌}
 use Rattle.clap.specs.Kinds.{Kinds, IsAmong}
 use Rattle.clap.specs.declared.error.kind.ErrorKind.{ErrorKind}

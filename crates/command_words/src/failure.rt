@@ -8,9 +8,9 @@ ghost use Rattle.command_words.specs.declared.failure.Failure.TheVariants as fai
 use clap::error::ErrorKind;
 use std::alloc::AllocError;
 
-/// Refusals, of which one is for want of memory.
+/// Refusals with a value that says that memory ran out.
 pub trait WantOfMemory: Drop {
-    /// The refusal where there is too little memory.
+    /// The refusal if memory ran out.
     ghost memory: { Self };
 
     fn want_of_memory() -> Self

@@ -7,7 +7,7 @@ ghost use Rattle.command_words.specs.Grammar.{flag_rule, word_rule};
 use clap::{Arg, ArgAction};
 use std::alloc::Global;
 
-/// A word that has to be there.
+/// A required word.
 pub fn required_word<'a>(alloc: Global, name: &'a str, help: &'a str) -> Arg<'a>
     ensures rule { rule_of result ≡ word_rule name.entry.now }
     ensures local { result.global ≡ false }
@@ -18,7 +18,7 @@ pub fn required_word<'a>(alloc: Global, name: &'a str, help: &'a str) -> Arg<'a>
         .help(help)
 }
 
-/// A word with two dashes that may be there.
+/// An optional word with two dashes.
 pub fn flag<'a>(alloc: Global, name: &'a str, help: &'a str) -> Arg<'a>
     ensures rule { rule_of result ≡ flag_rule name.entry.now }
     ensures local { result.global ≡ false }

@@ -1,5 +1,5 @@
-//! What the command lines of the programs share: the words that are found, the numbers that they
-//! write, and what is told where they are no command or ask for help.
+//! The parts that the command lines of the programs share: the arguments found in words, the
+//! numbers in them, and the report on words that are no command or that ask for help.
 #![tactic(auto)]
 
 mod failure;

@@ -1,11 +1,11 @@
-//! The numbers that words write.
+//! The numbers in words.
 
 ghost use Rattle.std.specs.Prelude.{◌↔◌, IsTrue};
 ghost use Rattle.std.specs.Str.Parse.{AllDigits, IsNumeral};
 ghost use Rattle.command_words.specs.Numbers.{ReadsNumber};
 
-/// The number that a word of one or more digits writes. One that 64 bits do not hold is taken as
-/// the greatest, which is far above every limit and far behind every trace.
+/// The number in a word of one or more digits. A number beyond 64 bits becomes the greatest number
+/// of 64 bits, which is far above every limit and far behind every trace.
 pub fn number_of(word: &str) -> Option<u64>
     ensures { ReadsNumber word.now result }
 {
@@ -15,7 +15,7 @@ pub fn number_of(word: &str) -> Option<u64>
     Some(word.parse().unwrap_or(u64::MAX))
 }
 
-/// Whether there are digits, and nothing else.
+/// Returns true if `bytes` has digits, and nothing else.
 fn is_numeral(bytes: &[u8]) -> bool
     ensures { IsTrue result ↔ IsNumeral 10 bytes.now }
 {

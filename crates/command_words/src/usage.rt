@@ -1,4 +1,4 @@
-//! What is told of words that are no command, or that ask for help.
+//! The report on words that are no command, or that ask for help.
 
 ghost use Rattle.std.specs.Prelude.{◌-◌, ◌^◌, ◌<◌};
 ghost use Rattle.command_words.specs.Told.{IsUsageTold};
@@ -7,8 +7,8 @@ ghost use Rattle.streams.specs.States.{seen};
 use std::fmt::Display;
 use streams::{Stream, tell_line, tell_text, write_text};
 
-/// Tells of words that are no command, or shows the help that they ask for, and answers the status.
-/// Where help is not written, that is told by the line `unwritten`.
+/// Reports words that are no command, or shows the help that they ask for, and returns the exit
+/// status. If the help cannot be written, the line `unwritten` says so on `err`.
 pub fn tell_usage<D: Display + Drop, O: Stream, E: Stream>(
     error: &clap::Error,
     unwritten: D,

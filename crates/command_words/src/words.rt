@@ -7,7 +7,7 @@ ghost use Rattle.command_words.specs.Found.{word_at};
 
 use clap::ArgMatches;
 
-/// The word that was found for an argument, and an empty one where there is none.
+/// The word that was found for the argument `name`, or an empty one if there is no such word.
 pub fn word<'a>(found: &ArgMatches<'a>, name: &str) -> &'a str
     ensures { result.now ≡ word_at name.now (rows_of (found_of found.now)) }
 {

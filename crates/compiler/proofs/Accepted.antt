@@ -1,4 +1,4 @@
--- What is known of a program that was accepted.
+-- The properties of an accepted program.
 use Rattle.std.proofs.Common.{◌≡◌, ℕ, ◌≤◌, min, arith}
 use Rattle.std.proofs.Math.Logic.{∥∥₁_elim}
 use Rattle.std.specs.Coded.{le_prop}
@@ -12,7 +12,7 @@ use Rattle.pal_base.specs.Accepted.{IsAccepted}
 use Rattle.pal_base.specs.ProgramView.{program_of}
 use Rattle.pal_base.specs.declared.program.Program.{Program}
 
--- it fits the compiler, if its code is not too long
+-- an accepted program fits the compiler, if its code is not too long
 pub accepted_fits : (p : Program) → ∥ IsAccepted (program_of p) ∥₁ → size_of (program_of p) ≤ MOST_INSTRUCTIONS → Fits (program_of p)
 accepted_fits p a small = ∥∥₁_elim a (fits_prop (program_of p)) (λ h. well_formed_fits h.ports h.period h.tree (program_of p) h.judged small)
 

@@ -1,4 +1,4 @@
--- What a section has in common with the program that it is compiled from.
+-- The properties that a section shares with the program that it is compiled from.
 use Rattle.std.specs.Prelude.{map}
 use Rattle.apex_types.specs.declared.cost.Costs.{Costs}
 use Rattle.engine_meaning.specs.Simulates.{Simulates}

@@ -1,4 +1,4 @@
--- What the definitions see of a section.
+-- The section as the definitions see it.
 use Rattle.apex_types.specs.declared.row.Section as code_section
 use Rattle.machine_meaning.specs.Section.{Section}
 

@@ -35,7 +35,7 @@ pub fn emit_body(code: &mut Vec<Instr>, body: &Body) -> Result<BodyRow, AllocErr
     })
 }
 
-/// The handler's body, where there is one.
+/// The body of the handler, if the program has a handler.
 pub fn emit_handler(
     code: &mut Vec<Instr>,
     handler: &Option<Body>,

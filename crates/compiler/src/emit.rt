@@ -113,7 +113,7 @@ fn emit_test(code: &mut Vec<Instr>, test: &Expr) -> Result<u32, AllocError>
     Ok(code.len() as u32)
 }
 
-/// A request of a service: its arguments, the request, and what takes its answer.
+/// A request of a service: its arguments, the request, and the stores of its answer.
 fn emit_service_call(
     code: &mut Vec<Instr>,
     service: Service,

@@ -1,5 +1,5 @@
-//! How many instructions a program's parts become. Of parts alone, what does not fit 32 bits is the
-//! greatest number that does; a program that was accepted fits.
+//! The number of instructions of a program's parts. For parts alone, a number that does not fit 32
+//! bits is the greatest number that does; an accepted program fits.
 
 ghost use Rattle.std.specs.Prelude.{◌≡◌, ◌+◌, min, map};
 ghost use Rattle.std.specs.List.{sum_by};
@@ -69,7 +69,7 @@ fn size_of_procedures(procedures: &[Procedure]) -> u32
     size
 }
 
-/// How many instructions a program becomes, as 32 bits hold it.
+/// The number of instructions of a program, as 32 bits hold it.
 fn counted(program: &Program) -> u32
     ensures { result ≡ min (cost.size_of (program_of program.now)) u32.MAX }
 {
@@ -79,7 +79,7 @@ fn counted(program: &Program) -> u32
         .saturating_add(size_of_procedures(&program.procedures))
 }
 
-/// How many instructions a program becomes.
+/// The number of instructions of a program.
 #[tactic(auto, using(crate::proofs::Accepted::counted_all))]
 pub fn size_of_program(checked: &Checked) -> u32
     ensures { result ≡ cost.size_of (program_of checked.now.program) }

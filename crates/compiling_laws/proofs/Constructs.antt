@@ -1,4 +1,4 @@
--- What is to do unfolds into its simple constructs, each once; their costs are those that are counted.
+-- A list of parts unfolds into its simple constructs, each once; their costs are the counted ones.
 use Rattle.std.proofs.Common.{◌≡◌, pos, List, [], ◌∷◌, ◌++◌, map, refl, sym, ap, ◌∙◌, append_assoc}
 use Rattle.std.proofs.lemmas.List.{map-append}
 use Rattle.apex_types.specs.declared.cost.Costs.{Costs}
@@ -26,7 +26,7 @@ targets_constructs : (ts : List Place) (r : List Part) → constructs_of (target
 targets_constructs [] r = refl
 targets_constructs (t ∷ ts) r = ap (λ xs. WriteScalar t ∷ xs) (targets_constructs ts r)
 
--- what the unfolded front and what is behind it have
+-- the constructs of the unfolded front and of the parts behind it
 abbrev unfolded : Front → List Simple
 unfolded f = with_held f.construct ++ constructs_of f.rest
 

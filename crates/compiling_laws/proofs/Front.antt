@@ -1,4 +1,5 @@
--- Where the code does what is still to do, it does so once the front construct is unfolded.
+-- If the code does the parts that are left, it also does them after the front construct is
+-- unfolded.
 use Rattle.std.proofs.Common.{◌≡◌, ℕ, ◌+◌, ◌-◌, ◌≤◌, ◌<◌, List, [], ◌∷◌, ◌++◌, length, map, Option, Some, None, refl, subst, arith, length-append}
 use Rattle.std.specs.Prelude.{option_map, slice_get}
 use Rattle.apex_types.specs.declared.instruction.Instr.TheVariants as instr

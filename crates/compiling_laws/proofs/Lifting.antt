@@ -64,7 +64,8 @@ module _ {C D : Type 0} (R : C → D → Type 0) where
   same_world : (k : Kernel) (f : List (Option C)) (g : List (Option D)) (ws i : List ℤ) → SameControls R f g → SameWorld R (world k f ws i) (world k g ws i)
   same_world k f g ws i h = record { kernel = refl; controls = h; words = refl; initial = refl }
 
-  -- what holds of worlds that share kernel and data holds of worlds that have the same
+  -- a property of worlds with the same kernel and data holds of worlds whose kernel and data are
+  -- equal
   shared : (P : World C → World D → Type 0) (v : World C) (w : World D)
       → ((k : Kernel) (f : List (Option C)) (g : List (Option D)) (ws i : List ℤ) → SameControls R f g → P (world k f ws i) (world k g ws i))
       → SameWorld R v w → P v w
@@ -129,7 +130,7 @@ module _ {C D : Type 0} (R : C → D → Type 0) where
     same_ticked (Some x) None ws h = absurd h
     same_ticked (Some x) (Some y) ws h = let t = s.tick x y ws h in record { control = t.control; words = t.words; asks = t.asks }
 
-    -- what is asked, over the data after the tick
+    -- the request, over the data after the tick
     same_asked : (at : At) (p : Runner) (k : Kernel) (f : List (Option C)) (g : List (Option D)) (i : List ℤ) (ws vs : List ℤ) (a b : Asks)
         → SameControls R f g → ws ≡ vs → a ≡ b
         → SameMoved R (moved at c (treats_asked at k p a (given a ws)) (world k f ws i)) (moved at d (treats_asked at k p b (given b vs)) (world k g vs i))
@@ -253,7 +254,7 @@ module _ {I C D : Type 0} (R : I → C → D → Type 0) where
       shared (R i) (λ v w. SameMoved (R i) (goes_out at channel m (record { engine = x.engine; world = v })) (goes_out at channel m (record { engine = y.engine; world = w }))) x.world y.world
       (λ k f g ws n c. record { world = same_world (R i) k f g ws n c; lines = refl }) h.world
 
-  -- ---- what is seen of a partition
+  -- ---- views of a partition
 
   sees_same : {B : Type 0} (none : B) (p : Member C → B) (q : Member D → B)
       → ((i : I) (x : Member C) (y : Member D) → SameMember (R i) x y → p x ≡ q y)

@@ -1,4 +1,4 @@
--- What the bodies of a program come to has 64 bits, where the program has a text.
+-- The sizes, costs and frames of a program's bodies have 64 bits, if the program has a text.
 use Rattle.std.proofs.Common.{◌≡◌, ℕ, ◌*◌, ◌≤◌, List, [], ◌∷◌, ◌++◌, length, map, Option, Some, None, Ok, refl, sym, subst, arith, length-append}
 use Rattle.std.specs.Prelude.{nat_le, filter_map, option_map}
 use Rattle.std.specs.List.{cons_option, sum, sum_by}

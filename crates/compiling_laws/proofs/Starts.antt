@@ -46,7 +46,7 @@ body_goes code ps b at fits has =
     let room : 0 + operands_of_block b.block ≤ operands_of_block b.block = omega arith in
     block_goes code ps (limits_of_body b) b.block (Do EndBody ∷ []) at 0 (record { has = has_front code at block end has; fits = fits.block; room = room }) back.0
 
--- words of 0 are slots of 0 and what stands behind them
+-- words of 0 are slots of 0 and the words behind them
 zeros_split : (a b : ℕ) → replicate (a + b) (pos 0) ≡ replicate a (pos 0) ++ replicate b (pos 0)
 zeros_split zero b = let e : 0 + b ≡ b = omega arith in ap (λ n. replicate n (pos 0)) e
 zeros_split (suc a) b = let e : suc a + b ≡ suc (a + b) = omega arith in ap (λ n. replicate n (pos 0)) e ∙ ap (λ l. pos 0 ∷ l) (zeros_split a b)

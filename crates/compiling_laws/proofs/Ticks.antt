@@ -104,7 +104,7 @@ module _ (costs : Costs) (code : Code) (program : Program) (rs : List RoutineRow
       let same = ap length e in
       omega (arith, base_length k.laid c.slots)
 
-  -- the control goes on, with other operands
+  -- the control continues with other operands
   next : (rest : List Part) (vs junk : List ℤ) (n pc sp : ℕ) (stack : List ℤ) → n ≡ length vs → Goes code program.procedures k.limits pc n rest → sp ≡ length here + length vs → stack ≡ here ++ onto vs junk → length stack ≡ c.stack → sp ≤ c.stack → Keeps code program.procedures (moves c rest vs) (record { pc = pc; fp = m.fp; sp = sp; stack = stack; spent = 0; awaits = 0 })
   next rest vs junk n pc sp stack en goes es et el le =
       let count : n ≡ length vs + 0 = omega arith in
@@ -252,7 +252,7 @@ module _ (costs : Costs) (code : Code) (program : Program) (rs : List RoutineRow
       let f : Option ℤ → Ticked MachineControl = λ o. pushes_or error.NumericError (m.sp - 2) o m words in
       by_machine code program _ _ (f (apply_binary op a b)) (there 2 (b ∷ a ∷ vs) (pushes_or error.NumericError (m.sp - 2) (apply_binary op (below_top m) (top m))) e two ∙ ap (λ v. f (apply_binary op v (top m))) (below_is b a vs e) ∙ ap (λ v. f (apply_binary op a v)) (top_is b (a ∷ vs) e)) (gives_or error.NumericError (apply_binary op a b) rest vs (a ∷ b ∷ k.junk) (n - 1) (m.sp - 2) count g.2 place (stacked (b ∷ a ∷ vs) e) within)
 
-  -- the data is written, where the place is one
+  -- the data is written, if the place is within it
   writes_same : (o : Option (List ℤ)) (rest : List Part) (vs junk : List ℤ) (n popped : ℕ) → n ≡ length vs → Goes code program.procedures k.limits (m.pc + 1) n rest → m.sp - popped ≡ length here + length vs → m.stack ≡ here ++ onto vs junk → Same code program (writes o c rest vs words) (changes_data popped o m words)
   writes_same None rest vs junk n popped en g es et = stays_same (Faults error.MemoryViolation)
   writes_same (Some data_now) rest vs junk n popped en g es et = let less : m.sp - popped ≤ m.sp = omega arith in takes rest vs junk data_now n (m.pc + 1) (m.sp - popped) en g es et less
@@ -375,7 +375,7 @@ module _ (costs : Costs) (code : Code) (program : Program) (rs : List RoutineRow
       let last = m.pc + 1 + size_of_block block in
       jumps (last + 1) rest (block_then block (Do (GoBack test block) ∷ rest)) v vs (n - 1) e count g.4 (block_goes code program.procedures k.limits block (Do (GoBack test block) ∷ rest) (m.pc + 1) (n - 1) g.2 (g.3, g.4))
 
-  -- what leaves the values as they are
+  -- constructs that leave the values as they are
   moves_on : (rest : List Part) (n pc : ℕ) (vs : List ℤ) → c.values ≡ vs → n ≡ length vs → Goes code program.procedures k.limits pc n rest → Same code program (source.goes_on c rest vs words) (machine.goes_on pc m.sp m.stack m words)
   moves_on rest n pc vs e en g = let less : m.sp ≤ m.sp = omega arith in takes rest vs k.junk words n pc m.sp en g (at_top vs e) (stacked vs e) less
 

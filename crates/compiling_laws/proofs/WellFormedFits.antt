@@ -1,4 +1,4 @@
--- What a verdict accepts fits the compiler.
+-- A program that the verdict accepts fits the compiler.
 use Rattle.std.proofs.Common.{◌≡◌, ℕ, zero, suc, ◌+◌, ◌≤◌, ◌<◌, Bool, true, false, not, cond, nat_eq, List, [], ◌∷◌, ◌++◌, length, map, Option, Some, None, Result, Ok, Err, refl, sym, ap, ◌∙◌, subst, arith, append_assoc, length-append}
 use Rattle.std.specs.Prelude.{slice_get, nat_le, nat_lt, filter_map, option_map, unwrap_or, bytes_eq}
 use Rattle.std.specs.List.{list_all, cons_option, sum_by}
@@ -27,7 +27,7 @@ test_held : {A B : Type 0} (b : Bool) (e : B) (x : Result A B) (r : A) → cond 
 test_held true e x r h = (refl, h)
 test_held false e x r h = absurd cc
 
--- what an accepted program keeps to, and what it resolves to
+-- the bounds that an accepted program keeps, and the program that it resolves to
 pub record Accepted (ports : List PortRow) (period : ℕ) (p : written.Program) (r : program.Program) : Type 0 where
   pub names : names_hold ports p ≡ true
   pub kinds : kinds_hold ports p ≡ true
@@ -43,7 +43,7 @@ accepted ports period p r h =
     let d = test_held (periods_hold period p) _ _ r c.1 in
     record { names = a.0; kinds = b.0; limits = c.0; periods = d.0; is = cc }
 
--- ---- what a name stands for
+-- ---- the meaning of a name
 
 -- each entry's meaning
 abbrev pub EachEntry : (Option Denotation → Type 0) → List Entry → Type 0
@@ -110,7 +110,7 @@ abbrev one_or_none : {A : Type 0} → Option A → List A
 one_or_none None = []
 one_or_none (Some x) = x ∷ []
 
--- the number of a procedure is its place, and it has so many parameters
+-- the number of a procedure is its place, and the procedure has `n` parameters
 abbrev pub NamesProcedure : List program.Procedure → Option Denotation → Type 0
 NamesProcedure procedures (Some (denotation.Procedure f n)) = HasParameters procedures f n
 NamesProcedure procedures _ = Unit {0}
@@ -350,7 +350,7 @@ module _ (ports : List PortRow) (p : written.Program) (procedures : List program
       } in
       subst (FitsProcedure procedures) is made
 
-  -- of a declaration that is a procedure, and of the others
+  -- a declaration that is a procedure, and the others
   procedures_go_on : (k : written.Kind) (rest : List program.Procedure) → holds_of_procedure (kinds_hold_in_body (declared_entries ports p)) k ≡ true → keeps_kind (declared_entries ports p) k ≡ true
       → ((f : ℕ) (r : program.Procedure) → slice_get rest f ≡ Some r → FitsProcedure procedures r)
       → (f : ℕ) (r : program.Procedure) → slice_get (cons_option (procedure_of (declared_entries ports p) k) rest) f ≡ Some r → FitsProcedure procedures r
@@ -402,7 +402,7 @@ resolved_fits ports p kinds limits small =
       size = small;
     }
 
--- What the verdict accepts fits the compiler, if its code is not too long.
+-- A program that the verdict accepts fits the compiler, if its code is not too long.
 pub well_formed_fits : (ports : List PortRow) (period : ℕ) (p : written.Program) (r : program.Program) → verdict ports period p ≡ Ok r → size_of r ≤ MOST_INSTRUCTIONS → Fits r
 well_formed_fits ports period p r h small =
     let a = accepted ports period p r h in

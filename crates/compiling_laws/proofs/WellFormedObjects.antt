@@ -36,7 +36,7 @@ longer_by (Some x) xs = omega arith
 
 -- ---- how many of each kind
 
--- a count that goes up by so many and stays within its limit
+-- a count that rises by `more` and stays within its limit
 record Step (limit before after more : ℕ) : Type 0 where
   is : after ≡ before + more
   most : before ≤ limit → after ≤ limit
@@ -167,7 +167,7 @@ record AreWithin (c : Counts) : Type 0 where
   blackboards : c.blackboards ≤ MOST_OBJECTS
   procedures : c.procedures ≤ MOST_PROCEDURES
 
--- what is declared after so much is declared
+-- the totals of the declarations `ds`, added to the counts `c`, are within their limits
 pub record Totals (declared : List Entry) (c : Counts) (ds : List written.Declaration) : Type 0 where
   pub words : c.words + length (flat_map (λ (d : written.Declaration). words_of d.kind) ds) ≤ MOST_DATA_WORDS
   pub semaphores : c.semaphores + length (filter_map (λ (d : written.Declaration). semaphore_of d.kind) ds) ≤ MOST_OBJECTS

@@ -120,7 +120,7 @@ multiple_is unit false (Some n) h k =
     let is : within MOST_TICKS (Some n) ≡ n = cond-true (nat_le n MOST_TICKS) n 0 parts.1 in
     ap (λ x. nat_eq (x % unit) 0) is ∙ (and_parts (nat_lt 0 unit) (nat_eq (n % unit) 0) k).1
 
--- what no entry is named, no row is named
+-- a name of no entry is the name of no row
 abbrev Covers : List Entry → List ProcessRow → Type 0
 Covers entries rows = (name : List ℕ) → is_some (find name entries) ≡ false → is_process rows name ≡ false
 
@@ -257,7 +257,7 @@ accepted_section ports period p r h small words =
     subst (λ (q : program.Program). IsSection period (section_of q)) a.is
     (section_lawful ports period p a.names a.limits a.periods (subst (λ (q : program.Program). All (FitsSigned w64) q.initial) back words) (subst Fits back fits))
 
--- the same where the first values in the tree are numbers as a text gives them
+-- the same if the first values in the tree are numbers as a text gives them
 pub well_formed_section : (ports : List PortRow) (period : ℕ) (p : written.Program) (r : program.Program) → AreWords p → verdict ports period p ≡ Ok r → size_of r ≤ MOST_INSTRUCTIONS → IsSection period (section_of r)
 well_formed_section ports period p r words h small =
     let a = accepted ports period p r h in

@@ -1,6 +1,6 @@
--- What a program is compiled to. Each construct is one instruction, in the order in which the
--- constructs take effect. The bodies stand one after the other: INIT, the handler, the processes
--- and the procedures, each in the order of declaration.
+-- The code that a program is compiled to. Each construct is one instruction, in the order in which
+-- the constructs take effect. The bodies stand one after the other: INIT, the handler, the
+-- processes and the procedures, each in the order of declaration.
 use Rattle.std.specs.Prelude.{ℕ, ◌+◌, pos, List, [], ◌∷◌, ◌++◌, Option, Some, None, map}
 use Rattle.std.specs.List.{sum_by}
 use Rattle.std.specs.Option.{option_map}
@@ -92,7 +92,7 @@ abbrev pub procedures_code : ℕ → List Procedure → List Instr
 procedures_code at [] = []
 procedures_code at (p ∷ ps) = procedure_code at p ++ procedures_code (at + size_of_procedure p) ps
 
--- where the handler, the processes and the procedures begin
+-- the places where the handler, the processes and the procedures begin
 abbrev pub handler_place : Program → ℕ
 handler_place p = size_of_body p.init
 
@@ -124,7 +124,7 @@ abbrev pub routine_rows : ℕ → List Procedure → List RoutineRow
 routine_rows at [] = []
 routine_rows at (p ∷ ps) = routine_row at p ∷ routine_rows (at + size_of_procedure p) ps
 
--- What a program becomes in an image: its data and objects as they are declared, its bodies with
+-- The section of a program in an image: its data and objects as they are declared, its bodies with
 -- their first instructions, slots and frames, and its code as bytes.
 abbrev pub section_of : Program → Section
 section_of p = record {

@@ -45,7 +45,7 @@ with_held (ChooseElse block other) = ChooseElse block other ∷ constructs_of_bl
 with_held (Repeat test block) = Repeat test block ∷ constructs_of_block block ++ (GoBack test block ∷ [])
 with_held construct = construct ∷ []
 
--- the simple constructs of what is to do
+-- the simple constructs of the parts to do
 abbrev pub constructs_of : List Part → List Simple
 constructs_of [] = []
 constructs_of (Evaluate expr ∷ rest) = constructs_of_expr expr ++ constructs_of rest

@@ -1,4 +1,4 @@
--- What a checked program keeps to, as far as its compiled code depends on it.
+-- The bounds of a checked program on which its compiled code depends.
 use Rattle.std.specs.Prelude.{◌≡◌, ℕ, ◌+◌, ◌≤◌, ◌<◌, Bool, true, false, List, [], ◌∷◌, Option, Some, None, length, slice_get, option_map}
 use Rattle.apex_types.specs.declared.limits.TheConstants.{MOST_INSTRUCTIONS, MOST_STACK_WORDS, MOST_WORK_TICKS}
 use Rattle.apex_types.specs.declared.place.Place.{Place}

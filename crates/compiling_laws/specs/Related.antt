@@ -35,14 +35,14 @@ abbrev pub HasAt : Code → ℕ → List Instr → Type 0
 HasAt code pc [] = Unit {0}
 HasAt code pc (i ∷ is) = Fetches code pc i × HasAt code (pc + 1) is
 
--- of a body: its slots, how many values may wait, and whether it may return
+-- the limits of a body: its slots, the number of values that may wait, and whether it may return
 pub record Limits : Type 0 where
   pub slots : ℕ
   pub room : ℕ
   pub returns : Bool
 
--- The code of an expression, a statement or a block stands at pc; it fits its body, and where n
--- values wait its own have room.
+-- The code of an expression, a statement or a block stands at pc; it fits its body, and its values
+-- have room while n values wait.
 pub record ExprAt (code : Code) (procedures : List Procedure) (k : Limits) (pc n : ℕ) (e : Expr) : Type 0 where
   pub has : HasAt code pc (expr_code e)
   pub fits : FitsExpr procedures k.slots e
@@ -95,7 +95,7 @@ Goes code ps k pc n (Do ReturnValue ∷ r) = Fetches code pc (instr.Return k.slo
 Goes code ps k pc n (Do (Ask service) ∷ r) = Fetches code pc (instr.Service (number_of service)) × (argument_words service ≤ n) × (n - argument_words service + answer_words service ≤ k.room) × Goes code ps k (pc + 1) (n - argument_words service + answer_words service) r
 Goes code ps k pc n (Do EndBody ∷ r) = Fetches code pc instr.End
 
--- a call that waits, the instruction with which it goes on, and the limits of its body
+-- a call that waits, the instruction at which it continues, and the limits of its body
 pub record Laid : Type 0 where
   pub call : OpenCall
   pub back : ℕ
@@ -110,7 +110,7 @@ abbrev pub onto : List ℤ → List ℤ → List ℤ
 onto [] rest = rest
 onto (w ∷ ws) rest = onto ws (w ∷ rest)
 
--- the two words behind the slots of a body: the instruction and the frame of the one that called it
+-- the two words behind the slots of a body: the instruction and the frame of its caller
 abbrev pub saved : List Laid → List ℤ
 saved [] = pos 0 ∷ pos 0 ∷ []
 saved (l ∷ ls) = pos l.back ∷ pos (taken (calls_of ls)) ∷ []
@@ -130,7 +130,7 @@ pub record InProgress (stack : ℕ) (k : Limits) (callers : List Laid) (words : 
   pub frame : taken (calls_of callers) + k.slots + 2 + k.room ≤ stack
   pub caller : HasCaller k.returns callers
 
--- each call that waits goes on with the value that it is given
+-- each waiting call continues with the value that it is given
 abbrev pub Waiting : Code → List Procedure → ℕ → List Laid → Type 0
 Waiting code ps stack [] = Unit {0}
 Waiting code ps stack (l ∷ ls) = Goes code ps l.limits l.back (length l.call.values + 1) l.call.parts × (l.back ≤ MOST_INSTRUCTIONS) × (length l.call.values < l.limits.room) × InProgress stack l.limits ls l.call.slots × Waiting code ps stack ls

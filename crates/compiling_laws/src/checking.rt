@@ -1,4 +1,4 @@
-//! What the checker accepts is fit for the compiler and for an image.
+//! Programs that the checker accepts are fit for the compiler and for an image.
 
 ghost use Rattle.std.specs.Prelude.{◌≡◌, ℕ, ◌*◌, ◌≤◌, List, length, Ok, All, FitsSigned};
 ghost use Rattle.std.specs.Int.{w64};
@@ -16,14 +16,15 @@ ghost use Rattle.pal_meaning.specs.Program.{size_of};
 ghost use Rattle.compiling_laws.specs.CompiledCode.{section_of};
 ghost use Rattle.machine_meaning.specs.ImageLimits.{IsSection};
 
-/// What is accepted keeps to all on which its compiled code depends, if that code is not too long.
+/// An accepted program keeps the bounds on which its compiled code depends, if that code is not too
+/// long.
 pub fn accepted_program_fits()
     ensures { (ports : List PortRow) (period : ℕ) (p : written.Program) (r : program.Program)
         → verdict ports period p ≡ Ok r → size_of r ≤ MOST_INSTRUCTIONS → Fits r }
 {}
 
-/// What is accepted has at most twice as many constructs as its text has bytes, and what its bodies come
-/// to, where that text may be a source, has 64 bits, whatever constructs cost.
+/// An accepted program has at most twice as many constructs as its text has bytes. If that text may
+/// be a source, the sizes, costs and frames of its bodies have 64 bits, whatever constructs cost.
 pub fn accepted_program_is_short()
     ensures size { (ports : List PortRow) (period : ℕ) (text : List ℕ) (p : written.Program)
         (r : program.Program)
@@ -34,8 +35,8 @@ pub fn accepted_program_is_short()
         → length text ≤ MOST_SOURCE_BYTES → verdict ports period p ≡ Ok r → AreCostsHeld costs r }
 {}
 
-/// What is accepted and has words as its data becomes a section that an image may have, in a partition
-/// of that period.
+/// An accepted program with words as its data becomes a section that an image may have, in a
+/// partition of that period.
 pub fn accepted_section_is_lawful()
     ensures { (ports : List PortRow) (period : ℕ) (p : written.Program) (r : program.Program)
         → verdict ports period p ≡ Ok r → size_of r ≤ MOST_INSTRUCTIONS

@@ -1,4 +1,4 @@
-//! What the constructs of a body cost is what they spend.
+//! The costs of a body are the ticks that its constructs spend.
 
 ghost use Rattle.std.specs.Prelude.{◌≡◌, ◌∷◌, ◌++◌, List, length, map, sum};
 ghost use Rattle.apex_types.specs.declared.cost.Costs.{Costs};
@@ -7,7 +7,7 @@ ghost use Rattle.pal_meaning.specs.SourceControl.{Part, front_of, cost_of_simple
 ghost use Rattle.pal_meaning.specs.Program.{costs_of_body, costs_of_procedure};
 ghost use Rattle.compiling_laws.specs.Constructs.{constructs_of, with_held};
 
-/// What is to do has the constructs of its front, and of what is to do after it.
+/// A list of parts has the constructs of its front and those of the parts after it.
 pub fn each_construct_is_unfolded_once()
     ensures { (part : Part) (rest : List Part)
         → constructs_of (part ∷ rest)

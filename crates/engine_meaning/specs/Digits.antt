@@ -1,4 +1,5 @@
--- Texts as bytes: whether two are the same, what stands at the front of one, and the number that digits spell.
+-- Texts as bytes: whether two are the same, what is at the front of a text, and the number that
+-- digits spell.
 use Rattle.std.specs.Prelude.{ℕ, ◌+◌, ◌-◌, ◌*◌, ◌&&◌, nat_eq, nat_le, Bool, List, take, fold}
 use Rattle.std.specs.List.{prefix_len}
 use Rattle.std.specs.Cmp.Lexicographic.{pointwise}
@@ -13,6 +14,6 @@ is_digit b = nat_le 48 b && nat_le b 57
 abbrev pub front : (ℕ → Bool) → List ℕ → List ℕ
 front p bs = take (prefix_len p bs) bs
 
--- the number of these digits, and the number where it is at most 2^63 - 1
+-- the number of these digits, and the number if it is at most 2^63 - 1
 unfoldable pub decimal_value : List ℕ → ℕ
 decimal_value ds = fold (λ n d. n * 10 + (d - 48)) 0 ds

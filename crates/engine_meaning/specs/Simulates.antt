@@ -1,9 +1,10 @@
--- When no one outside can tell one engine from another.
+-- When no difference between two engines shows outside.
 use Rattle.std.specs.Prelude.{◌≡◌, ℤ, List}
 use Rattle.apex_types.specs.declared.identity.Runner.{Runner}
 use Rattle.engine_meaning.specs.Engine.{Engine, Ticked}
 
--- Two ticks that cannot be told apart from outside: related controls, the same data, the same asked.
+-- Two ticks with no difference seen from outside: related controls, the same data, the same
+-- request.
 pub record SameTick {C D : Type 0} (R : C → D → Type 0) (a : Ticked C) (b : Ticked D) : Type 0 where
   pub control : R a.control b.control
   pub words : a.words ≡ b.words

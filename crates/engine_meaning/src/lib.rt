@@ -1,2 +1,3 @@
-//! What several parts need: digits, what operators give, and the engine on which a process runs, whatever it is.
+//! Shared definitions: digits, the results of operators, and the engine on which a process runs,
+//! whatever it is.
 #![tactic(auto)]

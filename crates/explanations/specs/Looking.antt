@@ -1,4 +1,4 @@
--- What the rule of a refusal looks for in a source.
+-- The word or the choice that the rule of a refusal looks for in a source.
 use Rattle.std.specs.Prelude.{◌≡◌, ℕ, Bool, List, if◌then◌else◌, nat_lt}
 use Rattle.std.specs.List.{list_any}
 use Rattle.pal_base.specs.declared.fault.Refusal.{Refusal}
@@ -16,7 +16,7 @@ is_above_127 byte = nat_lt 127 byte
 abbrev pub text_choice : List ℕ → Choice
 text_choice source = if list_any is_above_127 source then choice.Ascii else choice.Length
 
--- Each rule looks for one thing; of the grammar, which looks for many, nothing is said here.
+-- Each rule looks for one thing; nothing is said here of the grammar, which looks for many.
 abbrev pub IsLookedFor : List ℕ → Refusal → Sought → Type 0
 IsLookedFor source refusal.Text s = s ≡ sought.Choice (text_choice source)
 IsLookedFor source refusal.Grammar s = Unit {0}

@@ -1,4 +1,4 @@
--- How words of the grammar, and what else is looked for, stand in an explanation.
+-- The spelling of words of the grammar, and of the other choices, in an explanation.
 use Rattle.std.specs.Prelude.{ℕ, List, ◌++◌, codes}
 use Rattle.explanations.specs.declared.sought.Choice.{Choice}
 use Rattle.explanations.specs.declared.sought.Choice.TheVariants as choice
@@ -9,7 +9,7 @@ use Rattle.pal_base.specs.declared.looking.WordKind.{WordKind}
 use Rattle.pal_base.specs.declared.looking.WordKind.TheVariants as kind
 use Rattle.pal_base.specs.declared.mark.Mark.{Mark}
 
--- how a mark is written, in quotation marks
+-- the spelling of a mark, in quotation marks
 abbrev pub mark_phrase : Mark → List ℕ
 mark_phrase mark = codes "'" ++ mark_text mark ++ codes "'"
 

@@ -5,16 +5,16 @@ use Rattle.std.specs.List.{prefix_len}
 abbrev pub is_no_feed : ℕ → Bool
 is_no_feed byte = not (nat_eq byte 10)
 
--- what stands before the first line feed
+-- the text before the first line feed
 abbrev pub first_line : List ℕ → List ℕ
 first_line text = take (prefix_len is_no_feed text) text
 
--- what stands behind the first line feed
+-- the text behind the first line feed
 abbrev pub behind_feed : List ℕ → List ℕ
 behind_feed [] = []
 behind_feed (byte ∷ rest) = if nat_eq byte 10 then rest else behind_feed rest
 
--- what stands behind that many line feeds
+-- the text behind this number of line feeds
 abbrev pub behind_lines : ℕ → List ℕ → List ℕ
 behind_lines zero text = text
 behind_lines (suc count) text = behind_lines count (behind_feed text)

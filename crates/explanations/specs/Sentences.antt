@@ -1,4 +1,4 @@
--- The sentence of each rule, as `--explain` tells it and as the pages quote it.
+-- The sentence of each rule, as `--explain` prints it and as the pages quote it.
 use Rattle.std.specs.Prelude.{ℕ, List, codes}
 use Rattle.window_table.specs.declared.fault.TableFault.{TableFault}
 use Rattle.window_table.specs.declared.fault.TableFault.TheVariants as table

@@ -4,13 +4,13 @@ use crate::sought::{Choice, Sought};
 use pal_base::looking::{LookedFor, WordKind};
 use pal_base::mark::Mark;
 
-/// A choice, and words by which it is known: where all of them could stand it is told.
+/// A choice, and the words that identify it: the choice applies where all of them may stand.
 struct Row {
     choice: Choice,
     words: &'static [WordKind],
 }
 
-/// The choices between words of the grammar. Of those that fit the first is told.
+/// The choices between words of the grammar. The first that applies is reported.
 static ROWS: [Row; 21] = [
     Row {
         choice: Choice::DeclarationOrInit,
@@ -119,7 +119,7 @@ static ROWS: [Row; 21] = [
     },
 ];
 
-/// What is told where the grammar looks for these words.
+/// The report for a place where the grammar looks for these words.
 pub fn sought_of(looked_for: &LookedFor) -> Sought {
     if looked_for.is_too_deep {
         return Sought::Choice(Choice::NoFurtherLevel);
@@ -135,7 +135,7 @@ pub fn sought_of(looked_for: &LookedFor) -> Sought {
     }
 }
 
-/// Whether each of these words could stand there, with one more level if need be.
+/// Returns true if each of these words may stand there, with one more level if necessary.
 fn could_all_stand(looked_for: &LookedFor, words: &[WordKind]) -> bool {
     words.iter().all(|kind| looked_for.words.contains(kind) || looked_for.deeper.contains(kind))
 }

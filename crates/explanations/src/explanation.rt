@@ -16,7 +16,7 @@ use std::alloc::{AllocError, Global};
 ///
 /// # Errors
 ///
-/// Only where memory ran out.
+/// Only if memory runs out.
 pub fn explain_source(alloc: Global, source: &[u8], fault: PalFault) -> Result<String, AllocError>
     ensures { IfOk result (λ text. IsExplanationOf source.now fault (string_bytes text)) }
 {

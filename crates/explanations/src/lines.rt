@@ -8,15 +8,15 @@ use std::alloc::{AllocError, Global};
 /// The most characters of a line that are shown.
 const MOST_SHOWN: usize = 80;
 
-/// The line of that number, counted from 1, without its line feed. Where a text has fewer lines it
-/// is empty.
+/// The line of that number, counted from 1, without its line feed. It is empty if the text has
+/// fewer lines.
 pub fn refused_line(source: &[u8], line: u32) -> &[u8]
     ensures { result.now ≡ line_at line source.now }
 {
     first_line(behind_lines(source, line.saturating_sub(1)))
 }
 
-/// What stands behind that many line feeds.
+/// The text behind the first `count` line feeds.
 fn behind_lines(text: &[u8], count: u32) -> &[u8]
     ensures { result.now ≡ behind_lines count text.now }
 {
@@ -29,7 +29,7 @@ fn behind_lines(text: &[u8], count: u32) -> &[u8]
     rest
 }
 
-/// What stands behind the first line feed.
+/// The text behind the first line feed.
 fn behind_feed(text: &[u8]) -> &[u8]
     ensures { result.now ≡ behind_feed text.now }
 {
@@ -43,7 +43,7 @@ fn behind_feed(text: &[u8]) -> &[u8]
     rest
 }
 
-/// What stands before the first line feed.
+/// The text before the first line feed.
 fn first_line(text: &[u8]) -> &[u8]
     ensures { result.now ≡ first_line text.now }
 {
@@ -65,7 +65,7 @@ fn first_line(text: &[u8]) -> &[u8]
 ///
 /// # Errors
 ///
-/// Only where memory ran out.
+/// Only if memory runs out.
 pub fn shown(alloc: Global, line: &[u8]) -> Result<String, AllocError>
     ensures { IfOk result (λ text. string_bytes text ≡ shown line.now) }
 {

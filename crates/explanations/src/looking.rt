@@ -1,4 +1,4 @@
-//! What was looked for at the line of a refusal.
+//! What the grammar or a rule looked for at the line of a refusal.
 
 ghost use Rattle.std.specs.Prelude.{◌≡◌, IfOk};
 ghost use Rattle.std.specs.List.{list_any};
@@ -10,11 +10,11 @@ use pal_base::fault::{PalFault, Refusal};
 use pal_base::looking::looked_for as looked_for_by_grammar;
 use std::alloc::{AllocError, Global};
 
-/// What was looked for at the line of a refusal of that source.
+/// Returns what the grammar or a rule looked for at the line of this refusal of `source`.
 ///
 /// # Errors
 ///
-/// Only where memory ran out.
+/// Only if memory runs out.
 pub fn looked_for(alloc: Global, source: &[u8], fault: PalFault) -> Result<Sought, AllocError>
     ensures { IfOk result (λ sought. IsLookedFor source.now fault.refusal sought) }
 {
@@ -30,7 +30,8 @@ pub fn looked_for(alloc: Global, source: &[u8], fault: PalFault) -> Result<Sough
     Ok(Sought::Choice(choice))
 }
 
-/// What the first rule looks for: bytes that are ASCII, and not too many of them.
+/// Returns the choice of the first rule: ASCII if a byte is above 127, otherwise a length within
+/// the limit.
 fn sought_of_text(source: &[u8]) -> Choice
     ensures { result ≡ text_choice source.now }
 {
@@ -47,7 +48,8 @@ fn has_byte_above_127(source: &[u8]) -> bool
     source.iter().any(|byte| 127 < *byte)
 }
 
-/// What the grammar looks for at the first word that does not fit, if that word stands in this line.
+/// Returns what the grammar looks for at the first word that does not fit, if that word stands in
+/// `line`.
 fn sought_by_grammar(alloc: Global, source: &[u8], line: u32) -> Result<Sought, AllocError> {
     match looked_for_by_grammar(alloc, source)? {
         Some(looked_for) if looked_for.line == line => Ok(sought_of(&looked_for)),

@@ -9,7 +9,7 @@ use image::ImageFault;
 use pal_base::fault::Refusal;
 use window_table::TableFault;
 
-/// Why a command is refused, where no rule for a text or an image is broken.
+/// Why a command is refused that breaks no rule for a text or an image.
 #[derive(Clone, Copy, Debug, PartialEq, Eq)]
 pub enum CommandFault {
     /// There are fewer or more sources than partitions.
@@ -20,7 +20,7 @@ pub enum CommandFault {
     Ticks,
     /// The image has no partition of the name.
     Partition,
-    /// More than 65,536 inputs come to a partition.
+    /// A partition gets more than 65,536 inputs.
     Inputs,
     /// A file was not opened, read or written.
     File,

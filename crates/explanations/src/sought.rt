@@ -1,4 +1,4 @@
-//! What was looked for at a refused line.
+//! What the grammar or a rule looked for at a refused line.
 
 ghost use Rattle.std.specs.Prelude.{◌≡◌};
 ghost use Rattle.explanations.specs.Phrases.{choice_phrase, phrase};
@@ -6,7 +6,7 @@ ghost use Rattle.explanations.specs.Phrases.{choice_phrase, phrase};
 use crate::words::word_phrase;
 use pal_base::looking::WordKind;
 
-/// What was looked for.
+/// What the grammar or a rule looked for.
 #[derive(Clone, Copy)]
 pub enum Sought {
     Word(WordKind),
@@ -14,7 +14,7 @@ pub enum Sought {
 }
 
 impl Sought {
-    /// The phrase that says so.
+    /// The phrase in an explanation.
     pub fn phrase(self) -> &'static str
         ensures { result.now ≡ phrase self }
     {
@@ -25,7 +25,7 @@ impl Sought {
     }
 }
 
-/// What was looked for, where it is not one word.
+/// The choices for a place where more than a single kind of word fits.
 #[derive(Clone, Copy, Debug, PartialEq, Eq)]
 pub enum Choice {
     DeclarationOrInit,
@@ -60,7 +60,7 @@ pub enum Choice {
 }
 
 impl Choice {
-    /// The phrase that says so.
+    /// The phrase in an explanation.
     pub fn phrase(self) -> &'static str
         ensures { result.now ≡ choice_phrase self }
     {

@@ -1,4 +1,4 @@
-//! What a command answers.
+//! The answer of a command.
 
 use command_line::command;
 use host::HostFiles;
@@ -27,17 +27,17 @@ impl Answer {
         Answer { status, out, err }
     }
 
-    /// Whether the command was done, without a line on the standard error.
+    /// Returns true if the command was done, without a line on standard error.
     pub fn is_done(&self) -> bool {
         self.status == 0 && self.err.is_empty()
     }
 
-    /// Whether the command was done, and this is on the standard output.
+    /// Returns true if the command was done, with `out` on standard output.
     pub fn is_done_with(&self, out: &[u8]) -> bool {
         self.is_done() && self.out.as_slice() == out
     }
 
-    /// Whether the command was refused with this line.
+    /// Returns true if the command was refused with `line`.
     pub fn is_refused_with(&self, line: &[u8]) -> bool {
         self.status == 1 && self.out.is_empty() && self.err.as_slice() == line
     }

@@ -1,20 +1,20 @@
 //! The rows that stand as files: tables and sources with their verdicts, modules with their traces
 //! or the refusals of their runs, and images with theirs, as they follow from the rules or as an
-//! independent program has computed them. Checks, builds and runs them, tells each row that differs,
-//! and how many are as expected.
+//! independent program has computed them. Checks, builds and runs them, prints each row that
+//! differs, and the number of rows that are as expected.
 //!
 //! The file `rows` lists them, one a line: `check FOLDER SOURCE..` for the verdict on a table and
 //! its sources, `run FOLDER TICKS SOURCE..` for the trace of their image, `refused FOLDER TICKS
-//! SOURCE..` for a run of it that is refused, `image FOLDER TICKS` for the trace of an image that lies
-//! there, `refused FOLDER TICKS` for a run of such an image that is refused, `replay FOLDER PARTITION
-//! TICKS SOURCE..` and `inputs FOLDER PARTITION TICKS SOURCE..` for a partition of an image that is
-//! built, or, without sources, of one that lies there, and `build FOLDER SOURCE..`, `cost FOLDER
-//! SOURCE..` and `dis FOLDER` for what these commands write. In the folder lie the table and the
-//! sources, or the image, the device text `devices` if it is not empty, and what is expected: `answer`
-//! or `trace`. For a partition `b` these are `b.inputs`, which `inputs` writes and `replay` reads (or an
-//! empty text), and `b.trace`, which `replay` writes; where such a file lacks, the command is refused
-//! with the line in `answer`. Beside an image that no source makes, if it has a trace, the file `cases`
-//! tells what each of its partitions shows.
+//! SOURCE..` for a run of it that is refused, `image FOLDER TICKS` for the trace of an image in the
+//! folder, `refused FOLDER TICKS` for a run of such an image that is refused, `replay FOLDER
+//! PARTITION TICKS SOURCE..` and `inputs FOLDER PARTITION TICKS SOURCE..` for a partition of an
+//! image that is built, or, without sources, of an image in the folder, and `build FOLDER
+//! SOURCE..`, `cost FOLDER SOURCE..` and `dis FOLDER` for what these commands write. In the folder
+//! lie the table and the sources, or the image, the device text `devices` if it is not empty, and
+//! what is expected: `answer` or `trace`. For a partition `b` these are `b.inputs`, which `inputs`
+//! writes and `replay` reads (or an empty text), and `b.trace`, which `replay` writes; if such a
+//! file is missing, the command is refused with the line in `answer`. Beside an image that no
+//! source makes, if it has a trace, the file `cases` describes the trace of each of its partitions.
 #![tactic(auto)]
 
 mod answer;

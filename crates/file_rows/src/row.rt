@@ -6,8 +6,8 @@ use std::rt::Files;
 use std::str::SplitWhitespace;
 use std::{fs, io};
 
-/// What is asked of the files in a folder: a table with its sources, or an image, maybe with a device
-/// text; what is expected lies beside them.
+/// A request on the files in a folder: a table with its sources, or an image, maybe with a device
+/// text; the expected texts lie beside them.
 #[derive(Drop)]
 pub struct Row<'a> {
     pub folder: &'a str,
@@ -15,28 +15,30 @@ pub struct Row<'a> {
     sources: Vec<&'a str>,
 }
 
-/// What is compared.
+/// The text that a row compares.
 #[derive(Clone, Copy)]
 enum Asked<'a> {
-    /// The answer to `check`, which `build` repeats where it refuses.
+    /// The answer to `check`, which `build` repeats if it refuses.
     Verdict,
-    /// The trace of so many ticks of the image that is built of the table and the sources.
+    /// The trace of this number of ticks of the image that is built of the table and the sources.
     Trace(&'a str),
-    /// The trace of so many ticks of the image that lies there.
+    /// The trace of this number of ticks of the image in the folder.
     TraceOfImage(&'a str),
-    /// The refusal of a run of so many ticks, of the image that is built or that lies there.
+    /// The refusal of a run of this number of ticks, of the image that is built or in the folder.
     Refusal(&'a str),
-    /// The trace of a partition alone for so many ticks, of such an image, or why its replay is refused.
+    /// The trace of this partition alone for this number of ticks, of such an image, or the reason
+    /// why its replay is refused.
     Replay(&'a str, &'a str),
-    /// The inputs that so many ticks of such an image bring a partition, or why they are refused.
+    /// The inputs that this number of ticks of such an image brings this partition, or the reason
+    /// why they are refused.
     Inputs(&'a str, &'a str),
-    /// The answer to `build` or `cost`, or to `dis` for the image that lies there.
+    /// The answer to `build` or `cost`, or to `dis` for the image in the folder.
     Answer(&'a str),
 }
 
 impl<'a> Row<'a> {
-    /// The row of a line of the list. A line that begins with no command and folder is none, and
-    /// neither is one that lacks its ticks or its partition.
+    /// The row of a line of the list; `None` if the line does not begin with a command and a
+    /// folder, or lacks its ticks or its partition.
     pub fn of_line(alloc: Global, line: &'a str) -> Result<Option<Self>, AllocError> {
         let mut words = line.split_whitespace();
         let (Some(command), Some(folder)) = (words.next(), words.next()) else {
@@ -65,8 +67,8 @@ impl<'a> Row<'a> {
         }
     }
 
-    /// Whether `check` answers what is expected and writes no image, and `build` writes one where
-    /// the module is accepted, and else refuses it with the same line and writes none.
+    /// Returns true if `check` gives the expected answer and writes no image, and `build` writes an
+    /// image of an accepted module, or else refuses it with the same line and writes none.
     fn has_verdict<R: Files + AllocGlobal>(&self, rt: &R) -> io::Result<bool> {
         let expected = self.read(rt, "answer")?;
         let checked = Answer::to(rt, self.words(rt.alloc(), "check", None)?.as_slice());
@@ -86,20 +88,20 @@ impl<'a> Row<'a> {
         }
     }
 
-    /// Whether the trace of so many ticks of the image is the expected one.
+    /// Returns true if the trace of `ticks` ticks of the image is the expected one.
     fn has_trace<R: Files + AllocGlobal>(&self, rt: &R, ticks: &str) -> io::Result<bool> {
         let expected = self.read(rt, "trace")?;
         Ok(self.run(rt, ticks)?.is_done_with(expected.as_slice()))
     }
 
-    /// Whether a run of so many ticks is refused as expected.
+    /// Returns true if a run of `ticks` ticks is refused as expected.
     fn has_refusal<R: Files + AllocGlobal>(&self, rt: &R, ticks: &str) -> io::Result<bool> {
         let expected = self.read(rt, "answer")?;
         Ok(self.has_image(rt)? && self.run(rt, ticks)?.is_refused_with(expected.as_slice()))
     }
 
-    /// Whether a partition shows alone what is expected, with the inputs of the row or with none, or
-    /// its replay is refused as expected.
+    /// Returns true if a partition alone shows the expected trace, with the inputs of the row or
+    /// without any, or if its replay is refused as expected.
     fn has_replay<R: Files + AllocGlobal>(
         &self,
         rt: &R,
@@ -121,7 +123,7 @@ impl<'a> Row<'a> {
         self.is_answered(rt, &words, trace.as_str())
     }
 
-    /// Whether a run brings a partition what is expected, or is refused as expected.
+    /// Returns true if a run brings a partition the expected inputs, or is refused as expected.
     fn has_inputs<R: Files + AllocGlobal>(
         &self,
         rt: &R,
@@ -142,8 +144,8 @@ impl<'a> Row<'a> {
         self.is_answered(rt, &words, inputs.as_str())
     }
 
-    /// Whether these words over the image write the file of that name, or, where the row has no such
-    /// file, are refused with the line that is expected.
+    /// Returns true if these words over the image write the file of that name or, if the row has no
+    /// such file, are refused with the expected line.
     fn is_answered<R: Files + AllocGlobal>(
         &self,
         rt: &R,
@@ -160,12 +162,13 @@ impl<'a> Row<'a> {
         }
     }
 
-    /// Whether there is an image: it is built of the sources, or, where there are none, lies there.
+    /// Returns true if the row has an image: built of its sources or, without sources, in the
+    /// folder.
     fn has_image<R: Files + AllocGlobal>(&self, rt: &R) -> Result<bool, AllocError> {
         Ok(self.sources.is_empty() || self.build(rt)?.is_done())
     }
 
-    /// Whether the command writes what is expected, or is refused with that line.
+    /// Returns true if the command writes the expected text, or is refused with that line.
     fn has_answer<R: Files + AllocGlobal>(&self, rt: &R, command: &str) -> io::Result<bool> {
         let expected = self.read(rt, "answer")?;
         let answer = match command {
@@ -234,8 +237,8 @@ impl<'a> Row<'a> {
     }
 }
 
-/// What a command of the list asks, whose words behind the folder come next. There is none for another
-/// word, or where a partition or the ticks lack.
+/// Returns the request of the word `command`, with the words behind the folder. Returns `None` for
+/// another word, or if the partition or the ticks are missing.
 fn asked_of<'a>(command: &'a str, words: &mut SplitWhitespace<'a>) -> Option<Asked<'a>> {
     match command {
         "check" => Some(Asked::Verdict),

@@ -12,12 +12,12 @@ use Rattle.kernel_meaning.specs.Sharing.{Sharing, answers, becomes, refuses}
 use Rattle.kernel_meaning.specs.Step.{after}
 use Rattle.kernel_meaning.specs.Sharing.{fills}
 
--- none waits
+-- no error waits
 pub takes_none : (b : Sharing Errors) (p : Runner) (array : ArrayPlace) (es : List WaitingError) → slice_get es 0 ≡ None → takes_error b p array es ≡ refuses b p service.GetErrorStatus code.NoAction
 takes_none b p array [] h = refl
 takes_none b p array (e ∷ es) h = absurd (search rules)
 
--- one waits
+-- an error waits
 pub takes_some : (b : Sharing Errors) (p : Runner) (array : ArrayPlace) (e : WaitingError) (es : List WaitingError) → slice_get es 0 ≡ Some e → takes_error b p array es ≡ after (answers b p service.GetErrorStatus code.NoError (error_status e)) (after (fills b (Some array) e.words) (becomes b (record b.shared { waiting = drop 1 es })))
 takes_some b p array e [] h = absurd (search rules)
 takes_some b p array e (f ∷ es) h = search rules

@@ -1,4 +1,4 @@
--- That a process which becomes ready asks nothing of the processor.
+-- A process that becomes ready asks nothing of the processor.
 use Rattle.std.proofs.Common.{◌≡◌, [], rules}
 use Rattle.apex_types.specs.declared.identity.Runner.{Runner}
 use Rattle.apex_types.specs.declared.process.ProcessStatus.{ProcessStatus}

@@ -1,4 +1,4 @@
--- How the fields of the errors are seen, and what always holds of them.
+-- The view of the fields of the errors, and their invariants.
 use Rattle.std.specs.Prelude.{◌≤◌, length}
 use Rattle.apex_types.specs.declared.limits.TheConstants.{MOST_ERRORS}
 use Rattle.kernel_meaning.specs.Kernel as meaning
@@ -7,7 +7,7 @@ use Rattle.health.specs.declared.errors.Errors.TheInside as errors
 abbrev pub errors_of : errors.Inside → meaning.Errors
 errors_of x = record { has_handler = x.has_handler; waiting = x.waiting.items }
 
--- the errors are no more than may wait, and these have memory
+-- no more errors than may wait, and memory for as many as may wait
 pub record HasRing (x : errors.Inside) : Type 0 where
   pub few : length x.waiting.items ≤ MOST_ERRORS
   pub room : MOST_ERRORS ≤ x.waiting.capacity

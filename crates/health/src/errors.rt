@@ -9,7 +9,7 @@ use circular_buffer::HeapCircularBuffer;
 use std::alloc::{AllocError, Global};
 use std::marker::Model;
 
-/// For how many errors there is memory.
+/// The number of errors that the memory holds.
 const PLACES: usize = MOST_ERRORS as usize;
 
 /// The error handler of a partition, and the errors that wait for it, at most 64. A contract sees it
@@ -32,7 +32,7 @@ impl Model for Errors {
     ghost invariant = { HasRing };
 }
 
-/// The same error once more.
+/// A copy of the error.
 fn copied_error(error: &WaitingError) -> WaitingError
     ensures { result ≡ error.now }
 {
@@ -44,8 +44,8 @@ fn copied_error(error: &WaitingError) -> WaitingError
 }
 
 impl Errors {
-    /// No error waits; `has_handler` says whether the partition's source has an error handler. It takes
-    /// memory for 64 errors, and no other call takes any. An error is one of memory.
+    /// Makes an empty queue of errors, with memory for 64; no other call allocates. `has_handler`
+    /// says whether the partition's source has an error handler. `AllocError`: out of memory.
     pub fn new(alloc: Global, has_handler: bool) -> Result<Errors, AllocError>
         ensures { IfOk result (λ errors. errors ≡ meaning.fresh_errors has_handler) }
     {
@@ -56,7 +56,7 @@ impl Errors {
         })
     }
 
-    /// An error waits behind the others, with its message. Where 64 wait, it is lost.
+    /// Queues an error, with its message, behind the others. If 64 wait, it is lost.
     pub fn queue(&mut self, error: &WaitingError)
         ensures { self.new ≡ meaning.queued self.old error.now }
     {
@@ -65,7 +65,7 @@ impl Errors {
         }
     }
 
-    /// No error waits.
+    /// Removes all waiting errors.
     pub fn clear(&mut self)
         ensures { self.new ≡ meaning.emptied_errors self.old }
     {
@@ -86,7 +86,7 @@ impl Errors {
         self.waiting.front().is_some()
     }
 
-    /// How many more errors may wait.
+    /// The number of further errors that may wait.
     pub(crate) fn free_places(&self) -> u8
         ensures { result ≡ MOST_ERRORS - length self.now.waiting }
     {
@@ -95,7 +95,7 @@ impl Errors {
         MOST_ERRORS - waiting as u8
     }
 
-    /// Takes the error that waits longest.
+    /// Takes the error that has waited longest.
     pub(crate) fn pop(&mut self) -> Option<WaitingError>
         ensures first { result ≡ slice_get self.old.waiting 0 }
         ensures rest { self.new ≡ record self.old { waiting = drop 1 self.old.waiting } }

@@ -1,4 +1,4 @@
-//! The error handler: its creation, its start, and the errors that it asks for.
+//! The error handler: its creation, its start, and the service that hands it the errors.
 
 ghost use Rattle.std.specs.Prelude.{◌≡◌, pos, true};
 ghost use Rattle.apex_types.specs.Room.{HasRoom, Grows};
@@ -16,9 +16,9 @@ use process_table_base::{
     Found, ProcessTable, Request, fill, is_dormant, is_large_enough, is_same,
 };
 
-/// CREATE_ERROR_HANDLER (ARINC 653 Part 1, health monitoring): the error handler is created, and is
-/// dormant until an error waits for it. INVALID_MODE: in normal mode; INVALID_CONFIG: the source has no
-/// error handler; NO_ACTION: it was created since the last Clear.
+/// CREATE_ERROR_HANDLER (ARINC 653 Part 1, health monitoring): creates the error handler, which is
+/// dormant until an error waits for it. INVALID_MODE: in normal mode; INVALID_CONFIG: the source
+/// has no error handler; NO_ACTION: it was created since the last Clear.
 pub fn create_error_handler(
     table: &mut ProcessTable,
     errors: &Errors,
@@ -49,7 +49,7 @@ pub fn create_error_handler(
     }
 }
 
-/// Whether someone was found who is created.
+/// Whether a created runner was found.
 fn is_created(found: &Option<Found>) -> bool
     ensures { result ≡ meaning.has_row (record_of found.now) is_created }
 {
@@ -59,15 +59,14 @@ fn is_created(found: &Option<Found>) -> bool
     }
 }
 
-/// The number of an error in what a program reads, 0 to 6.
+/// The number of an error as a program reads it, 0 to 6.
 fn number_of_error(error: ErrorKind) -> i64
     ensures { result ≡ pos (meaning.number_of_error error) }
 {
     error as i64
 }
 
-/// The first error waits no longer, and its message goes into the array. Where none waits nothing is
-/// done.
+/// Takes the first error, and writes its message into the array. NO_ACTION: no error waits.
 #[tactic(auto, using(crate::proofs::Taking::taking))]
 fn take_error(
     table: &ProcessTable,
@@ -95,10 +94,10 @@ fn take_error(
     }
 }
 
-/// GET_ERROR_STATUS (ARINC 653 Part 1, health monitoring): the error that waits longest waits no
-/// longer; its outputs are its number, 0 to 6, the number of its process, from 1 on, and the length of
-/// its message in words, which goes into the array. INVALID_CONFIG: the caller is not the error
-/// handler; INVALID_PARAM: an array without room for 16 words; NO_ACTION: no error waits.
+/// GET_ERROR_STATUS (ARINC 653 Part 1, health monitoring): takes the error that has waited longest.
+/// Returns its number, 0 to 6, the number of its process, from 1 on, and the length of its message
+/// in words; the message goes into the array. INVALID_CONFIG: the caller is not the error handler;
+/// INVALID_PARAM: an array without room for 16 words; NO_ACTION: no error waits.
 pub fn get_error_status(
     table: &ProcessTable,
     errors: &mut Errors,
@@ -122,7 +121,7 @@ pub fn get_error_status(
     take_error(table, errors, request, array, out);
 }
 
-/// A created handler that is dormant begins with a fresh stack, and is ready.
+/// A created, dormant handler begins with a fresh stack, and becomes READY.
 #[tactic(auto, using(crate::proofs::Waking::waking))]
 fn begin_if_dormant(table: &mut ProcessTable, out: &mut Out)
     requires { HasRoom 1 1 out.old }
@@ -159,7 +158,7 @@ pub fn handler_stays(table: &ProcessTable, errors: &Errors, mode: Mode) -> bool
     mode != Mode::Normal || !errors.is_waiting() || cannot_begin(table)
 }
 
-/// In normal mode a dormant error handler starts if an error waits for it, and is ready.
+/// In normal mode, starts a dormant error handler if an error waits for it; it becomes READY.
 pub fn start_handler(table: &mut ProcessTable, errors: &Errors, mode: Mode, out: &mut Out)
     requires { HasRoom 1 1 out.old }
     ensures step { IsMade (meaning.starts_handler mode (both table.old errors.now))

@@ -1,5 +1,5 @@
-//! Health monitoring of a partition: the errors that wait for its error handler, how an error is
-//! handled, and the services on errors and application messages.
+//! Health monitoring of a partition: the errors that wait for its error handler, the response to an
+//! error, and the services on errors and application messages.
 #![tactic(auto)]
 
 mod errors;

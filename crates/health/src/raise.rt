@@ -16,7 +16,7 @@ use crate::tell::is_message_length;
 use apex_types::{ErrorKind, HealthTable, Out, PartitionAction, ReturnCode, Service, Words};
 use process_table_base::{Handed, ProcessTable, Request, answer, first_words, name_of};
 
-/// The answer to a caller, then its error APPLICATION_ERROR with its message.
+/// Answers the caller, then raises its error APPLICATION_ERROR with the message.
 fn raise(
     health: HealthTable,
     table: &ProcessTable,
@@ -49,7 +49,7 @@ fn raise(
     raise_error(health, request.mode, table, errors, raised, out)
 }
 
-/// The error is one that a process may raise; its message may have a wrong length.
+/// Raises an error that a process may raise, unless its message has a wrong length.
 fn raise_message(
     health: HealthTable,
     table: &ProcessTable,
@@ -85,10 +85,10 @@ fn raise_message(
     raise(health, table, errors, request, message, out)
 }
 
-/// RAISE_APPLICATION_ERROR (ARINC 653 Part 1, health monitoring): the caller's error
-/// APPLICATION_ERROR with a message, which is the first words of those that the call hands in. At
-/// partition level the partition's action for it is left to be done, and is answered.
-/// INVALID_PARAM: the error is not 1, or a length below 1, above 16, or above the array's size.
+/// RAISE_APPLICATION_ERROR (ARINC 653 Part 1, health monitoring): raises the caller's error
+/// APPLICATION_ERROR with a message, the first `handed.length` words handed in. At partition level,
+/// returns the partition's action for it, which remains to be done. INVALID_PARAM: the error is not
+/// 1, or a length below 1, above 16, or above the array's size.
 pub fn raise_application_error(
     health: HealthTable,
     table: &ProcessTable,
@@ -114,7 +114,7 @@ pub fn raise_application_error(
     raise_message(health, table, errors, request, handed, words, out)
 }
 
-/// Whether it is the number of the error that a process may raise.
+/// Whether `error` is the number of the error that a process may raise.
 fn is_application_error(error: i64) -> bool
     ensures { result ≡ int_eq error (pos 1) }
 {

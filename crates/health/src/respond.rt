@@ -1,4 +1,4 @@
-//! Errors, and how they are handled: by the error handler, or by the partition's action for them.
+//! Errors, and the response to them: by the error handler, or by the partition's action.
 
 ghost use Rattle.std.specs.Prelude.{◌≡◌};
 ghost use Rattle.apex_types.specs.Room.{HasRoom, Grows};
@@ -24,8 +24,8 @@ fn is_handler_created(table: &ProcessTable) -> bool
     }
 }
 
-/// How many more errors may wait for the error handler: none unless it is created and the mode is
-/// normal, and 64 at most.
+/// How many more errors may wait for the error handler, at most 64: 0 unless it is created and the
+/// mode is normal.
 pub fn free_places(table: &ProcessTable, errors: &Errors, mode: Mode) -> u8
     ensures { result ≡ meaning.free_places mode (both table.now errors.now) }
 {
@@ -51,8 +51,8 @@ pub fn action_of(table: HealthTable, error: ErrorKind) -> PartitionAction
     }
 }
 
-/// The level of an error of this one: process level, if it is the error of a process and may wait for
-/// the error handler; else partition level.
+/// The level of an error of `runner`: process level, if it is the error of a process and may wait
+/// for the error handler; otherwise partition level.
 pub fn level_of(mode: Mode, table: &ProcessTable, errors: &Errors, runner: Runner) -> ErrorLevel
     ensures { result ≡ meaning.level_of mode (both table.now errors.now) runner }
 {
@@ -62,8 +62,8 @@ pub fn level_of(mode: Mode, table: &ProcessTable, errors: &Errors, runner: Runne
     }
 }
 
-/// How an error of a level is handled: at process level by the error handler, else by this action of
-/// the partition.
+/// The response to an error: at process level by the error handler, otherwise by this action of the
+/// partition.
 fn response_at(level: ErrorLevel, action: PartitionAction) -> Response
     ensures { result ≡ meaning.response_at level action }
 {
@@ -73,7 +73,7 @@ fn response_at(level: ErrorLevel, action: PartitionAction) -> Response
     }
 }
 
-/// The error of a process waits for the handler, with its message.
+/// Queues the error of a process, with its message, for the handler.
 fn queue(runner: Runner, error: ErrorKind, words: Words, out: &mut Out)
     requires { HasRoom 0 1 out.old }
     ensures step { IsTold (meaning.queues runner error words.items) out.old out.new }
@@ -88,8 +88,8 @@ fn queue(runner: Runner, error: ErrorKind, words: Words, out: &mut Out)
     }
 }
 
-/// The error waits for the handler with its message, or the partition's action for it is left to be
-/// done.
+/// Queues the error, with its message, for the handler, or returns the partition's action for it,
+/// which remains to be done.
 fn wait_or_leave(
     runner: Runner,
     error: ErrorKind,
@@ -112,7 +112,7 @@ fn wait_or_leave(
     }
 }
 
-/// An error of someone: who it is and how lines name them, which error, and its message.
+/// An error of a runner: the runner and its subject in trace lines, the error, and its message.
 #[derive(Drop)]
 pub struct Raised {
     pub runner: Runner,
@@ -121,8 +121,9 @@ pub struct Raised {
     pub words: Words,
 }
 
-/// An error of someone, with its message: its line, then at process level it waits for the error
-/// handler. At partition level the partition's action for it is left to be done, and is answered.
+/// Raises an error of a runner, with its message: writes its line; at process level, queues it for
+/// the error handler; at partition level, returns the partition's action for it, which remains to
+/// be done.
 pub fn raise_error(
     health: HealthTable,
     mode: Mode,

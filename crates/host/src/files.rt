@@ -14,7 +14,7 @@ pub struct HostFiles<'a, R: rt::Files + AllocGlobal> {
 }
 
 impl<'a, R: rt::Files + AllocGlobal> HostFiles<'a, R> {
-    /// The files, of which none failed so far.
+    /// The files, without a failure so far.
     pub fn new(runtime: &'a R) -> Self {
         HostFiles {
             runtime,

@@ -1,4 +1,4 @@
-//! What a program does with the words of its process.
+//! Runs a program with the words of its process.
 
 ghost use Rattle.std.specs.Prelude.{◌≡◌, ◌≢◌, ◌≤◌, ◌-◌, ◌^◌, ◌<◌, codes};
 ghost use Rattle.streams.specs.States.{TakesLine, seen};
@@ -12,20 +12,19 @@ use streams::{Stream, WriterStream, tell_line};
 
 /// A program, as far as its words and its streams are known.
 pub trait Program {
-    /// Does what the words say, the program's name first, and answers the exit status.
+    /// Does what the words say, the program's name first, and returns the exit status.
     fn obey<O: Stream, E: Stream>(&mut self, words: &[String], out: &mut O, err: &mut E) -> u8
         requires out { O.failures out.old < 2 ^ 64 - 1 }
         requires err { E.failures err.old < 2 ^ 64 - 1 }
         ensures { result ≤ 2 };
 }
 
-/// Does what the words of the process say. Where there is too little memory for that, `memory` is
-/// told.
+/// Does what the words of the process say. Reports `memory` if memory runs out for that.
 pub fn run<P: Program>(rt: &HostRuntime, program: &mut P, memory: &str) -> ExitCode {
     ExitCode::from(status(rt, program, memory))
 }
 
-/// Does what the words of the process say, and answers the exit status.
+/// Does what the words of the process say, and returns the exit status.
 fn status<P: Program>(rt: &HostRuntime, program: &mut P, memory: &str) -> u8
     ensures { result ≤ 2 }
 {
@@ -40,7 +39,7 @@ fn status<P: Program>(rt: &HostRuntime, program: &mut P, memory: &str) -> u8
     };
     let mut out = WriterStream::new(&mut writer);
     let status = program.obey(words.as_slice(), &mut out, &mut err);
-    // What was not flushed was not taken, and is not written again.
+    // Bytes that were not flushed were not taken, and are not written again.
     let _ = writer.into_parts();
     status
 }
@@ -49,8 +48,8 @@ fn words(rt: &(impl Env + AllocGlobal)) -> io::Result<Vec<String>> {
     Ok(env::args(rt)?.collect(rt.alloc())?)
 }
 
-/// The status where the words of the command line are not to be had: they find no memory, or
-/// one is not UTF-8. Its line goes to `err`; what cannot be shown is told by the status alone.
+/// The status if the command line cannot be read: memory runs out, or a word is not UTF-8. Its line
+/// goes to `err`; if `err` does not take it, only the status reports the error.
 fn wordless<E: Stream>(kind: ErrorKind, memory: &str, err: &mut E) -> u8
     requires { E.failures err.old < 2 ^ 64 - 1 }
     ensures memory { kind ≡ ErrorKind.OutOfMemory

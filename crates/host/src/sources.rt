@@ -15,7 +15,7 @@ pub struct HostSources<'a> {
 }
 
 impl<'a> HostSources<'a> {
-    /// The texts, of which none failed to be opened so far.
+    /// The texts, without a failure so far.
     pub fn new(runtime: &'a HostRuntime) -> Self {
         HostSources {
             runtime,

@@ -1,4 +1,4 @@
--- What the code's rows and sections stand for in the definitions, apart from where they lie in memory.
+-- The rows and sections of the code as those of the definitions, apart from their place in memory.
 use Rattle.std.specs.Prelude.{List, map}
 use Rattle.apex_types.specs.declared.codes.ModuleAction.{ModuleAction}
 use Rattle.apex_types.specs.declared.row.Section as code_section

@@ -4,7 +4,7 @@ use Rattle.image.specs.declared.fault.ImageFault.{ImageFault}
 use Rattle.image.specs.declared.fault.ImageFault.TheVariants as fault
 use Rattle.machine_meaning.specs.ImageReading.{Fault, Truncated, Foreign, Limit, Order, Trailing}
 
--- the fault of the bytes that is named, none for want of memory
+-- the fault of the bytes that is named; none if memory ran out
 abbrev pub named : ImageFault → Option Fault
 named fault.Truncated = Some Truncated
 named fault.Foreign = Some Foreign

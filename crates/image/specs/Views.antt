@@ -1,5 +1,5 @@
--- What contracts see of the code's values: they are those of the definitions, apart from where they
--- lie in memory.
+-- The values of the code as contracts see them: those of the definitions, apart from their place in
+-- memory.
 use Rattle.std.specs.Prelude.{◌≡◌, ℕ, Result, Ok, Err, IfSome}
 use Rattle.image.specs.declared.value.Image as code_image
 use Rattle.image.specs.declared.reading.image.Fields as code_fields
@@ -20,7 +20,7 @@ number_of fault.Order = 4
 number_of fault.Trailing = 5
 number_of fault.Memory = 6
 
--- what a function answered, seen by a view, is what reading gives, unless memory ran out
+-- the answer of a function, seen by a view, is the result of reading, unless memory ran out
 abbrev pub Gives : {X Y : Type 0} → (X → Y) → Result X ImageFault → Result Y Fault → Type 0
 Gives view (Ok x) read = read ≡ Ok (view x)
 Gives view (Err e) read = IfSome (named e) (λ f. read ≡ Err f)

@@ -7,7 +7,7 @@ ghost use Rattle.image.specs.declared.fault.ImageFault.TheVariants.{Memory};
 use std::alloc::{AllocError, AllocFailed};
 use thiserror::Error;
 
-/// What is wrong with an image: the first fault that is met from left to right.
+/// The fault of an image: the first fault from left to right.
 #[derive(Clone, Copy, Debug, PartialEq, Eq, Error)]
 pub enum ImageFault {
     /// A field is not all there.

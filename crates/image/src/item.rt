@@ -1,9 +1,9 @@
-//! Partitions with what their sources became.
+//! Partitions with the sections compiled from their sources.
 
 use apex_types::Section;
 use window_table::{HasRow, PartitionRow};
 
-/// A partition's row of the module table with what its source became.
+/// A partition's row of the module table with the section compiled from its source.
 #[derive(Drop)]
 pub struct PartitionItem {
     pub row: PartitionRow,

@@ -42,8 +42,11 @@ fn judge(alloc: Global, fields: Fields) -> Result<Image, ImageFault>
     })
 }
 
-/// The image that the bytes spell, or the first fault that is met in reading them from left to
-/// right, or the want of memory.
+/// The image that the bytes spell.
+///
+/// # Errors
+///
+/// The first fault in reading the bytes from left to right, or `Memory` if memory runs out.
 #[tactic(auto, unfolding(machine_meaning::specs::ImageReading::image_at))]
 pub fn load_image(alloc: Global, bytes: &[u8]) -> Result<Image, ImageFault>
     ensures { Gives image_of result (image_at bytes.now) }

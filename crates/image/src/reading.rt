@@ -1,4 +1,4 @@
-//! Reading an image from left to right: each reader answers a value and the bytes after it, or the
+//! Reading an image from left to right: each reader returns a value and the bytes after it, or the
 //! first fault.
 
 pub mod bodies;

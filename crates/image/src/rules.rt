@@ -14,8 +14,9 @@ use window_table::{
     lacks_release,
 };
 
-/// Whether the rules on windows, periods, durations, releases and channels are kept, where no window
-/// is of another partition or ends past the frame. An error is one of memory.
+/// Returns true if the rules on windows, periods, durations, releases and channels are kept, where
+/// each window names a partition of the table and ends within the frame. Fails only if memory runs
+/// out.
 pub fn keeps_rules(
     alloc: Global,
     schedule: &Schedule,

@@ -59,7 +59,7 @@ fn put_image(out: &mut Vec<u8>, image: &Image) -> Result<(), AllocError>
     put_channels(out, &image.channels)
 }
 
-/// The one spelling of the image. It is refused for want of memory alone.
+/// The one spelling of the image. Fails only if memory runs out.
 pub fn write_image(alloc: Global, image: &Image) -> Result<Vec<u8>, ImageFault>
     ensures spelled { IfOk result (λ bytes. bytes.items ≡ spelling (image_of image.now)) }
     ensures refused { IfErr result (λ fault. fault ≡ Memory) }

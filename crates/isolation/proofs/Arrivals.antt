@@ -1,4 +1,5 @@
--- A message that the port at one end of a channel allows is one at each destination port of the channel.
+-- A message that the port at one end of a channel allows is allowed at each destination port of the
+-- channel.
 use Rattle.std.proofs.Common.{◌≡◌, ◌≢◌, ℕ, zero, suc, ◌+◌, ◌-◌, ℤ, Bool, true, false, not, List, [], ◌∷◌, Option, Some, None, refl, sym, ap, subst, ◌∙◌, arith}
 use Rattle.std.specs.Prelude.{◌==◌, ◌||◌, slice_get, is_none, if◌then◌else◌, flat_map}
 use Rattle.std.specs.List.{list_any, AllByRecursion}
@@ -28,7 +29,7 @@ is_destination : (d : PortDirection) → is_source d ≡ false → d ≡ directi
 is_destination direction.Source h = absurd (cc)
 is_destination direction.Destination h = refl
 
--- what is at a place, by its number
+-- the element at a place, by its number
 number_there : {A : Type 0} (xs : List A) (n : ℕ) (x : A) → n ≢ 0 → slice_get xs (n - 1) ≡ Some x → at_number xs n ≡ Some x
 number_there xs zero x z e = absurd (z refl)
 number_there xs (suc k) x z e = subst (λ (i : ℕ). slice_get xs i ≡ Some x) (plain k) e
@@ -36,7 +37,7 @@ number_there xs (suc k) x z e = subst (λ (i : ℕ). slice_get xs i ≡ Some x) 
     plain : (k : ℕ) → suc k - 1 ≡ k
     plain k = omega arith
 
--- what the rules say of a channel
+-- the rules for a channel
 pub record IsRight (ps : List Partition) (c : Channel) : Type 0 where
   pub known : list_any (is_unknown_port ps) (ends_of c) ≡ false
   pub goes : list_any (is_source_port ps) c.destinations ≡ false
@@ -144,7 +145,8 @@ module _ (ps : List Partition) (channels : List Channel) (known : has_unknown_po
       either true h = messages_brought (record { 0 = suc k }) z.row (subst (λ (n : ℕ). slice_get other.ports n ≡ Some z.row) (back k) e) z.messages (holds h)
       either false h = tt
 
-  -- What the source ports of a partition hold comes to the others as inputs that their ports allow.
+  -- What the source ports of a partition hold arrives at the others as inputs that their ports
+  -- allow.
   ports_brought : (k : ℕ) (xs : List PortRow) (zs : List Port) → ((i : ℕ) (x : PortRow) → slice_get xs i ≡ Some x → slice_get other.ports (k + i) ≡ Some x) → AreHolding xs zs
       → AllByRecursion (IsDelivered row) (held_ports channels (suc place) (with_number (suc from)) (suc k) zs)
   ports_brought k [] [] are h = tt

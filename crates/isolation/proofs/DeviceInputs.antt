@@ -1,4 +1,4 @@
--- What an accepted device text brings to a partition is allowed by its ports.
+-- The inputs that an accepted device text brings a partition are allowed by its ports.
 use Rattle.std.proofs.Common.{◌≡◌, ◌≢◌, ℕ, zero, suc, ◌-◌, ◌≤◌, ℤ, Bool, true, false, List, [], ◌∷◌, length, Option, Some, None, Ok, refl, sym, subst, arith}
 use Rattle.std.specs.Prelude.{◌==◌, ◌||◌, slice_get, is_none, if◌then◌else◌, flat_map}
 use Rattle.std.specs.List.{list_any, AllByRecursion}
@@ -44,7 +44,7 @@ first_port ps (suc a) (suc b) z y h = subst (λ (i : ℕ). is_none (slice_get ps
     there None h = absurd (cc)
     there (Some row) h = subst (λ (i : ℕ). is_none (slice_get row.ports i) ≡ false → (x : PortRow) × (slice_get row.ports i ≡ Some x) × (words_of_port (slice_get row.ports b) ≡ x.words)) (back b) (port row (slice_get row.ports b)) h
 
--- a message that the first destination allows comes to allowed ports
+-- a message that the first destination allows arrives at allowed ports
 ends_allowed : (ps : List Partition) (place : ℕ) (row : Partition) → slice_get ps place ≡ Some row → (m : List ℤ) (es : List ChannelEnd) → HasLength (words_of_ends ps es) (message m).items
     → list_any (is_unknown_port ps) es ≡ false → list_any (is_source_port ps) es ≡ false → list_any (λ d. list_any (differ ps d) es) es ≡ false → AllByRecursion (IsDelivered row) (brought_to (suc place) (message m) es)
 ends_allowed ps place row here m [] good known goes same = tt
@@ -93,6 +93,6 @@ module _ (ps : List Partition) (schedule : Schedule) (channels : List Channel) (
   each_allowed [] h = tt
   each_allowed (l ∷ ls) h = (one_allowed l.input h.0, each_allowed ls h.1)
 
-  -- What an accepted text brings is allowed.
+  -- The inputs that an accepted text brings are allowed.
   pub text_allowed : (text : List ℕ) (ls : List DeviceLine) → verdict ps channels text ≡ Ok ls → AreAllowed plan (suc place) row ls
   text_allowed text ls e = each_allowed ls (accepted ps channels text ls e)

@@ -78,7 +78,7 @@ module _ (rows : List PortRow) where
   set_mode_sound at k p m h =
       either (not (is_some (mode_of m))) _ _ h (either (wants is_normal (mode_of m) && is_normal k.mode) _ _ h (either (wants is_warm (mode_of m) && is_cold k.mode) _ _ h (enters_sound at k (mode_of m) h)))
 
-  -- ---- what the partition does on an error
+  -- ---- the partition's response to an error
   ignores_sound : (k : Kernel) (p : Runner) (e : ErrorKind) → IsSoundKernel rows k → Sound (ignores k p e)
   ignores_sound k runner.Init e h = either (is_fault e) _ _ (clears_sound rows k mode.Idle condition.HmPartitionRestart h) h
   ignores_sound k runner.Handler e h = h

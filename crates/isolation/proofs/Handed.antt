@@ -1,4 +1,5 @@
--- What those have handed in who wait at the ports of a partition, and that the changes of one process keep it.
+-- The messages that the processes which wait at the ports of a partition have handed in; the
+-- changes of one process keep them.
 use Rattle.std.proofs.Common.{◌≡◌, ◌≢◌, ℕ, zero, suc, ◌+◌, ◌<◌, ◌≤◌, ℤ, Bool, true, false, not, cond, List, [], ◌∷◌, ◌++◌, length, map, Option, Some, None, refl, sym, subst, arith}
 use Rattle.std.specs.Prelude.{filter, if◌then◌else◌, pos, slice_get, slice_set, slice_index_or, nat_lt}
 use Rattle.std.specs.List.{AllByRecursion}
@@ -41,11 +42,12 @@ abbrev pub AllIn : (ℕ → Entry → Type 0) → ℕ → List (List Entry) → 
 AllIn P n [] = Unit {0}
 AllIn P n (q ∷ qs) = AllByRecursion (P n) q × AllIn P (n + 1) qs
 
--- What a port asks of the message of one who waits at it: a source port, a length that its row allows.
+-- The condition of a port on the message of a process that waits at it: at a source port, a length
+-- that its row allows.
 abbrev pub Asks : List PortRow → ℕ → ArrayVec ℤ → Type 0
 Asks rows place m = (x : PortRow) → slice_get rows place ≡ Some x → x.direction ≡ direction.Source → HasLength x.words m.items
 
--- what a waiting list asks; an object asks nothing
+-- the condition of a waiting list; an object has none
 abbrev pub AsksIn : List PortRow → ListKey → ArrayVec ℤ → Type 0
 AsksIn rows (key.Semaphore place) m = Unit {0}
 AsksIn rows (key.Event place) m = Unit {0}
@@ -53,11 +55,12 @@ AsksIn rows (key.Buffer place) m = Unit {0}
 AsksIn rows (key.Blackboard place) m = Unit {0}
 AsksIn rows (key.Port place) m = Asks rows place m
 
--- an entry at a port, by the messages that the processes have handed in
+-- the condition on an entry at a port, by the messages that the processes have handed in
 abbrev pub HasHanded : List PortRow → List (ArrayVec ℤ) → ℕ → Entry → Type 0
 HasHanded rows handed place e = Asks rows place (slice_index_or handed e.process.0 (message []))
 
--- All who wait at ports have handed in what their port asks for, and there is a place for what each process hands in.
+-- All processes that wait at ports have handed in messages as their port requires, and there is a
+-- place for what each process hands in.
 pub record IsSoundProcesses (rows : List PortRow) (s : Processes) : Type 0 where
   pub handed : AllIn (HasHanded rows s.handed) 0 s.queues.ports
   pub placed : length s.rows ≤ length s.handed + 2
@@ -72,7 +75,7 @@ filter_all P test (x ∷ xs) h = either (test x) (filter_all P test xs h.1)
     either true k = (h.0, k)
     either false k = k
 
--- what stays is of others
+-- the remaining entries are of others
 others_all : (P : Entry → Type 0) (p : ℕ) (xs : List Entry) → AllByRecursion P xs → AllByRecursion (λ e. P e × (p ≢ e.process.0)) (without p xs)
 others_all P p [] h = tt
 others_all P p (x ∷ xs) h = either (is_entry_of p x) refl (others_all P p xs h.1)
@@ -81,7 +84,7 @@ others_all P p (x ∷ xs) h = either (is_entry_of p x) refl (others_all P p xs h
     either true e k = k
     either false e k = ((h.0, eqb-false p x.process.0 e), k)
 
--- what follows of each
+-- a consequence for each entry
 each_all : (P Q : Entry → Type 0) → ((e : Entry) → P e → Q e) → (xs : List Entry) → AllByRecursion P xs → AllByRecursion Q xs
 each_all P Q f [] h = tt
 each_all P Q f (x ∷ xs) h = (f x h.0, each_all P Q f xs h.1)
@@ -105,7 +108,7 @@ turned n k = omega arith
 first : (n : ℕ) → 0 + n ≡ n
 first n = omega arith
 
--- the list at a place, where the lists are numbered from n on
+-- the list at a place, for lists numbered from n on
 all_at : (P : ℕ → Entry → Type 0) (n : ℕ) (qs : List (List Entry)) (k : ℕ) → AllIn P n qs → AllByRecursion (P (n + k)) (list_in qs k)
 all_at P n [] k h = tt
 all_at P n (q ∷ qs) zero h = subst (λ (m : ℕ). AllByRecursion (P m) q) (plain n) h.0
@@ -142,7 +145,7 @@ joined_all P discipline.Priority e xs g h = behind_all P e xs g h
 joined_at : (P : ℕ → Entry → Type 0) (d : Discipline) (e : Entry) (qs : List (List Entry)) (k : ℕ) → AllIn P 0 qs → P k e → AllIn P 0 (slice_set qs k (joined d e (list_in qs k)))
 joined_at P d e qs k h g = all_put P 0 qs k (joined d e (list_in qs k)) h (subst (λ (m : ℕ). AllByRecursion (P m) (joined d e (list_in qs k))) (sym (first k)) (joined_all (P k) d e (list_in qs k) g (at_place P qs k h)))
 
--- what is found is within the list
+-- an element that is found is within the list
 there_below : {A : Type 0} (xs : List A) (k : ℕ) (x : A) → slice_get xs k ≡ Some x → k < length xs
 there_below [] k x e = absurd (cc)
 there_below (y ∷ ys) zero x e = omega arith
@@ -179,7 +182,7 @@ module _ (rows : List PortRow) where
   unready_sound : (s : Processes) (p : Runner) (r : ProcessStatus) → Sound s → Sound (put_unready s p r)
   unready_sound s p r h = record_sound s p r (leaves p s.ready) (not_running p s.running) s.lock h
 
-  -- one waits in no list
+  -- a process waits in no list
   leaves_sound : (s : Processes) (p : Runner) → Sound s → Sound (no_longer_waits s p)
   leaves_sound s runner.Init h = h
   leaves_sound s runner.Handler h = h
@@ -191,7 +194,7 @@ module _ (rows : List PortRow) where
   dormant_sound : (s : Processes) (p : Runner) (r : ProcessStatus) → Sound s → Sound (put_dormant s p r)
   dormant_sound s p r h = record_sound (no_longer_waits s p) p r (leaves p s.ready) (not_running p s.running) (without_holder p s.lock) (leaves_sound s p h)
 
-  -- one becomes ready, waits, or is dormant
+  -- a process becomes ready, waits, or is dormant
   pub wakes_sound : (s : Processes) (p : Runner) (r : ProcessStatus) → Sound s → Sound (wakes s p r).part
   wakes_sound s p r h =
       either r.suspended _ _ (unready_sound s p (record r { wait = wait.Nothing; due = None }) h) (ready_sound s p (record r { state = Ready; wait = wait.Nothing; due = None }) h)
@@ -206,7 +209,7 @@ module _ (rows : List PortRow) where
   rests_found_sound s p None h = h
   rests_found_sound s p (Some r) h = rests_sound s p r h
 
-  -- the wait of one ends
+  -- the wait of a process ends
   pub released_with_sound : (s : Processes) (p : Runner) (r : ProcessStatus) (c : ReturnCode) (outputs : List ℤ) → Sound s → Sound (released_with s p r c outputs).part
   released_with_sound s p r c outputs h = wakes_sound (no_longer_waits s p) p r (leaves_sound s p h)
 
@@ -218,7 +221,7 @@ module _ (rows : List PortRow) where
   on_sound None s step h k = h
   on_sound (Some f) s step h k = k f.0 f.1
 
-  -- ---- who is released together
+  -- ---- the processes released together
   pub all_released_sound : (es : List Entry) (s : Processes) → Sound s → Sound (releases_all es s).part
   all_released_sound [] s h = h
   all_released_sound (e ∷ es) s h = all_released_sound es _ (one (numbered e.process (row_of s (runner.Process e.process))))
@@ -235,8 +238,8 @@ module _ (rows : List PortRow) where
       one None = h
       one (Some f) = released_with_sound s f.0 f.1 code.NoError (pos (length m.items) ∷ []) h
 
-  -- ---- who waits
-  -- one who joins a list with what it asks for
+  -- ---- the processes that wait
+  -- a process that joins a list with a message as it requires
   enters_sound : (s : Processes) (p : ProcessIndex) (w : Waiting) (m : ArrayVec ℤ) (r : ProcessStatus) → p.0 < length s.handed → AsksIn rows w.list m → Sound s → Sound (enters s (runner.Process p) w m r)
   enters_sound s p w m r room good h = record {
     handed = put w.list good;
@@ -257,7 +260,7 @@ module _ (rows : List PortRow) where
           joined_at (HasHanded rows (slice_set s.handed p.0 m)) w.discipline (entry p r.current_priority) (without_in_all p.0 s.queues).ports place others
           (subst (λ (x : ArrayVec ℤ). Asks rows place x) (sym (get_or-set_same s.handed p.0 m (message []) room)) g)
 
-  -- one who calls and has to wait
+  -- a caller that has to wait
   pub blocks_sound : (at : At) (s : Processes) (p : Runner) (limit : ℤ) (w : Waiting) (m : ArrayVec ℤ) → AsksIn rows w.list m → Sound s → Sound (blocks at s p limit w m).part
   blocks_sound at s p limit w m good h = either (is_zero limit) _ _ h (either (is_busy s p) _ _ h (found p (row_of s p) refl))
     where

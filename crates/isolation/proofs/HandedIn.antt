@@ -1,5 +1,5 @@
--- What a call hands in has the length that it asks for, where its array lies within the data; and the arrays of the
--- processor's calls do.
+-- The message that a call hands in has the length given by the call, if its array lies within the
+-- data; and the arrays of the processor's calls do.
 use Rattle.std.proofs.Common.{◌≡◌, ℕ, ◌+◌, ◌-◌, ◌≤◌, min, ℤ, pos, negsuc, Bool, true, false, List, length, take, drop, Option, Some, None, refl, arith}
 use Rattle.std.specs.Prelude.{◌&&◌, int_le, nat_eq, nat_lt, nat_le, if◌then◌else◌, slice_get}
 use Rattle.std.proofs.lemmas.Bool.{and_parts, leb-true}
@@ -28,9 +28,9 @@ use Rattle.kernel_meaning.specs.Sharing.{is_length}
 use Rattle.kernel_meaning.specs.Step.{first_words}
 use Rattle.isolation.proofs.Holding.{HasLength}
 
--- ---- what a call hands in
+-- ---- the words that a call hands in
 
--- so many words from a place on, where they are within the data
+-- words of an array from `base` on, if they lie within the data
 words_in : (base size l : ℤ) (words : List ℤ) (most : ℕ) → most ≤ MOST_WORDS → is_range_within (length words) base size ≡ true → (int_le (pos 1) l && int_le l (pos most) && int_le l size) ≡ true
     → HasLength most (first_words l (message_from base (most_words size) words))
 words_in (pos b) (pos n) (pos k) words most few within e =
@@ -51,25 +51,25 @@ words_in (pos b) (negsuc n) (negsuc k) words most few within e = absurd (cc)
 words_in (negsuc b) (pos n) l words most few within e = absurd (cc)
 words_in (negsuc b) (negsuc n) l words most few within e = absurd (cc)
 
--- From an array within the data, so many words as an object takes, which are 16 at most.
+-- Words from an array within the data: as many as an object takes, at most 16.
 pub handed_length : (array : ArrayPlace) (l : ℤ) (words : List ℤ) (most : ℕ) → most ≤ MOST_WORDS → has_array_within (length words) (Some array) ≡ true → is_length most array l ≡ true
     → HasLength most (first_words l (handed (Some array) words))
 handed_length array l words most few within e = words_in array.base array.size l words most few within e
 
 -- ---- engines whose calls have their arrays within the data
 
--- the array of what is asked, if it has one, lies within data of a size
+-- the array of a request, if it has one, lies within data of a size
 abbrev pub AsksWithin : ℕ → Asks → Type 0
 AsksWithin size Nothing = Unit {0}
 AsksWithin size (Calls c) = has_array_within size (array_of c) ≡ true
 AsksWithin size (Faults e) = Unit {0}
 AsksWithin size Ends = Unit {0}
 
--- so it is after a tick
+-- the same after a tick
 pub record IsWithin {C : Type 0} (r : Ticked C) : Type 0 where
   pub array : AsksWithin (length r.words) r.asks
 
--- so it is after each tick on an engine
+-- the same after each tick on an engine
 abbrev pub KeepsWithin : {C : Type 0} → Engine C → Type 0
 KeepsWithin {C = C} e = (c : C) (words : List ℤ) → IsWithin (e.tick c words)
 

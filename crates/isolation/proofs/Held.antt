@@ -1,4 +1,4 @@
--- What the messages of an ended window bring is what its source ports held before.
+-- The messages of an ended window bring what its source ports held before.
 use Rattle.std.proofs.Common.{◌≡◌, ◌≢◌, ℕ, zero, suc, ◌+◌, ◌-◌, ℤ, Bool, true, false, List, [], ◌∷◌, ◌++◌, length, Option, Some, None, refl, sym, ap, subst, ◌∙◌, arith}
 use Rattle.std.specs.Prelude.{map, option_map, slice_get, slice_set, flat_map, if◌then◌else◌}
 use Rattle.arrayvec.specs.ArrayVec.{ArrayVec}
@@ -29,7 +29,7 @@ use Rattle.isolation.proofs.Twins.{brought_ended, brought_found, brought_message
 use Rattle.isolation.proofs.OwnMessages.{AreLawful, AreWays, with_number, own_message, own_port_moves}
 use Rattle.isolation.proofs.Steps.{IsApart, AreApart, Holds, name_of, get_set_same, get_set_other}
 
--- ---- a list that is the same but at one place
+-- ---- a list that differs at only one place
 pub record Others {A : Type 0} (i : ℕ) (xs ys : List A) : Type 0 where
   pub long : length ys ≡ length xs
   pub same : (j : ℕ) → i ≢ j → slice_get ys j ≡ slice_get xs j
@@ -132,7 +132,7 @@ module _ {C : Type 0} where
     port_stay : (x : Member C) → Stay x (sends_port s at port x).state
     port_stay x = so_many_stay x (messages_to_move (at_number (ports_of x) port.0))
 
-    -- the first message is gone, the others are there
+    -- the first message is removed, the others remain
     first_gone : (x : Member C) (z : Port) (m : ArrayVec ℤ) (rest : List (ArrayVec ℤ)) → slice_get (ports_of x) (place_of_port port) ≡ Some z → z.messages ≡ m ∷ rest
         → slice_get (ports_of (sends_found s at port x (Some m)).state) (place_of_port port) ≡ Some (record z { messages = rest })
     first_gone x z m rest e k =
@@ -221,7 +221,7 @@ module _ {C : Type 0} (name : List ℕ) (place : ℕ) (names : List (List ℕ)) 
           turned : (k i : ℕ) → k + suc i ≡ suc k + i
           turned k i = omega arith
 
-  -- what the ports of the partition held before brings as much as their moves do
+  -- the messages that the ports of the partition held before bring as much as their moves do
   pub all_held : (ms : List (Member C)) (x : Member C) → Is ms x
       → brought_ports (length (ports_from ms (suc place))) 1 channels p at (with_number (suc place)) ms ≡ held_ports channels p (with_number (suc place)) 1 (ports_from ms (suc place))
   all_held ms x h =
@@ -231,7 +231,7 @@ module _ {C : Type 0} (name : List ℕ) (place : ℕ) (names : List (List ℕ)) 
       plain : (i : ℕ) → 0 + i ≡ i
       plain i = omega arith
 
--- ---- whose window ever ends
+-- ---- whatever window ends
 pub ended_held : {C : Type 0} (names : List (List ℕ)) → AreApart names
     → (channels : List Channel) → ((q : ℕ) → AreLawful q channels) → ((q : ℕ) → (s : Surroundings) × AreWays channels q s) → (at : At) (p : ℕ) (ms : List (Member C)) → map name_of ms ≡ names → (o : Option ℕ)
     → brought_ended channels p at ms o ≡ held_ended channels p ms o

@@ -1,5 +1,5 @@
--- What comes to a partition but for the values of its words, and an invariant that gives it: what the source
--- ports of a partition hold.
+-- The inputs of a partition except for the values of their words, and an invariant that gives them:
+-- what the source ports of a partition hold.
 use Rattle.std.specs.Prelude.{◌≡◌, ℕ, ◌≤◌, ℤ, true, List, [], ◌∷◌, ◌++◌, length, Some}
 use Rattle.std.specs.List.{AllByRecursion}
 use Rattle.arrayvec.specs.ArrayVec.{ArrayVec}
@@ -20,9 +20,9 @@ pub all_append : {A : Type 0} (P : A → Type 0) (xs ys : List A) → AllByRecur
 all_append P [] ys h k = k
 all_append P (x ∷ xs) ys h k = (h.0, all_append P xs ys h.1 k)
 
--- ---- what comes, but for the values of its words
+-- ---- the inputs, except for the values of their words
 
--- 1 to so many words
+-- 1 to `most` words
 pub record HasLength (most : ℕ) (words : List ℤ) : Type 0 where
   pub some : 1 ≤ length words
   pub few : length words ≤ most
@@ -39,7 +39,7 @@ IsDelivered row (Arrive port m) = IsDelivery row port.0 m
 IsDelivered row ModuleFault = Unit {0}
 IsDelivered row PartitionFault = Unit {0}
 
--- in the order of their ticks, none of a tick before this one
+-- in the order of their ticks, none before the tick `before`
 abbrev pub AreDelivered : Partition → ℕ → List InputLine → Type 0
 AreDelivered row before [] = Unit {0}
 AreDelivered row before (l ∷ ls) = (before ≤ l.tick.0) × (l.tick.0 ≤ MOST_TICKS) × IsDelivered row l.input × AreDelivered row l.tick.0 ls
@@ -66,7 +66,8 @@ AreHolding [] [] = Unit {0}
 AreHolding (x ∷ xs) (z ∷ zs) = (z.row ≡ x) × IsHolding z × AreHolding xs zs
 AreHolding _ _ = ⊥
 
--- It says of a partition with this row what its source ports hold, and each step keeps it, if what arrives is allowed.
+-- For a partition with this row it says what the source ports hold; each step keeps it, if the
+-- messages that arrive are allowed.
 pub record IsKept {C : Type 0} (row : Partition) (Sound : Member C → Type 0) : Type 0 where
   pub holds : (x : Member C) → Sound x → AreHolding row.ports (ports_of x)
   pub starts : (at : At) (c : StartCondition) (x : Member C) → Sound x → Sound (goes (cold_start at c) x).state

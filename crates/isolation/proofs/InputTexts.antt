@@ -30,7 +30,7 @@ port_named before [] each k x e = absurd (cc)
 port_named before (r ∷ rs) each zero x e = subst (λ (y : PortRow). is_name y.name ≡ true) (same_some r x e) each.0.name
 port_named before (r ∷ rs) each (suc k) x e = port_named (before ++ r ∷ []) rs each.1 k x e
 
--- a port before has another name
+-- an earlier port has another name
 other_name : (before rows : List PortRow) → EachBeside IsPort before rows → (j : ℕ) (y : PortRow) → slice_get before j ≡ Some y → (k : ℕ) (x : PortRow) → slice_get rows k ≡ Some x → same y.name x.name ≡ false
 other_name before [] each j y f k x e = absurd (cc)
 other_name before (r ∷ rs) each j y f zero x e =
@@ -138,7 +138,7 @@ module _ (row : Partition) (names : HasNames row) where
       ∙ ap (λ (r : Result InputLine DeviceFault). and_then r (λ k. lines_from row (count + 1) k.tick.0 (pieces 10 (replay_text row ls)))) (taken_again count before l (omega (arith, few)) h.0 h.1 h.2)
       ∙ ap (put_line l) (lines_again ls (count + 1) l.tick.0 h.3 (omega (arith, few)))
 
--- The text of inputs is accepted as a replay text, and stands for these inputs.
+-- The text of inputs is accepted as a replay text, and means these inputs.
 pub text_again : (row : Partition) (ls : List InputLine) → HasNames row → AreInputs row 0 ls → length ls ≤ MOST_DEVICE_LINES → replay_verdict row (replay_text row ls) ≡ Ok ls
 unfolding replay_verdict
 text_again row ls names h few = lines_again row names ls 0 0 h (omega (arith, few))

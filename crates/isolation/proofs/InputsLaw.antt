@@ -1,4 +1,5 @@
--- The inputs of a run of a lawful image are allowed, and have a text that is accepted and stands for them.
+-- The inputs of a run of a lawful image are allowed, and have a text that is accepted and means
+-- them.
 use Rattle.std.proofs.Common.{◌≡◌, sym, ℕ, zero, suc, ◌+◌, ◌≤◌, List, [], ◌∷◌, ◌++◌, length, map, Option, Some, None, Ok, refl, ap, subst, ◌∙◌, arith}
 use Rattle.std.specs.Prelude.{slice_get, is_some, option_map}
 use Rattle.std.proofs.lemmas.Option.{slice_get-map}
@@ -38,7 +39,7 @@ use Rattle.isolation.proofs.TakenLines.{accepted_from_device}
 use Rattle.isolation.proofs.TickSound.{tick_sound}
 use Rattle.isolation.proofs.Ways.{ports_in}
 
--- ---- what a lawful image says of a partition's row
+-- ---- the facts of a lawful image about a partition's row
 names_in : (frame : ℕ) (before items : List Item) → EachBeside (IsItem frame) before items → (k : ℕ) (item : Item) → slice_get items k ≡ Some item → HasNames item.partition
 names_in frame before [] each k item e = absurd (cc)
 names_in frame before (i ∷ is) each zero item e = subst (λ (x : Item). HasNames x.partition) (same_some i item e) (record { name = each.0.partition.name; ports = each.0.partition.ports })
@@ -93,7 +94,7 @@ first_sound k s n (i ∷ is) zero x e =
 first_sound k s n (i ∷ is) (suc place) x e = first_sound k s (n + 1) is place x e
 
 -- ---- the law
--- what a run brings a partition, but for the values of the words
+-- the inputs that a run brings a partition, except for the values of the words
 are_delivered : (image : Image) (text : List ℕ) (lines : List DeviceLine) (p : ℕ) (item : Item) (n : ℕ)
     → IsLawful image → verdict_for image text ≡ Ok lines → at_number image.items p ≡ Some item → n ≤ MOST_TICKS → AreDelivered item.partition 0 (machine_inputs image p lines n)
 are_delivered image text lines zero item n lawful taken e few = absurd (cc)
@@ -113,7 +114,8 @@ are_delivered image text lines (suc place) item n lawful taken e few =
     row_at : (q : ℕ) (i : Item) → slice_get image.items q ≡ Some i → slice_get (partitions_in image) q ≡ Some i.partition
     row_at q i f = slice_get-map (λ (it : Item). it.partition) image.items q ∙ ap (option_map (λ (it : Item). it.partition)) f
 
--- What a run of a lawful image brings a partition is allowed, where all its words are words of 64 bits.
+-- The inputs that a run of a lawful image brings a partition are allowed, if all their words are
+-- words of 64 bits.
 pub inputs_allowed_of_run : (image : Image) (text : List ℕ) (lines : List DeviceLine) (p : ℕ) (s : Slice) (n : ℕ)
     → IsLawful image → verdict_for image text ≡ Ok lines → slice image p ≡ Some s → n ≤ MOST_TICKS → AreWritable (machine_inputs image p lines n) → AreInputs s.item.partition 0 (machine_inputs image p lines n)
 inputs_allowed_of_run image text lines p s n lawful taken e few words =
@@ -121,7 +123,7 @@ inputs_allowed_of_run image text lines p s n lawful taken e few words =
     subst (λ (t : Slice). AreInputs t.item.partition 0 (machine_inputs image p lines n)) r.2
     (are_inputs r.0.partition 0 (machine_inputs image p lines n) (are_delivered image text lines p r.0 n lawful taken r.1 few) words)
 
--- At most 65,536 of them have a text that is accepted and stands for them.
+-- At most 65,536 of them have a text that is accepted and means them.
 pub inputs_read_again : (image : Image) (text : List ℕ) (lines : List DeviceLine) (p : ℕ) (s : Slice) (n : ℕ)
     → IsLawful image → verdict_for image text ≡ Ok lines → slice image p ≡ Some s → n ≤ MOST_TICKS → AreWritable (machine_inputs image p lines n) → length (machine_inputs image p lines n) ≤ MOST_DEVICE_LINES
     → replay_verdict s.item.partition (replay_text s.item.partition (machine_inputs image p lines n)) ≡ Ok (machine_inputs image p lines n)

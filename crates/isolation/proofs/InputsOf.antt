@@ -40,12 +40,12 @@ module _ {C : Type 0} (row : Partition) (Sound : Member C → Type 0) (kept : Is
   takes_sound fault at ModuleFault good x h = meets_sound at fault x h
   takes_sound fault at PartitionFault good x h = kept.breaks at x h
 
-  -- a path that goes on, or is over
+  -- a path that continues, or is over
   over_sound : (c : Path (Member C)) (rest : At → Member C → Path (Member C)) (o : Option At) → Sound c.state → ((a : At) (y : Member C) → Sound y → Sound (rest a y).state) → Sound (unless_over c rest o).state
   over_sound c rest None h k = h
   over_sound c rest (Some a) h k = k a c.state h
 
-  -- all that comes in a tick
+  -- all inputs of a tick
   all_sound : (fault : ModuleAction) (at : At) (is : List Input) → AllByRecursion (IsDelivered row) is → (x : Member C) → Sound x → Sound (takes_all fault at is x).state
   all_sound fault at [] good x h = h
   all_sound fault at (i ∷ is) good x h =
@@ -143,7 +143,7 @@ module _ {C : Type 0} (names : List (List ℕ)) (all : AreApart names) (ps : Lis
   name_here : (ms : List (Member C)) → map name_of ms ≡ names → (place : ℕ) (x : Member C) → slice_get ms place ≡ Some x → slice_get names place ≡ Some (name_of x)
   name_here ms named place x e = ap (λ (ns : List (List ℕ)). slice_get ns place) (sym named) ∙ slice_get-map name_of ms place ∙ ap (option_map name_of) e
 
-  -- what is so at each place where one was, where all keep their names
+  -- a property of each partition at its place, if all keep their names
   each_place : (ms ns : List (Member C)) → map name_of ms ≡ names → map name_of ns ≡ names → ((place : ℕ) (x : Member C) → slice_get ms place ≡ Some x → (y : Member C) × (slice_get ns place ≡ Some y) × Sound place y)
       → (place : ℕ) (y : Member C) → slice_get ns place ≡ Some y → Sound place y
   each_place ms ns named renamed f place y e = there (slice_get ms place) refl
@@ -156,7 +156,7 @@ module _ {C : Type 0} (names : List (List ℕ)) (all : AreApart names) (ps : Lis
           clash h = cc
       there (Some x) k = let r = f place x k in subst (λ (z : Member C). Sound place z) (same_some r.0 y (sym r.1 ∙ e)) r.2
 
-  -- what the source ports of the partition hold whose window has ended
+  -- the messages in the source ports of the partition whose window has ended
   held_allowed : (place : ℕ) (row : Partition) → slice_get ps place ≡ Some row → (ms : List (Member C)) → Stand ms → (o : Option ℕ) → AllByRecursion (IsDelivered row) (held_ended channels (suc place) ms o)
   held_allowed place row e ms s None = tt
   held_allowed place row e ms s (Some zero) = tt
@@ -189,7 +189,7 @@ module _ {C : Type 0} (names : List (List ℕ)) (all : AreApart names) (ps : Lis
       one : (place : ℕ) (x : Member C) (e : slice_get ms place ≡ Some x) → SamePath (name_of x) place names (all place (name_of x) (name_here ms s.named place x e)) (inputs_all plan at (of_tick at.now.0 devices) ms) (takes_all fault at (brought_in_all plan (suc place) (of_tick at.now.0 devices)) x)
       one place x e = lines_same (name_of x) place names (all place (name_of x) (name_here ms s.named place x e)) plan (of_tick at.now.0 devices) (of_tick_from channels at.now.0 devices from) at ms x (record { own = e; named = s.named })
 
-  -- what comes in a tick
+  -- the inputs of a tick
   tick_allowed : (place : ℕ) (row : Partition) → slice_get ps place ≡ Some row → (at : At) (ms : List (Member C)) (p : ℕ) (w : Member C) → slice_get ms p ≡ Some w → Stand ms → AllByRecursion (IsDelivered row) (brought_tick plan (suc place) at devices ms)
   tick_allowed place row e at ms p w here s =
       let lines = of_tick at.now.0 devices in
@@ -236,7 +236,7 @@ module _ {C : Type 0} (names : List (List ℕ)) (all : AreApart names) (ps : Lis
       later : at.now.0 + suc n ≤ MOST_TICKS + 1 → (a : At) → a.now.0 ≡ at.now.0 + 1 → (at.now.0 ≤ a.now.0) × (a.now.0 + n ≤ MOST_TICKS + 1)
       later l a k = (omega (arith, k), omega (arith, k))
 
-  -- The inputs of n ticks are in order, and each is one that its port allows.
+  -- The inputs of n ticks are in order, and each is allowed by its port.
   pub inputs_allowed : (place : ℕ) (row : Partition) → slice_get ps place ≡ Some row → (n : ℕ) → n ≤ MOST_TICKS + 1 → (ms : List (Member C)) (w : Member C) → slice_get ms place ≡ Some w
       → map name_of (starts ms).members ≡ names → ((q : ℕ) (x : Member C) → slice_get ms q ≡ Some x → Sound q x) → AreDelivered row 0 (inputs_of (record { plan = plan; members = ms }) (suc place) devices n)
   inputs_allowed place row e zero few ms w here named sound = tt

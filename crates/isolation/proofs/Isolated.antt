@@ -1,4 +1,5 @@
--- The part of a module's trace that is a partition's is its trace alone, with what the run brings to it.
+-- The part of a module's trace that belongs to a partition is its trace alone, with the inputs that
+-- the run brings it.
 use Rattle.std.proofs.Common.{◌≡◌, ◌≢◌, ℕ, zero, suc, ◌+◌, ◌<◌, ◌≤◌, Bool, true, false, List, [], ◌∷◌, ◌++◌, map, Option, Some, None, refl, sym, ap, subst, ◌∙◌, arith, le_refl, append-nil}
 use Rattle.std.specs.Prelude.{if◌then◌else◌, option_map}
 use Rattle.std.proofs.lemmas.Bool.{eq-eqb, ne_eqb}
@@ -56,7 +57,7 @@ pub next_in : (t : ℕ) (o : Option At) (a : At) → IsIn t o → option_map nex
 next_in t None a h e = absurd (cc)
 next_in t (Some b) a h e = let same : next_tick b ≡ a = same_some (next_tick b) a e in ap (λ (c : At). c.now.0) (sym same) ∙ ap (λ (n : ℕ). n + 1) h
 
--- ---- the lines of what comes
+-- ---- the lines of the inputs
 in_append : (t : ℕ) (ls ks : List InputLine) → inputs_in t (ls ++ ks) ≡ inputs_in t ls ++ inputs_in t ks
 in_append t [] ks = refl
 in_append t (l ∷ ls) ks = either (is_in_tick t l) (in_append t ls ks)
@@ -74,7 +75,7 @@ in_another : (t u : ℕ) (is : List Input) → u ≢ t → inputs_in t (map (lin
 in_another t u [] n = refl
 in_another t u (i ∷ is) n = ap (λ (b : Bool). if b then i ∷ inputs_in t (map (line_in u) is) else inputs_in t (map (line_in u) is)) (ne_eqb u t n) ∙ in_another t u is n
 
--- none comes in an earlier tick
+-- no input comes in an earlier tick
 none_earlier : {C : Type 0} (plan : Plan) (p : ℕ) (devices : List DeviceLine) (n : ℕ) (o : Option At) (ms : List (Member C)) (t : ℕ)
     → ((a : At) → o ≡ Some a → t < a.now.0) → inputs_in t (inputs_from plan p devices n o ms) ≡ []
 none_earlier plan p devices zero o ms t h = refl

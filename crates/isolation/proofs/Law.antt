@@ -54,7 +54,7 @@ pub members_named : (k : Costs) (s : Schedule) (n : ℕ) (items : List Item) →
 members_named k s n [] = refl
 members_named k s n (i ∷ is) = ap (λ (ns : List (List ℕ)). name_in i ∷ ns) (members_named k s (n + 1) is)
 
--- the record is the same from the windows of its own
+-- its own windows give the same record
 pub same_record : (k : Costs) (s : Schedule) (p : ℕ) (item : Item) → record_of k s p item ≡ record_of k (schedule_of_partition p s) p item
 same_record k s p item = ap (λ (ws : List WindowRow). machine_member k (record { name = item.partition.name; number = p; period = item.partition.period; duration = item.partition.duration; schedule = record { frame = s.frame; windows = ws }; health = item.partition.health }) item.partition.ports item.section) (sym (filter_twice (λ w. w.partition.0 == p) s.windows))
 

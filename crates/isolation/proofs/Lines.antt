@@ -1,4 +1,4 @@
--- The lines of the devices, as they come to one partition.
+-- The lines of the devices, as inputs of one partition.
 use Rattle.std.proofs.Common.{◌≡◌, ℕ, suc, Bool, true, false, List, [], ◌∷◌, Some, refl, sym, subst}
 use Rattle.std.specs.Prelude.{◌==◌, slice_get, if◌then◌else◌, cond}
 use Rattle.std.proofs.lemmas.Bool.{eqb-true, eqb-false}
@@ -78,7 +78,7 @@ module _ {C : Type 0} (name : List ℕ) (place : ℕ) (names : List (List ℕ)) 
   fault_ends at b reaction.Shutdown ms h e = cc
   fault_ends at b reaction.Reset ms h e = cc
 
-  -- behind a shutdown nothing goes on
+  -- after a shutdown nothing continues
   ends_there : (plan : Plan) (at b : At) (i : DeviceInput) (ms : List (Member C)) → shuts_down plan.fault i ≡ true → (inputs plan at i ms).at ≡ Some b → ⊥
   ends_there plan at b (device.Message channel m) ms h e = cc
   ends_there plan at b (device.PartitionFault q) ms h e = cc

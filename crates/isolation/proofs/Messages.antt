@@ -1,4 +1,4 @@
--- Messages of other partitions and of the devices, as they come to one partition.
+-- Messages of other partitions and of the devices, as inputs of one partition.
 use Rattle.std.proofs.Common.{◌≡◌, ◌≢◌, ℕ, zero, suc, ◌+◌, ℤ, Bool, true, false, List, [], ◌∷◌, ◌++◌, Option, Some, None, refl, sym, subst, ◌∙◌}
 use Rattle.std.specs.Prelude.{◌==◌, ◌&&◌, find, if◌then◌else◌, cond}
 use Rattle.std.proofs.lemmas.Bool.{eqb-true, eqb-false}
@@ -88,7 +88,7 @@ module _ {C : Type 0} (name : List ℕ) (place : ℕ) (names : List (List ℕ)) 
       subst (λ (a : Advanced C). Goes (goes_on at (then_goes a (delivers_all at c m es))) (takes_all fault at (brought_to (suc place) m (ends.Port q port ∷ es)) x)) (sym (to_port at c m c.source q port ms))
       (at_port fault at c m q port es (delivered fault at c m n es) ms x h (q.0 == suc place) refl)
 
-  -- a message by a channel, if there is one, that is not from the partition
+  -- a message by a channel, if there is a channel, that is not from the partition
   pub gone_by : (fault : ModuleAction) (at : At) (m : ArrayVec ℤ) (o : Option Channel) → ((c : Channel) → o ≡ Some c → NotOf (suc place) c.source)
       → (ms : List (Member C)) (x : Member C) → Is ms x → Goes (goes_on at (goes_by at m o ms)) (takes_all fault at (brought_by (suc place) m o) x)
   gone_by fault at m None n ms x h = goes_on_same name place names apart at (still ms) (stays x) (still_same name place names apart ms x h)

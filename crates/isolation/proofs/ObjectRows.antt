@@ -1,4 +1,4 @@
--- The services on objects keep what is said of those who wait at ports.
+-- The services on objects keep the property of the processes that wait at ports.
 use Rattle.std.proofs.Common.{ℕ, ℤ, Bool, List, [], ◌∷◌, length, Option, Some, None}
 use Rattle.std.specs.Prelude.{nat_lt, pos, if◌then◌else◌}
 use Rattle.arrayvec.specs.ArrayVec.{ArrayVec}
@@ -42,11 +42,11 @@ module _ (rows : List PortRow) where
     abbrev IsKept : Step (Sharing Objects) → Type 0
     IsKept s = IsSoundProcesses rows s.part.processes
 
-    -- one who waits for an object, which asks for no message
+    -- a process that waits for an object, which has no condition on its message
     waits_sound : (at : At) (limit : ℤ) (w : Waiting) (m : ArrayVec ℤ) → AsksIn rows w.list m → IsKept (of_processes b (blocks at b.processes p limit w m))
     waits_sound at limit w m good = blocks_sound rows at b.processes p limit w m good h
 
-    -- the first who waits is released
+    -- the first waiting process is released
     signals_sound : (place : ℕ) (x : Semaphore) (o : Option (Runner × ProcessStatus)) → IsKept (semaphores.signals b place x o)
     signals_sound place x None = h
     signals_sound place x (Some f) = released_sound rows b.processes f.0 f.1 code.NoError h
@@ -119,7 +119,7 @@ module _ (rows : List PortRow) where
     read_blackboard_sound : (at : At) (id : ℤ) (array : ArrayPlace) (limit : ℤ) → IsKept (blackboards.read_blackboard at b p id array limit)
     read_blackboard_sound at id array limit = search (either, on_sound, reads_shown_sound)
 
-    -- Each service on objects. The last clause is for those that change no process.
+    -- Each service on objects. The last clause is for the services that change no process.
     pub objects_sound : (m : Mode) (at : At) (c : Call) (words : List ℤ) → IsKept (serves_objects m at b p c words)
     objects_sound m at (call.SendBuffer id array size limit) words = send_buffer_sound at id array size limit words
     objects_sound m at (call.ReceiveBuffer id array limit) words = receive_buffer_sound at id array limit

@@ -1,4 +1,4 @@
--- What a lawful image gives for isolation: names that differ, and channels to others.
+-- The facts of a lawful image for isolation: names that differ, and channels to others.
 use Rattle.std.proofs.Common.{◌≡◌, ◌≢◌, ℕ, zero, suc, ◌<◌, ◌≤◌, Bool, true, false, cond, not, ◌&&◌, ◌||◌, List, [], ◌∷◌, ◌++◌, length, map, Some, refl, sym, ap, subst, ◌∙◌, arith, inl, inr}
 use Rattle.std.specs.Prelude.{◌==◌, slice_get, nat_eq, find, flat_map, option_map}
 use Rattle.std.specs.List.{list_any}

@@ -1,4 +1,5 @@
--- The messages of a partition whose own window has ended: where they go makes no difference to it.
+-- The messages of a partition whose own window has ended: their destinations make no difference to
+-- it.
 use Rattle.std.proofs.Common.{◌≡◌, ◌≢◌, ℕ, zero, suc, ◌+◌, ℤ, Bool, false, List, [], ◌∷◌, ◌++◌, length, Option, Some, None, refl, sym, ap, subst, ◌∙◌}
 use Rattle.std.specs.Prelude.{if◌then◌else◌}
 use Rattle.std.specs.List.{list_any}
@@ -160,7 +161,7 @@ module _ {C : Type 0} (name : List ℕ) (place : ℕ) (names : List (List ℕ)) 
         then_same name place names apart (moves_port channels at (with_number (suc place)) (record { 0 = number }) ms) (sends_port s at (record { 0 = number }) x) (moves_ports n (number + 1) channels at (with_number (suc place))) (sends_ports n (number + 1) s at)
         (own_port_moves (record { 0 = number }) ms x h) (own_ports n (number + 1))
 
-    -- where its own window has ended, all its ports
+    -- all its ports, if its own window has ended
     pub own_all : (ms : List (Member C)) (x : Member C) → Is ms x → Both (moves_ports (length (ports_from ms (suc place))) 1 channels at (with_number (suc place)) ms) (sends_ports (length (ports_of x)) 1 s at x)
     own_all ms x h =
         subst (λ (o : Option (Member C)). Both (moves_ports (length (of_member [] ports_of o)) 1 channels at (with_number (suc place)) ms) (sends_ports (length (ports_of x)) 1 s at x)) (sym h.own)

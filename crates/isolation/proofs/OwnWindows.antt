@@ -21,7 +21,7 @@ is_own p w = w.partition.0 == p
 abbrev Passes : (WindowRow → Bool) → WindowRow → Type 0
 Passes test w = IsTrue (test w)
 
--- ---- the one that is found
+-- ---- the window found
 
 none_passes : (test : WindowRow → Bool) (ws : List WindowRow) → ((j : ℕ) (v : WindowRow) → slice_get ws j ≡ Some v → Passes test v → ⊥) → list_any test ws ≡ false
 none_passes test [] never = refl
@@ -39,8 +39,8 @@ none_found p test (w ∷ ws) h = let parts = or_parts (test w) (list_any test ws
     either true k e = ap (λ (c : Bool). cond c (Some w) (find test (filter (is_own p) ws))) e ∙ k
     either false k e = k
 
--- where at most one window passes a test, a partition finds one among its own windows exactly if the one that passes
--- is the partition's
+-- if at most one window passes a test, a partition finds a window among its own windows exactly if
+-- the window that passes is its own
 own_found : (p : ℕ) (test : WindowRow → Bool) (ws : List WindowRow) → AtMostOne (Passes test) ws
     → is_some (option_map number_of (find test (filter (is_own p) ws))) ≡ is_number p (option_map number_of (find test ws))
 own_found p test [] one = refl

@@ -38,7 +38,7 @@ module _ (rows : List PortRow) where
   abbrev Sound : Step (Sharing Ports) → Type 0
   Sound s = IsSoundSharing rows s.part
 
-  -- a check that refuses, or one that was passed
+  -- a check that refuses, or that was passed
   passed : (b : Bool) (s t : Step (Sharing Ports)) → Sound s → (b ≡ false → Sound t) → Sound (if b then s else t)
   passed true s t h k = h
   passed false s t h k = k refl
@@ -51,7 +51,7 @@ module _ (rows : List PortRow) where
     put_sound : (k : ℕ) (z w : Port) → slice_get b.shared.ports k ≡ Some z → w.row ≡ z.row → (IsHolding z → IsHolding w) → Sound (becomes_port b k w)
     put_sound k z w e r g = record { holding = holding_put rows b.shared.ports k z w h.holding e r (g (holding_at rows b.shared.ports k z h.holding e).1); processes = h.processes }
 
-    -- a port that is found by its number is at the place that it is found with
+    -- a port found by its number is at its place
     numbered_found : (id : ℤ) (f : ℕ × Port) → numbered_in b.shared.ports id ≡ Some f → slice_get b.shared.ports f.0 ≡ Some f.1
     numbered_found (pos zero) f e = absurd (cc)
     numbered_found (negsuc n) f e = absurd (cc)
@@ -126,7 +126,7 @@ module _ (rows : List PortRow) where
     long_enough : (o : Option (ℕ × Port)) (array : ArrayPlace) (size : ℤ) (k : ℕ) (z : Port) → o ≡ Some (k, z) → not (has o (λ x. is_length x.row.words array size)) ≡ false → is_length z.row.words array size ≡ true
     long_enough o array size k z f e = not-false (is_length z.row.words array size) (subst (λ (o : Option (ℕ × Port)). not (has o (λ x. is_length x.row.words array size)) ≡ false) f e)
 
-    -- What a call hands in has a length that the port allows.
+    -- The message that a call hands in has a length that the port allows.
     write_sound : AreShort rows → (p : Runner) (id : ℤ) (array : ArrayPlace) (size : ℤ) (words : List ℤ) → ((most : ℕ) → most ≤ MOST_WORDS → is_length most array size ≡ true → HasLength most (first_words size words))
         → Sound (write_sampling_message b p id array size words)
     write_sound short p id array size words good =

@@ -1,4 +1,4 @@
--- The services on processes and on time keep what is said of those who wait at ports.
+-- The services on processes and on time keep the property of the processes that wait at ports.
 use Rattle.std.proofs.Common.{ℕ, zero, suc, ◌+◌, ℤ, Bool, true, false, List, length, Option, Some, None}
 use Rattle.std.specs.Prelude.{◌-◌, not, pos, negsuc, if◌then◌else◌}
 use Rattle.apex_types.specs.declared.codes.Mode.{Mode}
@@ -50,7 +50,7 @@ module _ (rows : List PortRow) where
       found q None = h
       found q (Some r) = if_waiting q r r.wait
 
-  -- all start that wait for the normal start
+  -- all processes that wait for the normal start are started
   pub all_start_sound : (at : At) (next : ℕ) (s : Processes) → Sound s → Sound (start_all_waiting at next s).part
   all_start_sound at next s h = from_sound at next (length s.rows - 2) 0 s h
 

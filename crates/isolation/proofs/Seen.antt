@@ -1,4 +1,4 @@
--- Which lines of a trace are a partition's: all that it tells, and none that another tells.
+-- Which lines of a trace belong to a partition: all that it writes, and none that another writes.
 use Rattle.std.proofs.Common.{◌≡◌, ℕ, Bool, true, false, List, [], ◌∷◌, ◌++◌, cond, refl, ap, ◌∙◌}
 use Rattle.std.specs.Prelude.{◌&&◌}
 use Rattle.std.proofs.lemmas.Bool.{eq-eqb}
@@ -34,7 +34,7 @@ told_unseen name at (k ∷ ks) other h =
     ap (λ (b : Bool). cond b (line name at k ∷ part other (told name at ks)) (part other (told name at ks))) h
     ∙ told_unseen name at ks other h
 
--- what a partition tells is its own
+-- the lines that a partition writes are its own
 pub told_own : (name : List ℕ) (at : At) (kinds : List EventKind) → AreOf name (told name at kinds)
 told_own name at kinds = record { seen = told_seen name at kinds; unseen = told_unseen name at kinds }
 

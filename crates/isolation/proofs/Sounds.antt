@@ -46,8 +46,8 @@ use Rattle.isolation.proofs.Steps.{same_some}
 
 -- ---- the invariant
 
--- Of ports and processes: the source ports hold messages of lengths that their rows allow, and those who wait at them
--- have handed in such messages.
+-- For ports and processes: the source ports hold messages of lengths that their rows allow, and the
+-- processes that wait at them have handed in such messages.
 pub record IsSound (rows : List PortRow) (ports : List Port) (s : Processes) : Type 0 where
   pub holding : AreHolding rows ports
   pub processes : IsSoundProcesses rows s
@@ -58,7 +58,7 @@ IsSoundSharing rows b = IsSound rows b.shared.ports b.processes
 abbrev pub IsSoundKernel : List PortRow → Kernel → Type 0
 IsSoundKernel rows k = IsSound rows k.ports.ports k.processes
 
--- of a partition: and the arrays of what its processes ask for are within its data
+-- for a partition: also the arrays of its processes' requests are within its data
 pub record IsSoundMember {C : Type 0} (rows : List PortRow) (x : Member C) : Type 0 where
   pub kernel : IsSoundKernel rows x.world.kernel
   pub engine : KeepsWithin x.engine
@@ -95,7 +95,7 @@ pub more_messages : (P : ArrayVec ℤ → Type 0) (ms : List (ArrayVec ℤ)) (m 
 more_messages P [] m h g = (g, tt)
 more_messages P (x ∷ xs) m h g = (h.0, more_messages P xs m h.1 g)
 
--- ---- what is handed in stays
+-- ---- the messages handed in stay
 wakes_same : (s : Processes) (p : Runner) (r : ProcessStatus) → (wakes s p r).part.handed ≡ s.handed
 wakes_same s p r = either r.suspended refl
   where
@@ -105,7 +105,7 @@ wakes_same s p r = either r.suspended refl
 
 -- ---- the steps of ports
 module _ (rows : List PortRow) where
-  -- a source port is one by its row
+  -- a source port is a source port by its row
   asked : (place : ℕ) (z : Port) (m : ArrayVec ℤ) → slice_get rows place ≡ Some z.row → Asks rows place m → is_source z ≡ true → HasLength z.row.words m.items
   asked place z m e good source = good z.row e (is_from z.row.direction source)
 
@@ -221,7 +221,7 @@ module _ (rows : List PortRow) where
 
   -- ---- the steps of a partition
   module _ {C : Type 0} where
-    -- what the kernel asks for changes neither ports nor who waits
+    -- the actions of the kernel change neither the ports nor the waiting processes
     act_sound : (e : Engine C) (a : Action) (w : World C) → IsSoundKernel rows w.kernel → IsSoundKernel rows (act e a w).kernel
     act_sound e (action.Begin p) w h = h
     act_sound e (action.Stop p) w h = h
@@ -235,7 +235,7 @@ module _ (rows : List PortRow) where
     acts_sound e [] w h = h
     acts_sound e (a ∷ rest) w h = acts_sound e rest (act e a w) (act_sound e a w h)
 
-    -- a step of the kernel with what it asks for
+    -- a step of the kernel with its actions
     pub moved_sound : (at : At) (e : Engine C) (s : Step Kernel) (w : World C) → IsSoundKernel rows s.part → IsSoundKernel rows (moved at e s w).world.kernel
     moved_sound at e s w h = acts_sound e s.actions (record w { kernel = s.part }) h
 

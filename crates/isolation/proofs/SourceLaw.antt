@@ -1,5 +1,5 @@
--- Isolation, for the sources of every accepted table. What a table's rules give is taken from the image of the same
--- table whose sections hold nothing.
+-- Isolation, for the sources of every accepted table. The consequences of a table's rules are taken
+-- from the image of the same table with empty sections.
 use Rattle.std.proofs.Common.{◌≡◌, ℕ, zero, suc, ◌+◌, List, [], ◌∷◌, map, Some, None, Ok, refl, sym, ap, subst, ◌∙◌, arith, false}
 use Rattle.std.specs.Prelude.{◌==◌, replicate, slice_get, option_map}
 use Rattle.std.specs.List.{All}
@@ -34,7 +34,7 @@ use Rattle.isolation.proofs.Steps.{IsApart, name_of, same_some}
 use Rattle.isolation.proofs.TakenLines.{accepted_from}
 use Rattle.isolation.proofs.Ways.{isolates}
 
--- ---- the image of a table whose sections hold nothing
+-- ---- the image of a table with empty sections
 abbrev nothing_in : Section
 nothing_in = record { initial = []; semaphores = []; events = 0; buffers = []; blackboards = []; routines = []; processes = []; init = record { stack = 16; entry = 0; slots = 0; frame = 2 }; handler = None; code = replicate 16 0 ∷ [] }
 

@@ -1,4 +1,4 @@
--- What a step of the module is for one partition: a step of its own, or nothing.
+-- The effect of a step of the module on one partition: a step of its own, or nothing.
 use Rattle.std.proofs.Common.{◌≡◌, ◌≢◌, ℕ, zero, suc, false, List, [], ◌∷◌, ◌++◌, map, Option, Some, None, refl, sym, ap, subst, ◌∙◌, append-nil, arith}
 use Rattle.std.specs.Prelude.{slice_get, slice_set, flat_map, option_map}
 use Rattle.std.proofs.lemmas.Option.{slice_get-map}
@@ -50,12 +50,12 @@ pub joined : (name : List ℕ) (a b : List Event) (c d : List Event) → part na
 joined name a b c d h k = part-append name a b ∙ ap (λ (es : List Event). es ++ part name b) h ∙ ap (λ (es : List Event). c ++ es) k
 
 -- ---- one partition among the others
--- Names by which one at a place is told from all others.
+-- Names that distinguish the one at `place` from all others.
 pub record IsApart (name : List ℕ) (place : ℕ) (names : List (List ℕ)) : Type 0 where
   pub here : slice_get names place ≡ Some name
   pub others : (q : ℕ) (other : List ℕ) → q ≢ place → slice_get names q ≡ Some other → same name other ≡ false
 
--- names of which each is told from all others
+-- names of which each differs from all others
 abbrev pub AreApart : List (List ℕ) → Type 0
 AreApart names = (place : ℕ) (name : List ℕ) → slice_get names place ≡ Some name → IsApart name place names
 
@@ -65,7 +65,8 @@ module _ {C : Type 0} (name : List ℕ) (place : ℕ) (names : List (List ℕ)) 
     pub own : slice_get ms place ≡ Some x
     pub named : map name_of ms ≡ names
 
-  -- A step of the module is this one of the partition: it leads to the same record, and the lines are the part.
+  -- A step of the module is this step of the partition: it leads to the same record, and the lines
+  -- are the part.
   pub record Same (a : Advanced C) (g : Gone (Member C)) : Type 0 where
     pub members : Holds a.members g.state
     pub lines : part name a.lines ≡ g.lines
@@ -113,7 +114,7 @@ module _ {C : Type 0} (name : List ℕ) (place : ℕ) (names : List (List ℕ)) 
     lines = (k y).own.unseen name (other_name ms x h q y n e);
   }
 
-  -- a step of another one
+  -- a step of another partition
   pub steps_other : (f : Member C → Moved C) → StepKeeps f → (q : ℕ) → q ≢ suc place → (ms : List (Member C)) (x : Member C) → Holds ms x → Same (steps f ms q) (stays x)
   steps_other f k zero n ms x h = still_same ms x h
   steps_other f k (suc q) n ms x h = other_step f k q (λ e. n (ap suc e)) ms x h (slice_get ms q) refl
@@ -125,7 +126,7 @@ module _ {C : Type 0} (name : List ℕ) (place : ℕ) (names : List (List ℕ)) 
       let more = rest a.members g.state h.members in
       record { members = more.members; lines = joined name a.lines (p a.members).lines g.lines (q g.state).lines h.lines more.lines }
 
-  -- what does nothing to the partition, and then something
+  -- a step that does nothing to the partition, followed by another
   pub nothing_then : (at : At) (a : Advanced C) (x : Member C) (p : List (Member C) → Advanced C) (d : Path (Member C))
       → Same a (stays x) → ((ms : List (Member C)) → Holds ms x → SamePath (goes_on at (p ms)) d) → SamePath (goes_on at (then_goes a p)) d
   nothing_then at a x p d h rest =
@@ -161,7 +162,7 @@ module _ {C : Type 0} (name : List ℕ) (place : ℕ) (names : List (List ℕ)) 
   runs_same c d p q h rest =
       subst (λ (o : Option At). SamePath (then_runs c p) (unless_over d q o)) h.at (unless_same c d p q c.at h refl rest)
 
-  -- what goes on, and then goes on
+  -- steps that continue, followed by steps that continue
   pub then_path_at : (at : At) (a : Advanced C) (d : Path (Member C)) (p : List (Member C) → Advanced C) (q : At → Member C → Path (Member C))
       → SamePath (goes_on at a) d → ((x : Member C) → Holds a.members x → SamePath (goes_on at (p a.members)) (q at x))
       → SamePath (goes_on at (then_goes a p)) (and_runs d q)
@@ -175,7 +176,7 @@ module _ {C : Type 0} (name : List ℕ) (place : ℕ) (names : List (List ℕ)) 
       → SamePath (goes_on at (then_goes a p)) (and_runs d q)
   then_path at a d p q h rest = then_path_at at a d p q h (λ x k. rest a.members x k)
 
-  -- something, and then what does nothing to the partition
+  -- a step, followed by one that does nothing to the partition
   pub then_nothing : (at : At) (a : Advanced C) (d : Path (Member C)) (p : List (Member C) → Advanced C)
       → SamePath (goes_on at a) d → ((ms : List (Member C)) (x : Member C) → Holds ms x → Same (p ms) (stays x))
       → SamePath (goes_on at (then_goes a p)) d

@@ -34,7 +34,7 @@ pub same_ok : {A : Type 0} (a b : A) → ok a ≡ ok b → a ≡ b
 unfolding ok_of
 same_ok a b h = ap (ok_of a) h
 
--- what is found from a place on is there
+-- an element found from a place on is there
 first_is : {A : Type 0} (n k : ℕ) (test : A → Bool) (xs : List A) (f : ℕ × A) → first_from (n + k) test xs ≡ Some f → (j : ℕ) × (f.0 ≡ n + k + j) × (slice_get xs j ≡ Some f.1)
 unfolding first_from
 first_is n k test [] f e = absurd (cc)
@@ -69,7 +69,7 @@ Says (Message channel ws) = 1 ≤ length ws
 Says ModuleFault = Unit {0}
 Says (PartitionFault partition) = Unit {0}
 
--- a text of words has one at least
+-- a text of words has at least one word
 some_words : (t : List ℕ) (ts : List (List ℕ)) (ws : List ℤ) → words (t ∷ ts) ≡ Some ws → 1 ≤ length ws
 unfolding words
 some_words t ts ws e = put (word t) (words ts) e
@@ -119,7 +119,7 @@ pieces_say (t ∷ rest) l e = both (plain_number MOST_TICKS t) (written_of rest)
     both (Some n) None k e = absurd (cc)
     both (Some n) (Some w) k e = subst (λ (m : WrittenLine). Says m.written) (same_some (record { tick = n; written = w }) l e) (written_says rest w k)
 
--- ---- what a line is taken as
+-- ---- the result for a line
 module _ (rows : List Partition) (channels : List Channel) where
   -- a message by a channel from the device, of a length that its first destination allows
   abbrev pub IsTaken : DeviceInput → Type 0
@@ -188,7 +188,7 @@ module _ (rows : List Partition) (channels : List Channel) where
       (λ l h. taken_is count before (line_of line) l (λ w k. pieces_say (pieces 32 line) w k) h)
       (λ l ks h. lines_are (count + 1) l.tick.0 (next ∷ more) ks h) e
 
-  -- What an accepted text says is taken so.
+  -- Each line of an accepted text is taken.
   pub accepted : (text : List ℕ) (ls : List DeviceLine) → verdict rows channels text ≡ Ok ls → AreTaken ls
   unfolding verdict
   accepted text ls e = lines_are 0 0 (pieces 10 text) ls e

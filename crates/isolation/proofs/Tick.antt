@@ -21,8 +21,8 @@ use Rattle.isolation.proofs.OwnWindows.{is_number}
 use Rattle.isolation.proofs.Paths.{takes_append, runs_assoc}
 use Rattle.isolation.proofs.Steps.{IsApart, AreApart, Holds, Same, SamePath, still_same, steps_own, steps_other, then_same, goes_on_same, runs_same, then_path_at}
 
--- What isolation asks of a plan, for the partition with a number: its windows are told from the others', and its
--- channels go to others.
+-- What isolation requires of a plan, for the partition with a number: its windows are distinct from
+-- the others', and its channels lead to others.
 pub record IsIsolating (plan : Plan) (p : ℕ) (rows : List PortRow) : Type 0 where
   pub channels : (q : ℕ) → AreLawful q plan.channels
   pub ways : AreWays plan.channels p (surroundings_of plan p rows)
@@ -49,7 +49,8 @@ module _ {C : Type 0} (name : List ℕ) (place : ℕ) (names : List (List ℕ)) 
   owner_same at None ms x h = still_same name place names apart ms x h
   owner_same at (Some q) ms x h = owner_step at q ms x h (q == suc place) refl
 
-  -- a tick of the partition where it is known whether its window has ended, and whether it owns the tick
+  -- a tick of the partition if it is known whether its window has ended, and whether it owns the
+  -- tick
   abbrev goes_alone : At → Bool → Bool → Member C → Path (Member C)
   goes_alone at ends owns x = keeps_on at (and_then (sends_ended (surroundings_of plan (suc place) rows) at x ends) (λ y. ticks_own at y owns))
 
@@ -62,13 +63,13 @@ module _ {C : Type 0} (name : List ℕ) (place : ℕ) (names : List (List ℕ)) 
   abbrev owner_ticks : At → List (Member C) → Advanced C
   owner_ticks at ms = ticks_owner at ms (owner plan.schedule at)
 
-  -- what a window that ends brings, then the tick
+  -- the inputs that a window brings at its end, then the tick
   abbrev Second : At → List (Member C) → Member C → Option ℕ → Type 0
   Second at ms x e =
       Goes (goes_on at (then_goes (moves_ended plan.channels at ms e) (owner_ticks at)))
       (and_runs (takes_all plan.fault at (brought_ended plan.channels (suc place) at ms e) x) (sends_and_ticks (surroundings_of plan (suc place) rows)))
 
-  -- where its own window has not ended, the tick alone
+  -- the tick alone, if its own window has not ended
   ticks_alone : (at : At) → is_number (suc place) (ended plan.schedule at) ≡ false → (ms : List (Member C)) (x : Member C) → Is ms x → Goes (goes_on at (owner_ticks at ms)) (sends_and_ticks (surroundings_of plan (suc place) rows) at x)
   ticks_alone at k ms x h =
       subst (λ (d : Path (Member C)). Goes (goes_on at (owner_ticks at ms)) d) (sym (as_known at false k x))

@@ -111,7 +111,7 @@ module _ (rows : List PortRow) where
   choice_sound : (k : Kernel) → IsSoundKernel rows k → IsSoundKernel rows (chooses_with_handler k).part
   choice_sound k h = record { holding = h.holding; processes = chooses_sound k.mode (starts_handler k.mode (with_errors k)).part (handler_sound k.mode (with_errors k) h.processes) }
 
-  -- ---- what a process asks for
+  -- ---- the requests of a process
   module _ (short : AreShort rows) (at : At) (k : Kernel) (h : IsSoundKernel rows k) (p : Runner) where
     abbrev IsKept : Step Kernel → Type 0
     IsKept s = IsSoundKernel rows s.part
@@ -170,7 +170,7 @@ module _ (rows : List PortRow) where
 
   -- ---- the tick
   module _ {C : Type 0} (short : AreShort rows) (e : Engine C) (keeps : KeepsWithin e) (at : At) where
-    -- one that has nothing left to do asks for nothing
+    -- a runner that has nothing left to do makes no request
     ticked_within : (o : Option C) (words : List ℤ) → IsWithin (ticked e o words)
     ticked_within None words = record { array = tt }
     ticked_within (Some c) words = record { array = (keeps c words).array }
@@ -194,7 +194,7 @@ module _ (rows : List PortRow) where
         let v = (due_phase e at w).world in
         moved_sound rows at e (chooses_with_handler v.kernel) v (choice_sound v.kernel (due_sound w h))
 
-    -- What is due, the choice, and the tick of the chosen one.
+    -- What is due, the choice, and the tick of the chosen runner.
     pub tick_sound : (w : World C) → IsSoundKernel rows w.kernel → IsSoundKernel rows (tick e at w).world.kernel
     tick_sound w h =
         let v = (prepares e at w).world in

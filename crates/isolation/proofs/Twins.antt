@@ -1,4 +1,5 @@
--- What the messages of an ended window bring, as they move: a twin of each definition of the moves.
+-- The inputs that the messages of an ended window bring, as they move: a twin of each definition of
+-- the moves.
 use Rattle.std.specs.Prelude.{ℕ, zero, suc, ◌+◌, ℤ, List, [], ◌++◌, Option, Some, None, length}
 use Rattle.arrayvec.specs.ArrayVec.{ArrayVec}
 use Rattle.apex_types.specs.declared.identity.At.{At}

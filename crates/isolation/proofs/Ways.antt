@@ -1,4 +1,5 @@
--- The ways out of a slice are those by the channels, where each channel's source is a port that is there.
+-- The ways out of a slice are the ways by the channels, if each channel's source is an existing
+-- port.
 use Rattle.std.proofs.Common.{◌≡◌, ◌≢◌, ℕ, zero, suc, ◌+◌, ◌-◌, ◌<◌, ◌≤◌, true, false, List, [], ◌∷◌, length, Option, Some, None, refl, ap, subst, ◌∙◌, arith, inl, inr}
 use Rattle.std.specs.Prelude.{◌==◌, ◌||◌, slice_get, is_none}
 use Rattle.std.specs.List.{list_any}
@@ -43,7 +44,7 @@ ways_end channels p n [] k l = refl
 ways_end channels p n (row ∷ rows) zero l = absurd (omega arith)
 ways_end channels p n (row ∷ rows) (suc k) l = ways_end channels p (n + 1) rows k (omega arith)
 
--- the sources of channels from the partition are among so many ports
+-- the source ports of the channels from the partition are among these ports
 abbrev pub AreAmong : List Channel → ℕ → List PortRow → Type 0
 AreAmong channels p rows = (port : PortId) (c : Channel) → channel_from channels (with_number p) port ≡ Some c → (1 ≤ port.0) × (port.0 ≤ length rows)
 
@@ -106,7 +107,7 @@ all_among ps channels known p port c e =
     source_known ps p port c.source (found_passes (λ d. is_port (with_number p) port d.source) channels c e)
     (or_parts (is_unknown_port ps c.source) (list_any (is_unknown_port ps) c.destinations) (found_is (λ d. list_any (is_unknown_port ps) (ends_of d)) (λ d. is_port (with_number p) port d.source) channels c known e)).0
 
--- What a table's rules give for isolation.
+-- The consequences of a table's rules for isolation.
 pub isolates : (ps : List Partition) (schedule : Schedule) (channels : List Channel) (fault : ModuleAction)
     → ((at : At) → HasOneOwner schedule at) → ((at : At) → HasOneEnd schedule at) → has_unknown_port ps channels ≡ false → has_wrong_ends ps channels ≡ false
     → (p : ℕ) (row : Partition) → at_number ps p ≡ Some row → IsIsolating (record { schedule = schedule; channels = channels; fault = fault }) p row.ports

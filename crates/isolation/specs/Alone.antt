@@ -1,4 +1,4 @@
--- One partition alone: its own windows, its record, and what comes to it from outside.
+-- One partition alone: its own windows, its record, and its inputs from outside.
 use Rattle.std.specs.Prelude.{ℕ, zero, suc, ◌+◌, ◌==◌, ℤ, Bool, List, [], ◌∷◌, ◌++◌, Option, Some, None, length, option_map, is_some, if◌then◌else◌}
 use Rattle.arrayvec.specs.ArrayVec.{ArrayVec}
 use Rattle.apex_types.specs.declared.codes.ModuleAction.{ModuleAction}
@@ -15,9 +15,9 @@ pub use Rattle.isolation.specs.declared.input.Input.{Input}
 pub use Rattle.isolation.specs.declared.input.Input.TheVariants.{Arrive, ModuleFault, PartitionFault}
 pub use Rattle.isolation.specs.declared.input.InputLine.{InputLine}
 
--- What no tick of one partition changes: the major frame with its own windows, what is done on a fault of the
--- module, and for each of its ports in number order the name of the channel by which its messages leave the
--- module, if one does.
+-- The parts of one partition that no tick changes: the major frame with its own windows, the action
+-- on a fault of the module, and for each of its ports in number order the name of the channel by
+-- which its messages leave the module, if there is one.
 pub record Surroundings : Type 0 where
   pub schedule : Schedule
   pub fault : ModuleAction
@@ -47,8 +47,8 @@ stays x = record { state = x; lines = [] }
 abbrev pub and_then : {S : Type 0} → Gone S → (S → Gone S) → Gone S
 and_then g rest = let h = rest g.state in record { state = h.state; lines = g.lines ++ h.lines }
 
--- The same where the module may start again, or be shut down: the tick with the origin that counts from here
--- on; it is none where the module is shut down.
+-- The same if the module may start again, or be shut down: the tick with the origin valid from here
+-- on; None if the module is shut down.
 pub record Path (State : Type 0) : Type 0 where
   pub at : Option At
   pub state : State
@@ -68,8 +68,8 @@ and_runs c rest = unless_over c rest c.at
 abbrev pub goes : {C : Type 0} → (Member C → Moved C) → Member C → Gone (Member C)
 goes step x = record { state = with_world x (step x).world; lines = (step x).lines }
 
--- ---- what comes
--- a fault of the module, whose line is no partition's
+-- ---- the inputs
+-- a fault of the module, whose line belongs to no partition
 abbrev pub meets_fault : {C : Type 0} → At → ModuleAction → Member C → Path (Member C)
 meets_fault at reaction.Ignore x = keeps_on at (stays x)
 meets_fault at reaction.Shutdown x = record { at = None; state = x; lines = [] }
@@ -102,7 +102,7 @@ abbrev pub sends_found : {C : Type 0} → Surroundings → At → PortId → Mem
 sends_found s at port x None = stays x
 sends_found s at port x (Some m) = and_then (goes (leaves at port) x) (goes_by_way at m (way_out s port))
 
--- the first message of a port, whatever becomes of it
+-- the first message of a port, whatever happens to it
 abbrev pub sends_message : {C : Type 0} → Surroundings → At → PortId → Member C → Gone (Member C)
 sends_message s at port x = sends_found s at port x (leaving port x)
 
@@ -118,17 +118,17 @@ sends_so_many s at port x (Some n) = and_then (sends_messages n s at port x) (go
 abbrev pub sends_port : {C : Type 0} → Surroundings → At → PortId → Member C → Gone (Member C)
 sends_port s at port x = sends_so_many s at port x (messages_to_move (at_number (ports_of x) port.0))
 
--- so many ports, from one of them on
+-- sends the messages of n ports, from port `number` on
 abbrev pub sends_ports : {C : Type 0} → ℕ → ℕ → Surroundings → At → Member C → Gone (Member C)
 sends_ports zero number s at x = stays x
 sends_ports (suc n) number s at x = and_then (sends_port s at (record { 0 = number }) x) (sends_ports n (number + 1) s at)
 
 -- ---- one tick
--- where its window has ended its source ports send, in number order
+-- if its window has ended, its source ports send, in number order
 abbrev pub sends_ended : {C : Type 0} → Surroundings → At → Member C → Bool → Gone (Member C)
 sends_ended s at x ends = if ends then sends_ports (length (ports_of x)) 1 s at x else stays x
 
--- where its window holds the tick it goes on
+-- advances if its window holds the tick
 abbrev pub ticks_own : {C : Type 0} → At → Member C → Bool → Gone (Member C)
 ticks_own at x owns = if owns then goes (advances at) x else stays x
 
@@ -136,8 +136,8 @@ abbrev pub sends_and_ticks : {C : Type 0} → Surroundings → At → Member C �
 sends_and_ticks s at x =
     keeps_on at (and_then (sends_ended s at x (is_some (ended s.schedule at))) (λ y. ticks_own at y (is_some (owner s.schedule at))))
 
--- In a tick what comes acts first. Then its messages leave if its window has ended. Then it goes on if the tick is
--- in its window. After a shutdown nothing happens.
+-- In a tick, the inputs act first. Then the partition's messages leave, if its window has ended.
+-- Then it advances, if the tick is in its window. After a shutdown nothing happens.
 abbrev pub tick_alone : {C : Type 0} → Surroundings → At → List Input → Member C → Path (Member C)
 tick_alone s at inputs x = and_runs (takes_all s.fault at inputs x) (sends_and_ticks s)
 
@@ -149,7 +149,8 @@ alone_from s inputs (suc n) (Some at) x =
     let r = tick_alone s at (inputs_in at.now.0 inputs) x in
     r.lines ++ alone_from s inputs n (option_map next_tick r.at) r.state
 
--- The trace of n ticks of a partition alone, with what comes to it: its start before tick 0, then the ticks.
+-- The trace of n ticks of a partition alone, with its inputs: its start before tick 0, then the
+-- ticks.
 abbrev pub trace_alone : {C : Type 0} → Alone C → List InputLine → ℕ → List Event
 trace_alone a inputs zero = []
 trace_alone a inputs (suc n) =

@@ -1,4 +1,4 @@
--- What a run shows of one partition, and what it brings to it.
+-- The part of a run that belongs to one partition, and the inputs that the run brings it.
 use Rattle.std.specs.Prelude.{ℕ, zero, suc, ◌+◌, ◌==◌, ℤ, Bool, true, false, List, [], ◌∷◌, ◌++◌, Option, Some, None, map, filter, flat_map, option_map, slice_get, if◌then◌else◌}
 use Rattle.arrayvec.specs.ArrayVec.{ArrayVec}
 use Rattle.apex_types.specs.declared.codes.ModuleAction.{ModuleAction}
@@ -19,7 +19,7 @@ use Rattle.kernel_meaning.specs.Objects.{Port, is_source}
 use Rattle.kernel_meaning.specs.Windows.{ended}
 use Rattle.isolation.specs.Alone.{Input, InputLine, Arrive, ModuleFault, PartitionFault}
 
--- ---- what is shown
+-- ---- the part of a trace
 abbrev pub is_named : List ℕ → Option (List ℕ) → Bool
 is_named name None = false
 is_named name (Some other) = same name other
@@ -27,12 +27,12 @@ is_named name (Some other) = same name other
 abbrev pub is_of : List ℕ → Event → Bool
 is_of name e = is_named name e.partition
 
--- The part of a trace that is a partition's: the lines with its name.
+-- The part of a trace that belongs to a partition: the lines with its name.
 abbrev pub part : List ℕ → List Event → List Event
 part name trace = filter (is_of name) trace
 
--- ---- what is brought by a message
--- a message to these ends, as it comes to the ports of a partition
+-- ---- the inputs that a message brings
+-- a message to these ends, as inputs of partition p
 abbrev pub brought_to : ℕ → ArrayVec ℤ → List ChannelEnd → List Input
 brought_to p m [] = []
 brought_to p m (ends.Device ∷ es) = brought_to p m es
@@ -42,7 +42,7 @@ abbrev pub brought_by : ℕ → ArrayVec ℤ → Option Channel → List Input
 brought_by p m None = []
 brought_by p m (Some c) = brought_to p m c.destinations
 
--- ---- what is brought by the devices
+-- ---- the inputs that the devices bring
 abbrev pub brought_in : Plan → ℕ → DeviceInput → List Input
 brought_in plan p (device.Message channel m) = brought_by p m (slice_get plan.channels channel.0)
 brought_in plan p (device.PartitionFault q) = if q.0 == p then PartitionFault ∷ [] else []
@@ -56,13 +56,13 @@ abbrev pub shuts_down : ModuleAction → DeviceInput → Bool
 shuts_down fault device.ModuleFault = is_shutdown fault
 shuts_down fault _ = false
 
--- by each line in turn; behind a shutdown nothing comes
+-- by each line in turn; after a shutdown there are no inputs
 abbrev pub brought_in_all : Plan → ℕ → List DeviceLine → List Input
 brought_in_all plan p [] = []
 brought_in_all plan p (l ∷ ls) = brought_in plan p l.input ++ (if shuts_down plan.fault l.input then [] else brought_in_all plan p ls)
 
--- ---- what is brought by a partition whose window has ended
--- the messages that its source port holds, the oldest first, as they come to partition p
+-- ---- the inputs that a partition brings when its window has ended
+-- the messages that its source port holds, the oldest first, as inputs of partition p
 abbrev pub held_port : List Channel → ℕ → PartitionId → ℕ → Port → List Input
 held_port channels p q number x =
     if is_source x then flat_map (λ m. brought_by p m (channel_from channels q (record { 0 = number }))) x.messages else []
@@ -81,8 +81,9 @@ abbrev pub brought_moved : {C : Type 0} → Plan → ℕ → List (Member C) →
 brought_moved plan p members None = []
 brought_moved plan p members (Some at) = held_ended plan.channels p members (ended plan.schedule at)
 
--- ---- what is brought in a run
--- what comes to partition p in a tick: first by the devices, then by the messages of the partition whose window has ended
+-- ---- the inputs that a run brings
+-- the inputs of partition p in a tick: first from the devices, then from the messages of the
+-- partition whose window has ended
 abbrev pub brought_tick : {C : Type 0} → Plan → ℕ → At → List DeviceLine → List (Member C) → List Input
 brought_tick plan p at devices members =
     let lines = of_tick at.now.0 devices in
@@ -99,7 +100,7 @@ inputs_from plan p devices (suc n) (Some at) members =
     let r = module_tick plan at devices members in
     map (line_in at.now.0) (brought_tick plan p at devices members) ++ inputs_from plan p devices n (option_map next_tick r.at) r.members
 
--- The inputs of partition p in n ticks of a module with these lines of the devices.
+-- The inputs of partition p in n ticks of a module with these device lines.
 abbrev pub inputs_of : {C : Type 0} → Module C → ℕ → List DeviceLine → ℕ → List InputLine
 inputs_of m p devices zero = []
 inputs_of m p devices (suc n) = inputs_from m.plan p devices (suc n) (Some first_tick) (starts m.members).members

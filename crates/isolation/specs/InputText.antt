@@ -1,4 +1,4 @@
--- The text of what comes to one partition, and which lists of inputs have one.
+-- The text of the inputs of one partition, and which lists of inputs have a text.
 use Rattle.std.specs.Prelude.{◌≡◌, ℕ, ◌≤◌, ℤ, true, List, [], ◌∷◌, ◌++◌, length, map, flat_map, codes, Option, Some, None}
 use Rattle.std.specs.Fmt.{decimal, signed_decimal}
 use Rattle.std.specs.List.{join_with_byte}
@@ -17,7 +17,7 @@ abbrev pub name_of_port : Option PortRow → List ℕ
 name_of_port None = []
 name_of_port (Some x) = x.name
 
--- what stands behind the tick, by the names of the partition and of its ports
+-- the text behind the tick, by the names of the partition and of its ports
 abbrev pub input_parts : Partition → Input → List (List ℕ)
 input_parts row (Arrive port m) = codes "ARRIVE" ∷ name_of_port (at_number row.ports port.0) ∷ map signed_decimal m.items
 input_parts row ModuleFault = codes "FAULT" ∷ []
@@ -34,8 +34,8 @@ input_text row l = input_body row l ++ 10 ∷ []
 abbrev pub replay_text : Partition → List InputLine → List ℕ
 replay_text row lines = flat_map (input_text row) lines
 
--- ---- what can come
--- 1 to so many words
+-- ---- the possible inputs
+-- 1 to `most` words
 pub record IsMessage (most : ℕ) (words : List ℤ) : Type 0 where
   pub some : 1 ≤ length words
   pub few : length words ≤ most
@@ -53,7 +53,7 @@ IsInput row (Arrive port m) = IsArrival row port.0 m
 IsInput row ModuleFault = Unit {0}
 IsInput row PartitionFault = Unit {0}
 
--- all words of what comes are words of 64 bits
+-- all words of the input are words of 64 bits
 abbrev pub IsWritable : Input → Type 0
 IsWritable (Arrive port m) = AreWords m.items
 IsWritable ModuleFault = Unit {0}
@@ -63,12 +63,12 @@ abbrev pub AreWritable : List InputLine → Type 0
 AreWritable [] = Unit {0}
 AreWritable (l ∷ ls) = IsWritable l.input × AreWritable ls
 
--- in the order of their ticks, none of a tick before this one
+-- in the order of their ticks, none before the tick `before`
 abbrev pub AreInOrder : ℕ → List InputLine → Type 0
 AreInOrder before [] = Unit {0}
 AreInOrder before (l ∷ ls) = (before ≤ l.tick.0) × AreInOrder l.tick.0 ls
 
--- the same, and each can come
+-- the same, and each input is possible
 abbrev pub AreInputs : Partition → ℕ → List InputLine → Type 0
 AreInputs row before [] = Unit {0}
 AreInputs row before (l ∷ ls) = (before ≤ l.tick.0) × (l.tick.0 ≤ MOST_TICKS) × IsInput row l.input × AreInputs row l.tick.0 ls

@@ -1,4 +1,4 @@
--- The text of what comes to one partition: what each line says, and why a line is refused.
+-- The text of the inputs of one partition: the meaning of each line, and why a line is refused.
 use Rattle.std.specs.Prelude.{ℕ, ◌+◌, ℤ, Bool, true, false, ◌&&◌, nat_le, nat_lt, if◌then◌else◌, List, [], ◌∷◌, length, codes, Option, Some, None, Result, Ok, Err}
 use Rattle.apex_types.specs.declared.limits.TheConstants.{MOST_TICKS}
 use Rattle.apex_types.specs.declared.device.DeviceFault.{DeviceFault}
@@ -27,12 +27,12 @@ line_of_pieces (tick ∷ rest) = line_with (plain_number MOST_TICKS tick) (writt
 abbrev pub line_of : List ℕ → Option WrittenLine
 line_of text = line_of_pieces (pieces 32 text)
 
--- ---- what a line is taken as
+-- ---- the meaning of a line
 abbrev pub is_destination : PortDirection → Bool
 is_destination direction.Source = false
 is_destination direction.Destination = true
 
--- the line of an input, unless too many stand before it, or its message is too long
+-- the line of an input, unless too many lines precede it, or its message is too long
 abbrev pub within : Bool → ℕ → Input → Result InputLine DeviceFault
 within fits tick i = if fits then Ok (record { tick = record { 0 = tick }; input = i }) else Err fault.Size
 
@@ -50,7 +50,7 @@ named row count tick (Message port ws) = taken_message count tick ws (first_from
 named row count tick DeviceModuleFault = within (is_room count) tick ModuleFault
 named row count tick (DevicePartitionFault name) = if same row.name name then within (is_room count) tick PartitionFault else Err fault.Name
 
--- A line, by what it says, behind so many others, the last of them of this tick.
+-- Takes a line by its meaning, after `count` lines of which the last has tick `before`.
 abbrev pub taken : Partition → (count before : ℕ) → Option WrittenLine → Result InputLine DeviceFault
 taken row count before None = Err fault.Form
 taken row count before (Some l) = if nat_lt l.tick before then Err fault.Order else named row count l.tick l.written

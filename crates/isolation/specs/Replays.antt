@@ -1,4 +1,4 @@
--- What a replay of one partition of an image is of.
+-- The partition, the inputs and the ticks of a replay.
 use Rattle.std.specs.Prelude.{◌≡◌, ℕ, ◌≤◌, List, Option, Some, Result, Ok}
 use Rattle.apex_types.specs.declared.limits.TheConstants.{MOST_TICKS}
 use Rattle.module_meaning.specs.DeviceText.{first_from}
@@ -9,11 +9,12 @@ use Rattle.isolation.specs.Alone.{InputLine}
 use Rattle.isolation.specs.ReplayText.{replay_verdict}
 use Rattle.isolation.specs.Slices.{Slice, slice_of}
 
--- the number of the partition of a name, with what the image has of it
+-- the number of the partition with this name, with its item in the image
 abbrev pub numbered : Image → List ℕ → Option (ℕ × Item)
 numbered image name = first_from 1 (λ i. same i.partition.name name) image.items
 
--- An image was read, it has a partition of this name, and the text is one of what comes to it, for so many ticks.
+-- An image was read, it has a partition with this name, and the text is a text of the partition's
+-- inputs, for n ticks.
 pub record IsReplay (read : Result Image Fault) (name inputs : List ℕ) (n : ℕ) (s : Slice) (lines : List InputLine) : Type 0 where
   pub image : Image
   pub loaded : read ≡ Ok image

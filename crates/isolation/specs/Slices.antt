@@ -1,4 +1,4 @@
--- The slice of an image that is one partition's, and the partition alone with it.
+-- The slice of an image that belongs to one partition, and the partition alone with it.
 use Rattle.std.specs.Prelude.{ℕ, List, Option, option_map}
 use Rattle.apex_types.specs.declared.device.DeviceLine.{DeviceLine}
 use Rattle.apex_types.specs.declared.event.Event.{Event}
@@ -12,15 +12,15 @@ use Rattle.isolation.specs.Alone.{Alone, InputLine, Surroundings, trace_alone}
 use Rattle.isolation.specs.Brought.{inputs_of}
 use Rattle.isolation.specs.Surrounded.{surroundings_of}
 
--- What constructs cost, the partition's number, its row with what its source became, the major frame with its own
--- windows, what is done on a fault of the module, and the ways out of its ports.
+-- The costs of constructs, the partition's number, its row with its section, the major frame with
+-- its own windows, the action on a fault of the module, and the ways out of its ports.
 pub record Slice : Type 0 where
   pub costs : Costs
   pub number : ℕ
   pub item : Item
   pub around : Surroundings
 
--- The slice of an image for the partition with a number, where it is this one's.
+-- The slice of an image for partition p, if the item is that of p.
 abbrev pub slice_of : Image → ℕ → Item → Slice
 slice_of image p item = record {
   costs = costs_of image.version;
@@ -41,6 +41,6 @@ machine_alone s = record { around = s.around; member = machine_member s.costs (f
 abbrev pub slice_trace : Slice → List InputLine → ℕ → List Event
 slice_trace s inputs n = trace_alone (machine_alone s) inputs n
 
--- the inputs of a partition in n ticks of an image with these lines of the devices
+-- the inputs of a partition in n ticks of an image with these device lines
 abbrev pub machine_inputs : Image → ℕ → List DeviceLine → ℕ → List InputLine
 machine_inputs image p devices n = inputs_of (machine_module image) p devices n

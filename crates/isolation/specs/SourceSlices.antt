@@ -1,4 +1,5 @@
--- The slice of a table and its programs that is one partition's, and the partition alone with it.
+-- The slice of a table and its programs that belongs to one partition, and the partition alone with
+-- it.
 use Rattle.std.specs.Prelude.{ℕ, List}
 use Rattle.apex_types.specs.declared.device.DeviceLine.{DeviceLine}
 use Rattle.apex_types.specs.declared.event.Event.{Event}
@@ -12,7 +13,7 @@ use Rattle.isolation.specs.Alone.{Alone, InputLine, Surroundings, trace_alone}
 use Rattle.isolation.specs.Brought.{inputs_of}
 use Rattle.isolation.specs.Surrounded.{surroundings_of}
 
--- What constructs cost, the partition's number, its row, its program, and what surrounds it.
+-- The costs of constructs, the partition's number, its row, its program, and its surroundings.
 pub record SourceSlice : Type 0 where
   pub costs : Costs
   pub number : ℕ
@@ -20,7 +21,8 @@ pub record SourceSlice : Type 0 where
   pub program : Program
   pub around : Surroundings
 
--- The slice of a table with these programs for the partition with a number, where it is this one's.
+-- The slice of a table with these programs for partition p, if the row and the program are those of
+-- p.
 abbrev pub source_slice : Table → List Program → ℕ → Partition → Program → SourceSlice
 source_slice t sources p row program = record { costs = t.costs; number = p; row = row; program = program; around = surroundings_of (source_module t sources).plan p row.ports }
 
@@ -32,6 +34,6 @@ source_alone s = record { around = s.around; member = source_member s.costs (fix
 abbrev pub source_slice_trace : SourceSlice → List InputLine → ℕ → List Event
 source_slice_trace s inputs n = trace_alone (source_alone s) inputs n
 
--- the inputs of a partition in n ticks of a table's programs with these lines of the devices
+-- the inputs of a partition in n ticks of a table's programs with these device lines
 abbrev pub source_inputs : Table → List Program → ℕ → List DeviceLine → ℕ → List InputLine
 source_inputs t sources p devices n = inputs_of (source_module t sources) p devices n

@@ -1,4 +1,4 @@
--- What surrounds a partition in a module.
+-- The surroundings of a partition in a module.
 use Rattle.std.specs.Prelude.{ℕ, ◌+◌, List, [], ◌∷◌, Option, Some, None, if◌then◌else◌}
 use Rattle.std.specs.List.{list_any}
 use Rattle.apex_types.specs.declared.identity.PartitionId.{PartitionId}
@@ -18,7 +18,7 @@ abbrev pub ways_from : List Channel → PartitionId → ℕ → List PortRow →
 ways_from channels p number [] = []
 ways_from channels p number (row ∷ rows) = name_to_device (channel_from channels p (record { 0 = number })) ∷ ways_from channels p (number + 1) rows
 
--- What surrounds a partition with these ports in a module: the major frame with its own windows, what is done on
--- a fault of the module, and the ways out of its ports.
+-- The surroundings of a partition with these ports in a module: the major frame with its own
+-- windows, the action on a fault of the module, and the ways out of its ports.
 abbrev pub surroundings_of : Plan → ℕ → List PortRow → Surroundings
 surroundings_of plan p rows = record { schedule = schedule_of_partition p plan.schedule; fault = plan.fault; ways_out = ways_from plan.channels (record { 0 = p }) 1 rows }

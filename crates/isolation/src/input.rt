@@ -1,8 +1,8 @@
-//! What comes to a partition from outside.
+//! The inputs of a partition from outside.
 
 use apex_types::{PortId, Ticks, Words};
 
-/// What comes to a partition from outside it.
+/// An input of a partition from outside.
 #[derive(Debug, PartialEq, Eq, Drop)]
 pub enum Input {
     /// A message arrives at a port.
@@ -13,7 +13,7 @@ pub enum Input {
     PartitionFault,
 }
 
-/// What comes to a partition, and in which tick.
+/// An input of a partition, and its tick.
 #[derive(Debug, PartialEq, Eq, Drop)]
 pub struct InputLine {
     pub tick: Ticks,

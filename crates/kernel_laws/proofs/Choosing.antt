@@ -1,4 +1,4 @@
--- The list of those that are ready has the order of their numbers.
+-- The list of the ready processes has the order of their numbers.
 use Rattle.std.proofs.Common.{◌≡◌, ◌↔◌, inl, inr, ℕ, ◌+◌, ◌<◌, ◌≤◌, nat_eq, nat_lt, cond, Bool, true, false, not, List, [], ◌∷◌, Some, refl, sym, ap, subst, ◌∙◌, arith}
 use Rattle.std.proofs.lemmas.Bool.{ltb-true, ltb-false, eq-eqb}
 use Rattle.std.proofs.lemmas.Option.{none-some, same_Some}
@@ -13,7 +13,7 @@ use Rattle.kernel_laws.specs.Choice.{IsAmong, IsBefore, IsFirst, PicksUnlessHeld
 use Rattle.kernel_meaning.specs.Processes.{Processes, row_of, without, behind_equals}
 use Rattle.kernel_meaning.specs.Partition.{pick, is_ready, unless_held}
 
--- ---- one leaves
+-- ---- a process leaves
 
 each_without : (number : ℕ → ℕ) (p : ℕ) (e : Entry) (es : List Entry) → IsBeforeEach number e es → IsBeforeEach number e (without p es)
 each_without number p e [] h = tt
@@ -42,7 +42,7 @@ below_without number next p (x ∷ xs) h =
 pub leaves : (number : ℕ → ℕ) (next p : ℕ) (ready : List Entry) → IsNumbered number next ready → IsNumbered number next (without p ready)
 leaves number next p ready h = record { ordered = ordered_without number p ready h.ordered; below = below_without number next p ready h.below }
 
--- ---- one takes a number
+-- ---- a process takes a number
 
 -- none of these is p
 abbrev pub AreOthers : ℕ → List Entry → Type 0
@@ -82,7 +82,7 @@ below_takes number p n (x ∷ xs) others h =
     let same = same_number number p n x.process.0 others.0 in
     (omega (arith, same, h.0), below_takes number p n xs others.1 h.1)
 
--- ---- one goes last
+-- ---- a process goes last
 
 higher_each : (number : ℕ → ℕ) (e x : Entry) (xs : List Entry) → x.priority.0 < e.priority.0 → IsBeforeEach number x xs → IsBeforeEach number e xs
 higher_each number e x [] higher h = tt
@@ -100,7 +100,7 @@ each_behind number x e (y ∷ ys) one h =
       | false ↦ (h.0, each_behind number x e ys one h.1)
     ]
 
--- one that is not of a lower priority, and has an older number
+-- a process that has no lower priority and an older number
 older_before : (number : ℕ → ℕ) (x e : Entry) → e.priority.0 ≤ x.priority.0 → number x.process.0 < number e.process.0 → IsBefore number x e
 older_before number x e least older = by_case (nat_lt e.priority.0 x.priority.0) refl
   where
@@ -168,7 +168,7 @@ first_is_head : (number : ℕ → ℕ) (x : Entry) (xs : List Entry) (p : Runner
 first_is_head number x xs p h (e, inl same, is, first) = ap (λ (y : Entry). runner.Process y.process) (sym same) ∙ is
 first_is_head number x xs p h (e, inr later, is, first) = absurd (first x (inl refl) (before_one number x e xs h.0 later))
 
--- where one alone may be chosen
+-- when only one may be chosen
 only : (q p : Runner) → (Some q ≡ Some p ↔ (p ≡ q))
 only q p = ((λ e. sym (same_Some q p e)), (λ k. ap Some (sym k)))
 

@@ -16,7 +16,7 @@ apart zero b = inl (omega arith)
 apart (suc a) zero = inr (omega arith)
 apart (suc a) (suc b) = elim (apart a b) [ inl h ↦ inl (omega arith) | inr h ↦ inr (omega arith) ]
 
--- a place that comes later in the same frame, and one that comes in the next
+-- a place that follows in the same frame, and one in the next frame
 ahead : (frame place offset : ℕ) → place ≤ offset → offset < frame → (offset + frame - place) % frame ≡ offset - place
 ahead frame place offset h small =
     let e : offset + frame - place ≡ (offset - place) + frame = omega arith in
@@ -63,7 +63,7 @@ min_first x y h = omega arith
 min_second : (x y : ℕ) → y < x → min x y ≡ y
 min_second x y h = omega arith
 
--- the first of two, or the second where the first is not asked
+-- the first of two, or the second if the first is not asked for
 abbrev chosen : Bool → ℕ → ℕ → ℕ
 chosen b x y = cond b (min x y) y
 
@@ -83,7 +83,7 @@ second : (P : ℕ → Type 0) (c : Bool) (x y frame : ℕ) → x ≤ frame → y
 second P true x y frame le less none g = subst P (sym (min_second x y less)) (g refl)
 second P false x y frame le less none g = let e = none refl in absurd (omega (arith, e))
 
--- what holds of the one that is chosen
+-- what both candidates satisfy, the chosen one satisfies
 pick : (P : ℕ → Type 0) (b c : Bool) (x y frame : ℕ) → x ≤ frame → (c ≡ false → y ≡ frame) → (b || c) ≡ true → (b ≡ true → P x) → (c ≡ true → P y) → P (chosen b x y)
 pick P true c x y frame le none r f g = elim (apart x y) [
   | inl q ↦ subst P (sym (min_first x y q)) (f refl)

@@ -32,7 +32,7 @@ process_at-high s (pos (suc n)) h = let e : slice_get s.rows (suc (suc n)) ≡ N
 
 pub ruleset numbers = (process_at-low, process_at-number, process_at-high)
 
--- a good length is a number of words
+-- a valid length is a number of words
 pub first_words-count : (count : ℤ) (words : List ℤ) → pos 1 ≤ℤ count → first_words count words ≡ take (nat_abs count) words
 first_words-count (pos n) words h = refl
 first_words-count (negsuc n) words h = absurd (omega (arith, ints))

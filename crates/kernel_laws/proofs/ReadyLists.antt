@@ -1,4 +1,4 @@
--- A list of those that are ready stays one that has each process at most once, and has room.
+-- A list of ready processes still has each process at most once, and has room.
 use Rattle.std.proofs.Common.{◌≡◌, ℕ, zero, suc, ◌+◌, ◌<◌, ◌≤◌, Bool, true, false, not, cond, List, [], ◌∷◌, length, refl, sym, arith, subst, inl, inr}
 use Rattle.std.specs.Prelude.{nat_eq, nat_lt, if◌then◌else◌}
 use Rattle.std.proofs.lemmas.Bool.Decides.{nat_tests}
@@ -61,7 +61,7 @@ all_times-lt (suc n) p es h none lt = elim (cases_lt p n) [
       omega (arith, all_times-le n es h)
 ]
 
--- ---- one who leaves
+-- ---- a process that leaves
 
 without-none : (p : ℕ) (es : List Entry) → times_listed p (without p es) ≡ 0
 without-none p [] = refl
@@ -96,7 +96,7 @@ length-without n p es h lt =
     let k = IsListed-without n p es h in
     omega (arith, length-all n (without p es) k.below, all_times-lt n p (without p es) k.once (without-none p es) lt)
 
--- ---- one who goes behind its equals
+-- ---- a process that goes behind its equals
 
 behind-times : (e : Entry) (q : ℕ) (es : List Entry) → times_listed q (behind_equals e es) ≡ times_listed q (e ∷ es)
 behind-times e q [] = refl

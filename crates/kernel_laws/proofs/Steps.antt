@@ -1,4 +1,5 @@
--- A loop over processes goes on: what is done so far, then the rest from here, is the whole.
+-- A loop over processes: the steps so far, followed by those of the remaining processes, are the
+-- whole.
 use Rattle.std.proofs.Common.{◌≡◌, ℕ, zero, suc, ◌+◌, ◌-◌, ◌<◌, List, ◌++◌, refl, sym, ap, ◌∙◌, append_assoc, arith}
 use Rattle.std.specs.Prelude.{Bool, true, false, Option, is_some, if◌then◌else◌}
 use Rattle.apex_types.specs.declared.codes.Mode.{Mode}
@@ -39,7 +40,7 @@ module _ (at : At) (next n place : ℕ) (s t : Processes) where
   pub start_actions : (old new whole : List Action) → 0 < n → t ≡ this.part → new ≡ old ++ this.actions → old ++ (start_from at next n place s).actions ≡ whole → new ++ (start_from at next (n - 1) (place + 1) t).actions ≡ whole
   start_actions old new whole h e grown before = rw e (goes_on old new this.actions (start_from at next (n - 1) (place + 1) this.part).actions whole grown (ap (λ (x : Step Processes). old ++ x.actions) (sym (start_step at next n place s h)) ∙ before))
 
--- ---- the next process of those that are treated
+-- ---- the next process to be treated
 
 module _ (at : At) (action : PartitionAction) (n place free : ℕ) (s : Processes) where
   abbrev turn : Treated
@@ -54,7 +55,8 @@ module _ (at : At) (action : PartitionAction) (n place free : ℕ) (s : Processe
   pub due_goes_on : (clears : Option Mode) → 0 < n → clears ≡ turn.clears → is_some clears ≡ false → due_from at action n place free s ≡ treated_after turn.step others
   due_goes_on clears h e is = due_step at action n place free s h ∙ ap (λ (b : Bool). if b then turn else treated_after turn.step others) (sym (ap is_some e) ∙ is)
 
-  -- what the rest comes to from here, where the part and the places are those after this turn
+  -- the treatment of the remaining processes, where the part and the places are those after this
+  -- turn
   pub due_rest : (clears : Option Mode) (t : Processes) (left : ℕ) → 0 < n → clears ≡ turn.clears → is_some clears ≡ false → t ≡ turn.step.part → left ≡ turn.free →
       due_from at action n place free s ≡ treated_after turn.step (due_from at action (n - 1) (place + 1) left t)
   due_rest clears t left h e is part rest = rw (part, rest) (due_goes_on clears h e is)

@@ -7,7 +7,7 @@ use Rattle.module_meaning.specs.TableRules.{PartitionText, WindowText, exceeds_w
 use Rattle.kernel_meaning.specs.WindowFacts.{BeginWithin}
 use Rattle.kernel_laws.proofs.WindowOrder.{AreInOrder, begin_within}
 
--- what a window keeps to that begins at or after an end and ends within the frame
+-- the rules that a window keeps if it begins at or after an end and ends within the frame
 pub record WindowKeeps (frame end : ℕ) (offset size : ℤ) : Type 0 where
   pub next : offset +ℤ size ≡ pos (nat_abs offset + nat_abs size)
   pub after : end ≤ nat_abs offset

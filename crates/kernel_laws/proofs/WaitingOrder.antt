@@ -12,7 +12,7 @@ use Rattle.kernel_meaning.specs.Queues.{Queues, list_in, each_list, without_in_a
 use Rattle.kernel_laws.specs.WaitingOrder.{IsBeforeUnder, IsBeforeEachUnder, IsOrderedUnder, IsQueue, AreQueues, IsReleasedFirst}
 use Rattle.kernel_laws.proofs.Choosing.{AreOthers, below_without, others_without, same_number, own_number, before_other, below_takes, ordered_behind, below_behind, not_both}
 
--- ---- one leaves
+-- ---- a process leaves
 
 each_without : (d : Discipline) (number : ℕ → ℕ) (p : ℕ) (e : Entry) (es : List Entry) → IsBeforeEachUnder d number e es → IsBeforeEachUnder d number e (without p es)
 each_without d number p e [] h = tt
@@ -33,7 +33,7 @@ ordered_without d number p (x ∷ xs) h =
 one_without : (d : Discipline) (number : ℕ → ℕ) (next p : ℕ) (es : List Entry) → IsQueue d number next es → IsQueue d number next (without p es)
 one_without d number next p es h = record { ordered = ordered_without d number p es h.ordered; below = below_without number next p es h.below }
 
--- at each key the list is changed so, if nothing becomes of an empty one
+-- the list at each key is changed in this way, if an empty list stays empty
 in_each : (change : List Entry → List Entry) (lists : List (List Entry)) (place : ℕ) → change [] ≡ [] → list_in (map change lists) place ≡ change (list_in lists place)
 in_each change [] place none = sym none
 in_each change (list ∷ lists) zero none = refl
@@ -52,7 +52,7 @@ at_without p queues k = at_each (without p) queues k refl
 pub leaves : (disciplines : ListKey → Discipline) (number : ℕ → ℕ) (next p : ℕ) (lists : Queues) → AreQueues disciplines number next lists → AreQueues disciplines number next (without_in_all p lists)
 leaves disciplines number next p lists h k = subst (IsQueue (disciplines k) number next) (sym (at_without p lists k)) (one_without (disciplines k) number next p (list_at lists k) (h k))
 
--- ---- one takes a number
+-- ---- a process takes a number
 
 before_takes : (d : Discipline) (number other : ℕ → ℕ) (e f : Entry) → other e.process.0 ≡ number e.process.0 → other f.process.0 ≡ number f.process.0 → IsBeforeUnder d number e f → IsBeforeUnder d other e f
 before_takes discipline.Fifo number other e f same_e same_f h = omega (arith, same_e, same_f, h)
@@ -71,14 +71,14 @@ below_more : (number : ℕ → ℕ) (next : ℕ) (es : List Entry) → AreNumber
 below_more number next [] h = tt
 below_more number next (x ∷ xs) h = (let older = h.0 in omega (arith, older), below_more number next xs h.1)
 
--- the lists that the one who takes a number does not join
+-- a list that the process which takes a number does not join
 others_take : (d : Discipline) (number : ℕ → ℕ) (p n : ℕ) (es : List Entry) → AreOthers p es → IsQueue d number n es → IsQueue d (takes number p n) (n + 1) es
 others_take d number p n es others h = record {
   ordered = ordered_takes d number p n es others h.ordered;
   below = below_more (takes number p n) n es (below_takes number p n es others h.below);
 }
 
--- ---- one joins a list
+-- ---- a process joins a list
 
 each_last : (number : ℕ → ℕ) (x e : Entry) (xs : List Entry) → number x.process.0 < number e.process.0 → IsBeforeEachUnder discipline.Fifo number x xs → IsBeforeEachUnder discipline.Fifo number x (xs ++ e ∷ [])
 each_last number x e [] one h = (one, tt)
@@ -113,7 +113,7 @@ one_joins discipline.Priority number next e xs own below h = record {
   below = below_behind number next e xs own below;
 }
 
--- what stands at one place is as before, or this is the place and the new list stands there
+-- a place is as before, or it is the place of the new list
 abbrev IsPut : {K : Type 0} → List Entry → List Entry → List Entry → K → K → Type 0
 IsPut before list after k j = (after ≡ before) ⊎ ((j ≡ k) × (after ≡ list))
 
@@ -142,7 +142,7 @@ at_put queues _ list _ = inl refl
 others_at : (p : ℕ) (lists : Queues) (k : ListKey) → AreOthers p (list_at (without_in_all p lists) k)
 others_at p lists k = subst (AreOthers p) (sym (at_without p lists k)) (others_without p (list_at lists k))
 
--- the lists when the one who begins to wait has left them, and the list that it then joins
+-- the lists after a process that begins to wait has left its list, and the list that it then joins
 abbrev left : Entry → Queues → Queues
 left e lists = without_in_all e.process.0 lists
 

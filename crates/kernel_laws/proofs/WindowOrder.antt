@@ -1,5 +1,5 @@
--- Windows that stand one behind the other within a frame: each begins within it, at most one holds a tick, and at
--- most one ends at it.
+-- Windows that follow one another within a frame: each begins within it, at most one holds a tick,
+-- and at most one ends at it.
 use Rattle.std.proofs.Common.{◌≡◌, ℕ, zero, suc, ◌+◌, ◌%◌, ◌<◌, ◌≤◌, Bool, true, false, cond, IsTrue, List, [], ◌∷◌, Some, None, refl, sym, ap, subst, ◌∙◌, arith, inl, inr, mod-eq_of_lt}
 use Rattle.std.proofs.Math.Nat.{mod_self}
 use Rattle.std.specs.Prelude.{nat_le, nat_lt, find, option_map, slice_get}
@@ -10,12 +10,12 @@ use Rattle.apex_types.specs.declared.row.WindowRow.{WindowRow}
 use Rattle.kernel_meaning.specs.Windows.{Schedule, phase, is_within, ends_at, ended}
 use Rattle.kernel_meaning.specs.WindowFacts.{Holds, Ends, AtMostOne, HasOneOwner, HasOneEnd, begins_late, BeginWithin}
 
--- from a place of the frame on, each behind the one before, within the frame
+-- from a place of the frame on, each after the one before, within the frame
 abbrev pub AreInOrder : ℕ → ℕ → List WindowRow → Type 0
 AreInOrder frame low [] = Unit {0}
 AreInOrder frame low (w ∷ ws) = (low ≤ w.offset) × (1 ≤ w.length) × (w.offset + w.length ≤ frame) × AreInOrder frame (w.offset + w.length) ws
 
--- ---- where they begin
+-- ---- their beginnings
 
 -- a window that has room, and is not empty, begins within the frame
 not_late : (frame o n : ℕ) → 1 ≤ n → o + n ≤ frame → nat_le frame o ≡ false
@@ -25,7 +25,7 @@ pub begin_within : (frame low : ℕ) (ws : List WindowRow) → AreInOrder frame 
 begin_within frame low [] h = refl
 begin_within frame low (w ∷ ws) h = or_from (begins_late frame w) (list_any (begins_late frame) ws) (not_late frame w.offset w.length h.1 h.2) (begin_within frame (w.offset + w.length) ws h.3)
 
--- ---- where they stand
+-- ---- their places
 
 record Stands (frame low : ℕ) (w : WindowRow) : Type 0 where
   behind : low ≤ w.offset
@@ -51,7 +51,7 @@ apart frame low (x ∷ xs) (suc i) (suc j) v w h l e f = apart frame (x.offset +
 
 -- ---- at most one
 
--- what a window and a later one never are both, at most one is
+-- if a window and a later one never both have a property, at most one has it
 one_at_most : (IsSo : WindowRow → Type 0) (ws : List WindowRow) → ((i j : ℕ) (v w : WindowRow) → i < j → slice_get ws i ≡ Some v → slice_get ws j ≡ Some w → IsSo v → IsSo w → ⊥) → AtMostOne IsSo ws
 one_at_most IsSo ws never i j v w e f a b = elim (cases_lt i j) [
   | inl l ↦ absurd (never i j v w l e f a b)
@@ -90,7 +90,7 @@ one_ends s at h = one_at_most (Ends s at) s.windows (λ i j v w l e f a b.
     let order = apart s.frame 0 s.windows i j v w h l e f in
     ends_apart s.frame (phase s at) (v.offset + v.length) (w.offset + w.length) (omega (arith, first.some)) (omega (arith, order, second.some)) second.within (eqb-true ((v.offset + v.length) % s.frame) (phase s at) a.1) (eqb-true ((w.offset + w.length) % s.frame) (phase s at) b.1))
 
--- ---- the one that is found
+-- ---- the window found
 
 abbrev Passes : (WindowRow → Bool) → WindowRow → Type 0
 Passes test w = IsTrue (test w)

@@ -1,7 +1,7 @@
--- The choice of the process by ready numbers. Each becoming ready, and each going last, takes a fresh
--- and greater number; of those that are ready the one of the highest priority is chosen, among equals
--- the one with the least number. The state of a partition stores no number: its list of the ready ones
--- has their order.
+-- The choice of the process by ready numbers. A process takes a fresh and greater number when it
+-- becomes ready and when it goes last. Of the ready processes, the highest priority is chosen;
+-- among equals, the least number. The state of a partition stores no number: its list of ready
+-- processes has their order.
 use Rattle.std.specs.Prelude.{◌≡◌, ◌⊎◌, ◌<◌, ℕ, ◌==◌, Bool, true, false, List, [], ◌∷◌, if◌then◌else◌}
 use Rattle.apex_types.specs.declared.codes.Mode.{Mode}
 use Rattle.apex_types.specs.declared.codes.Mode.TheVariants as mode
@@ -13,20 +13,20 @@ use Rattle.apex_types.specs.declared.process.Lock.TheVariants as lock
 use Rattle.kernel_meaning.specs.Processes.{Processes, row_of}
 use Rattle.kernel_meaning.specs.Partition.{is_ready}
 
--- one of those that are ready
+-- one of the ready processes
 abbrev pub IsAmong : Entry → List Entry → Type 0
 IsAmong e [] = ⊥
 IsAmong e (x ∷ xs) = (e ≡ x) ⊎ IsAmong e xs
 
--- of a higher priority, or of the same and of a smaller ready number
+-- a higher priority, or the same and a smaller ready number
 abbrev pub IsBefore : (ℕ → ℕ) → Entry → Entry → Type 0
 IsBefore number e f = (f.priority.0 < e.priority.0) ⊎ ((e.priority.0 ≡ f.priority.0) × (number e.process.0 < number f.process.0))
 
--- one that is ready and that no other ready one is before
+-- a ready process that no other ready process is before
 abbrev pub IsFirst : (ℕ → ℕ) → List Entry → Runner → Type 0
 IsFirst number ready p = (e : Entry) × IsAmong e ready × (runner.Process e.process ≡ p) × ((f : Entry) → IsAmong f ready → IsBefore number f e → ⊥)
 
--- in normal mode without a ready handler: the one that holds the lock, else one that is first
+-- in normal mode without a ready handler: the holder of the lock, otherwise a first ready process
 abbrev pub PicksUnlessHeld : (ℕ → ℕ) → Lock → List Entry → Runner → Type 0
 PicksUnlessHeld number lock.Free ready p = IsFirst number ready p
 PicksUnlessHeld number (lock.Held level holder) ready p = p ≡ runner.Process holder
@@ -36,7 +36,7 @@ PicksInNormal number true held ready p = p ≡ runner.Handler
 PicksInNormal number false held ready p = PicksUnlessHeld number held ready p
 
 -- Who may run: INIT before the normal start; in normal mode the handler if it is ready, then the
--- one that holds the lock, then the first of those that are ready; in idle mode none.
+-- holder of the lock, then the first ready process; in idle mode nobody.
 abbrev pub Picks : (ℕ → ℕ) → Mode → Processes → Runner → Type 0
 Picks number mode.Idle s p = ⊥
 Picks number mode.Normal s p = PicksInNormal number (is_ready (row_of s runner.Handler)) s.lock s.ready p
@@ -56,7 +56,7 @@ abbrev pub AreNumbersBelow : (ℕ → ℕ) → ℕ → List Entry → Type 0
 AreNumbersBelow number next [] = Unit {0}
 AreNumbersBelow number next (e ∷ es) = (number e.process.0 < next) × AreNumbersBelow number next es
 
--- Each is before those behind it, and no number was given yet from the next one on.
+-- Each is before those behind it, and the next number and those above it are not given yet.
 pub record IsNumbered (number : ℕ → ℕ) (next : ℕ) (ready : List Entry) : Type 0 where
   pub ordered : IsOrdered number ready
   pub below : AreNumbersBelow number next ready

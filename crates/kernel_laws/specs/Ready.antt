@@ -1,4 +1,4 @@
--- A list of those that are ready has each process at most once.
+-- A list of ready processes has each process at most once.
 use Rattle.std.specs.Prelude.{ℕ, ◌+◌, ◌<◌, ◌≤◌, List, [], ◌∷◌, if◌then◌else◌}
 use Rattle.apex_types.specs.declared.process.Entry.{Entry}
 use Rattle.kernel_meaning.specs.Processes.{is_entry_of}

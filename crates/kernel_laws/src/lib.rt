@@ -1,5 +1,5 @@
-//! Laws over the kernel and its windows: the lists of those that are ready or wait, against numbers; the next
-//! release.
+//! Laws over the kernel and its windows: the lists of the ready and the waiting processes, against
+//! numbers; the next release.
 #![tactic(auto)]
 
 pub mod choice;

@@ -8,14 +8,14 @@ ghost use Rattle.kernel_laws.specs.Choice.{takes};
 ghost use Rattle.kernel_meaning.specs.Queues.{Queues, without_in_all, list_at, joins, emptied};
 ghost use Rattle.kernel_laws.specs.WaitingOrder.{AreQueues, IsReleasedFirst};
 
-/// Where one no longer waits, the others keep their order by their numbers, in each list.
+/// When a process no longer waits, the others keep their order by their numbers, in each list.
 pub fn one_leaves()
     ensures { (disciplines : ListKey → Discipline) (number : ℕ → ℕ) (next p : ℕ) (queues : Queues)
         → AreQueues disciplines number next queues
         → AreQueues disciplines number next (without_in_all p queues) }
 {}
 
-/// One that begins to wait takes a fresh and greater number.
+/// A process that begins to wait takes a fresh and greater number.
 pub fn one_begins_to_wait()
     ensures { (disciplines : ListKey → Discipline) (number : ℕ → ℕ) (next : ℕ) (k : ListKey)
         (e : Entry) (queues : Queues) → AreQueues disciplines number next queues
@@ -23,7 +23,7 @@ pub fn one_begins_to_wait()
         (joins k (disciplines k) e queues) }
 {}
 
-/// The one at the head of a list is the one that is released first, and there is no other.
+/// An entry is at the head of a list if and only if it is released first.
 pub fn head_is_released_first()
     ensures { (disciplines : ListKey → Discipline) (number : ℕ → ℕ) (next : ℕ) (k : ListKey)
         (e : Entry) (queues : Queues) → AreQueues disciplines number next queues
@@ -31,7 +31,7 @@ pub fn head_is_released_first()
         ↔ IsReleasedFirst (disciplines k) number (list_at queues k) e) }
 {}
 
-/// Where nobody waits, any numbers will do.
+/// If nobody waits, any numbers will do.
 pub fn nobody_waits()
     ensures { (disciplines : ListKey → Discipline) (number : ℕ → ℕ) (next : ℕ) (queues : Queues)
         → AreQueues disciplines number next (emptied queues) }

@@ -40,7 +40,7 @@ get_blackboard_id b p name = get_id b p service.GetBlackboardId name (blackboard
 abbrev pub shows : Sharing Objects → Option (ArrayVec ℤ) → ℕ → Blackboard → Step (Sharing Objects)
 shows b shown place x = becomes b (put_blackboard b.shared place (record x { shown = shown }))
 
--- the message is stored, and all who wait take it in the order in which they came
+-- stores the message, and all waiting processes take it in order of arrival
 abbrev pub displays : Sharing Objects → ArrayVec ℤ → ℕ → Blackboard → Step (Sharing Objects)
 displays b m place x =
     let s = shows b (Some m) place x in
@@ -66,7 +66,7 @@ clear_blackboard b p id =
 abbrev pub reader : ℕ → ArrayPlace → Waiting
 reader place array = record { service = service.ReadBlackboard; list = list place; discipline = discipline.Fifo; array = Some array }
 
--- the message goes into the array; while there is none the caller waits
+-- copies the displayed message into the array; without one, blocks the caller for at most `limit`
 abbrev pub reads : At → Sharing Objects → Runner → ArrayPlace → ℤ → ℕ → Option (ArrayVec ℤ) → Step (Sharing Objects)
 reads at b p array limit place None = of_processes b (blocks at b.processes p limit (reader place array) (message []))
 reads at b p array limit place (Some m) = after (answers b p service.ReadBlackboard code.NoError (pos (length m.items) ∷ [])) (fills b (Some array) m)
@@ -86,7 +86,7 @@ abbrev pub indicator : Option (ArrayVec ℤ) → ℕ
 indicator None = 0
 indicator (Some m) = 1
 
--- empty or occupied, the most words of a message, and how many wait
+-- empty or occupied, the most words of a message, and the number of waiting processes
 abbrev pub status : Sharing Objects → ℕ → Blackboard → List ℤ
 status b place x = pos (indicator x.shown) ∷ pos x.row.words ∷ pos (waiting_count b.processes (list place)) ∷ []
 

@@ -47,12 +47,12 @@ is_full x = nat_le x.row.depth (length x.messages)
 abbrev pub with_message : Buffer → ArrayVec ℤ → Buffer
 with_message x m = record x { messages = x.messages ++ m ∷ [] }
 
--- the first receiver that waits takes the message; where nobody waits it goes behind the others
+-- the first waiting receiver takes the message; without one it goes behind the others
 abbrev pub takes_message : Sharing Objects → ℕ → Buffer → ArrayVec ℤ → Option (Runner × ProcessStatus) → Step (Sharing Objects)
 takes_message b place x m None = becomes b (put_buffer b.shared place (with_message x m))
 takes_message b place x m (Some f) = of_processes b (gives b.processes f.0 f.1 m)
 
--- while it is full the caller waits
+-- if the buffer is full, blocks the caller for at most `limit`
 abbrev pub sends : At → Sharing Objects → Runner → ℤ → ArrayVec ℤ → ℕ → Buffer → Step (Sharing Objects)
 sends at b p limit m place x =
     if is_full x
@@ -73,14 +73,16 @@ send_buffer at b p id array length limit words =
 abbrev pub receiver : ℕ → Buffer → ArrayPlace → Waiting
 receiver place x array = record { service = service.ReceiveBuffer; list = list place; discipline = x.row.discipline; array = Some array }
 
--- the message of the first sender that waits comes behind the others, and the sender is released
+-- the message of the first waiting sender, if any, goes behind the others, and the sender is
+-- released
 abbrev pub admits : Sharing Objects → ℕ → Buffer → Option (Runner × ProcessStatus) → Step (Sharing Objects)
 admits b place x None = becomes b (put_buffer b.shared place x)
 admits b place x (Some f) =
     let s = becomes b (put_buffer b.shared place (with_message x (handed_by b.processes f.0))) in
     after s (of_processes s.part (released b.processes f.0 f.1 code.NoError))
 
--- the first message goes into the array; while there is none the caller waits
+-- takes the first message into the array; if the buffer is empty, blocks the caller for at most
+-- `limit`
 abbrev pub receives : At → Sharing Objects → Runner → ArrayPlace → ℤ → ℕ → Buffer → List (ArrayVec ℤ) → Step (Sharing Objects)
 receives at b p array limit place x [] = of_processes b (blocks at b.processes p limit (receiver place x array) (message []))
 receives at b p array limit place x (m ∷ rest) =
@@ -98,7 +100,8 @@ receive_buffer at b p id array limit =
 
 -- ---- GET_BUFFER_STATUS
 
--- its messages, its room for messages, the most words of one, and how many wait
+-- its messages, its room for messages, the most words of a message, and the number of waiting
+-- processes
 abbrev pub status : Sharing Objects → ℕ → Buffer → List ℤ
 status b place x = pos (length x.messages) ∷ pos x.row.depth ∷ pos x.row.words ∷ pos (waiting_count b.processes (list place)) ∷ []
 

@@ -38,7 +38,7 @@ get_event_id b p name = get_id b p service.GetEventId name (event b.shared name)
 abbrev pub sets : Sharing Objects → Bool → ℕ → ApexEvent → Step (Sharing Objects)
 sets b up place x = becomes b (put_event b.shared place (record x { up = up }))
 
--- it is up, and all who wait are released in the order in which they came
+-- the event is up, and all waiting processes are released in order of arrival
 abbrev pub raises : Sharing Objects → ℕ → ApexEvent → Step (Sharing Objects)
 raises b place x =
     let s = sets b true place x in
@@ -63,7 +63,7 @@ reset_event b p id =
 abbrev pub waiting_for : ℕ → Waiting
 waiting_for place = record { service = service.WaitEvent; list = list place; discipline = discipline.Fifo; array = None }
 
--- while it is down the caller waits
+-- if the event is down, blocks the caller for at most `limit`
 abbrev pub awaits : At → Sharing Objects → Runner → ℤ → ℕ → ApexEvent → Step (Sharing Objects)
 awaits at b p limit place x =
     if x.up
@@ -84,7 +84,7 @@ abbrev pub number_of_state : Bool → ℕ
 number_of_state false = 0
 number_of_state true = 1
 
--- down or up, and how many wait
+-- down or up, and the number of waiting processes
 abbrev pub status : Sharing Objects → ℕ → ApexEvent → List ℤ
 status b place x = pos (number_of_state x.up) ∷ pos (waiting_count b.processes (list place)) ∷ []
 

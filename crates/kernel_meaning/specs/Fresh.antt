@@ -21,7 +21,7 @@ use Rattle.kernel_meaning.specs.Step.{message}
 
 -- ---- a partition before its first start
 
--- the record of one with a priority, before it is created
+-- the record of a runner with a priority, before it is created
 abbrev pub fresh_row : Subject → Priority → Option ℕ → Option ℕ → ProcessStatus
 fresh_row who priority period capacity = record {
   who = who;
@@ -57,8 +57,8 @@ fresh_queues =
 abbrev pub fresh_processes : List ProcessStatus → Processes
 fresh_processes rows = record { rows = init_row ∷ handler_row ∷ rows; ready = []; running = None; lock = lock.Free; queues = fresh_queues; handed = map no_message rows }
 
--- A partition in idle mode with nothing created, of these processes, objects and ports. It has a handler, or
--- none.
+-- A partition in idle mode with nothing created, of these processes, objects and ports; with or
+-- without a handler.
 abbrev pub fresh_kernel : Fixed → List ProcessStatus → Objects → Ports → Bool → Kernel
 fresh_kernel fixed rows objects ports has_handler = record { fixed = fixed; mode = mode.Idle; condition = condition.NormalStart; processes = fresh_processes rows; objects = objects; ports = ports; errors = fresh_errors has_handler }
 

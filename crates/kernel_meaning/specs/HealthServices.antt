@@ -43,7 +43,7 @@ is_message_length size length = int_le (pos 1) length && int_le length (pos MOST
 abbrev pub reports : Processes → Runner → List ℤ → Step Processes
 reports s p words = record { part = s; lines = event.Report (subject s p) (message words) ∷ []; actions = [] }
 
--- the first words of those that the call hands in
+-- writes the first words of those that the call hands in to the trace
 abbrev pub report : Processes → Runner → ArrayPlace → ℤ → List ℤ → Step Processes
 report s p array length words =
     row (refuses s p service.ReportApplicationMessage)
@@ -64,7 +64,8 @@ abbrev pub creates_found : Processes → Runner → Option ProcessStatus → Ste
 creates_found s p None = nothing s
 creates_found s p (Some r) = nothing (put_row s p (record r { created = true }))
 
--- The handler is created, dormant. No handler in normal mode; one that the source has, and once.
+-- Creates the handler, dormant. INVALID_MODE: in normal mode; INVALID_CONFIG: the source has no
+-- handler; NO_ACTION: it was already created.
 abbrev pub create_error_handler : Mode → Sharing Errors → Runner → Step (Sharing Errors)
 create_error_handler m b p =
     row (sharing.refuses b p service.CreateErrorHandler)
@@ -102,19 +103,19 @@ number_of_error error.StackOverflow = 4
 number_of_error error.MemoryViolation = 5
 number_of_error error.HardwareFault = 6
 
--- the error, the number of the process that it is of, and the length of its message
+-- the error, the number of its process, and the length of its message
 abbrev pub error_status : WaitingError → List ℤ
 error_status e = pos (number_of_error e.kind) ∷ pos (e.process.0 + 1) ∷ pos (length e.words.items) ∷ []
 
--- the first error waits no longer, and its message goes into the array
+-- takes the first error, whose message goes into the array; NO_ACTION: no error waits
 abbrev pub takes_error : Sharing Errors → Runner → ArrayPlace → List WaitingError → Step (Sharing Errors)
 takes_error b p array [] = sharing.refuses b p service.GetErrorStatus code.NoAction
 takes_error b p array (e ∷ rest) =
     after (sharing.answers b p service.GetErrorStatus code.NoError (error_status e))
     (after (fills b (Some array) e.words) (becomes b (record b.shared { waiting = rest })))
 
--- The handler alone asks for errors, with an array for the longest message; where none waits nothing is
--- done.
+-- Only the handler may ask for errors, with an array for the longest message; without a waiting
+-- error nothing is done.
 abbrev pub get_error_status : Sharing Errors → Runner → ArrayPlace → Step (Sharing Errors)
 get_error_status b p array =
     row (sharing.refuses b p service.GetErrorStatus)
@@ -123,7 +124,7 @@ get_error_status b p array =
     ∷ [])
     (takes_error b p array b.shared.waiting)
 
--- ---- how an error is handled
+-- ---- the response to an error
 
 abbrev pub action_of : HealthTable → ErrorKind → PartitionAction
 action_of h error.DeadlineMissed = h.deadline_missed
@@ -134,16 +135,17 @@ action_of h error.StackOverflow = h.stack_overflow
 action_of h error.MemoryViolation = h.memory_violation
 action_of h error.HardwareFault = h.hardware_fault
 
--- how many more errors may wait for the handler: none unless it is created and the mode is normal
+-- how many more errors may wait for the handler: 0 unless it is created and the mode is normal
 abbrev pub free_places : Mode → Sharing Errors → ℕ
 free_places m b = if is_normal m && is_handler_created b.processes then MOST_ERRORS - length b.shared.waiting else 0
 
--- the level of an error of p: that of the process where it may wait for the handler, else the partition's
+-- the level of an error of p: process level if it may wait for the handler, otherwise partition
+-- level
 abbrev pub level_of : Mode → Sharing Errors → Runner → ErrorLevel
 level_of m b (runner.Process p) = if nat_lt 0 (free_places m b) then level.Process else level.Partition
 level_of m b _ = level.Partition
 
--- at the level of a process the handler takes it, at the partition's this action
+-- at process level the handler takes the error, at partition level this action
 abbrev pub response_at : ErrorLevel → PartitionAction → Response
 response_at level.Process action = response.Handler
 response_at _ action = response.Partition action
@@ -151,22 +153,23 @@ response_at _ action = response.Partition action
 abbrev pub response_of : HealthTable → Mode → Sharing Errors → Runner → ErrorKind → Response
 response_of h m b p e = response_at (level_of m b p) (action_of h e)
 
--- the line of an error, of this one if it is of a process, and how it is handled
+-- the line of an error: its subject, if a runner caused it, and the response
 abbrev pub tells_error : {P : Type 0} → P → ErrorKind → Option Subject → Response → Step P
 tells_error part e who response = record { part = part; lines = event.Error e who response ∷ []; actions = [] }
 
--- the error of a process waits, with its message
+-- queues the error of a process, with its message
 abbrev pub queues : Runner → ErrorKind → List ℤ → Step (Option PartitionAction)
 queues (runner.Process p) e words = record { part = None; lines = []; actions = asks.Queue (record { kind = e; process = p; words = message words }) ∷ [] }
 queues _ e words = nothing None
 
--- the error waits for the handler, or an action of the partition is left to be done
+-- the error waits for the handler, or an action of the partition remains to be done
 abbrev pub waits_or_leaves : Runner → ErrorKind → List ℤ → Response → Step (Option PartitionAction)
 waits_or_leaves p e words response.Handler = queues p e words
 waits_or_leaves p e words (response.Partition action) = nothing (Some action)
 waits_or_leaves p e words (response.Module action) = nothing None
 
--- An error of p: its line, then it waits for the handler, or the partition's action for it is left to be done.
+-- An error of p: its line, then it waits for the handler, or the partition's action for it remains
+-- to be done.
 abbrev pub raises : HealthTable → Mode → Sharing Errors → Runner → ErrorKind → List ℤ → Step (Option PartitionAction)
 raises h m b p e words =
     let how = response_of h m b p e in
@@ -174,11 +177,12 @@ raises h m b p e words =
 
 -- ---- RAISE_APPLICATION_ERROR
 
--- what a service does, with no action of the partition left to be done
+-- the step of a service after which no action of the partition remains to be done
 abbrev pub leaves_none : Step Processes → Step (Option PartitionAction)
 leaves_none s = lifted (λ (t : Processes). None) s
 
--- The caller's error APPLICATION_ERROR, with the first words of those that the call hands in.
+-- The caller's error APPLICATION_ERROR; its message is the first words of those that the call hands
+-- in.
 abbrev pub raise_application_error : HealthTable → Mode → Sharing Errors → Runner → ℤ → ArrayPlace → ℤ → List ℤ → Step (Option PartitionAction)
 raise_application_error h m b p e array length words =
     row (λ c. leaves_none (refuses b.processes p service.RaiseApplicationError c))
@@ -188,9 +192,9 @@ raise_application_error h m b p e array length words =
     (after (leaves_none (answers b.processes p service.RaiseApplicationError code.NoError []))
     (raises h m b p error.ApplicationError (first_words length words)))
 
--- ---- what the partition does on an error
+-- ---- the partition's response to an error
 
--- an error in what a process executes, after which it does not go on
+-- an error in the code of a process, after which the process does not continue
 abbrev pub is_fault : ErrorKind → Bool
 is_fault error.NumericError = true
 is_fault error.IllegalRequest = true
@@ -203,25 +207,25 @@ abbrev pub ignores : Kernel → Runner → ErrorKind → Step Kernel
 ignores k runner.Init e = if is_fault e then clears k mode.Idle condition.HmPartitionRestart else nothing k
 ignores k _ e = nothing k
 
--- the partition enters the mode that its action for the error leads to, if it leads to one
+-- the partition enters the mode that its action for the error leads to, if any
 abbrev pub enters_mode : Kernel → Runner → ErrorKind → Option Mode → Step Kernel
 enters_mode k p e None = ignores k p e
 enters_mode k p e (Some m) = clears k m condition.HmPartitionRestart
 
--- the partition's action for an error of p, if one is left to be done
+-- the partition's action for an error of p, if one remains to be done
 abbrev pub acts_on_error : Kernel → Runner → ErrorKind → Option PartitionAction → Step Kernel
 acts_on_error k p e None = nothing k
 acts_on_error k p e (Some action) = enters_mode k p e (mode_of_action action)
 
--- a step on an error of p, then the action that it leaves to be done
+-- a step on an error of p, then the action that remains to be done
 abbrev pub then_acts : Kernel → Runner → ErrorKind → Step (Option PartitionAction) → Step Kernel
 then_acts k p e s = after (lifted (λ (left : Option PartitionAction). k) s) (acts_on_error k p e s.part)
 
--- the line of an error of p, then what is done
+-- the line of an error of p, then the response
 abbrev pub handles : Kernel → Runner → ErrorKind → List ℤ → Step Kernel
 handles k p e words = then_acts k p e (raises k.fixed.health k.mode (with_errors k) p e words)
 
--- one with a fault becomes dormant first
+-- a runner with a fault becomes dormant first
 abbrev pub faults : Kernel → Runner → ErrorKind → Step Kernel
 faults k p e = let s = of_processes k (rests_found k.processes p (row_of k.processes p)) in after s (handles s.part p e [])
 
@@ -230,12 +234,12 @@ abbrev pub then_clears : Kernel → Option Mode → Step Kernel
 then_clears k None = nothing k
 then_clears k (Some m) = clears k m condition.HmPartitionRestart
 
--- a fault of the partition's hardware: its line, then what the partition's action for it does
+-- a fault of the partition's hardware: its line, then the partition's action for it
 abbrev pub breaks : Kernel → Step Kernel
 breaks k =
     let action = action_of k.fixed.health error.HardwareFault in
     after (tells_error k error.HardwareFault None (response.Partition action)) (then_clears k (mode_of_action action))
 
--- RAISE_APPLICATION_ERROR, with the action that it leaves to be done
+-- RAISE_APPLICATION_ERROR, with the action that remains to be done
 abbrev pub raises_application_error : Kernel → Runner → ℤ → ArrayPlace → ℤ → List ℤ → Step Kernel
 raises_application_error k p e array length words = then_acts k p error.ApplicationError (raise_application_error k.fixed.health k.mode (with_errors k) p e array length words)

@@ -1,4 +1,5 @@
--- The state of a partition that is no control and no data, in parts with an owner each; the errors that wait for its error handler.
+-- The state of a partition other than its controls and its data, in parts with an owner each; the
+-- errors that wait for its error handler.
 use Rattle.std.specs.Prelude.{Bool, List, [], ◌∷◌, ◌++◌, length, nat_lt, if◌then◌else◌, ℕ}
 use Rattle.apex_types.specs.declared.limits.TheConstants.{MOST_ERRORS}
 use Rattle.apex_types.specs.declared.process.WaitingError.{WaitingError}
@@ -16,25 +17,25 @@ use Rattle.kernel_meaning.specs.Windows.{Schedule}
 pub record Errors : Type 0 where
   -- whether the source has an error handler
   pub has_handler : Bool
-  -- those that wait for it, the oldest first
+  -- the errors that wait for it, the oldest first
   pub waiting : List WaitingError
 
 -- before the first start of a partition
 abbrev pub fresh_errors : Bool → Errors
 fresh_errors has_handler = record { has_handler = has_handler; waiting = [] }
 
--- one more waits, where there is room
+-- queues one more error; drops it if the queue is full
 abbrev pub queued : Errors → WaitingError → Errors
 queued s e = if nat_lt (length s.waiting) MOST_ERRORS then record s { waiting = s.waiting ++ e ∷ [] } else s
 
--- none waits
+-- no error waits
 abbrev pub emptied_errors : Errors → Errors
 emptied_errors s = record s { waiting = [] }
 
--- The state of a partition that is no control and no data, in parts with an owner each.
+-- The state of a partition other than its controls and its data, in parts with an owner each.
 
--- what no tick changes: the partition's row of the module table, its number, and the major
--- frame with its own windows
+-- the parts that no tick changes: the partition's row of the module table, its number, and the
+-- major frame with its own windows
 pub record Fixed : Type 0 where
   pub name : List ℕ
   pub number : ℕ
@@ -55,7 +56,7 @@ pub record Kernel : Type 0 where
 abbrev pub with_processes : Kernel → Processes → Kernel
 with_processes k s = record k { processes = s }
 
--- a step of the processes is one of the partition
+-- a step of the processes, as a step of the partition
 abbrev pub of_processes : Kernel → Step Processes → Step Kernel
 of_processes k s = lifted (with_processes k) s
 
@@ -66,7 +67,7 @@ with_objects k = record { processes = k.processes; shared = k.objects }
 abbrev pub put_objects : Kernel → Sharing Objects → Kernel
 put_objects k b = record k { processes = b.processes; objects = b.shared }
 
--- a step of the processes and the objects is one of the partition
+-- a step of the processes and the objects, as a step of the partition
 abbrev pub of_objects : Kernel → Step (Sharing Objects) → Step Kernel
 of_objects k s = lifted (put_objects k) s
 
@@ -77,14 +78,14 @@ with_ports k = record { processes = k.processes; shared = k.ports }
 abbrev pub put_ports : Kernel → Sharing Ports → Kernel
 put_ports k b = record k { processes = b.processes; ports = b.shared }
 
--- a step of the processes and the ports is one of the partition
+-- a step of the processes and the ports, as a step of the partition
 abbrev pub of_ports : Kernel → Step (Sharing Ports) → Step Kernel
 of_ports k s = lifted (put_ports k) s
 
 abbrev pub put_only_ports : Kernel → Ports → Kernel
 put_only_ports k o = record k { ports = o }
 
--- a step of the ports alone is one of the partition
+-- a step of the ports alone, as a step of the partition
 abbrev pub of_ports_alone : Kernel → Step Ports → Step Kernel
 of_ports_alone k s = lifted (put_only_ports k) s
 
@@ -95,6 +96,6 @@ with_errors k = record { processes = k.processes; shared = k.errors }
 abbrev pub put_errors : Kernel → Sharing Errors → Kernel
 put_errors k b = record k { processes = b.processes; errors = b.shared }
 
--- a step of the processes and the errors is one of the partition
+-- a step of the processes and the errors, as a step of the partition
 abbrev pub of_errors : Kernel → Step (Sharing Errors) → Step Kernel
 of_errors k s = lifted (put_errors k) s

@@ -31,7 +31,7 @@ pub record Buffer : Type 0 where
   pub created : Bool
   pub messages : List (ArrayVec ℤ)
 
--- the most words of a message; the message that is displayed, if there is one
+-- the most words of a message; the message that is displayed, if any
 pub record Blackboard : Type 0 where
   pub row : BlackboardRow
   pub created : Bool
@@ -58,7 +58,7 @@ fresh_buffer row = record { row = row; created = false; messages = [] }
 abbrev pub fresh_blackboard : BlackboardRow → Blackboard
 fresh_blackboard row = record { row = row; created = false; shown = None }
 
--- what a source declares, none of it created
+-- the objects that a source declares, none of them created
 abbrev pub fresh_objects : List SemaphoreRow → ℕ → List BufferRow → List BlackboardRow → Objects
 fresh_objects semaphores events buffers blackboards = record {
   semaphores = map fresh_semaphore semaphores;
@@ -81,7 +81,7 @@ cleared_buffer x = fresh_buffer x.row
 abbrev pub cleared_blackboard : Blackboard → Blackboard
 cleared_blackboard x = fresh_blackboard x.row
 
--- all objects go
+-- removes all objects
 abbrev pub cleared_objects : Objects → Objects
 cleared_objects o = record {
   semaphores = map cleared_semaphore o.semaphores;
@@ -128,9 +128,10 @@ put_blackboard o place x = record o { blackboards = slice_set o.blackboards plac
 
 -- The ports of a partition, and the messages that they hold.
 
--- Its row of the module table; whether it is created; the messages that it holds, the oldest first. A
--- sampling port holds one message at most: it has the tick in which that came, and whether the last message
--- read was valid. A queuing port knows whether a message was lost since the last receive.
+-- Its row of the module table; whether it is created; its messages, the oldest first. A sampling
+-- port holds at most one message: it has the tick in which the message arrived, and whether the
+-- last message read was valid. A queuing port remembers whether a message was lost since the last
+-- receive.
 pub record Port : Type 0 where
   pub row : PortRow
   pub created : Bool
@@ -167,7 +168,7 @@ cleared_port x = fresh_port x.row
 abbrev pub cleared_ports : Ports → Ports
 cleared_ports o = record { ports = map cleared_port o.ports }
 
--- ---- what the row tells
+-- ---- the contents of the row
 
 abbrev pub is_sampling_kind : PortKind → Bool
 is_sampling_kind (kind.Sampling refresh) = true
@@ -183,12 +184,12 @@ is_source_direction direction.Destination = false
 abbrev pub is_source : Port → Bool
 is_source x = is_source_direction x.row.direction
 
--- for so many ticks from its arrival on a message is valid
+-- for how many ticks after its arrival a message is valid; 0 for a queuing port
 abbrev pub refresh_of : PortKind → ℕ
 refresh_of (kind.Sampling refresh) = refresh
 refresh_of (kind.Queuing depth discipline) = 0
 
--- for how many messages there is room
+-- the number of messages that it has room for
 abbrev pub depth_of : PortKind → ℕ
 depth_of (kind.Sampling refresh) = 1
 depth_of (kind.Queuing depth discipline) = depth
@@ -228,10 +229,10 @@ queuing o id = those_queuing (numbered_in o.ports id)
 
 -- ---- its messages
 
--- a message takes the place of the one before
+-- replaces the message
 abbrev pub with_sample : Port → ArrayVec ℤ → Port
 with_sample x m = record x { messages = m ∷ [] }
 
--- a message goes behind the others
+-- appends a message
 abbrev pub with_message : Port → ArrayVec ℤ → Port
 with_message x m = record x { messages = x.messages ++ m ∷ [] }

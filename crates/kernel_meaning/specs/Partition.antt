@@ -1,4 +1,5 @@
--- One tick of a partition: what is due, the choice of who runs, and the tick that this one spends.
+-- One tick of a partition: the actions that are due, the choice of the runner, and the tick that
+-- the runner spends.
 use Rattle.std.specs.Prelude.{ℕ, ◌-◌, min, ℤ, pos, negsuc, Bool, true, false, List, [], ◌∷◌, ◌++◌, length, take, drop, Option, Some, None, slice_get, slice_set, map, if◌then◌else◌}
 use Rattle.arrayvec.specs.ArrayVec.{ArrayVec}
 use Rattle.apex_types.specs.declared.limits.TheConstants.{MOST_WORDS}
@@ -47,7 +48,7 @@ abbrev pub first_ready : List Entry → Option Runner
 first_ready [] = None
 first_ready (e ∷ es) = Some (runner.Process e.process)
 
--- the lock's holder, else the first of those that are ready
+-- the holder of the lock, otherwise the first ready process
 abbrev pub unless_held : Lock → List Entry → Option Runner
 unless_held lock.Free ready = first_ready ready
 unless_held (lock.Held level holder) ready = Some (runner.Process holder)
@@ -56,14 +57,14 @@ abbrev pub is_ready : Option ProcessStatus → Bool
 is_ready None = false
 is_ready (Some r) = is_ready_state r.state
 
--- INIT before the normal start; then the handler if it is ready, the lock's holder, or the first of
--- those that are ready; in idle mode none
+-- INIT before the normal start; then the handler if it is ready, the holder of the lock, or the
+-- first ready process; in idle mode nobody
 abbrev pub pick : Mode → Processes → Option Runner
 pick mode.Idle s = None
 pick mode.Normal s = if is_ready (row_of s runner.Handler) then Some runner.Handler else unless_held s.lock s.ready
 pick _ s = Some runner.Init
 
--- the one that was running is ready, and keeps its place
+-- the old runner becomes READY and keeps its place in the list
 abbrev pub preempts : Processes → Runner → Option ProcessStatus → Step Processes
 preempts s p None = nothing s
 preempts s p (Some r) = record { part = record (put_row s p (record r { state = Ready })) { running = None }; lines = event.State r.who Ready ∷ []; actions = [] }
@@ -86,7 +87,7 @@ are_same None (Some q) = false
 are_same (Some p) None = false
 are_same (Some p) (Some q) = is_same p q
 
--- a change of the chosen one writes that the old one is ready and that the new one runs
+-- if the choice changes: the old runner becomes READY, the new one RUNNING
 abbrev pub chooses : Mode → Processes → Step Processes
 chooses m s =
     if are_same s.running (pick m s) then nothing s
@@ -101,9 +102,9 @@ chooses_with_handler k = of_processes k (let s = starts_handler k.mode (with_err
 abbrev pub treats_due : At → Kernel → Treated
 treats_due at k = due at (free_places k.mode (with_errors k)) (action_of k.fixed.health DeadlineMissed) k.processes
 
--- ---- what a process asks for
+-- ---- the requests of a process
 
--- so many words from a place of the data on
+-- at most `count` words of the data, from `place` on
 abbrev pub message_from : ℤ → ℕ → List ℤ → List ℤ
 message_from (pos place) count words = take count (drop place words)
 message_from (negsuc n) count words = []
@@ -117,7 +118,7 @@ abbrev pub handed : Option ArrayPlace → List ℤ → List ℤ
 handed None words = []
 handed (Some array) words = message_from array.base (most_words array.size) words
 
--- the words that a call hands in, which are those of its array, if it has one
+-- the words that a call hands in: those of its array, if it has one
 abbrev pub given : Asks → List ℤ → List ℤ
 given (Calls c) words = handed (array_of c) words
 given _ words = []
@@ -187,7 +188,7 @@ abbrev pub there : {C : Type 0} → Option (Option C) → Option C
 there None = None
 there (Some c) = c
 
--- the control at a place, where there is something left to do
+-- the control at `place`, if that runner has code left to execute
 abbrev pub control_at : {C : Type 0} → List (Option C) → ℕ → Option C
 control_at controls place = there (slice_get controls place)
 
@@ -198,7 +199,7 @@ replied e (Some c) answer = Some (e.reply c answer)
 abbrev pub no_control : {C : Type 0} → Option C → Option C
 no_control c = None
 
--- the data with an array's words put into it
+-- the data with the words of an array written into it
 abbrev pub written : ℤ → List ℤ → List ℤ → List ℤ
 written (pos place) array words = put_words words place array
 written (negsuc n) array words = words
@@ -207,7 +208,7 @@ written (negsuc n) array words = words
 abbrev pub with_error : Kernel → WaitingError → Kernel
 with_error k e = record k { errors = queued k.errors e }
 
--- What the kernel asks is done.
+-- Performs an action of the kernel.
 abbrev pub act : {C : Type 0} → Engine C → Action → World C → World C
 act e (action.Begin p) w = record w { controls = slice_set w.controls (place_of p) (Some (e.start p)) }
 act e (action.Stop p) w = record w { controls = slice_set w.controls (place_of p) None }
@@ -228,7 +229,7 @@ does e s w = act_all e s.actions (record w { kernel = s.part })
 abbrev pub line : List ℕ → At → EventKind → Event
 line name at kind = record { tick = at.now; partition = Some name; kind = kind }
 
--- what happens in a tick, as lines of the partition
+-- the events of a tick, as lines of the partition
 abbrev pub told : List ℕ → At → List EventKind → List Event
 told name at kinds = map (line name at) kinds
 
@@ -240,7 +241,7 @@ pub record Moved (Control : Type 0) : Type 0 where
 abbrev pub moved : {C : Type 0} → At → Engine C → Step Kernel → World C → Moved C
 moved at e s w = record { world = does e s w; lines = told w.kernel.fixed.name at s.lines }
 
--- one step, then another from where it led
+-- one step, then another from the world after it
 abbrev pub followed_by : {C : Type 0} → Moved C → (World C → Moved C) → Moved C
 followed_by m rest = let n = rest m.world in record { world = n.world; lines = m.lines ++ n.lines }
 
@@ -251,7 +252,7 @@ abbrev pub ticked : {C : Type 0} → Engine C → Option C → List ℤ → Tick
 ticked e None words = record { control = None; words = words; asks = Nothing }
 ticked e (Some c) words = ticked_some (e.tick c words)
 
--- the tick that p spends, and what it asks for
+-- the tick that p spends, and its request
 abbrev pub spends : {C : Type 0} → Engine C → At → Runner → World C → Moved C
 spends e at p w =
     let r = ticked e (control_at w.controls (place_of p)) w.words in
@@ -281,7 +282,7 @@ spending_phase e at w = spends_chosen e at w.kernel.processes.running w
 abbrev pub prepares : {C : Type 0} → Engine C → At → World C → Moved C
 prepares e at w = followed_by (due_phase e at w) (choice_phase e at)
 
--- what is due, then the choice with the handler's start, then the tick of the chosen one
+-- what is due, then the choice with the handler's start, then the tick of the chosen runner
 abbrev pub tick : {C : Type 0} → Engine C → At → World C → Moved C
 tick e at w = followed_by (prepares e at w) (spending_phase e at)
 

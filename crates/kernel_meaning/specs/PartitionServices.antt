@@ -31,7 +31,7 @@ use Rattle.kernel_meaning.specs.Windows.{next_release}
 
 -- ---- Clear
 
--- the record of one that is no longer created
+-- the record of a process that is no longer created
 abbrev pub forgotten : ProcessStatus → ProcessStatus
 forgotten r = record r { created = false; state = Dormant; current_priority = r.base_priority; suspended = false; wait = wait.Nothing; due = None; release = record { 0 = 0 }; deadline = None }
 
@@ -48,7 +48,7 @@ abbrev pub started_rows : Mode → List ProcessStatus → List ProcessStatus
 started_rows mode.Idle rows = rows
 started_rows _ rows = ready_init (slice_get rows 0) rows
 
--- no process is created, and no one runs, waits or holds the lock
+-- no process is created, and nobody runs, waits or holds the lock
 abbrev pub cleared_processes : Mode → Processes → Processes
 cleared_processes m s = record { rows = started_rows m (map forgotten s.rows); ready = []; running = None; lock = lock.Free; queues = emptied s.queues; handed = s.handed }
 
@@ -64,8 +64,8 @@ abbrev pub clear_lines : Mode → List EventKind
 clear_lines mode.Idle = event.Mode mode.Idle ∷ []
 clear_lines m = event.Mode m ∷ event.State Init Ready ∷ []
 
--- All processes and objects go, no error waits, and the ports are empty and no longer created. A cold start
--- restores the initial data. Unless the partition is idle, INIT starts.
+-- Removes all processes, objects and waiting errors; empties the ports, which are no longer
+-- created. A cold start restores the initial data. Unless the partition is idle, INIT starts.
 abbrev pub clears : Kernel → Mode → StartCondition → Step Kernel
 clears k m c = record { part = cleared k m c; lines = clear_lines m; actions = clear_actions m }
 
@@ -78,7 +78,8 @@ enters_normal k = record { part = record k { mode = mode.Normal }; lines = event
 abbrev pub next_release_of : At → Kernel → ℕ
 next_release_of at k = next_release k.fixed.schedule k.fixed.number at
 
--- INIT becomes dormant, the mode normal, then those that wait for it start in number order
+-- INIT becomes dormant, the mode normal; then the processes that wait for the normal start are
+-- started in number order
 abbrev pub starts_normally : At → Kernel → Step Kernel
 starts_normally at k =
     let i = of_processes k (rests_found k.processes runner.Init (row_of k.processes runner.Init)) in

@@ -1,4 +1,4 @@
--- The services on ports, the messages that arrive at a port, and those that leave it.
+-- The services on ports, and the messages that arrive at a port and leave it.
 use Rattle.std.specs.Prelude.{ℕ, ◌+◌, ℤ, pos, Bool, true, false, not, nat_le, List, [], ◌∷◌, length, Some, None, if◌then◌else◌, Option}
 use Rattle.arrayvec.specs.ArrayVec.{ArrayVec}
 use Rattle.apex_types.specs.declared.codes.Mode.{Mode}
@@ -57,7 +57,7 @@ get_sampling_port_id b p name = get_id b p service.GetSamplingPortId name (sampl
 
 -- ---- WRITE_SAMPLING_MESSAGE
 
--- the message takes the place of the one before, until it moves
+-- the message replaces the one before, until it moves
 abbrev pub writes_sample : Sharing Ports → Runner → ArrayVec ℤ → ℕ → Port → Step (Sharing Ports)
 writes_sample b p m place x =
     after (answers b p service.WriteSamplingMessage code.NoError []) (becomes_port b place (with_sample x m))
@@ -73,12 +73,12 @@ write_sampling_message b p id array length words =
 
 -- ---- READ_SAMPLING_MESSAGE
 
--- it arrived no longer ago than the port's refresh period
+-- its message arrived at most the port's refresh period ago
 abbrev pub is_valid : At → Port → Bool
 is_valid at x = nat_le at.now.0 (x.arrival.0 + refresh_of x.row.kind)
 
--- The message goes into the array, with its length and whether it is valid, and stays in the port. Where
--- there is none nothing is done.
+-- Copies the message into the array, with its length and its validity; the message stays in the
+-- port. NO_ACTION if the port is empty.
 abbrev pub reads_sample : At → Sharing Ports → Runner → ArrayPlace → ℕ → Port → List (ArrayVec ℤ) → Step (Sharing Ports)
 reads_sample at b p array place x [] = refuses b p service.ReadSamplingMessage code.NoAction
 reads_sample at b p array place x (m ∷ rest) =
@@ -116,7 +116,7 @@ get_queuing_port_id b p name = get_id b p service.GetQueuingPortId name (queuing
 abbrev pub sender : ℕ → Port → Waiting
 sender place x = record { service = service.SendQueuingMessage; list = list place; discipline = discipline_of x.row.kind; array = None }
 
--- the message goes behind the others, until it moves; while the port is full the caller waits
+-- appends the message, until it moves; if the port is full, blocks the caller for at most `limit`
 abbrev pub sends : At → Sharing Ports → Runner → ℤ → ArrayVec ℤ → ℕ → Port → Step (Sharing Ports)
 sends at b p limit m place x =
     if is_full x
@@ -138,12 +138,13 @@ send_queuing_message at b p id array length limit words =
 abbrev pub receiver : ℕ → Port → ArrayPlace → Waiting
 receiver place x array = record { service = service.ReceiveQueuingMessage; list = list place; discipline = discipline_of x.row.kind; array = Some array }
 
--- the first receive after an overflow tells of it
+-- the first receive after an overflow reports it
 abbrev pub code_of_receive : Bool → ReturnCode
 code_of_receive false = code.NoError
 code_of_receive true = code.InvalidConfig
 
--- the first message goes into the array; while there is none the caller waits
+-- takes the first message into the array; if the port is empty, blocks the caller for at most
+-- `limit`
 abbrev pub receives : At → Sharing Ports → Runner → ArrayPlace → ℤ → ℕ → Port → List (ArrayVec ℤ) → Step (Sharing Ports)
 receives at b p array limit place x [] = of_processes b (blocks at b.processes p limit (receiver place x array) (message []))
 receives at b p array limit place x (m ∷ rest) =
@@ -162,7 +163,8 @@ receive_queuing_message at b p id array limit =
 
 -- ---- GET_QUEUING_PORT_STATUS
 
--- its messages, its room for messages, the most words of one, the direction, and how many wait
+-- its messages, its room for messages, the most words of a message, the direction, and the number
+-- of waiting processes
 abbrev pub queuing_status : Sharing Ports → ℕ → Port → List ℤ
 queuing_status b place x = pos (length x.messages) ∷ pos (depth_of x.row.kind) ∷ pos x.row.words ∷ pos (direction_number x) ∷ pos (waiting_count b.processes (list place)) ∷ []
 
@@ -171,7 +173,7 @@ get_queuing_port_status b p id = get_status b p service.GetQueuingPortStatus (qu
 
 -- ---- CLEAR_QUEUING_PORT
 
--- its messages are gone, and an overflow is forgotten; receivers go on waiting
+-- removes the messages and clears the overflow; receivers continue to wait
 abbrev pub clears_port : Sharing Ports → Runner → ℕ → Port → Step (Sharing Ports)
 clears_port b p place x = after (answers b p service.ClearQueuingPort code.NoError []) (becomes_port b place (record x { messages = []; overflowed = false }))
 
@@ -200,7 +202,8 @@ is_on_ports (call.GetQueuingPortStatus id) = true
 is_on_ports (call.ClearQueuingPort id) = true
 is_on_ports _ = false
 
--- The services on ports, in a mode. One that the kernel does not serve leaves its caller without an answer.
+-- The services on ports, in a mode. A service that the kernel does not serve leaves its caller
+-- without an answer.
 abbrev pub serves_ports : Mode → At → Sharing Ports → Runner → Call → List ℤ → Step (Sharing Ports)
 serves_ports m at b p (call.CreateSamplingPort name) words = create_sampling_port m b p name
 serves_ports m at b p (call.WriteSamplingMessage id array length) words = write_sampling_message b p id array length words
@@ -220,11 +223,11 @@ serves_ports m at b p _ words = nothing b
 
 -- ---- arrival
 
--- the port's line of the message that has come
+-- the port's line of a message that has arrived
 abbrev pub arrived : Sharing Ports → Port → ArrayVec ℤ → Step (Sharing Ports)
 arrived b x m = record { part = b; lines = event.Arrive x.row.name m ∷ []; actions = [] }
 
--- a sampling port has the message, with its tick, in place of the one before
+-- a sampling port replaces its message, and the tick of its arrival
 abbrev pub arrives_sampling : At → Sharing Ports → ℕ → Port → ArrayVec ℤ → Step (Sharing Ports)
 arrives_sampling at b place x m = after (arrived b x m) (becomes_port b place (record (with_sample x m) { arrival = at.now }))
 
@@ -232,8 +235,8 @@ arrives_sampling at b place x m = after (arrived b x m) (becomes_port b place (r
 abbrev pub is_lost : Sharing Ports → ℕ → Port → ArrayVec ℤ → Step (Sharing Ports)
 is_lost b place x m = record { part = (becomes_port b place (record x { overflowed = true })).part; lines = event.Lost x.row.name m ∷ []; actions = [] }
 
--- The first receiver that waits takes the message. Where nobody waits it goes behind the others, and where
--- there is no room it is lost.
+-- Gives the message to the first receiver that waits. Without a receiver, appends it to the
+-- messages; if the port is full, the message is lost.
 abbrev pub arrives_queuing : Sharing Ports → ℕ → Port → ArrayVec ℤ → Option (Runner × ProcessStatus) → Step (Sharing Ports)
 arrives_queuing b place x m (Some f) = after (arrived b x m) (of_processes b (gives b.processes f.0 f.1 m))
 arrives_queuing b place x m None =
@@ -281,19 +284,19 @@ enters_found b place x (Some f) =
     let s = becomes_port b place (with_message x (handed_by b.processes f.0)) in
     after s (of_processes s.part (released b.processes f.0 f.1 code.NoError))
 
--- the message of a sender comes behind the others if there is room, and the sender is released
+-- the message of a sender goes behind the others if there is room, and the sender is released
 abbrev pub enters_port : Sharing Ports → ℕ → Entry → Option Port → Step (Sharing Ports)
 enters_port b place e None = nothing b
 enters_port b place e (Some x) =
     if is_full x then nothing b else enters_found b place x (numbered e.process (row_of b.processes (runner.Process e.process)))
 
--- each of these in turn
+-- admits each of these in turn
 abbrev pub all_enter : List Entry → ℕ → Sharing Ports → Step (Sharing Ports)
 all_enter [] place b = nothing b
 all_enter (e ∷ es) place b =
     let s = enters_port b place e (port_at b.shared place) in
     after s (all_enter es place s.part)
 
--- The senders that wait at the port with a place enter it in their order, as long as there is room.
+-- The senders that wait at the port at a place enter it in their order, while there is room.
 abbrev pub admits : Sharing Ports → ℕ → Step (Sharing Ports)
 admits b place = all_enter (waiting b.processes (list place)) place b

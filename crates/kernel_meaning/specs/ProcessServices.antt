@@ -63,7 +63,7 @@ get_process_status s p id =
 abbrev pub creates : Processes → Runner → ProcessStatus → Step Processes
 creates s q r = nothing (put_row s q (record r { created = true }))
 
--- in normal mode there is none to be created; a process is created once
+-- INVALID_MODE in normal mode; INVALID_CONFIG: no process has this name; NO_ACTION: already created
 abbrev pub create_process : Mode → Processes → Runner → ℤ → Step Processes
 create_process m s p name =
     row (refuses s p service.CreateProcess)
@@ -104,7 +104,7 @@ set_priority s p id v =
 
 -- ---- SUSPEND_SELF, SUSPEND and RESUME
 
--- the due time of one that waits at most so long
+-- the due time of a wait of at most n ticks; none for an unlimited wait (a negative limit)
 abbrev pub time_out : At → ℤ → Option Due
 time_out at (negsuc n) = None
 time_out at (pos n) = Some (due_time.TimeOut (ticks (at.now.0 + n)))
@@ -117,7 +117,8 @@ abbrev pub of_row : (ProcessStatus → Bool) → Option ProcessStatus → Bool
 of_row test None = false
 of_row test (Some r) = test r
 
--- without time nothing happens; else the caller waits until it is resumed, or for its time-out
+-- at a limit of 0 nothing happens; otherwise the caller waits until it is resumed, or for its
+-- time-out
 abbrev pub suspend_self : At → Processes → Runner → ℤ → Step Processes
 suspend_self at s p limit =
     row (refuses s p service.SuspendSelf)
@@ -136,7 +137,7 @@ abbrev pub is_holder : Lock → Option (Runner × ProcessStatus) → Bool
 is_holder l None = false
 is_holder l (Some f) = holds l f.0
 
--- it waits for what it waited for, and until it is resumed
+-- continues to wait for what it waited for, and until it is resumed
 abbrev pub suspends : Processes → Runner → ProcessStatus → Step Processes
 suspends s q r = waits s q (record r { suspended = true }) r.wait r.due
 
@@ -179,7 +180,8 @@ stop s p id =
 
 -- ---- STOP_SELF
 
--- The caller becomes dormant, and gets no answer. At INIT's end nothing is done here: the partition clears.
+-- The caller becomes dormant, and gets no answer. At INIT's end this does nothing: the partition
+-- clears.
 abbrev pub stop_self : Processes → Runner → Step Processes
 stop_self s runner.Init = nothing s
 stop_self s p = rests_found s p (row_of s p)
@@ -215,12 +217,12 @@ abbrev pub level_of : Lock → ℕ
 level_of lock.Free = 0
 level_of (lock.Held level holder) = level
 
--- the handler, and anyone before normal mode, may neither lock nor unlock
+-- the handler, and any runner before normal mode, may neither lock nor unlock
 abbrev pub may_not_lock : Mode → Runner → Bool
 may_not_lock m runner.Handler = true
 may_not_lock m _ = not (is_normal m)
 
--- a level up; from none the caller is the holder
+-- one level up; the caller becomes the holder of a free lock
 abbrev pub locked_by : Runner → Lock → Lock
 locked_by (runner.Process p) lock.Free = lock.Held 1 p
 locked_by _ lock.Free = lock.Free
@@ -237,7 +239,7 @@ lock_preemption m s p =
     ∷ [])
     (with_lock s p service.LockPreemption (locked_by p s.lock))
 
--- a level down; at none there is no holder
+-- one level down; at level 0 the lock is free
 abbrev pub unlocked : Lock → Lock
 unlocked (lock.Held (suc (suc level)) holder) = lock.Held (suc level) holder
 unlocked _ = lock.Free
@@ -275,7 +277,7 @@ abbrev pub waits_until : Processes → Runner → Option ProcessStatus → ℕ �
 waits_until s p None tick = nothing s
 waits_until s p (Some r) tick = waits s p r (wait.Service service.TimedWait) (Some (due_time.Delay (record { 0 = tick })))
 
--- without a delay the caller goes last; else it waits for its due time
+-- without a delay the caller goes last; otherwise it waits for its due time
 abbrev pub delays : At → Processes → Runner → ℤ → Step Processes
 delays at s p (negsuc n) = nothing s
 delays at s p (pos zero) = after (answers s p service.TimedWait code.NoError []) (yields s p (row_of s p))
@@ -291,7 +293,7 @@ timed_wait at s p delay =
 
 -- ---- PERIODIC_WAIT
 
--- it has kept its deadline, and waits for its next release, a period after the last
+-- it has met its deadline, and waits for its next release, one period after the last
 abbrev pub waits_for_period : Processes → Runner → ProcessStatus → Option Ticks → Step Processes
 waits_for_period s p r None = nothing s
 waits_for_period s p r (Some period) = waits s p (record r { deadline = None }) (wait.Service service.PeriodicWait) (Some (due_time.Release (ticks (r.release.0 + period.0))))
@@ -310,7 +312,7 @@ periodic_wait s p =
 
 -- ---- REPLENISH
 
--- a deadline so many ticks from now, none without a limit
+-- a deadline n ticks from now; none without a limit (a negative number)
 abbrev pub deadline_in : At → ℤ → Option Ticks
 deadline_in at (negsuc n) = None
 deadline_in at (pos n) = Some (ticks (at.now.0 + n))

@@ -1,9 +1,9 @@
 -- The processes of a partition, and the few ways in which services change them.
 --
--- Those that are ready stand in one list in the order of choice: the highest priority first, among
--- equals the one that is ready longest. INIT and the error handler are in no list: their records say
--- whether they are ready. Those that wait for an object or a port stand in its list, in the order in
--- which they are released.
+-- The ready processes are in one list in the order of choice: the highest priority first, among
+-- equals the process that has been ready longest. INIT and the error handler are in no list: their
+-- records say whether they are ready. The processes that wait for an object or a port are in its
+-- list, in the order of their release.
 use Rattle.std.specs.Prelude.{ℕ, zero, suc, ℤ, pos, negsuc, ◌==◌, ◌||◌, Bool, true, false, not, is_some, List, [], ◌∷◌, Option, Some, None, if◌then◌else◌, slice_get, slice_set}
 use Rattle.arrayvec.specs.ArrayVec.{ArrayVec}
 use Rattle.apex_types.specs.Runners.{place_of}
@@ -37,7 +37,7 @@ pub record Processes : Type 0 where
   -- INIT's record, the handler's, then those of the processes in the order of the source
   pub rows : List ProcessStatus
   pub ready : List Entry
-  -- the one that is running, which is the one chosen last
+  -- the current runner: the one chosen last
   pub running : Option Runner
   pub lock : Lock
   -- the waiting lists, one for each object and port
@@ -52,26 +52,26 @@ abbrev pub who_of : Option ProcessStatus → Subject
 who_of None = Init
 who_of (Some r) = r.who
 
--- who the lines of p name
+-- the subject of the lines of p
 abbrev pub subject : Processes → Runner → Subject
 subject s p = who_of (row_of s p)
 
 abbrev pub index : ℕ → ProcessIndex
 index place = record { 0 = place }
 
--- ---- the list of those that are ready
+-- ---- the list of the ready processes
 
--- p is not ready
+-- removes p from the ready list
 abbrev pub leaves : Runner → List Entry → List Entry
 leaves (runner.Process p) ready = without p.0 ready
 leaves _ ready = ready
 
--- p is ready, behind its equals
+-- adds p to the ready list, behind its equals
 abbrev pub goes_last : Runner → Priority → List Entry → List Entry
 goes_last (runner.Process p) priority ready = behind_equals (entry p priority) (without p.0 ready)
 goes_last _ priority ready = ready
 
--- ---- the lists of those that wait
+-- ---- the waiting lists
 
 -- p waits in no list
 abbrev pub leaves_queues : Runner → Queues → Queues
@@ -81,7 +81,7 @@ leaves_queues _ queues = queues
 abbrev pub no_longer_waits : Processes → Runner → Processes
 no_longer_waits s p = record s { queues = leaves_queues p s.queues }
 
--- ---- the one that runs, and the one that holds the lock
+-- ---- the current runner, and the holder of the lock
 
 abbrev pub is_same : Runner → Runner → Bool
 is_same runner.Init runner.Init = true
@@ -89,7 +89,7 @@ is_same runner.Handler runner.Handler = true
 is_same (runner.Process p) (runner.Process q) = p.0 == q.0
 is_same _ _ = false
 
--- p is no longer the running one
+-- p no longer runs
 abbrev pub not_running : Runner → Option Runner → Option Runner
 not_running p None = None
 not_running p (Some q) = if is_same p q then None else Some q
@@ -122,12 +122,13 @@ put_dormant s p r = record s { rows = slice_set s.rows (place_of p) r; ready = l
 
 -- ---- changes of one process, each with its line
 
--- the line of one that begins to wait; there is none where it waited before
+-- the line of a runner that begins to wait; no line if it waited before
 abbrev pub waiting_lines : Subject → ProcessState → List EventKind
 waiting_lines who Waiting = []
 waiting_lines who _ = event.State who Waiting ∷ []
 
--- It becomes ready and goes last. One that is suspended waits on until it is resumed.
+-- The process becomes READY and goes last. A suspended process continues to wait until it is
+-- resumed.
 abbrev pub wakes : Processes → Runner → ProcessStatus → Step Processes
 wakes s p r =
     if r.suspended then nothing (put_unready s p (record r { wait = wait.Nothing; due = None }))
@@ -145,8 +146,8 @@ waits s p r reason due = record {
   actions = [];
 }
 
--- It becomes dormant: it is in no list, has no due time, no deadline and nothing left to do, and the
--- lock is free if it held it.
+-- The runner becomes dormant: it is in no list, has no due time, no deadline and nothing left to
+-- do; if it held the lock, the lock is free.
 abbrev pub rests : Processes → Runner → ProcessStatus → Step Processes
 rests s p r = record {
   part = put_dormant s p (record r { state = Dormant; suspended = false; wait = wait.Nothing; due = None; deadline = None });
@@ -206,7 +207,7 @@ abbrev pub has : Option (Runner × ProcessStatus) → (ProcessStatus → Bool) �
 has None test = false
 has (Some f) test = test f.1
 
--- a step for the process found; where there is none, nothing
+-- applies `step` to the process found; without one, does nothing
 abbrev pub on : Option (Runner × ProcessStatus) → Processes → (Runner → ProcessStatus → Step Processes) → Step Processes
 on None s step = nothing s
 on (Some f) s step = step f.0 f.1
@@ -240,7 +241,7 @@ is_own p (Some f) = is_same p f.0
 abbrev pub is_no_other : Processes → Runner → ℤ → Bool
 is_no_other s p id = is_unknown s id || is_own p (process_at s id)
 
--- The caller may not wait: it is INIT or the handler, or preemption is locked.
+-- Whether the caller may not wait: it is INIT or the handler, or preemption is locked.
 abbrev pub is_busy : Processes → Runner → Bool
 is_busy s (runner.Process p) = is_held s.lock
 is_busy s _ = true

@@ -39,7 +39,7 @@ get_semaphore_id b p name = get_id b p service.GetSemaphoreId name (semaphore b.
 abbrev pub waiting_for : ℕ → Semaphore → Waiting
 waiting_for place x = record { service = service.WaitSemaphore; list = list place; discipline = x.row.discipline; array = None }
 
--- its value falls by one; at 0 the caller waits
+-- lowers its value by one; at 0, blocks the caller for at most `limit`
 abbrev pub takes : At → Sharing Objects → Runner → ℤ → ℕ → Semaphore → Step (Sharing Objects)
 takes at b p limit place x =
     if nat_lt 0 x.value
@@ -59,7 +59,7 @@ wait_semaphore at b p id limit =
 abbrev pub is_at_maximum : Semaphore → Bool
 is_at_maximum x = nat_le x.row.maximum x.value
 
--- the first who waits is released, and the value stays; where nobody waits it rises by one
+-- releases the first waiting process, and the value stays; if none waits, the value rises by one
 abbrev pub signals : Sharing Objects → ℕ → Semaphore → Option (Runner × ProcessStatus) → Step (Sharing Objects)
 signals b place x None = becomes b (put_semaphore b.shared place (record x { value = x.value + 1 }))
 signals b place x (Some f) = of_processes b (released b.processes f.0 f.1 code.NoError)
@@ -74,7 +74,7 @@ signal_semaphore b p id =
 
 -- ---- GET_SEMAPHORE_STATUS
 
--- its value, its maximum, and how many wait
+-- its value, its maximum, and the number of waiting processes
 abbrev pub status : Sharing Objects → ℕ → Semaphore → List ℤ
 status b place x = pos x.value ∷ pos x.row.maximum ∷ pos (waiting_count b.processes (list place)) ∷ []
 

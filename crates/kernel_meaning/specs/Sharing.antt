@@ -1,5 +1,6 @@
--- What the services on objects and on ports read and change: the processes of a partition, and what they share, which is its objects or
--- its ports. How a process waits there, and how it is released.
+-- The state that the services on objects and on ports read and change: the processes of a
+-- partition, and what they share, which is its objects or its ports. How a process waits there, and
+-- how it is released.
 use Rattle.std.specs.Prelude.{ℕ, ℤ, pos, Bool, false, not, ◌&&◌, int_le, List, [], ◌∷◌, Option, Some, None, is_some, length, slice_index_or, slice_set}
 use Rattle.apex_types.specs.declared.codes.Mode.{Mode}
 use Rattle.apex_types.specs.declared.codes.ReturnCode.{ReturnCode}
@@ -25,8 +26,8 @@ use Rattle.kernel_meaning.specs.Queues.{entry, joins, list_at}
 use Rattle.engine_meaning.specs.Operators.{is_zero}
 use Rattle.kernel_meaning.specs.ProcessServices.{time_out}
 
--- What the services on objects and on ports read and change: the processes of a partition, and what they
--- share, which is its objects or its ports.
+-- The state that the services on objects and on ports read and change: the processes of a
+-- partition, and what they share, which is its objects or its ports.
 
 pub record Sharing (O : Type 0) : Type 0 where
   pub processes : Processes
@@ -38,11 +39,11 @@ both processes shared = record { processes = processes; shared = shared }
 abbrev pub with_processes : {O : Type 0} → Sharing O → Processes → Sharing O
 with_processes b s = record b { processes = s }
 
--- a step of the processes is one of both
+-- a step of the processes, as a step of both
 abbrev pub of_processes : {O : Type 0} → Sharing O → Step Processes → Step (Sharing O)
 of_processes b s = lifted (with_processes b) s
 
--- what they share changes, and nothing happens
+-- changes what they share, without lines or actions
 abbrev pub becomes : {O : Type 0} → Sharing O → O → Step (Sharing O)
 becomes b o = nothing (record b { shared = o })
 
@@ -59,14 +60,15 @@ abbrev pub has : {X : Type 0} → Option (ℕ × X) → (X → Bool) → Bool
 has None test = false
 has (Some f) test = test f.1
 
--- a step for the object found; where there is none, nothing
+-- applies `step` to the object found; without one, does nothing
 abbrev pub on : {O X : Type 0} → Option (ℕ × X) → Sharing O → (ℕ → X → Step (Sharing O)) → Step (Sharing O)
 on None b step = nothing b
 on (Some f) b step = step f.0 f.1
 
 -- ---- the services that all kinds have
 
--- No object in normal mode; one that is declared, and once.
+-- INVALID_MODE: in normal mode; INVALID_CONFIG: no such object is declared; NO_ACTION: it was
+-- already created.
 abbrev pub create : {O X : Type 0} → Mode → Sharing O → Runner → Service → ℤ → Option (ℕ × X) → (X → Bool) → (ℕ → X → Step (Sharing O)) → Step (Sharing O)
 create m b p service name found is_created creates =
     row (refuses b p service)
@@ -84,7 +86,7 @@ get_id b p service name found is_created =
     ∷ [])
     (answers b p service code.NoError (name ∷ []))
 
--- how an object that is created stands
+-- the status of a created object
 abbrev pub get_status : {O X : Type 0} → Sharing O → Runner → Service → Option (ℕ × X) → (X → Bool) → (ℕ → X → List ℤ) → Step (Sharing O)
 get_status b p service found is_created values =
     row (refuses b p service)
@@ -94,7 +96,7 @@ get_status b p service found is_created values =
 
 -- ---- messages
 
--- 1 word at least, no more than the object takes, and no more than the array has
+-- at least 1 word, no more than the object takes, and no more than the array has
 abbrev pub is_length : ℕ → ArrayPlace → ℤ → Bool
 is_length words array length = int_le (pos 1) length && int_le length (pos words) && int_le length array.size
 
@@ -102,15 +104,16 @@ is_length words array length = int_le (pos 1) length && int_le length (pos words
 abbrev pub is_large_enough : ℕ → ArrayPlace → Bool
 is_large_enough words array = int_le (pos words) array.size
 
--- How a process comes to wait at an object or a port, and how it is released: the same for all of them.
+-- How a process begins to wait at an object or a port, and how it is released: the same for all of
+-- them.
 
 -- ---- the waiting lists
 
--- those who wait in a list
+-- the processes that wait in a list
 abbrev pub waiting : Processes → ListKey → List Entry
 waiting s list = list_at s.queues list
 
--- how many they are
+-- the number of waiting processes
 abbrev pub waiting_count : Processes → ListKey → ℕ
 waiting_count s list = length (waiting s list)
 
@@ -118,7 +121,7 @@ abbrev pub found_first : Processes → List Entry → Option (Runner × ProcessS
 found_first s [] = None
 found_first s (e ∷ es) = numbered e.process (row_of s (runner.Process e.process))
 
--- the first who waits in a list, with its record
+-- the first process that waits in a list, with its record
 abbrev pub first_waiting : Processes → ListKey → Option (Runner × ProcessStatus)
 first_waiting s list = found_first s (waiting s list)
 
@@ -129,7 +132,7 @@ handed_by s _ = message []
 
 -- ---- the start of a wait
 
--- in the list of its object, with the message that its call hands in
+-- adds the process to the list of its object, with the message that its call hands in
 abbrev pub enters : Processes → Runner → Waiting → ArrayVec ℤ → ProcessStatus → Processes
 enters s (runner.Process p) w message r = record s {
   queues = joins w.list w.discipline (entry p r.current_priority) s.queues;
@@ -141,8 +144,8 @@ abbrev pub waits_at : At → Processes → Runner → ℤ → Waiting → ArrayV
 waits_at at s p limit w message None = nothing s
 waits_at at s p limit w message (Some r) = waits (enters s p w message r) p r (wait.Object w.service w.array) (time_out at limit)
 
--- Without time its service is not available; one that may not wait has an invalid mode; else the caller
--- waits, at most so long.
+-- Blocks the caller for at most `limit` ticks. NOT_AVAILABLE: the limit is 0; INVALID_MODE: the
+-- caller may not wait.
 abbrev pub blocks : At → Processes → Runner → ℤ → Waiting → ArrayVec ℤ → Step Processes
 blocks at s p limit w message =
     row (processes.refuses s p w.service)
@@ -168,7 +171,7 @@ abbrev pub writes : Option ArrayPlace → ArrayVec ℤ → List Action
 writes None message = []
 writes (Some array) message = asks.Write array.base message ∷ []
 
--- the words go into an array, if there is one
+-- writes the words to the array, if one is given
 abbrev pub fills : {P : Type 0} → P → Option ArrayPlace → ArrayVec ℤ → Step P
 fills part array message = record { part = part; lines = []; actions = writes array message }
 

@@ -1,4 +1,4 @@
--- What a step of the kernel gives, and how steps are put together. A service is a step over the part
+-- The result of a step of the kernel, and how steps are combined. A service is a step over the part
 -- of a partition's state that it reads and changes.
 use Rattle.std.specs.Prelude.{ℕ, ◌-◌, ℤ, pos, negsuc, replicate, take, Bool, List, [], ◌∷◌, ◌++◌, if◌then◌else◌}
 use Rattle.arrayvec.specs.ArrayVec.{ArrayVec}
@@ -13,7 +13,7 @@ use Rattle.apex_types.specs.declared.process.Action.TheVariants as action
 use Rattle.apex_types.specs.declared.service.Service.{Service}
 use Rattle.apex_types.specs.ServiceShape.{answer_words}
 
--- The part after the step, what happened, in order, and what is asked of the processor, the data and
+-- The part after the step; what happened, in order; and the actions on the processor, the data and
 -- the error queue, in order.
 pub record Step (P : Type 0) : Type 0 where
   pub part : P
@@ -23,11 +23,11 @@ pub record Step (P : Type 0) : Type 0 where
 abbrev pub nothing : {P : Type 0} → P → Step P
 nothing part = record { part = part; lines = []; actions = [] }
 
--- a step goes on from what an earlier one did
+-- two steps in a row: the part after the second, the lines and actions of both
 abbrev pub after : {P : Type 0} → Step P → Step P → Step P
 after s rest = record { part = rest.part; lines = s.lines ++ rest.lines; actions = s.actions ++ rest.actions }
 
--- a step over a part is one over the whole that has it
+-- a step over a part, as a step over the whole
 abbrev pub lifted : {P W : Type 0} → (P → W) → Step P → Step W
 lifted put s = record { part = put s.part; lines = s.lines; actions = s.actions }
 
@@ -41,7 +41,7 @@ row refused (check ∷ checks) effect = if check.0 then refused check.1 else row
 abbrev pub message : List ℤ → ArrayVec ℤ
 message words = record { items = words }
 
--- so many of the words
+-- the first n words; none for a negative number
 abbrev pub first_words : ℤ → List ℤ → List ℤ
 first_words (pos n) words = take n words
 first_words (negsuc n) words = []

@@ -40,7 +40,7 @@ abbrev pub is_without_limit : ℤ → Bool
 is_without_limit (negsuc n) = true
 is_without_limit (pos n) = false
 
--- the number that a word is, 0 for one below 0
+-- the value of a word, 0 for a negative word
 abbrev pub amount : ℤ → ℕ
 amount (pos n) = n
 amount (negsuc n) = 0
@@ -52,12 +52,12 @@ ticks n = record { 0 = n }
 
 -- ---- a release
 
--- so many ticks after a tick, where they are limited
+-- the tick n ticks after `tick`; none without a limit
 abbrev pub later : Ticks → Option Ticks → Option Ticks
 later tick None = None
 later tick (Some n) = Some (ticks (tick.0 + n.0))
 
--- The record of one that is released at a tick: its deadline is its time capacity later.
+-- The record of a process that is released at a tick: its deadline is its time capacity later.
 abbrev pub released_at : Ticks → ProcessStatus → ProcessStatus
 released_at tick r = record r { release = tick; deadline = later tick r.capacity }
 
@@ -69,16 +69,16 @@ begins s q = record { part = s; lines = []; actions = asks.Begin q ∷ [] }
 abbrev pub waits_for_release : Processes → Runner → ProcessStatus → ℕ → Step Processes
 waits_for_release s q r tick = waits s q r wait.FirstRelease (Some (due_time.Release (ticks tick)))
 
--- In normal mode: a periodic process is released so many ticks after the partition's next release
--- point, which is `next`, an aperiodic one so many ticks from now, at once without a delay.
+-- In normal mode: releases a periodic process `delay` ticks after the partition's next release
+-- point, which is `next`; an aperiodic process `delay` ticks from now, at once if the delay is 0.
 abbrev pub starts_in_normal : At → (next : ℕ) → Processes → Runner → Ticks → ProcessStatus → Step Processes
 starts_in_normal at next s q delay r =
     if is_periodic r then waits_for_release s q r (next + delay.0)
     else if delay.0 == 0 then wakes s q (released_at at.now r)
     else waits_for_release s q r (at.now.0 + delay.0)
 
--- With a fresh stack and its base priority; before normal mode it waits for the normal start, with
--- its delay kept.
+-- Starts with a fresh stack and the base priority; before normal mode the process waits for the
+-- normal start, with its delay kept.
 abbrev pub starts : Mode → At → ℕ → Processes → Runner → Ticks → ProcessStatus → Step Processes
 starts m at next s q delay r =
     let fresh : ProcessStatus = record r { current_priority = r.base_priority } in
@@ -86,8 +86,8 @@ starts m at next s q delay r =
 
 -- ---- the normal start
 
--- One that was started before normal mode takes the normal case of its start, its priority and
--- suspension kept.
+-- A process that was started before normal mode takes the normal case of its start; its priority
+-- and suspension are kept.
 abbrev pub starts_if_waiting : At → ℕ → Processes → Runner → ProcessStatus → Wait → Step Processes
 starts_if_waiting at next s q r (wait.NormalStart delay) = starts_in_normal at next s q delay r
 starts_if_waiting at next s q r _ = nothing s
@@ -96,7 +96,7 @@ abbrev pub starts_waiting : At → ℕ → Processes → Runner → Option Proce
 starts_waiting at next s q None = nothing s
 starts_waiting at next s q (Some r) = starts_if_waiting at next s q r r.wait
 
--- so many processes from a place on, in number order
+-- starts those of n processes from index `place` on that wait for the normal start, in number order
 abbrev pub start_from : At → ℕ → ℕ → ℕ → Processes → Step Processes
 start_from at next zero place s = nothing s
 start_from at next (suc n) place s =
@@ -111,12 +111,13 @@ start_all_waiting at next s = start_from at next (length s.rows - 2) 0 s
 
 -- ---- due times
 
--- One that suspended itself is suspended no longer at its time-out; any other stays suspended.
+-- A process that suspended itself is no longer suspended at its time-out; any other stays
+-- suspended.
 abbrev pub timed_out : ProcessStatus → Wait → ProcessStatus
 timed_out r (wait.Service service.SuspendSelf) = record r { suspended = false }
 timed_out r _ = r
 
--- A release point is reached, a delay is over, or a wait was in vain.
+-- A release point is reached, a delay is over, or the wait was in vain.
 abbrev pub ends_wait : Processes → Runner → ProcessStatus → Due → Step Processes
 ends_wait s p r (due_time.Release tick) = released s p (released_at tick r) code.NoError
 ends_wait s p r (due_time.Delay tick) = released s p r code.NoError
@@ -133,8 +134,8 @@ treats_due at s p r (Some due) = if nat_le (tick_of due) at.now.0 then ends_wait
 
 -- ---- a missed deadline
 
--- After a process is treated: the step, how many more errors wait for the handler, and the mode of
--- the Clear that ends the treatment of the others.
+-- After a process is treated: the step, how many more errors may wait for the handler, and the mode
+-- of the Clear that ends the treatment of the others.
 pub record Treated : Type 0 where
   pub step : Step Processes
   pub free : ℕ
@@ -150,8 +151,8 @@ mode_of_action response.Idle = Some mode.Idle
 mode_of_action response.WarmStart = Some mode.WarmStart
 mode_of_action response.ColdStart = Some mode.ColdStart
 
--- The error waits for the handler where there is room; else it is the partition's, with this action.
--- The deadline is gone.
+-- Queues the error for the handler if there is room; otherwise the partition handles it with this
+-- action. Removes the deadline.
 abbrev pub misses : ℕ → PartitionAction → Processes → ProcessIndex → ProcessStatus → Treated
 misses (suc free) action s p r = record {
   step = record {
@@ -192,11 +193,11 @@ treats at free action s p (Some r) =
     let d = treats_due at s (runner.Process p) r r.due in
     treated_after d (treats_deadline at free action d.part p (row_of d.part (runner.Process p)))
 
--- the others are treated, unless there is a Clear
+-- treats the others, unless there is a Clear
 abbrev pub then_others : Treated → Treated → Treated
 then_others t others = if is_some t.clears then t else treated_after t.step others
 
--- so many processes from a place on, in number order
+-- treats n processes from index `place` on, in number order
 abbrev pub due_from : At → PartitionAction → ℕ → ℕ → ℕ → Processes → Treated
 due_from at action zero place free s = without_clear free (nothing s)
 due_from at action (suc n) place free s =
@@ -204,7 +205,7 @@ due_from at action (suc n) place free s =
     then_others t (due_from at action n (place + 1) t.free t.step.part)
 
 -- Each process in number order: its due time if it is at most now, then its deadline if it is at
--- most now. `free` more errors may wait for the handler; `action` is the partition's for a missed
--- deadline.
+-- most now. `free` more errors may wait for the handler; `action` is the partition's action for a
+-- missed deadline.
 abbrev pub due : At → ℕ → PartitionAction → Processes → Treated
 due at free action s = due_from at action (length s.rows - 2) 0 free s

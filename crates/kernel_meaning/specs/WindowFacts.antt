@@ -1,4 +1,5 @@
--- What holds of lawful windows: at most one holds a tick, at most one ends at it, and which tick is the next release.
+-- Facts of lawful windows: at most one holds a tick, at most one ends at it, and which tick is the
+-- next release.
 use Rattle.std.specs.Prelude.{◌≡◌, ℕ, ◌<◌, ◌≤◌, Bool, false, ◌&&◌, ◌==◌, nat_le, IsTrue, List, Some, slice_get}
 use Rattle.std.specs.List.{list_any}
 use Rattle.apex_types.specs.declared.identity.At.{At}
@@ -13,7 +14,7 @@ Holds s at w = IsTrue (is_within (phase s at) w)
 abbrev pub Ends : Schedule → At → WindowRow → Type 0
 Ends s at w = (at.origin.0 < at.now.0) × IsTrue (ends_at s.frame (phase s at) w)
 
--- At most one of these windows is so: two that are so stand at one place.
+-- At most one of these windows has the property: two that have it are at the same place.
 abbrev pub AtMostOne : (WindowRow → Type 0) → List WindowRow → Type 0
 AtMostOne IsSo windows = (i j : ℕ) (v w : WindowRow) → slice_get windows i ≡ Some v → slice_get windows j ≡ Some w → IsSo v → IsSo w → i ≡ j
 
@@ -22,7 +23,7 @@ pub record HasOneOwner (s : Schedule) (at : At) : Type 0 where
   pub window : AtMostOne (Holds s at) s.windows
   pub owner : (i : ℕ) (w : WindowRow) → slice_get s.windows i ≡ Some w → Holds s at w → owner s at ≡ Some w.partition.0
 
--- At most one window ends at the tick, and it is that of the partition whose window has ended.
+-- At most one window ends at the tick, and it belongs to the partition whose window has ended.
 pub record HasOneEnd (s : Schedule) (at : At) : Type 0 where
   pub window : AtMostOne (Ends s at) s.windows
   pub ended : (i : ℕ) (w : WindowRow) → slice_get s.windows i ≡ Some w → Ends s at w → ended s at ≡ Some w.partition.0

@@ -38,8 +38,8 @@ ends_at frame place w = (w.offset + w.length) % frame == place
 abbrev pub owner : Schedule → At → Option ℕ
 owner s at = option_map (λ w. w.partition.0) (find (is_within (phase s at)) s.windows)
 
--- The partition whose window ends at a tick, so that its last tick was the one before. At the
--- origin itself none ends.
+-- The partition whose window ends at a tick, so that its last tick was the one before. No window
+-- ends at the origin itself.
 abbrev pub ended : Schedule → At → Option ℕ
 ended s at = if nat_lt at.origin.0 at.now.0 then option_map (λ w. w.partition.0) (find (ends_at s.frame (phase s at)) s.windows) else None
 
@@ -55,13 +55,14 @@ has_release windows partition = list_any (releases partition) windows
 abbrev pub until_start : Schedule → WindowRow → At → ℕ
 until_start s w at = 1 + (w.offset + s.frame - phase s (at_tick at (at.now.0 + 1))) % s.frame
 
--- the least number of ticks, at most a frame, until one of these windows of the schedule starts that
--- is a release window of the partition
+-- the least number of ticks, at most a frame, until one of these windows that is a release window
+-- of the partition starts
 abbrev pub until_one_of : Schedule → (partition : ℕ) → At → List WindowRow → ℕ
 until_one_of s partition at [] = s.frame
 until_one_of s partition at (w ∷ ws) = if releases partition w then min (until_start s w at) (until_one_of s partition at ws) else until_one_of s partition at ws
 
--- The next release of a partition after a tick, where each window begins within the frame: the least later tick at which one of its release
--- windows starts; of a partition that has none, a frame later.
+-- The next release of a partition after a tick, if each window begins within the frame: the least
+-- later tick at which one of its release windows starts; a frame later for a partition without a
+-- release window.
 abbrev pub next_release : Schedule → (partition : ℕ) → At → ℕ
 next_release s partition at = at.now.0 + until_one_of s partition at s.windows

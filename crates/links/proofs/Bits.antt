@@ -110,7 +110,7 @@ first_marked marks lists level h l = sym (in_order_first level lists here before
         at : ((w : ℕ) × (b : ℕ) × (b < 64) × (j ≡ 64 * w + b)) → one_if_any (list_in lists j) ≡ 0
         at (w, b, below, is) = ap (λ k. one_if_any (list_in lists k)) is ∙ (sym (h w b below) ∙ l.lowest w b below (omega (arith, is, lt)))
 
--- ---- one who leaves
+-- ---- a process that leaves
 times_of_lists : (p : ℕ) (lists : List (List Entry)) → ((k : ℕ) → times_listed p (list_in lists k) ≡ 0) → times_listed p (in_order lists) ≡ 0
 times_of_lists p [] h = refl
 times_of_lists p (l ∷ ls) h = omega (arith, times_append p l (in_order ls), h 0, times_of_lists p ls (λ k. h (suc k)))

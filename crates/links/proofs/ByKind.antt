@@ -1,4 +1,4 @@
--- The waiting lists by their keys stand among the lists with numbers.
+-- The waiting lists by their keys, among the lists with numbers.
 use Rattle.std.proofs.Common.{◌*◌, ◌≡◌, ◌∙◌, ◌⊎◌, inl, inr, ℕ, ◌+◌, ◌-◌, ◌<◌, ◌≤◌, true, false, List, [], length, map, refl, sym, ap, arith}
 use Rattle.std.specs.Prelude.{nat_lt, take, drop, slice_set}
 use Rattle.std.proofs.lemmas.Bool.Decides.{nat_tests}
@@ -110,7 +110,7 @@ each_from first change lists = ap (take MOST_OBJECTS) (drop-map change first lis
 pub each_key : (change : List Entry → List Entry) (lists : List (List Entry)) → by_kind (map change lists) ≡ each_list change (by_kind lists)
 each_key change lists = same_queues (each_from 0 change lists) (each_from MOST_OBJECTS change lists) (each_from (2 * MOST_OBJECTS) change lists) (each_from (3 * MOST_OBJECTS) change lists) (each_from (4 * MOST_OBJECTS) change lists)
 
--- ---- one who joins a list
+-- ---- a process that joins a list
 
 pub joins_key : (k : ListKey) (d : Discipline) (e : Entry) (lists : List (List Entry)) → length lists ≡ (5 * MOST_OBJECTS) → by_kind (joins_in (number_of k) d e lists) ≡ joins k d e (by_kind lists)
 joins_key k d e lists whole =

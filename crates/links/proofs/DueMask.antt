@@ -1,4 +1,4 @@
--- The bits of those that are due are those of the entries in front, whose ticks have come.
+-- The bits of the processes that are due are those of the entries in front, whose ticks have come.
 use Rattle.std.proofs.Common.{◌≡◌, ℕ, zero, suc, ◌<◌, ◌≤◌, nat_eq, cond, Bool, true, false, List, [], ◌∷◌, Option, Some, length, drop, get_or, refl, sym, ap, ◌∙◌, arith}
 use Rattle.std.specs.Prelude.{max, nat_le}
 use Rattle.std.specs.Int.{bit_at}
@@ -9,7 +9,7 @@ use Rattle.links.specs.declared.dues.DueEntry.{DueEntry}
 use Rattle.links.specs.DueOrder.{AreFrom, AreInOrder, AreDueBelow}
 use Rattle.links.specs.Timers.{HasThoseDue, IsDueMask, IsExact, has_come, one_if_come, tick_in}
 
--- one of two bits, or both
+-- the union of two bits
 abbrev pub or_bit : ℕ → ℕ → ℕ
 or_bit zero b = b
 or_bit (suc a) b = 1
@@ -23,7 +23,8 @@ or_none zero lt = refl
 or_none (suc zero) lt = refl
 or_none (suc (suc a)) lt = absurd (omega (arith, lt))
 
--- the mask has those before a place; with those from there on it has all
+-- the mask has the bits of the processes before a place; with the bits of those from there on, it
+-- has all
 abbrev pub HasThoseBefore : ℕ → ℕ → List DueEntry → ℕ → Type 0
 HasThoseBefore now place dues mask = (p : ℕ) → or_bit (bit_at mask p) (one_if_come now (tick_in p (drop place dues))) ≡ one_if_come now (tick_in p dues)
 
@@ -50,7 +51,7 @@ one_more now place mask next e dues is le set others h = λ p. by_test p (nat_eq
 pub all_there : (now place mask : ℕ) (dues : List DueEntry) → ((p : ℕ) → one_if_come now (tick_in p (drop place dues)) ≡ 0) → HasThoseBefore now place dues mask → HasThoseDue now dues mask
 all_there now place mask dues none h = λ p. sym (or_none (bit_at mask p) (bit_at-lt mask p)) ∙ (ap (or_bit (bit_at mask p)) (sym (none p)) ∙ h p)
 
--- ---- those behind are not due
+-- ---- the entries behind are not due
 
 pub none_behind : (now place : ℕ) (dues : List DueEntry) → length dues ≤ place → (p : ℕ) → one_if_come now (tick_in p (drop place dues)) ≡ 0
 none_behind now zero [] le p = refl

@@ -1,4 +1,4 @@
--- The list of those for whom something is due keeps its order, and has room.
+-- The due list keeps its order, and has room.
 use Rattle.std.proofs.Common.{◌≡◌, ℕ, suc, ◌+◌, ◌<◌, ◌≤◌, Bool, true, false, not, cond, List, [], ◌∷◌, ◌++◌, length, take, drop, get_or, map, ap, ◌∙◌, refl, sym, arith, subst, inl, inr}
 use Rattle.std.specs.Prelude.{remove, nat_eq, nat_lt, if◌then◌else◌}
 use Rattle.std.proofs.lemmas.Bool.Decides.{nat_tests}
@@ -24,7 +24,7 @@ test_same p q h = grind (arith, nat_tests)
 
 -- ---- room
 
--- an entry without its tick, as of one that is ready
+-- an entry without its tick, like that of a ready process
 abbrev listed_as : DueEntry → Entry
 listed_as e = record { process = e.process; priority = record { 0 = 0 } }
 
@@ -49,7 +49,7 @@ room-without n p es below once lt =
     let all : IsListed n (map listed_as es) = record { below = listed-below n es below; once = λ q. omega (arith, listed-times q es, once q) } in
     omega (arith, listed-length p es, length-without n p (map listed_as es) all lt)
 
--- ---- one who leaves
+-- ---- a process that leaves
 
 without-none : (p : ℕ) (es : List DueEntry) → times_due p (without p es) ≡ 0
 without-none p [] = refl
@@ -135,7 +135,7 @@ order-without p (e ∷ es) h =
       | false ↦ (from-without e.tick.0 p es h.0, order-without p es h.1)
     ]
 
--- ---- one who goes behind those that are not later
+-- ---- a process that goes behind those that are not later
 
 behind-times : (e : DueEntry) (q : ℕ) (es : List DueEntry) → times_due q (behind_earlier e es) ≡ times_due q (e ∷ es)
 behind-times e q [] = refl

@@ -1,4 +1,4 @@
--- One who leaves a list, in which it stands once at most.
+-- A process that leaves a list, which contains it at most once.
 use Rattle.std.proofs.Common.{◌≡◌, ℕ, suc, ◌+◌, ◌<◌, ◌≤◌, true, List, [], ◌∷◌, ◌++◌, length, take, drop, get_or, map, ap, ◌∙◌, refl, sym, arith}
 use Rattle.std.specs.Prelude.{Option, Some, None, remove, nat_eq, slice_index_or, if◌then◌else◌}
 use Rattle.std.proofs.lemmas.Bool.Decides.{nat_tests}

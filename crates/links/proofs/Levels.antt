@@ -12,7 +12,7 @@ append_assoc : {A : Type 0} (xs ys zs : List A) → (xs ++ ys) ++ zs ≡ xs ++ (
 append_assoc [] ys zs = refl
 append_assoc (x ∷ xs) ys zs = ap (λ rest. x ∷ rest) (append_assoc xs ys zs)
 
--- ---- one leaves
+-- ---- a process leaves
 without_append : (p : ℕ) (xs ys : List Entry) → without p (xs ++ ys) ≡ without p xs ++ without p ys
 without_append p [] ys = refl
 without_append p (x ∷ xs) ys =
@@ -48,14 +48,14 @@ pub times_append : (p : ℕ) (xs ys : List Entry) → times_listed p (xs ++ ys) 
 times_append p [] ys = omega arith
 times_append p (x ∷ xs) ys = omega (arith, times_append p xs ys)
 
--- where p is in none of the lists nothing leaves
+-- if no list contains p, nothing leaves
 pub all_absent : (p : ℕ) (lists : List (List Entry)) → times_listed p (in_order lists) ≡ 0 → without_in_each p lists ≡ lists
 all_absent p [] h = refl
 all_absent p (l ∷ ls) h =
     let both = times_append p l (in_order ls) in
     ap (λ x. x ∷ without_in_each p ls) (without_absent p l (omega (arith, both, h))) ∙ ap (λ rest. l ∷ rest) (all_absent p ls (omega (arith, both, h)))
 
--- ---- one comes behind its equals
+-- ---- an entry behind its equals
 behind_first : (m k : ℕ) (e : Entry) (ls : List (List Entry)) → m < k → e.priority.0 + m ≡ 255 → AreLevels k ls → behind_equals e (in_order ls) ≡ e ∷ in_order ls
 behind_first m k e [] lt own h = refl
 behind_first m k e ([] ∷ ls) lt own h = behind_first m (suc k) e ls (omega (arith, lt)) own h.1

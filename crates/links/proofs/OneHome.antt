@@ -1,4 +1,4 @@
--- Each process stays in its home alone.
+-- Each process stays only in its home.
 use Rattle.std.proofs.Common.{◌≡◌, ℕ, zero, suc, ◌+◌, ◌<◌, ◌≤◌, Bool, true, false, not, cond, List, [], ◌∷◌, length, drop, map, refl, sym, ap, ◌∙◌, replicate, arith, subst, inl, inr, get_or, get_or-set_other, length-set}
 use Rattle.std.specs.Prelude.{nat_eq, nat_lt, slice_get, slice_set, slice_index_or, Option, Some, None, IfSome, if◌then◌else◌}
 use Rattle.std.proofs.lemmas.Bool.Decides.{nat_tests}
@@ -38,7 +38,7 @@ put-entries lists place number old new next same lt is changed =
     let at : list_in (map entries_of lists) place ≡ old.items = get_or-map entries_of lists place old [] lt ∙ ap entries_of (sym is) in
     rw (← same) (rw (map-set entries_of lists place new, changed, at) refl)
 
--- ---- none waits
+-- ---- nobody waits
 
 same-everywhere : {X : Type 0} (n i : ℕ) (x : X) → get_or (replicate n x) i x ≡ x
 same-everywhere n i x = elim (cases_lt i n) [
@@ -52,7 +52,7 @@ IsHomed-new n m = λ p k. rw (same-everywhere {X = List Entry} n k [], same-ever
 pub IsHomed-emptied : (m : ℕ) (lists : List (List Entry)) → IsHomed (emptied_each lists) (replicate m None)
 IsHomed-emptied m lists = λ p k. rw (listn.get_or-map no_entries lists k [], same-everywhere {X = Option ListId} m p None) refl
 
--- ---- one who leaves a list
+-- ---- a process that leaves a list
 
 without-none : (p : ℕ) (es : List Entry) → times_listed p (without p es) ≡ 0
 without-none p [] = refl
@@ -87,7 +87,7 @@ without-absent p (e ∷ es) h = elim (cases_eq p e.process.0) [
       rw test (cc)
 ]
 
--- ---- one who leaves all lists
+-- ---- a process that leaves all lists
 
 list_at-without : (p : ℕ) (lists : List (List Entry)) (k : ℕ) → list_in (without_in_each p lists) k ≡ without p (list_in lists k)
 list_at-without p lists k = listn.get_or-map (without p) lists k []
@@ -99,7 +99,7 @@ without-nobody p (x ∷ xs) h =
     let rest : without_in_each p xs ≡ xs = without-nobody p xs (λ j. h (suc j)) in
     cc
 
--- where one is in no other list, to leave this one is to leave all
+-- a process that is in no other list leaves all lists when it leaves this one
 without-one : (p k : ℕ) (lists : List (List Entry)) → ((j : ℕ) → (j ≡ k → ⊥) → times_listed p (list_in lists j) ≡ 0) → put_in lists k (without p (list_in lists k)) ≡ without_in_each p lists
 without-one p zero [] h = refl
 without-one p (suc k) [] h = refl
@@ -178,7 +178,7 @@ first-below n (e ∷ es) h = h.0
 pub first_below : (n : ℕ) (lists : List (List Entry)) (homes : List (Option ListId)) → length homes ≡ n → IsHomed lists homes → (k : ℕ) → IfSome (slice_get (list_in lists k) 0) (λ e. e.process.0 < n)
 first_below n lists homes full h k = first-below n (list_in lists k) (listed n lists homes full h k).below
 
--- ---- one who joins a list
+-- ---- a process that joins a list
 
 behind-times : (e : Entry) (q : ℕ) (es : List Entry) → times_listed q (behind_equals e es) ≡ times_listed q (e ∷ es)
 behind-times e q [] = refl

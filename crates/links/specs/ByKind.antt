@@ -1,5 +1,5 @@
--- The waiting lists by their keys, and where each of them stands among lists with numbers: sixteen of a kind,
--- one kind behind another.
+-- The waiting lists by their keys, and the place of each among lists with numbers: sixteen of a
+-- kind, one kind behind another.
 use Rattle.std.specs.Prelude.{◌*◌, ℕ, ◌≡◌, ◌+◌, nat_lt, List, length, take, drop, if◌then◌else◌}
 use Rattle.apex_types.specs.declared.identity.ListKey.{ListKey}
 use Rattle.apex_types.specs.declared.identity.ListKey.TheVariants as key
@@ -9,7 +9,7 @@ use Rattle.kernel_meaning.specs.Queues.{Queues}
 use Rattle.links.specs.declared.waiting_lists.TheConstants.{ALL_LISTS}
 use Rattle.links.specs.declared.waiting_lists.WaitingLists.TheInside.{Inside}
 
--- the lists of a kind, of which this one is the first
+-- the lists of a kind, from number `first` on
 abbrev pub lists_from : ℕ → List (List Entry) → List (List Entry)
 lists_from first lists = take MOST_OBJECTS (drop first lists)
 
@@ -22,7 +22,7 @@ by_kind lists = record {
   ports = lists_from (4 * MOST_OBJECTS) lists;
 }
 
--- the number of the list at a place; behind all lists where a kind has no such place
+-- the number of the list at a place; behind all lists if the kind has no such place
 abbrev pub number_from : ℕ → ℕ → ℕ
 number_from first place = if nat_lt place MOST_OBJECTS then first + place else ALL_LISTS
 
@@ -36,6 +36,6 @@ number_of (key.Port place) = number_from (4 * MOST_OBJECTS) place
 abbrev pub queues_of : Inside → Queues
 queues_of w = by_kind w.lists
 
--- there are as many lists as objects and ports may be
+-- as many lists as there may be objects and ports
 abbrev pub IsWhole : Inside → Type 0
 IsWhole w = length w.lists ≡ ALL_LISTS

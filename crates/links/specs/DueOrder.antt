@@ -1,4 +1,4 @@
--- The list of those for whom something is due: each process with its tick, the earliest first.
+-- The due list: each process with its due tick, the earliest first.
 use Rattle.std.specs.Prelude.{ℕ, ◌==◌, ◌+◌, ◌<◌, ◌≤◌, Bool, not, nat_lt, List, [], ◌∷◌, if◌then◌else◌, filter}
 use Rattle.apex_types.specs.declared.identity.ProcessIndex.{ProcessIndex}
 use Rattle.apex_types.specs.declared.identity.Ticks.{Ticks}
@@ -14,14 +14,14 @@ is_due_of p e = p == e.process.0
 abbrev pub without : ℕ → List DueEntry → List DueEntry
 without p dues = filter (λ e. not (is_due_of p e)) dues
 
--- behind all whose tick is not later
+-- inserted behind all entries whose tick is not later
 abbrev pub behind_earlier : DueEntry → List DueEntry → List DueEntry
 behind_earlier e [] = e ∷ []
 behind_earlier e (x ∷ xs) = if nat_lt e.tick.0 x.tick.0 then e ∷ x ∷ xs else x ∷ behind_earlier e xs
 
 -- ---- what always holds
 
--- no tick is before this one
+-- no entry is due before `tick`
 abbrev pub AreFrom : ℕ → List DueEntry → Type 0
 AreFrom tick [] = Unit {0}
 AreFrom tick (e ∷ es) = (tick ≤ e.tick.0) × AreFrom tick es

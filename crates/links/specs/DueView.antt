@@ -1,4 +1,4 @@
--- How a list of those for whom something is due is seen, and what always holds of it.
+-- The view of a due list, and its invariants.
 use Rattle.std.specs.Prelude.{ℕ, ◌≤◌, List}
 use Rattle.apex_types.specs.declared.limits.TheConstants.{MOST_PROCESSES}
 use Rattle.links.specs.declared.dues.DueEntry.{DueEntry}
@@ -8,7 +8,7 @@ use Rattle.links.specs.DueOrder.{AreInOrder, AreDueBelow, times_due}
 abbrev pub entries_of : Inside → List DueEntry
 entries_of l = l.dues.items
 
--- each process is there at most once, and the ticks are in order
+-- each process is in the list at most once, and the ticks are in order
 pub record IsSound (l : Inside) : Type 0 where
   pub below : AreDueBelow MOST_PROCESSES (entries_of l)
   pub once : (p : ℕ) → times_due p (entries_of l) ≤ 1

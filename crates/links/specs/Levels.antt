@@ -9,7 +9,7 @@ abbrev pub in_order : List (List Entry) → List Entry
 in_order [] = []
 in_order (l ∷ ls) = l ++ in_order ls
 
--- the list of level k has those of priority 255 - k alone
+-- the list of level k has only entries of priority 255 - k
 abbrev pub AreOfLevel : ℕ → List Entry → Type 0
 AreOfLevel k [] = Unit {0}
 AreOfLevel k (e ∷ es) = (e.priority.0 + k ≡ 255) × AreOfLevel k es

@@ -12,7 +12,7 @@ put_in lists number entries = slice_set lists number entries
 abbrev pub without_in_each : ℕ → List (List Entry) → List (List Entry)
 without_in_each p lists = map (without p) lists
 
--- the entry's process leaves the list that it is in, and joins the one with this number
+-- removes the entry's process from its list, and adds the entry to list `number`
 abbrev pub joins_in : ℕ → Discipline → Entry → List (List Entry) → List (List Entry)
 joins_in number d e lists =
     let others = without_in_each e.process.0 lists in

@@ -1,4 +1,4 @@
--- How the ready lists are seen, and what always holds of them.
+-- The view of the ready lists, and their invariants.
 use Rattle.std.specs.Prelude.{◌≡◌, List, length}
 use Rattle.apex_types.specs.declared.process.Entry.{Entry}
 use Rattle.links.specs.Levels.{AreLevels, AreMarked, in_order}

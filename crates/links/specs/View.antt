@@ -1,4 +1,4 @@
--- How the waiting lists are seen, and what always holds of them.
+-- The view of the waiting lists, and their invariants.
 use Rattle.std.specs.Prelude.{◌≡◌, List, length, map}
 use Rattle.apex_types.specs.declared.limits.TheConstants.{MOST_PROCESSES}
 use Rattle.apex_types.specs.declared.process.Entry.{Entry}
@@ -8,7 +8,7 @@ use Rattle.links.specs.declared.links.Links.TheInside.{Inside}
 abbrev pub lists_of : Inside → List (List Entry)
 lists_of l = map entries_of l.lists.items
 
--- there is a home for each process, and each stands in its home alone
+-- a home for each process, and each process only in its home
 pub record IsSound (l : Inside) : Type 0 where
   pub complete : length l.homes ≡ MOST_PROCESSES
   pub homed : IsHomed (lists_of l) l.homes

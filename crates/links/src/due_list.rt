@@ -1,4 +1,4 @@
-//! The list of those for whom something is due.
+//! The due list: processes with a due tick.
 
 ghost use Rattle.std.specs.Prelude.{◌≡◌, ◌<◌, [], slice_get, IfSome};
 ghost use Rattle.links.specs.DueOrder.{AreFrom, behind_earlier, due_at, without};
@@ -8,8 +8,8 @@ use crate::dues::{self, DueEntry, Dues};
 use apex_types::{MOST_PROCESSES, ProcessIndex, Ticks};
 use std::marker::Model;
 
-/// The processes for whom something is due, each at most once, in the order of their ticks; equals
-/// stand in the order in which they came. A contract sees it as a list of entries.
+/// The processes with a due tick, each at most once, in the order of their ticks; equal ticks keep
+/// the order of insertion. A contract sees it as a list of entries.
 #[derive(Drop)]
 pub struct DueList {
     dues: Dues,
@@ -29,14 +29,14 @@ impl Model for DueList {
 }
 
 impl DueList {
-    /// Nothing is due.
+    /// An empty due list.
     pub fn new() -> DueList
         ensures { result ≡ [] }
     {
         DueList { dues: Dues::new() }
     }
 
-    /// The one with the least tick.
+    /// The entry with the least tick.
     pub fn first(&self) -> Option<DueEntry>
         ensures value { result ≡ slice_get self.now 0 }
         ensures least { IfSome result (λ entry. AreFrom entry.tick.0 self.now) }
@@ -52,14 +52,14 @@ impl DueList {
         dues::due_by(&self.dues, now)
     }
 
-    /// Nothing is due for a process any longer.
+    /// Removes a process, for which nothing is due any longer.
     pub fn remove(&mut self, process: ProcessIndex)
         ensures { self.new ≡ without process.0 self.old }
     {
         dues::leave(&mut self.dues, process);
     }
 
-    /// A process leaves its place, and goes behind all whose tick is not later.
+    /// Moves a process behind all entries whose tick is not later than `tick`.
     pub fn insert_by_due(&mut self, process: ProcessIndex, tick: Ticks)
         requires { process.0 < MOST_PROCESSES }
         ensures { self.new ≡ behind_earlier (due_at process tick) (without process.0 self.old) }

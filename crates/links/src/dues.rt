@@ -23,13 +23,13 @@ impl Default for DueEntry {
     }
 }
 
-/// Those for whom something is due, the earliest first.
+/// The entries of a due list, the earliest first.
 pub(crate) type Dues = ArrayVec<DueEntry, MOST_DUE>;
 
-/// The most for whom something is due at once.
+/// The most entries of a due list.
 const MOST_DUE: usize = MOST_PROCESSES as usize;
 
-/// Takes a process out of the list.
+/// Removes a process from the list.
 pub(crate) fn leave(dues: &mut Dues, process: ProcessIndex)
     requires { (p : ℕ) → times_due p dues.old.items ≤ 1 }
     ensures { dues.new.items ≡ without process.0 dues.old.items }
@@ -43,7 +43,7 @@ pub(crate) fn leave(dues: &mut Dues, process: ProcessIndex)
     }
 }
 
-/// Puts an entry behind all whose tick is not later.
+/// Inserts an entry behind all entries whose tick is not later.
 pub(crate) fn enter(dues: &mut Dues, entry: DueEntry)
     requires { length dues.old.items < MOST_PROCESSES }
     ensures { dues.new.items ≡ behind_earlier entry dues.old.items }

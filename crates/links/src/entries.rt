@@ -8,20 +8,20 @@ ghost use Rattle.kernel_laws.specs.Ready.{times_listed};
 use apex_types::{Discipline, Entry, MOST_PROCESSES, ProcessIndex};
 use arrayvec::ArrayVec;
 
-/// Those who wait for one object, in the order in which they are released.
+/// The processes that wait for one object, in the order of their release.
 pub type Entries = ArrayVec<Entry, MOST_WAITING>;
 
-/// The most that wait at once.
+/// The most processes that wait at once.
 pub(crate) const MOST_WAITING: usize = MOST_PROCESSES as usize;
 
-/// The one who is released next.
+/// The entry that is released next.
 pub(crate) fn front(entries: &[Entry]) -> Option<Entry>
     ensures { result ≡ slice_get entries.now 0 }
 {
     entries.first().copied()
 }
 
-/// Takes a process out of the list, in which it stands once at most.
+/// Removes a process from the list, which contains it at most once.
 pub(crate) fn leave(entries: &mut Entries, process: ProcessIndex)
     requires { times_listed process.0 entries.old.items ≤ 1 }
     ensures { entries.new.items ≡ without process.0 entries.old.items }
@@ -35,7 +35,7 @@ pub(crate) fn leave(entries: &mut Entries, process: ProcessIndex)
     }
 }
 
-/// Puts an entry behind all that have its priority or a higher one.
+/// Inserts an entry behind all entries of its priority or a higher one.
 fn enter(entries: &mut Entries, entry: Entry)
     requires { length entries.old.items < MOST_PROCESSES }
     ensures { entries.new.items ≡ behind_equals entry entries.old.items }
@@ -47,7 +47,7 @@ fn enter(entries: &mut Entries, entry: Entry)
     entries.insert(place, entry);
 }
 
-/// Puts an entry into the list as its discipline says.
+/// Inserts an entry into the list, at the place that follows from the discipline.
 pub(crate) fn join(entries: &mut Entries, discipline: Discipline, entry: Entry)
     requires { length entries.old.items < MOST_PROCESSES }
     ensures { entries.new.items ≡ joined discipline entry entries.old.items }

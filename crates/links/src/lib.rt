@@ -1,5 +1,5 @@
-//! The waiting lists of a partition: a process stands in one of them at most. The list of those that
-//! are ready, by their priorities. And the lists of those for whom something is due.
+//! The waiting lists of a partition, of which at most one contains a process; the list of the ready
+//! processes, by priority; and the due lists.
 #![tactic(auto)]
 
 mod due_list;

@@ -14,8 +14,8 @@ use apex_types::{Discipline, Entry, MOST_PROCESSES, ProcessIndex};
 use std::alloc::{AllocError, Global};
 use std::marker::Model;
 
-/// Several lists of processes. A process stands in one of them at most. A contract sees them as lists
-/// of entries.
+/// Several lists of processes, of which at most one contains a process. A contract sees them as
+/// lists of entries.
 #[derive(Drop)]
 pub struct Links {
     lists: Vec<Entries>,
@@ -36,7 +36,7 @@ impl Model for Links {
 }
 
 impl Links {
-    /// So many empty lists. An error is one of memory.
+    /// Makes `lists` empty lists. `AllocError`: out of memory.
     pub fn new(alloc: Global, lists: u16) -> Result<Links, AllocError>
         ensures { IfOk result (λ links. links ≡ replicate lists []) }
     {
@@ -46,7 +46,7 @@ impl Links {
         })
     }
 
-    /// The one of a list who is released next.
+    /// The entry of `list` that is released next.
     pub fn first(&self, list: ListId) -> Option<Entry>
         ensures value { result ≡ slice_get (list_in self.now list.0) 0 }
         ensures below { IfSome result (λ entry. entry.process.0 < MOST_PROCESSES) }
@@ -54,7 +54,7 @@ impl Links {
         lists::front_at(&self.lists, list)
     }
 
-    /// How many stand in a list.
+    /// The number of entries in `list`.
     pub fn count(&self, list: ListId) -> u8
         ensures count { result ≡ length (list_in self.now list.0) }
         ensures most { result ≤ MOST_PROCESSES }
@@ -69,14 +69,14 @@ impl Links {
         lists::copy_at(&self.lists, list)
     }
 
-    /// The list in which a process stands, once, and in no other.
+    /// The list that contains a process, once; no other list does.
     pub fn which(&self, process: ProcessIndex) -> Option<ListId>
         ensures { (k : ℕ) → times_listed process.0 (list_in self.now k) ≡ once_at result k }
     {
         homes::home_of(&self.homes, process)
     }
 
-    /// Takes a process out of its list.
+    /// Removes a process from its list.
     pub fn remove(&mut self, process: ProcessIndex)
         ensures { self.new ≡ without_in_each process.0 self.old }
     {
@@ -89,7 +89,7 @@ impl Links {
         }
     }
 
-    /// A process leaves its list, and joins this one as its discipline says.
+    /// Moves a process from its list to `list`, where its place follows the discipline.
     pub fn join(&mut self, list: ListId, discipline: Discipline, entry: Entry)
         requires below { entry.process.0 < MOST_PROCESSES }
         ensures { self.new ≡ joins_in list.0 discipline entry self.old }
@@ -101,7 +101,7 @@ impl Links {
         }
     }
 
-    /// A process leaves its list, and goes behind all others of this one.
+    /// Moves a process from its list to the end of `list`.
     pub fn push_back(&mut self, list: ListId, entry: Entry)
         requires below { entry.process.0 < MOST_PROCESSES }
         ensures { self.new ≡ joins_in list.0 discipline.Fifo entry self.old }
@@ -109,8 +109,7 @@ impl Links {
         self.join(list, Discipline::Fifo, entry);
     }
 
-    /// A process leaves its list, and goes behind all of this one that have its priority or a higher
-    /// one.
+    /// Moves a process from its list to `list`, behind all entries of its priority or a higher one.
     pub fn insert_by_priority(&mut self, list: ListId, entry: Entry)
         requires below { entry.process.0 < MOST_PROCESSES }
         ensures { self.new ≡ joins_in list.0 discipline.Priority entry self.old }
@@ -118,7 +117,7 @@ impl Links {
         self.join(list, Discipline::Priority, entry);
     }
 
-    /// Releases the first of a list.
+    /// Removes and returns the first entry of `list`.
     pub fn pop_front(&mut self, list: ListId) -> Option<Entry>
         ensures value { result ≡ slice_get (list_in self.old list.0) 0 }
         ensures below { IfSome result (λ entry. entry.process.0 < MOST_PROCESSES) }

@@ -15,7 +15,7 @@ use std::alloc::{AllocError, Global};
 #[derive(Clone, Copy, Debug, PartialEq, Eq)]
 pub struct ListId(pub u8);
 
-/// So many empty lists.
+/// Makes `count` empty lists. `AllocError`: out of memory.
 pub(crate) fn empty_lists(alloc: Global, count: u16) -> Result<Vec<Entries>, AllocError>
     ensures { IfOk result (λ lists. map entries_of lists.items ≡ replicate count []) }
 {
@@ -26,7 +26,7 @@ pub(crate) fn empty_lists(alloc: Global, count: u16) -> Result<Vec<Entries>, All
     Ok(lists)
 }
 
-/// The one of a list who is released next.
+/// The entry of `list` that is released next.
 pub(crate) fn front_at(lists: &[Entries], list: ListId) -> Option<Entry>
     ensures { result ≡ slice_get (list_in (map entries_of lists.now) list.0) 0 }
 {
@@ -36,7 +36,7 @@ pub(crate) fn front_at(lists: &[Entries], list: ListId) -> Option<Entry>
     }
 }
 
-/// How many stand in a list.
+/// The number of entries in `list`.
 pub(crate) fn count_at(lists: &[Entries], list: ListId) -> u8
     ensures count { result ≡ length (list_in (map entries_of lists.now) list.0) }
     ensures most { result ≤ MOST_PROCESSES }
@@ -68,7 +68,7 @@ pub(crate) fn copy_at(lists: &[Entries], list: ListId) -> Entries
     }
 }
 
-/// Takes a process out of a list, in which it stands once at most.
+/// Removes a process from `list`, which contains it at most once.
 pub(crate) fn leave_at(lists: &mut Vec<Entries>, list: ListId, process: ProcessIndex)
     requires { times_listed process.0 (list_in (map entries_of lists.old.items) list.0) ≤ 1 }
     ensures { map entries_of lists.new.items
@@ -80,7 +80,7 @@ pub(crate) fn leave_at(lists: &mut Vec<Entries>, list: ListId, process: ProcessI
     }
 }
 
-/// Puts an entry into a list as its discipline says.
+/// Inserts an entry into `list`, at the place that follows from the discipline.
 pub(crate) fn join_at(lists: &mut Vec<Entries>, list: ListId, discipline: Discipline, entry: Entry)
     requires { length (list_in (map entries_of lists.old.items) list.0) < MOST_PROCESSES }
     ensures { map entries_of lists.new.items

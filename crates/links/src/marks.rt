@@ -7,7 +7,7 @@ ghost use Rattle.links.specs.Levels.{IsFirstMark};
 /// The level of a priority is 255 less the priority: bit b of word w is that of level 64 * w + b.
 pub(crate) type Marks = [u64; 4];
 
-/// Sets the bit of a level where its list has any, and clears it where it has none.
+/// Sets the bit of a level if its list has any entry, and clears it otherwise.
 pub(crate) fn put(marks: &mut Marks, level: u8, any: bool)
     ensures { (w b : ℕ) → b < 64
         → bit_at (slice_index marks.new w) b

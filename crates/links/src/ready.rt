@@ -1,4 +1,4 @@
-//! Those that are ready.
+//! The ready processes.
 
 ghost use Rattle.std.specs.Prelude.{◌≡◌, ◌<◌, ◌≤◌, [], slice_get, IfOk, IfSome};
 ghost use Rattle.kernel_meaning.specs.Queues.{behind_equals, without};
@@ -13,8 +13,8 @@ use std::marker::Model;
 /// A list for each number that a priority may have.
 const LEVELS: u16 = 256;
 
-/// Those that are ready, a list for each priority. A contract sees the lists one behind another, that
-/// of the highest priority first.
+/// The ready processes, a list for each priority. A contract sees the lists one behind another, the
+/// highest priority first.
 #[derive(Drop)]
 pub struct ReadyLists {
     lists: Links,
@@ -35,7 +35,7 @@ impl Model for ReadyLists {
 }
 
 impl ReadyLists {
-    /// Nobody is ready. An error is one of memory.
+    /// Makes the lists, with nobody ready. `AllocError`: out of memory.
     pub fn new(alloc: Global) -> Result<ReadyLists, AllocError>
         ensures { IfOk result (λ ready. ready ≡ []) }
     {
@@ -45,7 +45,7 @@ impl ReadyLists {
         })
     }
 
-    /// The first of the highest priority.
+    /// The first entry of the highest priority.
     pub fn first(&self) -> Option<Entry>
         ensures { result ≡ slice_get self.now 0 }
     {
@@ -55,7 +55,7 @@ impl ReadyLists {
         }
     }
 
-    /// A process is ready no longer.
+    /// Removes a process that is no longer ready.
     pub fn remove(&mut self, process: ProcessIndex)
         ensures { self.new ≡ without process.0 self.old }
     {
@@ -69,7 +69,7 @@ impl ReadyLists {
         }
     }
 
-    /// A process is ready, behind its equals.
+    /// Adds a ready process behind its equals.
     pub fn push_back(&mut self, entry: Entry)
         requires { entry.process.0 < MOST_PROCESSES }
         ensures { self.new ≡ behind_equals entry (without entry.process.0 self.old) }
@@ -80,7 +80,7 @@ impl ReadyLists {
         marks::put(&mut self.marks, level, true);
     }
 
-    /// Nobody is ready.
+    /// Empties all lists.
     pub fn clear(&mut self)
         ensures { self.new ≡ [] }
     {

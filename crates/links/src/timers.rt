@@ -6,7 +6,7 @@ ghost use Rattle.links.specs.Timers.{IsDueMask, IsExact, IsLeastTick, IsNextDue,
 use crate::due_list::DueList;
 use apex_types::{MOST_PROCESSES, ProcessIndex, Ticks};
 
-/// A process has this tick, or none.
+/// Sets the tick of a process, or removes it.
 pub fn set_timer(dues: &mut DueList, process: ProcessIndex, tick: Option<Ticks>)
     requires { process.0 < MOST_PROCESSES }
     ensures list { dues.new ≡ timer_set process tick dues.old }
@@ -30,7 +30,7 @@ fn least(dues: &DueList) -> Option<Ticks>
     }
 }
 
-/// The earlier of two ticks, where there are both.
+/// The earlier of two ticks; if only one is given, that one.
 fn earlier(one: Option<Ticks>, other: Option<Ticks>) -> Option<Ticks>
     ensures { number_of result ≡ earlier_of (number_of one) (number_of other) }
 {
@@ -41,7 +41,7 @@ fn earlier(one: Option<Ticks>, other: Option<Ticks>) -> Option<Ticks>
     }
 }
 
-/// The least due time or deadline, or none.
+/// The least due time or deadline, if any.
 pub fn next_due(dues: &DueList, deadlines: &DueList) -> Option<Ticks>
     ensures { (due deadline : ℕ → Option ℕ) → IsExact due dues.now → IsExact deadline deadlines.now
         → IsNextDue due deadline (number_of result) }

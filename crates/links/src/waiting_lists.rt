@@ -17,8 +17,8 @@ use std::marker::Model;
 /// One list for each semaphore, event, buffer, blackboard and port that a partition may have.
 const ALL_LISTS: u8 = 5 * MOST_OBJECTS;
 
-/// The waiting lists of a partition, one for each object and port that it may have. A process stands in
-/// one of them at most. A contract sees them as the queues of the definitions.
+/// The waiting lists of a partition, one for each object and port that it may have. At most one of
+/// them contains a process. A contract sees them as the queues of the definitions.
 #[derive(Drop)]
 pub struct WaitingLists {
     lists: Links,
@@ -36,7 +36,8 @@ impl Model for WaitingLists {
     ghost invariant = { IsWhole };
 }
 
-/// The number of the list at a place of a kind; no list has it where there is no such place.
+/// The number of the list at index `place` of a kind. If the kind has no such list, no list has the
+/// number.
 fn number_from(first: u8, place: u8) -> ListId
     requires { first ≤ 4 * MOST_OBJECTS }
     ensures { result.0 ≡ by_kind.number_from first place }
@@ -62,7 +63,7 @@ fn number_of(key: ListKey) -> ListId
 }
 
 impl WaitingLists {
-    /// Nobody waits. An error is one of memory.
+    /// Makes the lists, with nobody waiting. `AllocError`: out of memory.
     pub fn new(alloc: Global) -> Result<WaitingLists, AllocError>
         ensures { IfOk result (λ lists. lists ≡ fresh_queues) }
     {
@@ -71,7 +72,7 @@ impl WaitingLists {
         })
     }
 
-    /// The one of a list who is released next.
+    /// The entry of `list` that is released next.
     pub fn first(&self, list: ListKey) -> Option<Entry>
         ensures value { result ≡ slice_get (list_at self.now list) 0 }
         ensures below { IfSome result (λ entry. entry.process.0 < MOST_PROCESSES) }
@@ -79,7 +80,7 @@ impl WaitingLists {
         self.lists.first(number_of(list))
     }
 
-    /// How many stand in a list.
+    /// The number of entries in `list`.
     pub fn count(&self, list: ListKey) -> u8
         ensures count { result ≡ length (list_at self.now list) }
         ensures most { result ≤ MOST_PROCESSES }
@@ -94,14 +95,14 @@ impl WaitingLists {
         self.lists.entries(number_of(list))
     }
 
-    /// Takes a process out of its list.
+    /// Removes a process from its list.
     pub fn remove(&mut self, process: ProcessIndex)
         ensures { self.new ≡ without_in_all process.0 self.old }
     {
         self.lists.remove(process);
     }
 
-    /// A process leaves its list, and joins this one as its discipline says.
+    /// Moves a process from its list to `list`, where its place follows the discipline.
     pub fn join(&mut self, list: ListKey, discipline: Discipline, entry: Entry)
         requires { entry.process.0 < MOST_PROCESSES }
         ensures { self.new ≡ joins list discipline entry self.old }

@@ -46,7 +46,7 @@ cut_off text left part rest old mid new before between after (Err fault) split w
 pub next_of : {A : Type 0} (xs : List A) (place : ℕ) (x : A) → place < length xs → x ≡ get_or xs place x → drop place xs ≡ x ∷ drop (place + 1) xs
 next_of xs place x within is = drop_more xs place x within ∙ ap (λ y. y ∷ drop (place + 1) xs) (sym is)
 
--- whatever the last part comes to, the whole comes to
+-- the whole ends as its last part ends
 pub last_listed : {X : Type 0} (text left part : List ℕ) (old mid new : Option (List ℕ)) (before between after : ℕ) (answer : Result X SinkFault)
     → left ≡ part → IsUnderWay text left old mid before between → IsListed part mid new between after answer → IsListed text old new before after answer
 last_listed text left part old mid new before between after (Ok x) same w h =

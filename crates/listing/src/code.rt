@@ -18,7 +18,7 @@ use processor::{fields, op_name};
 ///
 /// # Errors
 ///
-/// Only where the sink failed; then a beginning of the text is out.
+/// Only if the sink fails; then a beginning of the text is out.
 pub fn write_code<S: Sink>(image: &Image, sink: &mut S) -> Result<(), SinkFault>
     requires { S.failures sink.old < 2 ^ 64 - 1 }
     ensures { IsListed (code_text (image_of image.now)) (S.taken sink.old) (S.taken sink.new)
@@ -80,7 +80,7 @@ fn instruction_line(index: usize, instruction: &[u8; 16]) -> Line
     line
 }
 
-/// The name of an opcode; `?` and its number where it has none.
+/// The name of an opcode; `?` and its number if it has no name.
 fn push_opcode(line: &mut Line, opcode: u32)
     requires { array_vec_len line.old + 21 ≤ LONGEST_LINE }
     ensures items { line.new.items ≡ line.old.items ++ opcode_text opcode }

@@ -17,7 +17,7 @@ use pal::{BodyCost, BodyName};
 ///
 /// # Errors
 ///
-/// Only where the sink failed; then a beginning of the text is out.
+/// Only if the sink fails; then a beginning of the text is out.
 pub fn write_costs<S: Sink>(costs: &[PartitionCosts], sink: &mut S) -> Result<(), SinkFault>
     requires { S.failures sink.old < 2 ^ 64 - 1 }
     ensures { IsListed (costs_text costs.now) (S.taken sink.old) (S.taken sink.new)

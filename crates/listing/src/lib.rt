@@ -1,4 +1,4 @@
-//! What an integrator reads of an image and of sources: the instructions of each partition, and the
+//! Listings of images and sources for an integrator: the instructions of each partition, and the
 //! costs of each body.
 #![tactic(auto)]
 

@@ -50,7 +50,7 @@ pub fn push_word(line: &mut Line, word: i64)
     push_text(line, buffer.format(word));
 }
 
-/// Writes a line. An error is answered only where the sink failed; then a beginning of the line is out.
+/// Writes a line. Fails only if the sink fails; then a beginning of the line is out.
 pub fn write_line<S: Sink>(line: &Line, sink: &mut S) -> Result<(), SinkFault>
     requires { S.failures sink.old < 2 ^ 64 - 1 }
     ensures { IsListed line.now.items (S.taken sink.old) (S.taken sink.new) (S.failures sink.old)

@@ -21,7 +21,7 @@ use Rattle.lone_partition.specs.Lines.{AreFrom, inputs_of, tick_of_input}
 use Rattle.lone_partition.specs.Pieces.{IsWithin, LeadsTo, HasRun, HasRunSome, HasAdvancedWritten}
 use Rattle.lone_partition.specs.Sent.{Sent}
 
--- nothing comes to the partition in a tick from one on, before another
+-- the partition gets no input in the ticks from `from` on, before `limit`
 abbrev pub HaveNoInputs : ℕ → ℕ → List InputLine → Type 0
 HaveNoInputs from limit inputs = (t : ℕ) → from ≤ t → t < limit → inputs_in t inputs ≡ []
 
@@ -52,7 +52,7 @@ module _ {C : Type 0} (s : Surroundings) where
   owner_rests at x true h = ap (λ (m : Moved C). goes (λ (y : Member C). m) x) h
   owner_rests at x false h = refl
 
-  -- a tick before the limit, in which nothing comes, changes nothing and writes nothing
+  -- a tick before the limit without an input changes nothing and writes nothing
   still_tick : (inputs : List InputLine) (origin t from limit : ℕ) (x : Member C) → from ≤ t → t < limit → IsStill origin from limit x.world.kernel → inputs_in t inputs ≡ []
       → tick_alone s (tick_from origin t) (inputs_in t inputs) x ≡ keeps_on (tick_from origin t) (stays x)
   still_tick inputs origin t from limit x there below h none =
@@ -61,7 +61,7 @@ module _ {C : Type 0} (s : Surroundings) where
       ∙ ap (λ (g : Gone (Member C)). keeps_on at (and_then g (λ y. ticks_own at y (is_some (owner s.schedule at))))) (ended_rests at x (is_some (ended s.schedule at)) h.ports)
       ∙ ap (keeps_on at) (owner_rests at x (is_some (owner s.schedule at)) (idle_tick x.engine at x.world h.idle (h.due t there below)))
 
-  -- so many ticks that each leave the partition as it is are one jump
+  -- n ticks that each leave the partition unchanged are one jump
   still_ticks : (inputs : List InputLine) (origin n m t : ℕ) (x : Member C)
       → ((i : ℕ) → i < n → tick_alone s (tick_from origin (t + i)) (inputs_in (t + i) inputs) x ≡ keeps_on (tick_from origin (t + i)) (stays x))
       → alone_from s inputs (n + m) (Some (tick_from origin t)) x ≡ alone_from s inputs m (Some (tick_from origin (t + n))) x
@@ -110,7 +110,7 @@ module _ {C : Type 0} (s : Surroundings) where
   abbrev Piece : List InputLine → (origin m t : ℕ) → Member C → Burst (World C) ℕ (List Event) → Type 0
   Piece inputs origin m t x b = alone_from s inputs (b.ticks + m) (Some (tick_from origin t)) x ≡ b.told ++ alone_from s inputs m (Some (tick_from origin b.words)) (with_world x b.control)
 
-  -- while its window goes on and nothing comes, ticks of the partition alone are its ticks
+  -- while its window continues and no input comes, ticks of the partition alone are its ticks
   piece : (inputs : List InputLine) (origin number n m t : ℕ) (x : Member C) → ((i : ℕ) → i < n → IsWithin s inputs origin (t + i) (Some number)) → Piece inputs origin m t x (advances_by x.engine origin n x.world t)
   piece inputs origin number zero m t x h =
       let same : 0 + m ≡ m = omega arith in
@@ -160,7 +160,7 @@ from_lower t u (l ∷ ls) h order = let there : u ≤ l.tick.0 = order.0 in (ome
 none_comes : (t u : ℕ) (ls : List InputLine) → t < u → AreFrom tick_of_input u ls → inputs_in t ls ≡ []
 none_comes t u ls below order = inputs_are t ls ∙ ap inputs_of (none_before tick_of_input t u ls below order)
 
--- nothing comes in so many ticks, all of them before a change
+-- no input comes in k ticks, all of them before a change
 pub is_within : (s : Surroundings) (lines : List InputLine) (k change : ℕ) (at : At) (owns : Option ℕ) → k ≤ change → AreFrom tick_of_input (at.now.0 + k) lines
     → ended s.schedule at ≡ None → ((i : ℕ) → 0 < i → i < change → ended s.schedule (at_tick at (at.now.0 + i)) ≡ None)
     → owner s.schedule at ≡ owns → ((i : ℕ) → i < change → owner s.schedule (at_tick at (at.now.0 + i)) ≡ owner s.schedule at)

@@ -11,7 +11,7 @@ not_true : (b : Bool) → (b ≡ true → ⊥) → b ≡ false
 not_true true h = absurd (h refl)
 not_true false h = refl
 
--- a tick is this one, or another
+-- a tick is t, or another
 either : (u t : ℕ) (P : Type 0) → (u ≡ t → P) → (u ≢ t → P) → P
 either u t P same other = by_test (u == t) refl where
   by_test : (b : Bool) → (u == t) ≡ b → P
@@ -76,20 +76,20 @@ module _ {L : Type 0} (tick_of : L → ℕ) where
       ap (λ n. lines_in tick_of u (drop n (l ∷ ls))) (front_own t l ls e) ∙ front_rest t u ls h ∙ sym (other_stays u l ls other))
       (λ k. ap (λ n. lines_in tick_of u (drop n (l ∷ ls))) (front_other t l ls k))
 
-  -- so many lines are of the tick, and the next one is not
+  -- the first i lines are of the tick, and the next one is not
   pub reached : (t : ℕ) (ls : List L) (i : ℕ) (l : L) → front t ls ≡ i + front t (drop i ls) → i < length ls → l ≡ get_or ls i l → tick_of l ≢ t → i ≡ front t ls
   reached t ls i l so_far within is other =
       let next = drop_more ls i l within ∙ ap (λ (x : L). x ∷ drop (i + 1) ls) (sym is) in
       let none : front t (drop i ls) ≡ 0 = ap (front t) next ∙ front_other t l (drop (i + 1) ls) other in
       omega (arith, so_far, none)
 
-  -- so many lines are of the tick, and there is no other
+  -- the first i lines are of the tick, and there are no others
   pub reached_all : (t : ℕ) (ls : List L) (i : ℕ) → front t ls ≡ i + front t (drop i ls) → length ls ≤ i → i ≡ front t ls
   reached_all t ls i so_far past =
       let none : front t (drop i ls) ≡ 0 = ap (front t) (drop_all i ls past) in
       omega (arith, so_far, none)
 
-  -- one line more is of the tick
+  -- one more line of the tick
   pub one_more : (t : ℕ) (ls : List L) (i : ℕ) (l : L) → front t ls ≡ i + front t (drop i ls) → i < length ls → l ≡ get_or ls i l → tick_of l ≡ t → front t ls ≡ i + 1 + front t (drop (i + 1) ls)
   one_more t ls i l so_far within is own =
       let next = drop_more ls i l within ∙ ap (λ (x : L). x ∷ drop (i + 1) ls) (sym is) in
@@ -106,7 +106,7 @@ module _ {L : Type 0} (tick_of : L → ℕ) where
 
 -- ---- the inputs of a partition
 
--- what comes in a tick comes in the lines of this tick
+-- the inputs of a tick are in the lines of this tick
 pub inputs_are : (t : ℕ) (ls : List InputLine) → inputs_in t ls ≡ inputs_of (lines_in tick_of_input t ls)
 inputs_are t [] = refl
 inputs_are t (l ∷ ls) = by_test (l.tick.0 == t) (inputs_are t ls) where

@@ -8,7 +8,7 @@ use Rattle.partition_base.specs.declared.machine.PartitionProcessor.{PartitionPr
 use Rattle.regions.specs.Space.{Space}
 use Rattle.lone_partition.specs.Only.{IsAlone, only_part}
 
--- the part that is lent is this one
+-- the only part of the memory is the part that is lent
 pub only_lent : (memory : List Space) (s : Space) → slice_get memory 0 ≡ Some s → only_part memory ≡ s
 only_lent [] s e = absurd (none-some s e)
 only_lent (t ∷ ts) s e = same_Some t s e

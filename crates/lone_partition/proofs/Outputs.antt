@@ -1,4 +1,4 @@
--- Texts that go to a sink one behind another.
+-- Texts that go to a sink one after another.
 use Rattle.std.proofs.Common.{◌≡◌, ℕ, ◌+◌, Bool, true, false, List, [], ◌++◌, Option, refl, sym, ap, subst, ◌∙◌}
 use Rattle.std.proofs.KnownBytes.{Appends-nil, Appends-trans}
 use Rattle.std.specs.Io.KnownBytes.{Appends}
@@ -15,7 +15,7 @@ takes_nothing s false = (Appends-nil s.taken, refl)
 pub nothing_sent : (s : Sent) → HasSent s s []
 nothing_sent s = record { same_trace = refl; same_sink = refl; takes = takes_nothing s s.failed }
 
--- a sink that has failed is handed nothing more, whatever the text is
+-- a sink that has failed gets nothing more, whatever the text is
 pub failed_sent : (s : Sent) (text : List ℕ) → s.failed ≡ true → HasSent s s text
 failed_sent s text failed = record { same_trace = refl; same_sink = refl; takes = subst (λ (f : Bool). Takes s s text f f) (sym failed) (refl, refl) }
 
@@ -41,7 +41,7 @@ lines_sent a b c one two whole split x y =
       takes = subst (λ (t : List ℕ). Takes a c t a.failed c.failed) text (takes_both a b c (text_of one) (text_of two) a.failed b.failed c.failed x.takes y.takes);
     }
 
--- ---- lines that are left
+-- ---- the remaining lines
 
 -- Once these lines are sent, all are.
 pub record CompletesLines (whole rest : List Event) (old now : Sent) : Type 0 where

@@ -1,4 +1,4 @@
--- Ticks of a partition alone that are made in parts, one behind another.
+-- Ticks of a partition alone that are made in parts, one after another.
 use Rattle.std.proofs.Common.{◌≡◌, ◌≤◌, ◌<◌, ℕ, ◌+◌, ◌-◌, List, [], ◌++◌, Some, sym, ap, subst, ◌∙◌, append_assoc, arith, refl}
 use Rattle.apex_types.specs.declared.event.Event.{Event}
 use Rattle.apex_types.specs.declared.identity.At.{At}
@@ -22,7 +22,7 @@ module _ {C : Type 0} (s : Surroundings) (lines : List InputLine) where
       ∙ sym (append_assoc told more (alone_from s lines j (Some (at_tick at (at.now.0 + n + m))) z))
       ∙ ap (λ t. (told ++ more) ++ alone_from s lines j (Some (at_tick at t)) z) when
 
-  -- so many ticks, then some more
+  -- n ticks, then m more
   run_more : (n m : ℕ) (at : At) (x y z : Member C) (old mid new : Sent) → HasRun s lines n at x y old mid → HasRun s lines m (at_tick at (at.now.0 + n)) y z mid new → HasRun s lines (n + m) at x z old new
   run_more n m at x y z old mid new a b = record {
     told = a.told ++ b.told;
@@ -30,20 +30,20 @@ module _ {C : Type 0} (s : Surroundings) (lines : List InputLine) where
     sent = lines_sent old mid new a.told b.told (a.told ++ b.told) refl a.sent b.sent;
   }
 
-  -- ---- of so many ticks some are left
+  -- ---- the ticks that remain
 
   pub all_left : (most : ℕ) (at : At) (x : Member C) (sent : Sent) → HasRun s lines (most - most) at x x sent sent
   all_left most at x sent =
       let none : 0 ≡ most - most = omega arith in
       subst (λ n. HasRun s lines n at x x sent sent) none (run_nothing s lines 0 at x sent).1
 
--- what holds in so many ticks holds in those that are left
+-- what holds in `most` ticks holds in the `left` ticks that remain
 pub within_left : (s : Surroundings) (lines : List InputLine) (origin now number most left : ℕ) → left ≤ most → ((i : ℕ) → i < most → IsWithin s lines origin (now + i) (Some number)) → (i : ℕ) → i < left → IsWithin s lines origin (now + (most - left) + i) (Some number)
 within_left s lines origin now number most left few h i below =
     let there : now + (most - left + i) ≡ now + (most - left) + i = omega arith in
     subst (λ t. IsWithin s lines origin t (Some number)) there (h (most - left + i) (omega (arith, few, below)))
 
--- of a piece of a window m ticks of those that are left are made
+-- of the remaining ticks of a piece of a window, m are made
 pub fewer_left : {C : Type 0} (s : Surroundings) (lines : List InputLine) (number most left m : ℕ) (at now : At) (x y z : Member C) (old mid new : Sent) → left ≤ most → now ≡ at_tick at (at.now.0 + (most - left))
     → ((i : ℕ) → i < most → IsWithin s lines at.origin.0 (at.now.0 + i) (Some number)) → HasRun s lines (most - left) at x y old mid → HasAdvancedWritten now left y z mid new m
     → HasRun s lines (most - (left - m)) at x z old new
@@ -53,6 +53,6 @@ fewer_left s lines number most left m at now x y z old mid new few is_now within
     let count : most - left + m ≡ most - (left - m) = let some = ran.0 in omega (arith, few, some) in
     subst (λ n. HasRun s lines n at x z old new) count (run_more s lines (most - left) m at x y z old mid new made ran.1)
 
--- so many were made
+-- the number of ticks is at most k
 pub made_within : {C : Type 0} (at : At) (k n : ℕ) (x y : Member C) (old new : Sent) → HasAdvancedWritten at k x y old new n → n ≤ k
 made_within at k n x y old new h = h.0

@@ -1,4 +1,4 @@
--- A message leaves its port, and the module where the port has a way out.
+-- A message leaves its port, and leaves the module if the port has a way out.
 use Rattle.std.proofs.Common.{◌≡◌, ℕ, ℤ, List, [], ◌∷◌, Option, Some, None, refl, sym, ap, subst}
 use Rattle.std.proofs.lemmas.Option.{none-some}
 use Rattle.arrayvec.specs.ArrayVec.{ArrayVec}
@@ -26,13 +26,13 @@ module _ {C : Type 0} (s : Surroundings) (at : At) (port : PortId) (x : Member C
   stay : leaving port x ≡ None → goes (leaves at port) x ≡ stays x
   stay h = ap (λ (t : Step Ports). goes (λ y. moved at x.engine (of_ports_alone x.world.kernel t) x.world) x) (none_leaves x.world.kernel.ports (place_of_port port) (port_at x.world.kernel.ports (place_of_port port)) h)
 
-  -- no message is there
+  -- without a message
   pub none_sent : {now : Member C} {old new : Sent} → None ≡ leaving port x → IsMade (goes (leaves at port) x) now old new → IsMade (sends_found s at port x (leaving port x)) now old new
   none_sent {now = now} {old = old} {new = new} e h =
       subst (λ (o : Option (ArrayVec ℤ)). IsMade (sends_found s at port x o) now old new) e
       (subst (λ (a : Gone (Member C)). IsMade a now old new) (stay (sym e)) h)
 
-  -- a message is there, and goes its way
+  -- with a message, which goes its way
   pub one_sent : {now last : Member C} {old mid new : Sent} (m : ArrayVec ℤ) (way : Option (List ℕ)) → Some m ≡ leaving port x → way ≡ way_out s port
       → IsMade (goes (leaves at port) x) now old mid → IsMade (goes_by_way at m way now) last mid new
       → IsMade (sends_found s at port x (leaving port x)) last old new

@@ -11,12 +11,12 @@ use Rattle.lone_partition.specs.Lines.{inputs_of}
 use Rattle.lone_partition.specs.Sent.{Sent}
 use Rattle.lone_partition.specs.Written.{IsPathMade}
 
--- after the last one nothing is left
+-- after the last one nothing remains
 pub inputs_are_over : {C : Type 0} {whole : Path (Member C)} {old new : Sent} (fault : ModuleAction) (at : At) (lines : List InputLine) (i : ℕ) (now : Member C)
     → CompletesPath whole (takes_all fault at (inputs_of (drop i lines)) now) old new → length lines ≤ i → IsPathMade whole (Some at) now old new
 inputs_are_over fault at lines i now way past = path_is_over at now (ap (λ (ls : List InputLine). takes_all fault at (inputs_of ls) now) (drop_all i lines past)) way
 
--- one ends everything
+-- an input ends everything
 pub inputs_end_down : {C : Type 0} {whole : Path (Member C)} {last : Member C} {old mid new : Sent} (fault : ModuleAction) (at : At) (lines : List InputLine) (i : ℕ) (l : InputLine) (now : Member C)
     → CompletesPath whole (takes_all fault at (inputs_of (drop i lines)) now) old mid → i < length lines → l ≡ get_or lines i l
     → IsPathMade (takes fault at l.input now) None last mid new → IsPathMade whole None last old new

@@ -65,8 +65,8 @@ module _ {C : Type 0} where
       before : (a : At) (t : ℕ) → a.now.0 ≡ at.now.0 + 1 → a.now.0 ≤ t → at.now.0 ≤ t
       before a t e l = omega arith
 
-  -- The lines of the first of several ticks, with the inputs of this tick, and of the rest, with the inputs
-  -- behind them.
+  -- The lines of the first of several ticks, with the inputs of this tick, and those of the other
+  -- ticks, with the later inputs.
   tick_lines : (s : Surroundings) (lines own later : List InputLine) (n k : ℕ) (at : At) (x : Member C) → n ≡ suc k
       → own ≡ lines_in tick_of_input at.now.0 lines → ((t : ℕ) → at.now.0 < t → lines_in tick_of_input t later ≡ lines_in tick_of_input t lines)
       → alone_from s lines n (Some at) x ≡ (tick_alone s at (inputs_of own) x).lines ++ alone_from s later k (option_map next_tick (tick_alone s at (inputs_of own) x).at) (tick_alone s at (inputs_of own) x).state
@@ -89,7 +89,7 @@ module _ {C : Type 0} where
   none_left s lines zero x = refl
   none_left s lines (suc n) x = refl
 
-  -- a tick more, after which this comes, or nothing
+  -- one more tick, followed by this, or by nothing
   ticks_on : (whole : List Event) (s : Surroundings) (lines own later : List InputLine) (n k : ℕ) (at : At) (answer : Option At) (x y : Member C) (old mid new : Sent) → n ≡ suc k
       → own ≡ lines_in tick_of_input at.now.0 lines → ((t : ℕ) → at.now.0 < t → lines_in tick_of_input t later ≡ lines_in tick_of_input t lines)
       → CompletesLines whole (alone_from s lines n (Some at) x) old mid → IsPathMade (tick_alone s at (inputs_of own) x) answer y mid new
@@ -114,18 +114,18 @@ module _ {C : Type 0} where
   ends_down whole s lines own later n k at x y old mid new count is_own of_later way h =
       lines_are_over whole (alone_from s later k None y) old new (none_left s later k y) (ticks_on whole s lines own later n k at None x y old mid new count is_own of_later way h)
 
-  -- no tick is left
+  -- no tick remains
   pub nothing_left : (whole : List Event) (s : Surroundings) (lines : List InputLine) (n : ℕ) (o : Option At) (x : Member C) (old new : Sent) → n ≡ 0 → CompletesLines whole (alone_from s lines n o x) old new → HasSent old new (text_of whole)
   nothing_left whole s lines n o x old new none way = lines_are_over whole (alone_from s lines n o x) old new (ap (λ (m : ℕ). alone_from s lines m o x) none) way
 
 -- ---- a whole run
 
 module _ {C : Type 0} where
-  -- of no tick nothing is written
+  -- without ticks nothing is written
   pub no_tick : (a : Alone C) (lines : List InputLine) (n : ℕ) (sent : Sent) → n ≡ 0 → HasSent sent sent (text_of (trace_alone a lines n))
   no_tick a lines n sent none = subst (λ (m : ℕ). HasSent sent sent (text_of (trace_alone a lines m))) (sym none) (nothing_sent sent)
 
-  -- of some ticks the start comes first
+  -- a run of some ticks begins with the start
   starts_first : (a : Alone C) (lines : List InputLine) (n : ℕ) → n ≢ 0
       → trace_alone a lines n ≡ (goes (cold_start first_tick condition.NormalStart) a.member).lines ++ alone_from a.around lines n (Some first_tick) (goes (cold_start first_tick condition.NormalStart) a.member).state
   starts_first a lines zero some = absurd (some refl)

@@ -1,4 +1,4 @@
--- What surrounds a partition, as the definitions see it.
+-- The surroundings of a partition, as the definitions see them.
 use Rattle.isolation.specs.Alone.{Surroundings}
 use Rattle.window_table.specs.Schedules.{schedule_of}
 use Rattle.lone_partition.specs.declared.surroundings.Surroundings as code

@@ -1,4 +1,4 @@
--- What the partitions of an image keep to, so that their processors and kernels have room for them.
+-- The bounds of an image's partitions, so that their processors and kernels have room for them.
 use Rattle.std.specs.Prelude.{◌≡◌, ℕ, List, Some, slice_get}
 use Rattle.image.specs.declared.item.PartitionItem.{PartitionItem}
 use Rattle.partition.specs.Fresh.{AreWithinLimits}

@@ -1,4 +1,4 @@
--- An output as the clauses see it, and the ticks that a step answers.
+-- An output as the clauses see it, and the ticks that a step returns.
 use Rattle.std.specs.Prelude.{Option, option_map}
 use Rattle.apex_types.specs.declared.identity.At.{At}
 use Rattle.apex_types.specs.declared.identity.Moment.{Moment}
@@ -18,6 +18,6 @@ sent_of g o = record {
 abbrev pub at_of : Moment → At
 at_of m = m.at
 
--- the tick with the origin that counts from here on, if there is one
+-- the tick with the origin valid from here on, if any
 abbrev pub next_at : Option Moment → Option At
 next_at o = option_map at_of o

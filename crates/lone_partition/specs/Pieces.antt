@@ -10,26 +10,27 @@ use Rattle.isolation.specs.declared.input.InputLine.{InputLine}
 use Rattle.partition.specs.Members.{HasAdvanced}
 use Rattle.lone_partition.specs.Sent.{Sent, HasSent}
 
--- Nothing comes, no window ends, and the owner is this one or none.
+-- No input comes, no window ends, and the owner is `owns`.
 pub record IsWithin (s : Surroundings) (lines : List InputLine) (origin t : ℕ) (owns : Option ℕ) : Type 0 where
   pub inputs : inputs_in t lines ≡ []
   pub ended : ended s.schedule (tick_from origin t) ≡ None
   pub owner : owner s.schedule (tick_from origin t) ≡ owns
 
--- So many ticks from one on tell these lines and lead from one state to another, whatever ticks come behind them.
+-- n ticks from `at` on write these lines and lead from x to `next`, whatever ticks follow.
 abbrev pub LeadsTo : {C : Type 0} → Surroundings → List InputLine → ℕ → At → Member C → List Event → Member C → Type 0
 LeadsTo s inputs n at x told next = (m : ℕ) → alone_from s inputs (n + m) (Some at) x ≡ told ++ alone_from s inputs m (Some (at_tick at (at.now.0 + n))) next
 
--- So many ticks were made and their lines were to be written.
+-- n ticks were made, and their lines were to be written.
 pub record HasRun {C : Type 0} (s : Surroundings) (inputs : List InputLine) (n : ℕ) (at : At) (x next : Member C) (old new : Sent) : Type 0 where
   pub told : List Event
   pub leads : LeadsTo s inputs n at x told next
   pub sent : HasSent old new (text_of told)
 
--- Some of so many ticks were made, as many as are answered.
+-- Of k ticks, n were made.
 abbrev pub HasRunSome : {C : Type 0} → Surroundings → List InputLine → ℕ → At → Member C → Member C → Sent → Sent → ℕ → Type 0
 HasRunSome s inputs k at x next old new n = (n ≤ k) × HasRun s inputs n at x next old new
 
--- The partition made so many ticks, or those up to the first with a line, and their lines were to be written.
+-- The partition made k ticks, or those up to the first with a line; they are n, and their lines
+-- were to be written.
 abbrev pub HasAdvancedWritten : {C : Type 0} → At → ℕ → Member C → Member C → Sent → Sent → ℕ → Type 0
 HasAdvancedWritten at k x next old new n = (n ≤ k) × (told : List Event) × HasAdvanced at k x next told n × HasSent old new (text_of told)

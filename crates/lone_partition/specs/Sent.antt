@@ -1,10 +1,10 @@
--- What goes to a sink, step by step.
+-- The bytes that go to a sink, step by step.
 use Rattle.std.specs.Prelude.{◌≡◌, ℕ, ◌+◌, Bool, true, false, List, Option}
 use Rattle.std.specs.Io.KnownBytes.{Appends}
 use Rattle.apex_types.specs.Line.{TakesBeginning}
 
--- An output between two steps: which buffer and which sink it lends, the bytes that the sink has taken, its failures,
--- and whether it has failed since the output was made.
+-- An output between two steps: the buffer and the sink that it lends, the bytes that the sink has
+-- taken, its failures, and whether it has failed since the output was made.
 pub record Sent : Type 0 where
   pub trace : ℕ
   pub sink : ℕ
@@ -12,8 +12,8 @@ pub record Sent : Type 0 where
   pub failures : ℕ
   pub failed : Bool
 
--- Whether the sink had failed before, and whether it has failed now: then it is handed nothing more. Else it takes the
--- text; or it fails once, and takes a beginning of it.
+-- Whether the sink had failed before, and whether it has failed now: then it gets nothing more.
+-- Otherwise it takes the text; or it fails once, and takes a prefix of it.
 abbrev pub Takes : Sent → Sent → List ℕ → (before now : Bool) → Type 0
 Takes old new text true true = (new.taken ≡ old.taken) × (new.failures ≡ old.failures)
 Takes old new text true false = ⊥

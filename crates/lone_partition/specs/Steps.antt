@@ -4,7 +4,7 @@ use Rattle.kernel_meaning.specs.Partition.{Member, Moved, cold_start, breaks_dow
 use Rattle.lone_partition.specs.declared.step.PartitionStep.{PartitionStep}
 use Rattle.lone_partition.specs.declared.step.PartitionStep.TheVariants as step
 
--- what a step does to its partition
+-- the effect of a step on its partition
 abbrev pub step_of : {C : Type 0} → At → PartitionStep → Member C → Moved C
 step_of at (step.Start c) x = cold_start at c x
 step_of at (step.Arrive port m) x = arrives at port m x

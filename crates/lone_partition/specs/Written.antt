@@ -1,4 +1,4 @@
--- What is written of a step, whatever it is a step of.
+-- The text written by a step, whatever the step belongs to.
 use Rattle.std.specs.Prelude.{◌≡◌, ℕ, ◌+◌, List, Option, Result, Ok, Err}
 use Rattle.std.specs.Io.KnownBytes.{Appends}
 use Rattle.apex_types.specs.Line.{text_of}
@@ -20,15 +20,16 @@ pub record IsMade {S : Type 0} (g : Gone S) (now : S) (old new : Sent) : Type 0 
 abbrev pub done_in : {S : Type 0} → Path S → Gone S
 done_in c = record { state = c.state; lines = c.lines }
 
--- Between two states of an output such a step was made, and its lines were to be written. The answer is the tick with
--- the origin that counts from here on, or none.
+-- Between two states of an output such a step was made, and its lines were to be written. The
+-- answer is the tick with the origin valid from here on, or none.
 pub record IsPathMade {S : Type 0} (c : Path S) (answer : Option At) (now : S) (old new : Sent) : Type 0 where
   pub at : answer ≡ c.at
   pub made : IsMade (done_in c) now old new
 
 -- ---- a trace
 
--- The sink has taken the text of these lines; or it failed once, and has taken a beginning of that text.
+-- The sink has taken the text of these lines; or it failed once, and has taken a prefix of that
+-- text.
 abbrev pub AreWritten : {X : Type 0} → List Event → Option (List ℕ) → Option (List ℕ) → ℕ → ℕ → Result X SinkFault → Type 0
 AreWritten lines old new before after (Ok x) = Appends old new (text_of lines) × (after ≡ before)
 AreWritten lines old new before after (Err fault) = TakesBeginning old new (text_of lines) × (after ≡ before + 1)

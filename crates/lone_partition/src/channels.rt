@@ -1,4 +1,4 @@
-//! By which channels the messages of a partition's ports leave them.
+//! The channels by which the messages of a partition's ports leave them.
 
 ghost use Rattle.std.specs.Prelude.{◌≡◌, ◌≤◌, length, option_map, IfOk};
 ghost use Rattle.std.specs.List.{list_any};
@@ -22,7 +22,7 @@ fn is_port(partition: PartitionId, port: PortId, end: ChannelEnd) -> bool
     }
 }
 
-/// The channel whose source a port is.
+/// The channel whose source is this port, if any.
 #[tactic(auto, using(std::proofs::lemmas::List::drop_more))]
 pub fn channel_from(
     channels: &[ChannelRow],
@@ -67,8 +67,8 @@ fn name_to_device(channel: Option<&ChannelRow>) -> Option<Name>
     }
 }
 
-/// For each of a partition's ports in number order the name of the channel by which its messages
-/// leave the module, if one does. An error is one of memory.
+/// For each of a partition's ports in number order, the name of the channel by which its messages
+/// leave the module, if there is one. `AllocError`: out of memory.
 pub fn ways_out(
     alloc: Global,
     channels: &[ChannelRow],

@@ -1,4 +1,4 @@
-//! What comes to a partition.
+//! The inputs of a partition.
 
 ghost use Rattle.std.specs.Prelude.{◌≡◌};
 ghost use Rattle.isolation.specs.Alone.{meets_fault, takes, takes_all};
@@ -14,9 +14,9 @@ use isolation::{Input, InputLine};
 use partition::Partition;
 use partition_base::Executor;
 
-/// A fault of the module, whose line is no partition's: it is ignored, ends everything, or resets. Then
-/// this tick becomes the origin, and the partition clears to a cold start. After a shutdown there is no
-/// tick more.
+/// A fault of the module, whose line belongs to no partition: it is ignored, ends everything, or
+/// resets. A reset makes this tick the origin, and the partition clears to a cold start. After a
+/// shutdown there is no further tick.
 fn meet_fault<E: Executor, S: Sink>(
     action: ModuleAction,
     partition: &mut Partition<E>,
@@ -46,7 +46,7 @@ fn meet_fault<E: Executor, S: Sink>(
     }
 }
 
-/// One input. After a shutdown there is no tick more.
+/// Takes one input. After a shutdown there is no further tick.
 fn take<E: Executor, S: Sink>(
     fault: ModuleAction,
     input: &Input,
@@ -76,7 +76,7 @@ fn take<E: Executor, S: Sink>(
     }
 }
 
-/// The inputs of these lines one after another, unless one of them ends everything.
+/// Takes the inputs of these lines one after another, until one of them ends everything.
 #[tactic(auto, using(crate::proofs::Taken::inputs_end))]
 pub fn take_all<E: Executor, S: Sink>(
     fault: ModuleAction,

@@ -1,11 +1,12 @@
 //! One partition of an image, loaded and run alone.
 //!
-//! [`LonePartition`] holds the partition's own windows, its kernel, its processor and its memory, and
-//! nothing of its neighbours. Its run takes what comes to it from outside, line by line in the order of
-//! the ticks, and writes what the trace of the whole module shows of it when the same comes to it there.
+//! [`LonePartition`] holds the partition's own windows, its kernel, its processor and its memory,
+//! and nothing of its neighbours. Its run takes its inputs from outside, line by line in the order
+//! of the ticks, and writes what the trace of the whole module shows of the partition when it gets
+//! the same inputs there.
 //!
-//! Its parts serve a whole module too: how a partition is loaded, a step of it and many ticks at once, whose
-//! lines go to a sink, and the lines of a tick.
+//! Its parts serve a whole module too: loading a partition, a step of it and many ticks at once,
+//! whose lines go to a sink, and the lines of a tick.
 #![tactic(auto)]
 
 mod channels;

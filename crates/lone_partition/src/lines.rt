@@ -6,7 +6,7 @@ ghost use Rattle.lone_partition.specs.Lines.{AreFrom, lines_in};
 use apex_types::{DeviceLine, Ticks};
 use isolation::InputLine;
 
-/// What acts in one tick, as a line of the devices does, or one of the inputs of a partition.
+/// A line that acts in one tick: a line of the devices, or an input of a partition.
 pub trait HasTick {
     ghost tick_of: { Self → ℕ };
 
@@ -31,7 +31,7 @@ impl HasTick for InputLine {
     }
 }
 
-/// Of these lines, which are of this tick or later ones, those of this tick, and those of later ticks.
+/// Splits these lines, which are of `tick` or later ticks, into those of `tick` and the later ones.
 pub fn split_tick<L: HasTick>(lines: &[L], tick: Ticks) -> (&[L], &[L])
     requires order { AreFrom L.tick_of tick.0 lines.now }
     ensures own { result.0.now ≡ lines_in L.tick_of tick.0 lines.now }
@@ -43,7 +43,7 @@ pub fn split_tick<L: HasTick>(lines: &[L], tick: Ticks) -> (&[L], &[L])
     lines.split_at(count_of_tick(lines, tick))
 }
 
-/// How many of these lines, which are of this tick or later ones, are of this tick.
+/// How many of these lines, which are of `tick` or later ticks, are of `tick`.
 fn count_of_tick<L: HasTick>(lines: &[L], tick: Ticks) -> usize
     requires order { AreFrom L.tick_of tick.0 lines.now }
     ensures within { result ≤ length lines.now }

@@ -19,7 +19,7 @@ use regions::Memory;
 use std::alloc::{AllocError, Global};
 use window_table::{PartitionRow, Schedule};
 
-/// What no tick of a partition changes. An error is one of memory.
+/// The parts of a partition that no tick changes. `AllocError`: out of memory.
 pub fn fixed(
     alloc: Global,
     schedule: &Schedule,
@@ -40,8 +40,8 @@ pub fn fixed(
     })
 }
 
-/// A partition whose instructions have these costs, idle, with nothing created; its memory is to be the one
-/// that its section asks for. An error is one of memory.
+/// Loads a partition whose instructions have these costs, idle, with nothing created; its memory is
+/// to be the one that its section asks for. `AllocError`: out of memory.
 pub fn load_partition(
     alloc: Global,
     costs: &Costs,
@@ -66,7 +66,8 @@ pub fn load_partition(
     Ok(partition)
 }
 
-/// The memory of one partition alone: its initial data, and stacks of zeros. An error is one of memory.
+/// The memory of one partition alone: its initial data, and stacks of zeros. `AllocError`: out of
+/// memory.
 pub fn load_memory(alloc: Global, item: &PartitionItem) -> Result<Memory, AllocError>
     ensures { IfOk result (λ memory. memory ≡ fresh_item item.now ∷ []) }
 {

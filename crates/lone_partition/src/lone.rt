@@ -1,4 +1,4 @@
-//! A partition of an image with all that it needs to run alone.
+//! A partition of an image with everything that it needs to run alone.
 
 ghost use Rattle.lone_partition.specs.Only.{IsAlone};
 
@@ -11,7 +11,7 @@ use partition_base::PartitionProcessor;
 use regions::Memory;
 use std::alloc::{AllocError, Global};
 
-/// One partition of an image, before its first start: itself, its memory, and what surrounds it.
+/// One partition of an image, before its first start: itself, its memory, and its surroundings.
 #[derive(Drop)]
 pub struct LonePartition {
     pub(crate) surroundings: Surroundings,
@@ -27,8 +27,8 @@ impl LonePartition {
     ghost use Rattle.isolation.specs.Slices.{machine_alone, slice};
     ghost use Rattle.lone_partition.specs.Lone.{alone_of};
 
-    /// The partition of an image with a number, which is one of the image's: from its slice of the
-    /// image, whatever else stands there. An error is one of memory.
+    /// Loads the partition with this number, which is one of the image's, from its slice of the
+    /// image, whatever else the image holds. `AllocError`: out of memory.
     #[tactic(auto, using(crate::proofs::Lawful::fitting_items))]
     pub fn load(
         alloc: Global,

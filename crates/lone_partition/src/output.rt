@@ -1,14 +1,14 @@
-//! Where the lines of a tick go.
+//! The destination of the lines of a tick.
 
 ghost use Rattle.std.specs.Prelude.{◌≡◌, ◌<◌, ◌-◌, ◌^◌, false};
 
 use apex_types::{Sink, TraceBuffer, put_all};
 
-/// The buffer for the lines of a step, and the sink that takes them. Once the sink has failed it is handed
-/// nothing more.
+/// The buffer for the lines of a step, and the sink that takes them. Once the sink has failed, it
+/// gets nothing more.
 ///
-/// So no step fails: what it does to the partitions it does to its end, and whoever made the output asks at
-/// last whether the sink has failed. The buffer is large: it stays where it is, and is lent.
+/// So no step fails: it completes its work on the partitions, and whoever made the output asks at
+/// the end whether the sink has failed. The buffer is large: it stays where it is, and is borrowed.
 #[derive(Drop)]
 pub struct Output<'a, S: Sink> {
     pub trace: &'a mut TraceBuffer,
@@ -21,7 +21,7 @@ impl<'a, S: Sink> Output<'a, S> {
     ghost use Rattle.lone_partition.specs.Outputs.{sent_of};
     ghost use Rattle.lone_partition.specs.Sent.{HasSent};
 
-    /// The lines that are told into the buffer go to the sink, which has not failed yet.
+    /// Lines recorded in the buffer go to the sink, which has not failed yet.
     pub fn new(trace: &'a mut TraceBuffer, sink: &'a mut S) -> Self
         requires { S.failures sink.old < 2 ^ 64 - 1 }
         ensures { sent_of S.Sink result
@@ -40,15 +40,15 @@ impl<'a, S: Sink> Output<'a, S> {
         }
     }
 
-    /// Whether the sink has failed, and so has taken a beginning of the lines alone.
+    /// Whether the sink has failed, and so has taken only a prefix of the lines.
     pub fn has_failed(&self) -> bool
         ensures { result ≡ (sent_of S.Sink self.now).failed }
     {
         self.has_failed
     }
 
-    /// The lines in the buffer go to the sink, unless it has failed before. They stay in the buffer until
-    /// the next step clears it.
+    /// Sends the lines in the buffer to the sink, unless it has failed before. They stay in the
+    /// buffer until the next step clears it.
     pub fn write(&mut self)
         ensures { HasSent (sent_of S.Sink self.old) (sent_of S.Sink self.new)
             self.old.trace.now.text.items }

@@ -18,8 +18,8 @@ use isolation::InputLine;
 use partition::Partition;
 use partition_base::Executor;
 
-/// So many ticks of the partition, or those up to the first with an event, whose lines are written; how
-/// many they were.
+/// Executes `most` ticks of the partition, or those up to the first with an event, and writes their
+/// lines; returns how many.
 pub fn write_advance<E: Executor, S: Sink>(
     partition: &mut Partition<E>,
     mem: &mut E::Mem,
@@ -40,8 +40,8 @@ pub fn write_advance<E: Executor, S: Sink>(
     count
 }
 
-/// So many ticks of the partition, from one event to the next, whose lines are written; how many they
-/// were. There are no more of them once the sink has failed.
+/// Executes `most` ticks of the partition, from one event to the next, and writes their lines;
+/// returns how many. Stops once the sink has failed.
 fn write_piece<E: Executor, S: Sink>(
     partition: &mut Partition<E>,
     mem: &mut E::Mem,
@@ -71,8 +71,8 @@ fn write_piece<E: Executor, S: Sink>(
     most - left
 }
 
-/// Of so many ticks from one on, those before the first of these inputs, which are of this tick or later
-/// ones.
+/// How many of `most` ticks, from `now` on, come before the first of these inputs. The inputs are
+/// of the tick `now` or later.
 fn until_input(lines: &[InputLine], now: Ticks, most: u32) -> u32
     requires { AreFrom tick_of_input now.0 lines.now }
     ensures within { result ≤ most }
@@ -84,7 +84,7 @@ fn until_input(lines: &[InputLine], now: Ticks, most: u32) -> u32
     }
 }
 
-/// So many ticks, or the most where there are more.
+/// `ticks`, or `most` if there are more.
 fn at_most(ticks: u64, most: u32) -> u32
     ensures within { result ≤ most }
     ensures ticks { result ≤ ticks }
@@ -96,8 +96,8 @@ fn at_most(ticks: u64, most: u32) -> u32
     }
 }
 
-/// Some of so many ticks, all of them in its window or none; none of them where a window of its ends at
-/// the first, since its messages leave then.
+/// Executes some of `most` ticks, either all inside its window or all outside; returns how many. 0
+/// if a window of the partition ends at the first tick, since its messages leave then.
 fn advance_window<E: Executor, S: Sink>(
     surroundings: &Surroundings,
     partition: &mut Partition<E>,
@@ -125,9 +125,9 @@ fn advance_window<E: Executor, S: Sink>(
     }
 }
 
-/// Some of so many ticks at once, all of them before the first of these inputs: how many they were. It is
-/// none where the next tick has to be made alone, which is so of one with an input, and of one at which
-/// a window of the partition ends.
+/// Executes some of `most` ticks at once, all of them before the first of these inputs; returns how
+/// many. 0 if the next tick has to be executed alone: one with an input, or one at which a window
+/// of the partition ends.
 pub fn advance<E: Executor, S: Sink>(
     surroundings: &Surroundings,
     lines: &[InputLine],

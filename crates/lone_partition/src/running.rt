@@ -45,12 +45,12 @@ const MOST_AT_ONCE: u32 = 4_000_000_000;
 const ONLY_PART: PartitionId = PartitionId(1);
 
 impl LonePartition {
-    /// Runs the partition for so many ticks with what comes to it, and writes the text of its trace
-    /// into the sink. After a shutdown nothing happens.
+    /// Runs the partition for `ticks` ticks with its inputs, and writes the text of its trace into
+    /// the sink. After a shutdown nothing happens.
     ///
     /// # Errors
     ///
-    /// The sink failed once, and has taken a beginning of the text.
+    /// The sink failed; it has taken a prefix of the text.
     #[tactic(auto, using(crate::proofs::Only::only_lent))]
     pub fn run<S: Sink>(
         self,
@@ -74,7 +74,7 @@ impl LonePartition {
     }
 }
 
-/// So many ticks of a partition from its start on, whose lines go into the sink.
+/// Runs a partition for `ticks` ticks from its start; its lines go into the sink.
 fn run_alone<E: Executor, S: Sink>(
     surroundings: &Surroundings,
     partition: &mut Partition<E>,
@@ -105,7 +105,7 @@ fn run_alone<E: Executor, S: Sink>(
     Ok(())
 }
 
-/// The start of a partition, and so many ticks; of no tick nothing.
+/// Starts a partition, and executes `ticks` ticks; does nothing for 0 ticks.
 fn start_and_run<E: Executor, S: Sink>(
     surroundings: &Surroundings,
     partition: &mut Partition<E>,
@@ -134,7 +134,8 @@ fn start_and_run<E: Executor, S: Sink>(
     run_ticks(surroundings, partition, mem, inputs, ticks, output);
 }
 
-/// So many ticks from the first one on; after a shutdown nothing happens, nor once the sink has failed.
+/// Executes `ticks` ticks from the first one on. After a shutdown, or once the sink has failed,
+/// nothing happens.
 fn run_ticks<E: Executor, S: Sink>(
     surroundings: &Surroundings,
     partition: &mut Partition<E>,
@@ -172,7 +173,7 @@ fn run_ticks<E: Executor, S: Sink>(
     }
 }
 
-/// So many ticks, or the most that are made at once.
+/// `ticks`, or the most that are executed at once.
 fn at_once(ticks: u64) -> u32
     ensures { result ≤ ticks }
 {
@@ -183,7 +184,7 @@ fn at_once(ticks: u64) -> u32
     }
 }
 
-/// The tick so many ticks after a tick, with the same origin.
+/// The moment `count` ticks after `moment`, with the same origin.
 pub(crate) fn later(moment: Moment, count: u32) -> Moment
     requires { moment.at.now.0 + count ≤ MOST_TICKS }
     ensures { result.at ≡ at_tick moment.at (moment.at.now.0 + count) }

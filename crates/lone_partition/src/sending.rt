@@ -16,7 +16,7 @@ use apex_types::{Moment, Name, PortId, Sink, Words};
 use partition::{Kernel, Partition};
 use partition_base::Executor;
 
-/// A message that has left its port leaves the module too, where there is a way out.
+/// A message that has left its port leaves the module too, if there is a way out.
 fn go_out<E: Executor, S: Sink>(
     way: Option<Name>,
     message: Words,
@@ -38,7 +38,7 @@ fn go_out<E: Executor, S: Sink>(
     }
 }
 
-/// The first message of a port leaves it, and the module where the port has a way out.
+/// The first message of a port leaves it, and leaves the module if the port has a way out.
 fn send_message<E: Executor, S: Sink>(
     surroundings: &Surroundings,
     partition: &mut Partition<E>,
@@ -61,7 +61,7 @@ fn send_message<E: Executor, S: Sink>(
     }
 }
 
-/// So many messages of a port, one after another.
+/// Sends `count` messages of a port, one after another.
 fn send_messages<E: Executor, S: Sink>(
     count: u8,
     surroundings: &Surroundings,
@@ -84,7 +84,7 @@ fn send_messages<E: Executor, S: Sink>(
     }
 }
 
-/// How many messages a source port holds; none where there is no such source port.
+/// How many messages a source port holds; `None` if it is no source port.
 fn count_to_send(kernel: &Kernel, port: PortId) -> Option<u8>
     ensures { result ≡ messages_to_move (at_number kernel.now.ports.ports port.0) }
 {
@@ -94,8 +94,8 @@ fn count_to_send(kernel: &Kernel, port: PortId) -> Option<u8>
     }
 }
 
-/// All messages that a source port holds, the oldest first; then the senders that wait for room in
-/// it.
+/// Sends all messages of a source port, the oldest first; then admits the senders that wait for
+/// room in it.
 fn send_port<E: Executor, S: Sink>(
     surroundings: &Surroundings,
     partition: &mut Partition<E>,
@@ -119,7 +119,7 @@ fn send_port<E: Executor, S: Sink>(
     write_step(partition, mem, moment, &PartitionStep::Admit(port), output);
 }
 
-/// So many ports of the partition, in number order.
+/// Sends the messages of the first `count` ports of the partition, in number order.
 pub fn send_ports<E: Executor, S: Sink>(
     count: u8,
     surroundings: &Surroundings,

@@ -14,7 +14,7 @@ use apex_types::{Moment, Name, PortId, Sink, StartCondition, TraceBuffer, Words,
 use partition::Partition;
 use partition_base::Executor;
 
-/// What happens to a partition in a step.
+/// The kind of a step of a partition.
 #[derive(Drop)]
 pub enum PartitionStep {
     /// It clears to a cold start, for a reason.
@@ -23,7 +23,7 @@ pub enum PartitionStep {
     Arrive(PortId, Words),
     /// The senders that wait at a port enter it.
     Admit(PortId),
-    /// A message leaves the module by the channel of a name.
+    /// A message leaves the module by the channel with this name.
     GoOut(Name, Words),
     /// A fault of its hardware.
     BreakDown,
@@ -31,7 +31,7 @@ pub enum PartitionStep {
     Tick,
 }
 
-/// A step of a partition, on its part of the memory. The buffer then holds its lines alone.
+/// Executes a step of a partition, on its part of the memory. The buffer then holds only its lines.
 fn step_member<E: Executor>(
     partition: &mut Partition<E>,
     mem: &mut E::Mem,
@@ -66,7 +66,7 @@ fn step_member<E: Executor>(
     }
 }
 
-/// A step of a partition, on its part of the memory, whose lines are written.
+/// Executes a step of a partition on its part of the memory, and writes its lines.
 pub fn write_step<E: Executor, S: Sink>(
     partition: &mut Partition<E>,
     mem: &mut E::Mem,
@@ -85,7 +85,7 @@ pub fn write_step<E: Executor, S: Sink>(
     output.write();
 }
 
-/// The first message of a port leaves it, if it holds one, and the line of this is written. It answers the
+/// Takes the first message out of a port, if it holds one, and writes the line of this. Returns the
 /// message.
 pub fn write_leave<E: Executor, S: Sink>(
     partition: &mut Partition<E>,

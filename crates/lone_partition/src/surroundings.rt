@@ -1,4 +1,4 @@
-//! What surrounds a partition.
+//! The surroundings of a partition.
 
 ghost use Rattle.std.specs.Prelude.{◌≡◌, ◌≤◌, length, IfOk};
 ghost use Rattle.apex_types.specs.declared.limits.TheConstants.{MOST_PORTS};
@@ -14,21 +14,21 @@ use image::Image;
 use std::alloc::{AllocError, Global};
 use window_table::Schedule;
 
-/// What no tick of a partition changes.
+/// The surroundings of a partition, which no tick changes.
 #[derive(Drop)]
 pub struct Surroundings {
     /// The major frame with the windows of the partition.
     pub schedule: Schedule,
-    /// What is done on a fault of the module.
+    /// The action on a fault of the module.
     pub fault: ModuleAction,
-    /// For each port in number order the name of the channel by which its messages leave the module,
-    /// if one does.
+    /// For each port in number order, the name of the channel by which its messages leave the
+    /// module, if there is one.
     pub ways_out: Vec<Option<Name>>,
 }
 
 impl Surroundings {
-    /// What surrounds the partition with a number and these ports in a module. An error is one of
-    /// memory.
+    /// The surroundings, in a module, of the partition with this number and these ports.
+    /// `AllocError`: out of memory.
     pub fn load(
         alloc: Global,
         image: &Image,
@@ -47,7 +47,7 @@ impl Surroundings {
         })
     }
 
-    /// The name of the channel by which the messages of a port leave the module, if one does.
+    /// The name of the channel by which the messages of a port leave the module, if there is one.
     pub fn way_out(&self, port: PortId) -> Option<Name>
         ensures { result ≡ way_out (around self.now) port }
     {

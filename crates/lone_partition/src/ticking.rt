@@ -1,4 +1,4 @@
-//! What a partition does in a tick after its inputs.
+//! The tick of a partition after its inputs.
 
 ghost use Rattle.std.specs.Prelude.{◌≡◌};
 ghost use Rattle.isolation.specs.Alone.{sends_and_ticks, sends_ended, tick_alone, ticks_own};
@@ -18,7 +18,7 @@ use isolation::InputLine;
 use partition::Partition;
 use partition_base::Executor;
 
-/// Where its window has ended its source ports send, in number order.
+/// If its window has ended, its source ports send, in number order.
 fn send_ended<E: Executor, S: Sink>(
     ends: bool,
     surroundings: &Surroundings,
@@ -41,7 +41,7 @@ fn send_ended<E: Executor, S: Sink>(
     }
 }
 
-/// Where its window holds the tick it goes on.
+/// The partition spends the tick, if its window holds it.
 fn tick_own<E: Executor, S: Sink>(
     owns: bool,
     partition: &mut Partition<E>,
@@ -60,7 +60,8 @@ fn tick_own<E: Executor, S: Sink>(
     }
 }
 
-/// Where its window has ended its source ports send; then, where its window holds the tick, it goes on.
+/// If its window has ended, its source ports send; then the partition spends the tick, if its
+/// window holds it.
 fn send_and_tick<E: Executor, S: Sink>(
     surroundings: &Surroundings,
     partition: &mut Partition<E>,
@@ -84,8 +85,8 @@ fn send_and_tick<E: Executor, S: Sink>(
     tick_own(owner.is_some(), partition, mem, moment, output);
 }
 
-/// A tick of the partition alone, with what comes to it in this tick. It answers the tick with the
-/// origin that counts from here on, or none where everything has ended.
+/// A tick of the partition alone, with its inputs of this tick. Returns the tick with the origin
+/// valid from here on, or `None` if everything has ended.
 pub fn tick<E: Executor, S: Sink>(
     surroundings: &Surroundings,
     lines: &[InputLine],

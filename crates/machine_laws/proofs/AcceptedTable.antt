@@ -30,7 +30,7 @@ rule_held : {A B : Type 0} (b : Bool) (e : B) (x : Result A B) (r : A) → cond 
 rule_held true e x r h = absurd cc
 rule_held false e x r h = (refl, h)
 
--- what an accepted table keeps to, with the text that it stands in
+-- the rules that an accepted table keeps, with its text
 pub record AcceptedTable (text : TableText) (t : Table) : Type 0 where
   pub limits : exceeds_limits text ≡ false
   pub names : has_same_names text ≡ false
@@ -93,7 +93,7 @@ map_more : {A B : Type 0} (f : A → B) (xs : List A) (x : A) → map f xs ++ f 
 map_more f [] x = refl
 map_more f (y ∷ xs) x = ap (λ t. f y ∷ t) (map_more f xs x)
 
--- none of these is named as one before
+-- none of these has the name of one before
 abbrev Apart : {A : Type 0} → (A → A → Bool) → List A → List A → Type 0
 Apart equal before xs = AllByRecursion (λ x. list_any (λ b. equal b x) before ≡ false) xs
 
@@ -105,7 +105,7 @@ apart_more : {A : Type 0} (equal : A → A → Bool) (before : List A) (x : A) (
 apart_more equal before x [] a n = tt
 apart_more equal before x (y ∷ xs) a n = (list_any-append (λ b. equal b y) before (x ∷ []) ∙ or_from _ _ a.0 (or_from (equal x y) false n.0 refl), apart_more equal before x xs a.1 n.1)
 
--- each row beside those before it, where no two have one name
+-- each row beside those before it, if no two have the same name
 each_row : {A B : Type 0} (P : List B → B → Type 0) (Q : A → Type 0) (equal : A → A → Bool) (f : A → B) → ((before : List A) (x : A) → list_any (λ b. equal b x) before ≡ false → Q x → P (map f before) (f x))
     → (before xs : List A) → Apart equal before xs → has_twice equal xs ≡ false → AllByRecursion Q xs → EachBeside P (map f before) (map f xs)
 unfolding has_twice
@@ -154,7 +154,7 @@ record IsRow (frame : ℕ) (before : List Partition) (row : Partition) : Type 0 
   port_count : IsFrom 0 MOST_PORTS (length row.ports)
   ports : EachBeside IsPort [] row.ports
 
--- what a partition of a text keeps to
+-- the rules that a partition of a text keeps
 record KeepsRow (frame : ℤ) (p : PartitionText) : Type 0 where
   limits : exceeds_partition frame p ≡ false
   ports : has_twice (λ (q r : PortText). same q.name r.name) p.ports ≡ false
@@ -208,7 +208,7 @@ number_first : (b : Bool) (n m k : ℕ) (o : Option ℕ) → (o ≡ Some k → (
 number_first true n m k o rest h = let e : n ≡ k = cc in (omega (arith, e), omega (arith, e))
 number_first false n m k o rest h = let r = rest h in (omega (arith, r.0), omega (arith, r.1))
 
--- the number of the first that is so
+-- the number of the first with the property
 pub number_small : {A : Type 0} (n : ℕ) (test : A → Bool) (xs : List A) (k : ℕ) → number_from n test xs ≡ Some k → (n ≤ k) × (k < n + length xs)
 unfolding number_from
 number_small n test [] k h = absurd cc
@@ -370,7 +370,7 @@ number_known : (ps : List PartitionText) (o : Option ℕ) → ((k : ℕ) → o �
 number_known ps None h known = absurd cc
 number_known ps (Some k) h known = let s = h k refl in (s.0, omega (arith, s.1))
 
--- a window is of one of the partitions
+-- a window belongs to one of the partitions
 windows_known : (ps : List PartitionText) (ws : List WindowText) → list_any (is_unknown_window ps) ws ≡ false → AllByRecursion (λ (w : WindowRow). (1 ≤ w.partition.0) × (w.partition.0 ≤ length ps)) (map (window_row ps) ws)
 windows_known ps [] h = tt
 windows_known ps (w ∷ ws) h =
@@ -386,9 +386,9 @@ text_windows text h =
 pub window_numbers : (text : TableText) (t : Table) → AcceptedTable text t → AllByRecursion (λ (w : WindowRow). (1 ≤ w.partition.0) × (w.partition.0 ≤ length t.partitions)) t.schedule.windows
 window_numbers text t a = subst (λ (x : Table). AllByRecursion (λ (w : WindowRow). (1 ≤ w.partition.0) × (w.partition.0 ≤ length x.partitions)) x.schedule.windows) a.is (text_windows text a.known)
 
--- ---- where windows stand
+-- ---- the places of windows
 
--- the windows of a schedule with a frame stand one behind the other
+-- the windows of a schedule with a frame follow one another
 abbrev pub IsInOrder : Schedule → Type 0
 IsInOrder s = (1 ≤ s.frame) × AreInOrder s.frame 0 s.windows
 

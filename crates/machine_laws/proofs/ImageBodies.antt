@@ -71,7 +71,7 @@ infinite_ok : (n : ℕ) (b : Bool) (o : Option ℕ) → (b ≡ true → n ≡ 0)
 infinite_ok n true o is h = (infinite_same o h, is refl)
 infinite_ok n false o is h = absurd cc
 
--- a word that stands for a duration is its spelling, and the duration is lawful
+-- a word that means a duration is its spelling, and the duration is lawful
 stands : (z : ℤ) (o : Option ℕ) → duration_of z ≡ Some o → (i64 z ≡ duration o) × IsDuration o
 unfolding duration
 stands (pos n) o h =
@@ -81,7 +81,7 @@ stands (negsuc n) o h =
     let g = infinite_ok n (eqb n 0) o (eqb-true n 0) h in
     subst (λ (y : Option ℕ). (i64 (negsuc n) ≡ duration y) × IsDuration y) (sym g.0) (ap (λ (k : ℕ). i64 (negsuc k)) g.1, tt)
 
--- the word that a duration is spelled as
+-- the word that spells a duration
 abbrev word_of : Option ℕ → ℤ
 word_of None = negsuc 0
 word_of (Some n) = pos n

@@ -1,4 +1,4 @@
--- The choices that single bytes stand for.
+-- The choices that single bytes mean.
 use Rattle.std.proofs.Common.{◌≡◌, ℕ, Bool, true, false, cond, eqb, Option, Some, None, refl, ap, ◌∙◌, lit<}
 use Rattle.std.proofs.lemmas.Bool.{eqb-true}
 use Rattle.apex_types.specs.declared.codes.Discipline.TheVariants.{Fifo, Priority}

@@ -1,5 +1,5 @@
--- Readers and spellings that belong to one another: what is read is spelled so, and what is lawful
--- and spelled is read again, whatever follows.
+-- Readers and spellings that belong together: what is read has this spelling, and what is lawful is
+-- read again from its spelling, whatever follows.
 use Rattle.std.proofs.Common.{◌≡◌, ℕ, suc, ◌+◌, ◌<◌, Bool, true, false, cond, List, [], ◌∷◌, ◌++◌, get_or, take, drop, Result, Ok, Err, refl, sym, ap, subst, ◌∙◌, append_assoc, arith, inl, inr}
 use Rattle.std.proofs.lemmas.Bool.{cases_lt}
 use Rattle.std.proofs.lemmas.List.{length-take, get_or-drop, get_or-take, get_or_past}
@@ -50,14 +50,14 @@ pub record Reads {A : Type 0} (at : List ℕ → Read A) (spelled : A → List �
   pub takes : (bytes : List ℕ) (x : A × List ℕ) → IsBytes bytes → at bytes ≡ Ok x → Takes bytes (spelled x.0) x.1 × IsGood x.0
   pub again : (a : A) (rest : List ℕ) → IsGood a → at (spelled a ++ rest) ≡ Ok (a, rest)
 
--- the same with the spelling and what is lawful said otherwise
+-- the same with the spelling and the lawful values stated otherwise
 pub said : {A : Type 0} (at : List ℕ → Read A) (s t : A → List ℕ) (P Q : A → Type 0) → Reads at s P → ((a : A) → s a ≡ t a) → ((a : A) → P a → Q a) → ((a : A) → Q a → P a) → Reads at t Q
 said at s t P Q r same to from = record {
   takes = λ bytes x fits e. let p = r.takes bytes x fits e in (subst (λ (y : List ℕ). Takes bytes y x.1) (same x.0) p.0, to x.0 p.1);
   again = λ a rest q. ap (λ (y : List ℕ). at (y ++ rest)) (sym (same a)) ∙ r.again a rest (from a q);
 }
 
--- the same where the spellings agree on what is lawful
+-- the same if the spellings agree on lawful values
 pub said_where : {A : Type 0} (at : List ℕ → Read A) (s t : A → List ℕ) (P Q : A → Type 0) → Reads at s P → ((a : A) → P a → s a ≡ t a) → ((a : A) → P a → Q a) → ((a : A) → Q a → P a) → Reads at t Q
 said_where at s t P Q r same to from = record {
   takes = λ bytes x fits e. let p = r.takes bytes x fits e in (subst (λ (y : List ℕ). Takes bytes y x.1) (same x.0 p.1) p.0, to x.0 p.1);
@@ -71,7 +71,7 @@ made a = record {
   again = λ b rest good. ap (λ (y : _). Ok (y, rest)) (sym good);
 }
 
--- A field of a value, and then the rest of it. Where the field is known, G says what is lawful.
+-- A field of a value, and then the rest of it. If the field is known, G is what is lawful.
 pub first : {A R : Type 0} (at : List ℕ → Read A) (k : A × List ℕ → Read R) (pick : R → A) (s : A → List ℕ) (t : R → List ℕ) (P : A → Type 0) (G : A → R → Type 0)
     → Reads at s P → ((a : A) → P a → Reads (λ bytes. k (a, bytes)) t (G a)) → ((a : A) (r : R) → P a → G a r → pick r ≡ a)
     → Reads (λ bytes. at bytes >>= k) (λ r. s (pick r) ++ t r) (λ r. P (pick r) × G (pick r) r)

@@ -1,4 +1,5 @@
--- What is read is spelled so, and what is lawful and spelled is read again.
+-- An image that is read has these bytes as its spelling, and a lawful image is read again from its
+-- spelling.
 use Rattle.std.proofs.Common.{◌≡◌, ℕ, ◌^◌, Bool, true, false, cond, eqb, List, [], ◌++◌, length, Result, Ok, Err, refl, sym, ap, subst, ◌∙◌, arith, lit<}
 use Rattle.std.specs.Prelude.{◌||◌, ◌<◌}
 use Rattle.std.specs.Int.{w16, w32}
@@ -92,7 +93,7 @@ ended true true x y e = (refl, refl, image_same x y e)
 ended true false x y e = absurd cc
 ended false b x y e = absurd cc
 
--- what is read is lawful, and the bytes are its spelling
+-- an image that is read is lawful, and the bytes are its spelling
 pub read_is_spelled : (bytes : List ℕ) (image : Image) → IsBytes bytes → image_at bytes ≡ Ok image → IsLawful image × (bytes ≡ spelling image)
 unfolding image_at
 read_is_spelled bytes image fits e =
@@ -102,7 +103,7 @@ read_is_spelled bytes image fits e =
     let whole : bytes ≡ spelling a.0.0 = p.0.parts ∙ ap (λ (r : List ℕ). spelling a.0.0 ++ r) (nil_from_length a.0.1 (eqb-true _ _ g.0)) ∙ append-nil (spelling a.0.0) in
     subst (λ (v : Image). IsLawful v × (bytes ≡ spelling v)) g.2 (record { limits = p.1; rules = g.1 }, whole)
 
--- what is lawful and spelled is read again
+-- a lawful image is read again from its spelling
 pub spelled_is_read : (image : Image) → IsLawful image → image_at (spelling image) ≡ Ok image
 unfolding image_at
 spelled_is_read image good =

@@ -10,7 +10,7 @@ use Rattle.machine_meaning.specs.ImageLimits.{IsFrom, EachBeside}
 use Rattle.machine_laws.proofs.ImageFields.{IsBytes, bind_ok, ok_is, Takes, Takes-then, Reads}
 use Rattle.machine_laws.proofs.ImageNumbers.{wide32, limited_reads}
 
--- what reading so many items leaves: those before, and new ones
+-- the result of reading n items: those before, and new ones
 pub record Items {A : Type 0} (s : A → List ℕ) (P : List A → A → Type 0) (n : ℕ) (before : List A) (bytes : List ℕ) (all : List A) (rest : List ℕ) : Type 0 where
   pub new : List A
   pub all_is : all ≡ before ++ new

@@ -101,7 +101,7 @@ chosen_ok : {A : Type 0} (rest : List ℕ) (o : Option A) (x : A × List ℕ) �
 chosen_ok rest None x e = absurd cc
 chosen_ok rest (Some a) x e = let i = ok_is (a, rest) x e in (ap (λ (y : _ × List ℕ). Some y.0) i, ap (λ (y : _ × List ℕ). y.1) i)
 
--- what the numbers of some values stand for
+-- the meanings of the numbers of some values
 pub record Chooses {A : Type 0} (choose : ℕ → Option A) (number : A → ℕ) : Type 0 where
   pub back : (a : A) → choose (number a) ≡ Some a
   pub only : (n : ℕ) (a : A) → choose n ≡ Some a → n ≡ number a

@@ -21,7 +21,7 @@ there [] k h = absurd (omega arith)
 there (x ∷ xs) zero h = refl
 there (x ∷ xs) (suc k) h = there xs k (omega arith)
 
--- the port of a number from 1 on among those of a partition, which stands behind others
+-- the port with a number from 1 on among those of a partition, which follows others
 port_there : (rows : List Partition) (n q : ℕ) (row : Partition) → 1 ≤ n → 1 ≤ q → slice_get rows (n - 1) ≡ Some row → q - 1 < length row.ports → is_unknown_port rows (ends.Port (record { 0 = n }) (record { 0 = q })) ≡ false
 port_there rows n q row some port at few =
     let got : (slice_get rows (n - 1) >>= λ r. slice_get r.ports (q - 1)) ≡ slice_get row.ports (q - 1) = ap (λ (o : Option Partition). o >>= λ r. slice_get r.ports (q - 1)) at in
@@ -53,7 +53,7 @@ device_or rows true rest others = refl
 device_or rows false None others = refl
 device_or rows false (Some e) others = others e refl
 
--- what a text names
+-- the end that a text names
 end_known : (ps : List PartitionText) (text : List ℕ) → is_unknown_port (map partition_row ps) (unwrap_or (end_of ps text) ends.Device) ≡ false
 unfolding end_of
 end_known ps text = device_or (map partition_row ps) (same text (codes "DEVICE")) (port_from 1 ps text) (λ e h. known_from [] ps 1 text e refl h)

@@ -56,7 +56,7 @@ in_order frame count low before (w ∷ ws) each none e =
     let ends = or_parts (nat_lt w.partition.0 1 || nat_lt count w.partition.0) (nat_lt frame (w.offset + w.length)) parts.0 in
     (subst (λ (n : ℕ). n ≤ w.offset) e each.0.after, each.0.length.least, ltb-false frame (w.offset + w.length) ends.1, in_order frame count (w.offset + w.length) (before ++ w ∷ []) ws each.1 parts.1 (last_of before w))
 
--- the windows of an image whose fields are within their limits, where none is wrong
+-- the windows of an image whose fields are within their limits, if none is wrong
 pub windows_begin_within : (frame count : ℕ) (ws : List WindowRow) → EachBeside IsWindow [] ws → list_any (is_wrong_window frame count) ws ≡ false → BeginWithin frame ws
 windows_begin_within frame count ws each none = begin_within frame 0 ws (in_order frame count 0 [] ws each none refl)
 
@@ -91,7 +91,7 @@ never : (b : Bool) → (b && false) ≡ false
 never true = refl
 never false = refl
 
--- how long it is until a release window of the partition starts, its own windows tell
+-- the partition's own windows determine how long it is until one of its release windows
 until_own : (p : ℕ) (s : Schedule) (at : At) (ws : List WindowRow) → until_one_of (schedule_of_partition p s) p at (filter (is_own p) ws) ≡ until_one_of s p at ws
 until_own p s at [] = refl
 until_own p s at (w ∷ ws) = either (is_own p w) refl (until_own p s at ws)
@@ -100,7 +100,7 @@ until_own p s at (w ∷ ws) = either (is_own p w) refl (until_own p s at ws)
     either true e rest = ap (λ (n : ℕ). cond (releases p w) (min (until_start s w at) n) n) rest
     either false e rest = rest ∙ sym (ap (λ (b : Bool). cond b (min (until_start s w at) (until_one_of s p at ws)) (until_one_of s p at ws)) (ap (λ (b : Bool). w.release && b) e ∙ never w.release))
 
--- the release that the kernel of a partition computes is the one of all windows
+-- the release that the kernel of a partition computes is the release by all windows
 kernel_release : (p : ℕ) (s : Schedule) (row : Partition) (k : Kernel) (at : At) → k.fixed ≡ fixed_of s p row → next_release s p at ≡ next_release_of at k
 kernel_release p s row k at e = sym (ap (λ (f : Fixed). next_release f.schedule f.number at) e ∙ ap (λ (n : ℕ). at.now.0 + n) (until_own p s at s.windows))
 

@@ -23,7 +23,7 @@ pub record KeepsLengths (m : MachineControl) (data_words : List ℤ) (t : Ticked
   pub stack : length t.control.stack ≡ length m.stack
   pub words : length t.words ≡ length data_words
 
--- words that are changed are as many as they were
+-- changed words are as many as they were
 abbrev AreAsMany : List ℤ → Option (List ℤ) → Type 0
 AreAsMany words None = words ≡ words
 AreAsMany words (Some changed) = length changed ≡ length words

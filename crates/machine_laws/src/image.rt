@@ -13,19 +13,19 @@ ghost use Rattle.module_meaning.specs.Table.{fixed_of};
 ghost use Rattle.kernel_meaning.specs.WindowFacts.{HasOneEnd, HasOneOwner, IsNextRelease};
 ghost use Rattle.kernel_meaning.specs.Windows.{next_release};
 
-/// What is read is lawful, and the bytes are its spelling.
+/// An image that is read is lawful, and the bytes are its spelling.
 pub fn read_is_spelled()
     ensures { (bytes : List ℕ) (image : Image) → ((i : ℕ) → slice_index bytes i < 256)
         → image_at bytes ≡ Ok image → IsLawful image × (bytes ≡ spelling image) }
 {}
 
-/// What is lawful is read again from its spelling.
+/// A lawful image is read again from its spelling.
 pub fn spelled_is_read()
     ensures { (image : Image) → IsLawful image → image_at (spelling image) ≡ Ok image }
 {}
 
-/// No spelling begins another: where one lawful image's spelling stands, with any bytes behind it, in
-/// another's, the images are one and nothing stands behind it.
+/// No spelling begins another: if the spelling of a lawful image is that of another one followed by
+/// any bytes, then the images are equal and there are no such bytes.
 pub fn no_spelling_begins_another()
     ensures { (one other : Image) (rest : List ℕ) → IsLawful one → IsLawful other
         → spelling other ≡ spelling one ++ rest → (one ≡ other) × (rest ≡ []) }
@@ -38,8 +38,8 @@ pub fn lawful_image_releases()
         → IsNextRelease image.schedule p at (next_release image.schedule p at) }
 {}
 
-/// A partition's kernel knows its own windows alone. The next release that it computes from them is the
-/// module's: the least later tick at which one of its windows marked release starts.
+/// A partition's kernel knows only its own windows. The next release that it computes from them is
+/// the module's: the least later tick at which one of its windows marked release starts.
 pub fn lawful_image_releases_by_own_windows()
     ensures { (image : Image) (p : ℕ) (row : Partition) (k : Kernel) (at : At) → IsLawful image
         → 1 ≤ p → p ≤ length image.items → k.fixed ≡ fixed_of image.schedule p row

@@ -1,4 +1,5 @@
-//! Laws over images and tables: an image and its bytes are one, and what an accepted table becomes is lawful.
+//! Laws over images and tables: an image and its bytes determine each other, and the result of an
+//! accepted table is lawful.
 #![tactic(auto)]
 
 pub mod image;

@@ -51,8 +51,8 @@ pub fn accepted_table_releases()
         → IsNextRelease t.schedule p at (next_release t.schedule p at) }
 {}
 
-/// A partition's kernel knows its own windows alone. The next release that it computes from them is the
-/// module's: the least later tick at which one of its windows marked release starts.
+/// A partition's kernel knows only its own windows. The next release that it computes from them is
+/// the module's: the least later tick at which one of its windows marked release starts.
 pub fn accepted_table_releases_by_own_windows()
     ensures { (ms : Members) (t : Table) (p : ℕ) (row : Partition) (k : Kernel) (at : At)
         → verdict ms ≡ Ok t → 1 ≤ p → p ≤ length t.partitions → k.fixed ≡ fixed_of t.schedule p row

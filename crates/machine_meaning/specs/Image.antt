@@ -12,7 +12,7 @@ use Rattle.kernel_meaning.specs.Windows.{Schedule}
 use Rattle.module_meaning.specs.Table.{Channel, Partition}
 use Rattle.machine_meaning.specs.Section.{Section}
 
--- what a source declares: data, semaphores, events, buffers and blackboards
+-- the declarations of a source: data, semaphores, events, buffers and blackboards
 pub record Objects : Type 0 where
   pub initial : List ℤ
   pub semaphores : List SemaphoreRow
@@ -20,7 +20,7 @@ pub record Objects : Type 0 where
   pub buffers : List BufferRow
   pub blackboards : List BlackboardRow
 
--- what it runs: procedures, processes, INIT and the handler
+-- its bodies: procedures, processes, INIT and the handler
 pub record Bodies : Type 0 where
   pub routines : List RoutineRow
   pub processes : List ProcessRow
@@ -33,7 +33,7 @@ pub record Bodies : Type 0 where
 abbrev pub magic : List ℕ
 magic = 65 ∷ 80 ∷ 54 ∷ 53 ∷ 51 ∷ 73 ∷ 77 ∷ 71 ∷ []
 
--- a partition's row with what its source became
+-- a partition's row with its section
 pub record Item : Type 0 where
   pub partition : Partition
   pub section : Section

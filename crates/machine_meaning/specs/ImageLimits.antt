@@ -34,7 +34,7 @@ abbrev pub EachBeside : {A : Type 0} → (List A → A → Type 0) → List A �
 EachBeside P before [] = Unit {0}
 EachBeside P before (item ∷ items) = P before item × EachBeside P (before ++ item ∷ []) items
 
--- ---- what a partition's source became
+-- ---- the section of a partition
 
 -- a first value of at most the maximum
 pub record IsSemaphore (row : SemaphoreRow) : Type 0 where
@@ -78,8 +78,8 @@ abbrev pub IsDuration : Option ℕ → Type 0
 IsDuration None = Unit {0}
 IsDuration (Some ticks) = IsFrom 1 MOST_TICKS ticks
 
--- In a partition with a period of so many ticks, beside the processes before it: its name is none of
--- theirs, and its period a multiple.
+-- A process of a partition with the period `unit`, after the processes `before`: its name differs
+-- from theirs, and its period is infinite or a multiple of `unit`.
 pub record IsProcess (unit : ℕ) (before : List ProcessRow) (row : ProcessRow) : Type 0 where
   pub name : is_name row.name ≡ true
   pub fresh : is_process before row.name ≡ false
@@ -108,7 +108,7 @@ pub record IsCode (b : Bodies) (code : List (List ℕ)) : Type 0 where
   pub entries : enter_within (length code) b ≡ true
   pub instructions : EachBeside (λ _ bytes. length bytes ≡ 16) [] code
 
--- what the source of a partition with a period of so many ticks became
+-- the result of compiling the source of a partition with the period `unit`
 pub record IsSection (unit : ℕ) (s : Section) : Type 0 where
   pub objects : AreObjects (objects_in s)
   pub bodies : AreBodies unit (bodies_in s)
@@ -121,14 +121,14 @@ abbrev pub IsPortKind : PortKind → Type 0
 IsPortKind (Sampling refresh) = IsFrom 0 MOST_TICKS refresh
 IsPortKind (Queuing depth order) = IsFrom 1 MOST_DEPTH depth
 
--- beside the ports before it: its name is none of theirs
+-- a port after those before it, with a name that differs from theirs
 pub record IsPort (before : List PortRow) (row : PortRow) : Type 0 where
   pub name : is_name row.name ≡ true
   pub fresh : is_port before row.name ≡ false
   pub kind : IsPortKind row.kind
   pub words : IsFrom 1 MOST_WORDS row.words
 
--- in a major frame of so many ticks, beside the partitions before it
+-- a partition in a major frame of `frame` ticks, after the partitions `before`
 pub record IsPartition (frame : ℕ) (before : List Item) (row : Partition) : Type 0 where
   pub name : is_name row.name ≡ true
   pub fresh : is_partition before row.name ≡ false
@@ -141,7 +141,7 @@ pub record IsItem (frame : ℕ) (before : List Item) (it : Item) : Type 0 where
   pub partition : IsPartition frame before it.partition
   pub section : IsSection it.partition.period it.section
 
--- beside the windows before it: it begins at or after the end of the last of them
+-- a window after those before it: it begins at or after the end of the last of them
 pub record IsWindow (before : List WindowRow) (row : WindowRow) : Type 0 where
   pub partition : row.partition.0 < 256
   pub offset : row.offset < 2 ^ 32
@@ -153,7 +153,7 @@ abbrev pub IsEnd : ChannelEnd → Type 0
 IsEnd Device = Unit {0}
 IsEnd (Port p q) = (p.0 < 256) × (q.0 < 256) × (((p.0 == 0) && (q.0 == 0)) ≡ false)
 
--- beside the channels before it, with at least one destination
+-- a channel after those before it, with at least one destination
 pub record IsChannel (before : List Channel) (row : Channel) : Type 0 where
   pub name : is_name row.name ≡ true
   pub fresh : is_channel before row.name ≡ false

@@ -1,5 +1,5 @@
--- Reading an image from left to right, with the first fault that is met: each field is judged when
--- it is read, before the next one.
+-- Reading an image from left to right, with the first fault that is found: each field is checked
+-- when it is read, before the next one.
 use Rattle.std.specs.Prelude.{ℕ, zero, suc, ◌+◌, ◌-◌, ◌%◌, ◌^◌, ℤ, pos, negsuc, Bool, true, false, ◌&&◌, ◌||◌, List, [], ◌∷◌, ◌++◌, length, map, take, drop, max, slice_get, Option, Some, None, Result, Ok, Err, nat_lt, nat_le, ◌==◌, if◌then◌else◌}
 use Rattle.std.specs.List.{list_all, list_any}
 use Rattle.std.specs.Str.{bytes_eq}
@@ -40,7 +40,7 @@ use Rattle.module_meaning.specs.Table.{Partition, Channel}
 use Rattle.machine_meaning.specs.Image.{Item, Image}
 use Rattle.machine_meaning.specs.Image.{magic, Objects, Bodies}
 
--- Truncated: a field is not all there. Foreign: another magic or version. Limit: a value outside its
+-- Truncated: a field is incomplete. Foreign: another magic or version. Limit: a value outside its
 -- limit. Order: a name used before among its kind, or a window that begins before the end of the
 -- one before. Trailing: bytes after the last field.
 pub data Fault : Type 0 where
@@ -74,7 +74,7 @@ word_at bytes = do
   n ← number_at w64 bytes
   Ok (cast_signed w64 n.0, n.1)
 
--- what was read, where it is from low to high
+-- what was read, if it is from `low` to `high`
 abbrev pub within : ℕ → ℕ → ℕ × List ℕ → Read ℕ
 within low high read = if nat_lt read.0 low || nat_lt high read.0 then Err Limit else Ok read
 
@@ -84,7 +84,7 @@ limited_at w low high bytes = number_at w bytes >>= within low high
 unfoldable pub small_at : ℕ → ℕ → List ℕ → Read ℕ
 small_at low high bytes = byte_at bytes >>= within low high
 
--- so many bytes as they are
+-- reads `size` bytes unchanged
 unfoldable pub bytes_at : ℕ → List ℕ → Read (List ℕ)
 bytes_at size bytes = if nat_lt (length bytes) size then Err Truncated else Ok (take size bytes, drop size bytes)
 
@@ -103,7 +103,7 @@ fresh_name_at is_used bytes = do
 
 -- ---- choices
 
--- what a byte stands for, or none
+-- the value of a byte, or a fault if it has none
 abbrev pub chosen : {A : Type 0} → List ℕ → Option A → Read A
 chosen rest None = Err Limit
 chosen rest (Some a) = Ok (a, rest)
@@ -130,7 +130,7 @@ truth_of n = if n == 0 then Some false else if n == 1 then Some true else None
 
 -- ---- lists
 
--- so many items, each judged beside those before it
+-- reads n items, each checked against those before it
 unfoldable pub items_at : {A : Type 0} → (List A → List ℕ → Read A) → ℕ → List A → List ℕ → Read (List A)
 items_at item zero before bytes = Ok (before, bytes)
 items_at item (suc n) before bytes = do
@@ -200,7 +200,7 @@ partition_at frame before bytes = do
   ports ← list_at 0 MOST_PORTS port_at health.1
   Ok (record { name = name.0; period = period.0; duration = duration.0; health = health.0; ports = ports.0 }, ports.1)
 
--- ---- what a partition's source became
+-- ---- the section of a partition
 
 unfoldable pub semaphore_at : List ℕ → Read SemaphoreRow
 semaphore_at bytes = do
@@ -298,7 +298,7 @@ abbrev pub handler_enters : ℕ → Option BodyRow → Bool
 handler_enters count None = true
 handler_enters count (Some body) = nat_lt body.entry count
 
--- every body begins within so many instructions
+-- every body begins at one of the first `count` instructions
 abbrev pub enter_within : ℕ → Bodies → Bool
 enter_within count bodies =
     list_all (λ row. nat_lt row.entry count) bodies.routines
@@ -371,7 +371,7 @@ channel_at before bytes = do
 
 -- ---- the image
 
--- Fewer than eight bytes are truncated whatever they are.
+-- Fewer than eight bytes are Truncated, whatever they are.
 unfoldable pub magic_at : List ℕ → Read (List ℕ)
 magic_at bytes = do
   text ← bytes_at 8 bytes
@@ -398,7 +398,7 @@ costs_at bytes = do
 unfoldable pub own_fields_at : ℕ → List ℕ → Read ImageVersion
 own_fields_at number bytes = if number == FIRST_VERSION then Ok (First, bytes) else (costs_at bytes >>= λ costs. Ok (Second costs.0, costs.1))
 
--- all fields, and what stands behind them
+-- all fields, and the bytes behind them
 unfoldable pub fields_at : List ℕ → Read Image
 fields_at bytes = do
   number ← version_at bytes
@@ -417,8 +417,7 @@ partitions_in image = map (λ it. it.partition) image.items
 abbrev pub keeps_table_rules : Image → Bool
 keeps_table_rules image = keeps_rules image.schedule (partitions_in image) image.channels
 
--- The image's verdict: nothing stands behind the last field, and the rules of the module table are
--- kept.
+-- The image's verdict: no bytes follow the last field, and the rules of the module table are kept.
 unfoldable pub image_at : List ℕ → Result Image Fault
 image_at bytes = do
   image ← fields_at bytes

@@ -1,4 +1,4 @@
--- The one spelling of an image: numbers little endian, fields one after another.
+-- The only spelling of an image: numbers little endian, fields one after another.
 use Rattle.std.specs.Prelude.{ℕ, ℤ, pos, negsuc, List, [], ◌∷◌, ◌++◌, length, Option, Some, None, Bool, true, false}
 use Rattle.std.specs.List.{flat_map}
 use Rattle.std.specs.Int.{w16, w32, w64, to_le_bytes, cast_unsigned}
@@ -109,7 +109,7 @@ port row = name row.name ++ u8 (port_kind row.kind) ++ u8 (direction row.directi
 unfoldable pub partition : Partition → List ℕ
 partition row = name row.name ++ u32 row.period ++ u32 row.duration ++ health row.health ++ list port row.ports
 
--- ---- what a partition's source became
+-- ---- the section of a partition
 
 unfoldable pub semaphore : SemaphoreRow → List ℕ
 semaphore row = u32 row.value ++ u32 row.maximum ++ u8 (discipline row.discipline)

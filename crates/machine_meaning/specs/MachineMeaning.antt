@@ -1,4 +1,5 @@
--- What an image means: the trace. Kernel, windows and trace are those of sources too; here the processes run on the processor.
+-- The meaning of an image: the trace. Kernel, windows and trace are those of sources too; here the
+-- processes run on the processor.
 use Rattle.std.specs.Prelude.{ℕ, ◌+◌, List, [], ◌∷◌, map, is_some, Result}
 use Rattle.apex_types.specs.declared.device.DeviceLine.{DeviceLine}
 use Rattle.apex_types.specs.declared.event.Event.{Event}

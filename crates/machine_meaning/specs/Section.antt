@@ -1,4 +1,4 @@
--- The section of an image that a partition's source becomes.
+-- The section of an image, which a partition's source becomes.
 use Rattle.std.specs.Prelude.{ℕ, ℤ, List, Option}
 use Rattle.apex_types.specs.declared.row.SemaphoreRow.{SemaphoreRow}
 use Rattle.apex_types.specs.declared.row.BufferRow.{BufferRow}
@@ -7,7 +7,7 @@ use Rattle.apex_types.specs.declared.row.RoutineRow.{RoutineRow}
 use Rattle.apex_types.specs.declared.row.ProcessRow.{ProcessRow}
 use Rattle.apex_types.specs.declared.row.BodyRow.{BodyRow}
 
--- what a partition's source becomes; an instruction is sixteen bytes
+-- the result of compiling a partition's source; an instruction is sixteen bytes
 pub record Section : Type 0 where
   pub initial : List ℤ
   pub semaphores : List SemaphoreRow

@@ -1,4 +1,4 @@
--- What the worked rows of the tests have in common: their tables, and the ways from texts to the
+-- The parts that the worked rows of the tests share: their tables, and the ways from texts to the
 -- text of a trace, over the sources and over the image.
 use Rattle.std.specs.Prelude.{ℕ, ℤ, pos, zero, suc, ◌+◌, true, false, List, [], ◌∷◌, ◌++◌, flat_map, map, Option, Some, None, Result, Ok, Err, option_map, unwrap_or, replicate, codes}
 use Rattle.toml.specs.Parse.{parse_document}
@@ -64,12 +64,12 @@ split_schedule = record { frame = 16; windows = release_window 1 0 4 ∷ release
 abbrev pub sparse_schedule : Schedule
 sparse_schedule = record { frame = 10; windows = release_window 1 1 3 ∷ release_window 2 4 2 ∷ (record { partition = record { 0 = 1 }; offset = 7; length = 2; release = false }) ∷ [] }
 
--- so many ticks from one on
+-- `n` ticks, from tick `t`
 abbrev pub ticks_from : ℕ → ℕ → List ℕ
 ticks_from t zero = []
 ticks_from t (suc n) = t ∷ ticks_from (t + 1) n
 
--- so many ticks from an origin on
+-- `n` ticks, from an origin
 abbrev pub at_ticks : ℕ → ℕ → List At
 at_ticks origin n = map (tick_from origin) (ticks_from origin n)
 
@@ -81,7 +81,7 @@ single_table name frame = plain_table frame (plain_partition name frame frame �
 abbrev pub lines : List (List ℕ) → List ℕ
 lines texts = flat_map (λ text. text ++ 10 ∷ []) texts
 
--- what follows from something, where it is there
+-- the next step, if the step before has a result
 infixl 10 ◌>>=◌
 abbrev ◌>>=◌ : {A B : Type 0} → Option A → (A → Option B) → Option B
 (Some x) >>= f = f x
@@ -114,7 +114,8 @@ number_of_verdict (Err ByPeriod) = 6
 abbrev pub refusal_number : Partition → List ℕ → ℕ
 refusal_number p source = unwrap_or (option_map (λ tree. number_of_verdict (verdict p.ports p.period tree)) (tree_of source)) 2
 
--- what each body of a program is: its instructions, the words of its frame, and the sum of its costs
+-- the numbers of each body of a program: its instructions, the words of its frame, and the sum of
+-- its costs
 abbrev pub body_costs : Body → ℕ × ℕ × ℕ
 body_costs b = (size_of_body b, frame_of_body b, cost_of_body written_costs b)
 
@@ -135,7 +136,7 @@ programs_of [] [] = Some []
 programs_of (p ∷ ps) (s ∷ ss) = program_of p s >>= λ program. programs_of ps ss >>= λ programs. Some (program ∷ programs)
 programs_of _ _ = None
 
--- the text of the trace of so many ticks of the sources, where all are accepted
+-- the text of the trace of `n` ticks of the sources, if all are accepted
 abbrev pub text_of_sources : Table → List (List ℕ) → ℕ → Option (List ℕ)
 text_of_sources t sources n = option_map (λ programs. text_of (source_trace t programs [] n)) (programs_of t.partitions sources)
 
@@ -175,15 +176,15 @@ items_of (p ∷ ps) (q ∷ qs) = record { partition = p; section = section_of q 
 abbrev pub image_of : Table → List Program → Image
 image_of t programs = record { schedule = t.schedule; fault = t.fault; version = Second t.costs; items = items_of t.partitions programs; channels = t.channels }
 
--- the text of the trace of so many ticks of that image
+-- the text of the trace of `n` ticks of that image
 abbrev pub text_of_built : Table → List (List ℕ) → ℕ → Option (List ℕ)
 text_of_built t sources n = option_map (λ programs. text_of (machine_trace (image_of t programs) [] n)) (programs_of t.partitions sources)
 
--- its bytes
+-- the bytes of that image
 abbrev pub image_of_sources : Table → List (List ℕ) → Option (List ℕ)
 image_of_sources t sources = option_map (λ programs. spelling (image_of t programs)) (programs_of t.partitions sources)
 
--- the text of the trace of so many ticks of an image, where its bytes are one
+-- the text of the trace of `n` ticks of an image, if the bytes are an image
 abbrev pub text_of_read : Result Image Fault → ℕ → Option (List ℕ)
 text_of_read (Ok image) n = Some (text_of (machine_trace image [] n))
 text_of_read (Err fault) n = None
@@ -191,7 +192,7 @@ text_of_read (Err fault) n = None
 abbrev pub text_of_image : List ℕ → ℕ → Option (List ℕ)
 text_of_image bytes n = text_of_read (image_at bytes) n
 
--- ---- code as it stands
+-- ---- literal code
 
 -- the sixteen bytes of an opcode with its fields x and v
 abbrev pub coded : ℕ → ℕ → ℤ → List ℕ

@@ -1,4 +1,4 @@
-//! Code as it stands, also such as no source becomes: the tick of its error, where it has one.
+//! Literal code, also code that no source compiles to: the tick of its error, if it has one.
 
 ghost use Rattle.std.specs.Prelude.{◌≡◌, ◌∷◌, [], Some, None, pos, negsuc, map};
 ghost use Rattle.apex_types.specs.declared.codes.ErrorKind.TheVariants.{IllegalRequest, MemoryViolation, NumericError, StackOverflow};
@@ -99,7 +99,7 @@ fn instructions_fail()
         []) ≡ Some (1, MemoryViolation) ∷ Some (1, MemoryViolation) ∷ None ∷ None ∷ Some (1, MemoryViolation) ∷ Some (4, MemoryViolation) ∷ Some (4, MemoryViolation) ∷ Some (5, MemoryViolation) ∷ Some (4, MemoryViolation) ∷ Some (4, MemoryViolation) ∷ Some (0, IllegalRequest) ∷ Some (0, IllegalRequest) ∷ Some (0, IllegalRequest) ∷ Some (7, MemoryViolation) ∷ Some (0, IllegalRequest) ∷ Some (0, IllegalRequest) ∷ Some (2, IllegalRequest) ∷ [] }
 {}
 
-/// A call wants its routine, its parameters and its frame.
+/// A call needs its routine, its parameters and its frame.
 fn calls_fail()
     ensures too_few_parameters { map (error_of_code (record { entry = 1; parameters = 3; slots = 3; frame = 5 } ∷ [])) (
         (coded 25 0 (pos 0) ∷ coded 1 0 (pos 0) ∷ coded 26 0 (pos 0) ∷ []) ∷

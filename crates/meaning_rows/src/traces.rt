@@ -92,7 +92,7 @@ fn constructs()
         [])) }
 {}
 
-/// What expressions and procedures come to.
+/// The values of expressions and procedures.
 fn values()
     ensures divides { text_of_sources (single_table (codes "a") 128) (codes "array m[5]; init stack 32 { local r; local x; m[0] := (0 - 7) / 2; m[1] := (0 - 7) % 2; m[2] := (0 - 9223372036854775807 - 1) % (0 - 1); m[3] := 7 / -2; m[4] := 7 % -2; REPORT_APPLICATION_MESSAGE(m, 5) -> r; }" ∷ []) 128 ≡ Some (lines (
         codes "0000000000000 a MODE COLD_START" ∷

@@ -1,10 +1,10 @@
-//! Whose tick it is, whose window ends, and the next release.
+//! The owner of a tick, the end of a window, and the next release.
 
 ghost use Rattle.std.specs.Prelude.{◌≡◌, ◌∷◌, [], Some, None, map};
 ghost use Rattle.meaning_rows.specs.Rows.{at_ticks, sparse_schedule, split_schedule};
 ghost use Rattle.kernel_meaning.specs.Windows.{ended, next_release, owner};
 
-/// A partition with two windows in a frame of 16 ticks: what it sends moves at 4, 16, 20 and 32.
+/// A partition with two windows in a frame of 16 ticks: its messages move at 4, 16, 20 and 32.
 fn split()
     ensures owners { map (owner split_schedule) (at_ticks 0 33) ≡ Some 1 ∷ Some 1 ∷ Some 1 ∷ Some 1 ∷ Some 2 ∷ Some 2 ∷ Some 2 ∷ Some 2 ∷ Some 2 ∷ Some 2 ∷ Some 2 ∷ Some 2 ∷ Some 1 ∷ Some 1 ∷ Some 1 ∷ Some 1 ∷ Some 1 ∷ Some 1 ∷ Some 1 ∷ Some 1 ∷ Some 2 ∷ Some 2 ∷ Some 2 ∷ Some 2 ∷ Some 2 ∷ Some 2 ∷ Some 2 ∷ Some 2 ∷ Some 1 ∷ Some 1 ∷ Some 1 ∷ Some 1 ∷ Some 1 ∷ [] }
     ensures ends { map (ended split_schedule) (at_ticks 0 33) ≡ None ∷ None ∷ None ∷ None ∷ Some 1 ∷ None ∷ None ∷ None ∷ None ∷ None ∷ None ∷ None ∷ Some 2 ∷ None ∷ None ∷ None ∷ Some 1 ∷ None ∷ None ∷ None ∷ Some 1 ∷ None ∷ None ∷ None ∷ None ∷ None ∷ None ∷ None ∷ Some 2 ∷ None ∷ None ∷ None ∷ Some 1 ∷ [] }

@@ -1,4 +1,4 @@
--- What the ticks of a module bring one partition, one tick after another.
+-- The inputs that the ticks of a module bring one partition, one tick after another.
 use Rattle.std.proofs.Common.{◌≡◌, ℕ, zero, suc, ◌+◌, ◌<◌, ◌≤◌, ◌^◌, ◌==◌, Bool, if◌then◌else◌, List, [], ◌∷◌, ◌++◌, length, map, option_map, is_some, false, true, Option, Some, None, refl, sym, ap, subst, ◌∙◌, append_assoc, append-nil, length-append, arith}
 use Rattle.std.proofs.lemmas.List.{length-map}
 use Rattle.std.proofs.lemmas.Option.{none-some, same_Some}
@@ -18,7 +18,7 @@ use Rattle.module.proofs.Collecting.{no_room_for_more}
 use Rattle.module.proofs.DeviceLines.{of_tick_again, same_tick, tick_now}
 use Rattle.module.proofs.Standing.{begins_later, same_next, same_ticks}
 
--- what a tick brings by these lines, which are all of it
+-- the inputs that a tick brings by these lines, which are all of it
 abbrev brought_by_lines : {C : Type 0} → Plan → ℕ → At → List (Member C) → List DeviceLine → List Input
 brought_by_lines plan p at ms lines = let c = inputs_all plan at lines ms in brought_in_all plan p lines ++ brought_moved plan p c.members c.at
 
@@ -43,7 +43,8 @@ same_brought plan p (suc n) s xs ys h =
     ap (λ (ls : List DeviceLine). map (line_in s.now) (brought_next plan p ls s) ++ brought_of plan p xs n (after s (ticks plan ls s))) (h s.now (omega arith))
     ∙ ap (λ (is : List InputLine). map (line_in s.now) (brought_next plan p own s) ++ is) (same_brought plan p n (after s (ticks plan own s)) xs ys (λ u k. h u (omega (arith, k))))
 
--- What the first of several ticks brings, with the lines of this tick, and the rest, with the lines behind them.
+-- The inputs that the first of several ticks brings, with the lines of this tick, and those of the
+-- other ticks, with the later lines.
 pub tick_brings : {C : Type 0} (plan : Plan) (p : ℕ) (lines now later : List DeviceLine) (n k : ℕ) (s next : Standing C) → n ≡ suc k
     → of_tick s.now now ≡ of_tick s.now lines → ((t : ℕ) → s.now < t → of_tick t later ≡ of_tick t lines)
     → next ≡ after s (ticks plan now s)
@@ -85,7 +86,7 @@ later_is plan p lines (suc n) now ms (Some origin) h =
     ∙ ap (λ (is : List InputLine). map (line_in now) (brought_tick plan p at lines ms) ++ is)
     (later_is plan p lines n (now + 1) own.members (option_map origin_of own.at) (omega arith) ∙ ap (λ (x : Option At). inputs_from plan p lines n x own.members) (same_next now own.at (tick_now plan at lines ms)))
 
--- so many ticks of a module, one after another, bring what a run brings
+-- n ticks of a module, one after another, bring the inputs that a run brings
 pub is_brought : {C : Type 0} (plan : Plan) (p : ℕ) (devices : List DeviceLine) (n : ℕ) (ms : List (Member C)) → inputs_of (record { plan = plan; members = ms }) p devices n ≡ brought_of plan p devices n (at_first ms)
 is_brought plan p devices zero ms = refl
 is_brought plan p devices (suc n) ms =
@@ -97,31 +98,31 @@ is_brought plan p devices (suc n) ms =
     ∙ ap (λ (is : List InputLine). map (line_in 0) (brought_tick plan p first_tick devices s.members) ++ is)
     (later_is plan p devices n (0 + 1) own.members (option_map origin_of own.at) (omega arith) ∙ ap (λ (x : Option At). inputs_from plan p devices n x own.members) (same_next 0 own.at (tick_now plan first_tick devices s.members))))
 
--- ---- what has come so far
+-- ---- the inputs so far
 
--- one tick more
+-- one more tick
 pub comes_further : (whole so_far more now rest : List InputLine) → whole ≡ so_far ++ now → now ≡ more ++ rest → whole ≡ (so_far ++ more) ++ rest
 comes_further whole so_far more now rest all split = all ∙ ap (λ (is : List InputLine). so_far ++ is) split ∙ sym (append_assoc so_far more rest)
 
--- nothing more comes
+-- no more inputs come
 pub all_came : (whole so_far now : List InputLine) → whole ≡ so_far ++ now → now ≡ [] → so_far ≡ whole
 all_came whole so_far now all none = sym (all ∙ ap (λ (is : List InputLine). so_far ++ is) none ∙ append-nil so_far)
 
--- there is no room for what the next tick brings, and so none for all
+-- without room for the inputs of the next tick there is no room for all
 pub no_room_for_all : (tick : ℕ) (whole so_far now rest : List InputLine) (is : List Input) (f : InputsFault) → whole ≡ so_far ++ now → now ≡ map (line_in tick) is ++ rest → HasNoRoom (length so_far + length is) f → HasNoRoom (length whole) f
 no_room_for_all tick whole so_far now rest is f all split h =
     let count : length whole ≡ length so_far + (length is + length rest) =
     ap length all ∙ length-append so_far now ∙ ap (λ (k : ℕ). length so_far + k) (ap length split ∙ length-append (map (line_in tick) is) rest ∙ ap (λ (k : ℕ). k + length rest) (length-map is (line_in tick))) in
     no_room_for_more (length so_far + length is) (length whole) f (omega (arith, count)) h
 
--- ---- the tick that comes next
+-- ---- the next tick
 
 pub brought_at : {C : Type 0} (plan : Plan) (p : ℕ) (lines : List DeviceLine) (now : Ticks) (ms : List (Member C)) (o : Option Ticks) (at : At) → Some at ≡ moment_of now o
     → brought_tick plan p at lines (begins at.now.0 ms).members ≡ brought_from plan p lines now.0 ms (ticks_in o)
 brought_at plan p lines now ms None at e = absurd (none-some at (sym e))
 brought_at plan p lines now ms (Some origin) at e = ap (λ (a : At). brought_tick plan p a lines (begins a.now.0 ms).members) (same_Some at (record { now = now; origin = origin }) e)
 
--- after a shutdown nothing comes
+-- after a shutdown there are no inputs
 pub brought_nowhere : {C : Type 0} (plan : Plan) (p : ℕ) (lines : List DeviceLine) (now : Ticks) (ms : List (Member C)) (o : Option Ticks) → None ≡ moment_of now o → brought_from plan p lines now.0 ms (ticks_in o) ≡ []
 brought_nowhere plan p lines now ms None e = refl
 brought_nowhere plan p lines now ms (Some origin) e = let at : At = record { now = now; origin = origin } in absurd (none-some at e)

@@ -61,7 +61,7 @@ coded_section p s is reads words size = record {
   words = subst (All (FitsSigned w64)) (ap (λ (x : Section). x.initial) is) words;
 }
 
--- what is accepted and compiled fits
+-- accepted and compiled programs fit
 pub are_compiled : (rows : List Partition) (sources : List (List ℕ)) (ps : List Program) → AreAccepted rows sources ps → AreCoded ps → AreCompiled ps
 are_compiled [] [] [] a h = tt
 are_compiled [] [] (p ∷ ps) a h = absurd a

@@ -30,7 +30,7 @@ use Rattle.module.proofs.Texts.{text_append}
 abbrev pub standing_at : {C : Type 0} → List (Member C) → (now origin : ℕ) → Standing C
 standing_at ms now origin = record { members = ms; now = now; origin = Some origin }
 
--- ---- the lines of the devices
+-- ---- the device lines
 
 pub from_lower : (t u : ℕ) (ls : List DeviceLine) → t ≤ u → AreFrom u ls → AreFrom t ls
 from_lower t u [] h order = tt
@@ -98,7 +98,7 @@ leads_moved plan lines k n now origin place ms next told begun order owned over 
     record { lines = none_before (now + i) (now + k) lines (omega (arith, below)) order; ended = over i below; owner = owned i below } in
     moved_leads plan lines k n now origin place ms next told (slice_get ms place) refl begun lone h
 
--- what a partition's ticks come to, among the others
+-- the result of a partition's ticks, among the others
 pub has_moved : {C : Type 0} (at : At) (k place n : ℕ) (ms : List (Member C)) (x y : Member C) (next : List (Member C)) (told : List Event) → next ≡ slice_set ms place y
     → HasAdvanced at k x y told n → HasMoved at k place ms (Some x) next told n
 has_moved at k place n ms x y next told same h =
@@ -206,7 +206,7 @@ run_piece plan lines k n t origin place s ms here from begun order owned over (w
 pub run_fewer : {C : Type 0} (old new : Sent) (plan : Plan) (lines : List DeviceLine) (m k n : ℕ) (s next : Standing C) → m ≤ k → HasPassedSome plan lines m s next old new n → HasPassedSome plan lines k s next old new n
 run_fewer old new plan lines m k n s next few h = let all : n ≤ k = let within : n ≤ m = h.0 in omega (arith, within, few) in (all, h.1, h.2)
 
--- the lines of the devices are still ahead
+-- the device lines are still ahead
 pub still_ahead : {C : Type 0} (old new : Sent) (plan : Plan) (lines : List DeviceLine) (k t n : ℕ) (s next : Standing C) → t ≡ s.now → AreFrom (t + k) lines → HasPassedSome plan lines k s next old new n → AreFrom next.now lines
 still_ahead old new plan lines k t n s next here order h =
     let lower : next.now ≤ t + k = let within : n ≤ k = h.0 in let later : next.now ≡ s.now + n = h.1 in omega (arith, within, later, here) in

@@ -25,7 +25,7 @@ use Rattle.module.specs.declared.inputs_fault.InputsFault.TheVariants as fault
 pub none_collected : {X : Type 0} (tick : ℕ) (old : List InputLine) (x : X) → AreCollected tick [] old old (Ok x)
 none_collected tick old x = sym (append-nil old)
 
--- more than there is room for are still more with others behind them
+-- more inputs than there is room for remain more with others behind them
 pub no_room_for_more : (count more : ℕ) (f : InputsFault) → count ≤ more → HasNoRoom count f → HasNoRoom more f
 no_room_for_more count more fault.TooMany above h = omega (arith, above, h)
 no_room_for_more count more fault.Memory above h = tt
@@ -35,7 +35,7 @@ no_room_for_more count more fault.Partition above h = absurd h
 no_room_for_more count more (fault.Device f) above h = absurd h
 no_room_for_more count more fault.Write above h = absurd h
 
--- what is answered where there is no room
+-- the answer if there is no room
 pub collected_err : {X : Type 0} (tick : ℕ) (inputs : List Input) (old new : List InputLine) (f : InputsFault) (r : Result X InputsFault) → r ≡ Err f → HasNoRoom (length old + length inputs) f → AreCollected tick inputs old new r
 collected_err tick inputs old new f r e h = subst (AreCollected tick inputs old new) (sym e) h
 
@@ -43,7 +43,7 @@ pub ruleset collecting = (none_collected)
 
 -- ---- one part after another
 
--- Of all inputs of a tick some have come, and the rest is still to come.
+-- Some of the inputs of a tick are collected, and the rest is still to come.
 pub record IsPartly (tick : ℕ) (whole rest : List Input) (old now : List InputLine) : Type 0 where
   pub done : List Input
   pub parts : whole ≡ done ++ rest
@@ -52,7 +52,7 @@ pub record IsPartly (tick : ℕ) (whole rest : List Input) (old now : List Input
 pub begins : (tick : ℕ) (whole : List Input) (old : List InputLine) → IsPartly tick whole whole old old
 begins tick whole old = record { done = []; parts = refl; collected = sym (append-nil old) }
 
--- one part more
+-- one more part
 pub goes_on : {tick : ℕ} {whole now : List Input} {old mid new : List InputLine} (a rest : List Input) → now ≡ a ++ rest → IsPartly tick whole now old mid → new ≡ mid ++ map (line_in tick) a → IsPartly tick whole rest old new
 goes_on {tick = tick} {old = old} a rest split w h = record {
   done = w.done ++ a;
@@ -65,7 +65,7 @@ pub is_over : {tick : ℕ} {whole now : List Input} {old new : List InputLine} �
 is_over {tick = tick} {old = old} none w =
     w.collected ∙ ap (λ (is : List Input). old ++ map (line_in tick) is) (sym (w.parts ∙ ap (λ (is : List Input). w.done ++ is) none ∙ append-nil w.done))
 
--- there is no room for the next part, and so none for the whole
+-- without room for the next part there is none for the whole
 pub no_room_left : {tick : ℕ} {whole now : List Input} {old mid : List InputLine} (a rest : List Input) (f : InputsFault) → now ≡ a ++ rest → IsPartly tick whole now old mid → HasNoRoom (length mid + length a) f → HasNoRoom (length old + length whole) f
 no_room_left {tick = tick} {whole = whole} {now = now} {old = old} {mid = mid} a rest f split w h =
     let all : length whole ≡ length w.done + (length a + length rest) = ap length w.parts ∙ length-append w.done now ∙ ap (λ (k : ℕ). length w.done + k) (ap length split ∙ length-append a rest) in
@@ -77,7 +77,7 @@ pub both_collected : {X : Type 0} (tick : ℕ) (a b : List Input) (old mid new :
 both_collected tick a b old mid new (Ok x) first h = is_over {now = []} refl (goes_on b [] (sym (append-nil b)) (goes_on a b refl (begins tick (a ++ b) old) first) h)
 both_collected tick a b old mid new (Err f) first h = no_room_left b [] f (sym (append-nil b)) (goes_on a b refl (begins tick (a ++ b) old) first) h
 
--- there is no room for the first of two
+-- without room for the first of two
 pub first_no_room : (a b : List Input) (old : List InputLine) (f : InputsFault) → HasNoRoom (length old + length a) f → HasNoRoom (length old + length (a ++ b)) f
 first_no_room a b old f h =
     let all = length-append a b in
@@ -89,12 +89,12 @@ either_end : (b : Bool) (i : Input) (rest : List Input) → (if b then i ∷ res
 either_end true i rest = refl
 either_end false i rest = refl
 
--- a message to one end more
+-- a message to one more end
 pub one_end : (p : ℕ) (m : ArrayVec ℤ) (e : ChannelEnd) (es : List ChannelEnd) → brought_to p m (e ∷ es) ≡ brought_to p m (e ∷ []) ++ brought_to p m es
 one_end p m ends.Device es = refl
 one_end p m (ends.Port q port) es = either_end (q.0 == p) (Arrive port m) (brought_to p m es)
 
--- one line more, which shuts nothing down
+-- one more line, which shuts nothing down
 pub one_line : (plan : Plan) (p : ℕ) (l : DeviceLine) (ls : List DeviceLine) → shuts_down plan.fault l.input ≡ false → brought_in_all plan p (l ∷ ls) ≡ brought_in plan p l.input ++ brought_in_all plan p ls
 one_line plan p l ls e = ap (λ (b : Bool). brought_in plan p l.input ++ (if b then [] else brought_in_all plan p ls)) e
 
@@ -116,7 +116,7 @@ there_is (x ∷ xs) (suc n) h = there_is xs n (omega (arith, h))
 
 -- ---- the messages of a port
 
--- what a port with this message and those behind it brings
+-- the inputs that a port with this message and those behind it brings
 abbrev pub messages_bring : ℕ → Option Channel → List (ArrayVec ℤ) → List Input
 messages_bring p channel ms = flat_map (λ m. brought_by p m channel) ms
 
@@ -124,7 +124,7 @@ abbrev pub held_messages : Option Port → List (ArrayVec ℤ)
 held_messages None = []
 held_messages (Some x) = x.messages
 
--- one message more of the port
+-- one more message of the port
 pub one_message : (p : ℕ) (channel : Option Channel) (o : Option Port) (n : ℕ) → n < length (held_messages o)
     → messages_bring p channel (drop n (held_messages o)) ≡ brought_found p channel (message_behind n o) ++ messages_bring p channel (drop (n + 1) (held_messages o))
 one_message p channel None n h = absurd (omega (arith, h))
@@ -133,7 +133,7 @@ one_message p channel (Some x) n h =
     ap (messages_bring p channel) (drop_get x.messages n r.0 r.1)
     ∙ ap (λ (m : Option (ArrayVec ℤ)). brought_found p channel m ++ messages_bring p channel (drop (n + 1) x.messages)) (sym r.1)
 
--- a port that has so many messages to move holds so many, and brings them all
+-- a port that has `count` messages to move holds `count` messages, and brings them all
 pub so_many_held : (o : Option Port) (count : ℕ) → Some count ≡ messages_to_move o → count ≡ length (held_messages o)
 so_many_held None count e = absurd (none-some count (sym e))
 so_many_held (Some x) count e = source (is_source x) e
@@ -168,7 +168,7 @@ no_port_to_move channels p q number (Some x) e = source (is_source x) e
 
 -- ---- the ports of a partition
 
--- one port more
+-- one more port
 pub one_port : (channels : List Channel) (p : ℕ) (q : PartitionId) (ports : List Port) (place : ℕ) → place < length ports
     → held_ports channels p q (place + 1) (drop place ports) ≡ held_found channels p q (place + 1) (at_number ports (place + 1)) ++ held_ports channels p q (place + 1 + 1) (drop (place + 1) ports)
 one_port channels p q ports place h =

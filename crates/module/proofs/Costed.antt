@@ -82,7 +82,7 @@ next_costed k rows place given a costs next row c within read pushed one h =
     let rows_are : map partition_of (take (place + 1) rows) ≡ map partition_of (take place rows) ++ partition_of row ∷ [] = ap (map partition_of) taken ∙ map-append partition_of (take place rows) (row ∷ []) in
     rw (rows_are, pushed) (one_more_costed k (map partition_of (take place rows)) given costs (partition_of row) a c h one)
 
--- where a source is left, there is a row for it
+-- if a source is left, there is a row for it
 pub stands_within : {A B : Type 0} (rows : List A) (place : ℕ) (source : B) (left rest : List B) → left ≡ source ∷ rest → place + length left ≡ length rows → place < length rows
 stands_within rows place source left rest split all = omega (arith, ap length split)
 

@@ -1,4 +1,4 @@
--- The lines of the devices, which stand in the order of their ticks.
+-- The device lines, in the order of their ticks.
 use Rattle.std.proofs.Common.{◌≡◌, ◌≢◌, ℕ, zero, suc, ◌+◌, ◌<◌, ◌≤◌, ◌==◌, Bool, true, false, if◌then◌else◌, List, [], ◌∷◌, length, get_or, take, Option, Some, None, drop, refl, sym, ap, subst, ◌∙◌, arith}
 use Rattle.std.proofs.lemmas.List.{drop_more, drop_all}
 use Rattle.std.proofs.lemmas.Bool.Decides.{Decides-eqb}
@@ -42,7 +42,7 @@ front_own t l ls e = ap (λ (b : Bool). if b then suc (front t ls) else 0) ((Dec
 pub front_other : (t : ℕ) (l : DeviceLine) (ls : List DeviceLine) → l.tick.0 ≢ t → front t (l ∷ ls) ≡ 0
 front_other t l ls h = ap (λ (b : Bool). if b then suc (front t ls) else 0) (not_true (l.tick.0 == t) (λ e. h ((Decides-eqb l.tick.0 t).0 e)))
 
--- a tick is this one, or another
+-- a tick is t, or another
 either : (u t : ℕ) (P : Type 0) → (u ≡ t → P) → (u ≢ t → P) → P
 either u t P same other = by_test (u == t) refl where
   by_test : (b : Bool) → (u == t) ≡ b → P
@@ -81,14 +81,14 @@ front_rest t u (l ∷ ls) h =
     ap (λ n. of_tick u (drop n (l ∷ ls))) (front_own t l ls e) ∙ front_rest t u ls h ∙ sym (later_stays u l ls other))
     (λ k. ap (λ n. of_tick u (drop n (l ∷ ls))) (front_other t l ls k))
 
--- so many lines are of the tick, and the next one is not
+-- the first i lines are of the tick, and the next one is not
 pub reached : (t : ℕ) (ls : List DeviceLine) (i : ℕ) (l : DeviceLine) → front t ls ≡ i + front t (drop i ls) → i < length ls → l ≡ get_or ls i l → l.tick.0 ≢ t → i ≡ front t ls
 reached t ls i l so_far within is other =
     let next = drop_more ls i l within ∙ ap (λ (x : DeviceLine). x ∷ drop (i + 1) ls) (sym is) in
     let none : front t (drop i ls) ≡ 0 = ap (front t) next ∙ front_other t l (drop (i + 1) ls) other in
     omega (arith, so_far, none)
 
--- so many lines are of the tick, and there is no other
+-- the first i lines are of the tick, and there are no others
 pub reached_all : (t : ℕ) (ls : List DeviceLine) (i : ℕ) → front t ls ≡ i + front t (drop i ls) → length ls ≤ i → i ≡ front t ls
 reached_all t ls i so_far past =
     let none : front t (drop i ls) ≡ 0 = ap (front t) (drop_all i ls past) in
@@ -136,7 +136,7 @@ tick_now plan at ls ms =
 pub same_tick : {C : Type 0} (plan : Plan) (at : At) (xs ys : List DeviceLine) (ms : List (Member C)) → of_tick at.now.0 xs ≡ of_tick at.now.0 ys → module_tick plan at xs ms ≡ module_tick plan at ys ms
 same_tick plan at xs ys ms e = ap (λ (ls : List DeviceLine). then_runs (inputs_all plan at ls ms) (moves_and_ticks plan)) e
 
--- of a module that is shut down there is no line
+-- a module that is shut down has no lines
 pub none_after : {C : Type 0} (plan : Plan) (lines : List DeviceLine) (n : ℕ) (ms : List (Member C)) → trace_from plan lines n None ms ≡ []
 none_after plan lines zero ms = refl
 none_after plan lines (suc n) ms = refl

@@ -33,7 +33,7 @@ use Rattle.module.specs.declared.fault.RunFault.TheVariants.{Ticks, Image as NoI
 use Rattle.module.proofs.Built.{are_compiled}
 use Rattle.module.proofs.SameTraces.{traces_same}
 
--- what is built is a section that an image may have
+-- the result of a build is a section that an image may have
 lawful_section : (row : Partition) (source : List ℕ) (p : Program) → IsAccepted row source p → IsCoded p → IsSection row.period (section_of p)
 lawful_section row source p a h = accepted_section row.ports row.period a.tree p a.judged h.size h.words
 
@@ -41,7 +41,7 @@ lawful_section row source p a h = accepted_section row.ports row.period a.tree p
 abbrev IsLawfulItem : Item → Type 0
 IsLawfulItem it = IsSection it.partition.period it.section
 
--- what is built has the table's rows, and lawful sections
+-- the result of a build has the table's rows, and lawful sections
 items_lawful : (rows : List Partition) (sources : List (List ℕ)) (ps : List Program) → AreAccepted rows sources ps → AreCoded ps → (map (λ (it : Item). it.partition) (built_items rows ps) ≡ rows) × All IsLawfulItem (built_items rows ps)
 items_lawful [] [] [] a h = (refl, All-nil IsLawfulItem)
 items_lawful [] [] (p ∷ ps) a h = absurd a
@@ -85,7 +85,7 @@ ok_image i = Ok i
 pub image_is : (i j : Image) → ok_image i ≡ ok_image j → i ≡ j
 image_is i j e = cc
 
--- the image that was run is the one that was built
+-- the image that was run is the image that was built
 same_image : (table : List ℕ) (sources : List (List ℕ)) (bytes devices : List ℕ) (n : ℕ) (image : Image) (lines : List DeviceLine) (h : IsImageOf table sources bytes) → IsRun (image_at bytes) devices n image lines → image ≡ h.image
 same_image table sources bytes devices n image lines h r = image_is image h.image (sym r.loaded ∙ h.loaded)
 
@@ -108,7 +108,7 @@ accepted_run table sources bytes devices n image lines h r = record {
   few = r.few;
 }
 
--- what is an image is never refused as bytes that are none
+-- an image is never refused as bytes that are no image
 never_refused : (read : Result Image Fault) (i : Image) (f : Option Fault) → read ≡ ok_image i → IsNamed read f → ⊥
 never_refused read i None e r = r
 never_refused read i (Some f) e r = absurd cc

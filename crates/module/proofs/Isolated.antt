@@ -1,4 +1,4 @@
--- What a run writes shows of each partition what the partition shows alone.
+-- For each partition, a run writes what the partition shows alone.
 use Rattle.std.proofs.Common.{◌≡◌, ◌≤◌, ◌^◌, ℕ, List, Option, Result, Ok, Err, OnOk, sym, subst, ◌∙◌}
 use Rattle.apex_types.specs.declared.limits.TheConstants.{MOST_TICKS}
 use Rattle.apex_types.specs.declared.device.DeviceLine.{DeviceLine}

@@ -8,7 +8,7 @@ use Rattle.machine_meaning.specs.MachineControl.{MachineControl}
 use Rattle.machine_meaning.specs.MachineMeaning.{machine_member, machine_members}
 use Rattle.module_meaning.specs.Table.{fixed_of}
 
--- the rest of the partitions begins with this one
+-- one more partition is loaded, the first of the rest
 pub one_more_loaded : (costs : Costs) (schedule : Schedule) (number : ℕ) (before next whole : List (Member MachineControl)) (m : Member MachineControl) (i : Item) (rest : List Item)
     → next ≡ before ++ m ∷ [] → m ≡ machine_member costs (fixed_of schedule number i.partition) i.partition.ports i.section
     → before ++ machine_members costs schedule number (i ∷ rest) ≡ whole → next ++ machine_members costs schedule (number + 1) rest ≡ whole

@@ -22,7 +22,7 @@ use Rattle.module.specs.declared.fault.RunFault.TheVariants as fault
 use Rattle.module.proofs.DeviceLines.{of_tick_again}
 use Rattle.module.proofs.Standing.{tick_text, none_down, is_traced}
 
--- ---- what a tick that may be made comes to
+-- ---- the result of a tick that may be made
 
 -- it is made, or the sink fails
 pub only_write : {lines : List DeviceLine} {m next : Machine} {old new : Option (List ℕ)} {before now : ℕ} (f : RunFault) → m.failed ≡ false → m.standing.now < MOST_TICKS → HasTicked lines m next old new before now (Err f) → (f ≡ fault.Write) × HasFailed lines m next old new before now
@@ -46,7 +46,7 @@ begins_with image m devices n taken fresh =
     ap text_of (is_traced (machine_module image).plan devices n (machine_module image).members ∙ ap (λ (x : Machine). lines_of (machine_module image).plan devices n x.standing) (sym fresh)) in
     subst (λ text. IsUnderWay taken taken (text_of (machine_trace image devices n)) text) same (under_way_start taken (text_of (machine_trace image devices n)))
 
--- one tick more
+-- one more tick
 pub goes_on : {old mid new : Option (List ℕ)} {text : List ℕ} {before between : ℕ} (image : Image) (m next : Machine) (lines now later : List DeviceLine) (n k : ℕ) → n ≡ suc k → m.image ≡ image
     → of_tick m.standing.now now ≡ of_tick m.standing.now lines → ((t : ℕ) → m.standing.now < t → of_tick t later ≡ of_tick t lines)
     → IsUnderWay old mid text (text_of (lines_of (machine_module image).plan lines n m.standing)) → HasGoneOn now m next mid new before between
@@ -99,7 +99,7 @@ run_on old mid new text events whole (Err fault.Partition) is way h = h
 run_on old mid new text events whole (Err (fault.Device f)) is way h = h
 run_on old mid new text events whole (Err fault.Memory) is way h = h
 
--- so many calls write the lines of so many ticks
+-- n calls write the lines of n ticks
 calls_run : (image : Image) (lines : List DeviceLine) (n : ℕ) (m last : Machine) (old new : Option (List ℕ)) (before now : ℕ) (answer : Result (Unit {0}) RunFault)
     → m.image ≡ image → m.failed ≡ false → m.standing.now + n ≤ MOST_TICKS → HaveTicked lines n m last old new before now answer → RunsImage (lines_of (machine_module image).plan lines n m.standing) old new answer
 calls_run image lines zero m last old new before now answer same sound few h =

@@ -25,7 +25,7 @@ pub ruleset others = (get_other, length-set)
 pub few_set : {A : Type 0} (xs : List A) (n : ℕ) (x : A) → length xs ≤ MOST_PARTITIONS → length (slice_set xs n x) ≤ MOST_PARTITIONS
 few_set xs n x h = subst (λ (k : ℕ). k ≤ MOST_PARTITIONS) (sym (length-set xs n x)) h
 
--- what is seen of a partition's ports is seen of its kernel
+-- the view of a partition's ports is part of the view of its kernel
 pub ports_seen : {C : Type 0} (o : Option (Member C)) (k : Kernel) → Some k ≡ option_map (λ (x : Member C). x.world.kernel) o → of_member [] ports_of o ≡ k.ports.ports
 ports_seen None k e = absurd (none-some k (sym e))
 ports_seen (Some x) k e = ap (λ (k : Kernel). k.ports.ports) (sym (same_Some k x.world.kernel e))

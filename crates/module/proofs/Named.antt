@@ -21,7 +21,7 @@ use Rattle.module_base.specs.Rows.{HasPorts}
 
 -- ---- what is found by a name
 
--- what is found stands at its number, and passes the test
+-- an element that is found has its number, and passes the test
 found_at : {A : Type 0} (test : A → Bool) (xs : List A) (number : ℕ) (f : ℕ × A) → first_from number test xs ≡ Some f → (place : ℕ) × (f.0 ≡ number + place) × (slice_get xs place ≡ Some f.1) × (test f.1 ≡ true)
 unfolding first_from
 found_at test [] number f e = absurd (none-some f e)

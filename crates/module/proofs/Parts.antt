@@ -1,4 +1,4 @@
--- Ticks that are made in parts, one behind another.
+-- Ticks that are made in parts, one after another.
 use Rattle.std.proofs.Common.{◌≡◌, ◌≤◌, ℕ, ◌+◌, ◌-◌, List, [], ◌++◌, refl, sym, ap, subst, ◌∙◌, append_assoc, arith}
 use Rattle.apex_types.specs.declared.device.DeviceLine.{DeviceLine}
 use Rattle.apex_types.specs.declared.event.Event.{Event}
@@ -14,7 +14,7 @@ leads_more plan lines n m s t u told more first second j =
     let sums : n + m + j ≡ n + (m + j) = omega arith in
     ap (λ k. lines_of plan lines k s) sums ∙ first (m + j) ∙ ap (λ ls. told ++ ls) (second j) ∙ sym (append_assoc told more (lines_of plan lines j u))
 
--- so many ticks, then some more
+-- n ticks, then m more
 run_more : {C : Type 0} (plan : Plan) (lines : List DeviceLine) (n m : ℕ) (s t u : Standing C) (old mid new : Sent) → HasPassed plan lines n s t old mid → HasPassed plan lines m t u mid new → HasPassed plan lines (n + m) s u old new
 run_more plan lines n m s t u old mid new a b = record {
   told = a.told ++ b.told;
@@ -22,14 +22,14 @@ run_more plan lines n m s t u old mid new a b = record {
   sent = lines_sent old mid new a.told b.told (a.told ++ b.told) refl a.sent b.sent;
 }
 
--- ---- of so many ticks some are left
+-- ---- the ticks that remain
 
 pub all_left : {C : Type 0} (plan : Plan) (lines : List DeviceLine) (most : ℕ) (s : Standing C) (sent : Sent) → HasPassed plan lines (most - most) s s sent sent
 all_left plan lines most s sent =
     let none : 0 ≡ most - most = omega arith in
     subst (λ n. HasPassed plan lines n s s sent sent) none (run_nothing plan lines 0 s sent).2
 
--- m of those that are left are made
+-- m of the remaining ticks are made
 pub fewer_left : {C : Type 0} (plan : Plan) (lines : List DeviceLine) (most left m : ℕ) (s t u : Standing C) (old mid new : Sent) → left ≤ most → HasPassed plan lines (most - left) s t old mid → HasPassedSome plan lines left t u mid new m
     → HasPassed plan lines (most - (left - m)) s u old new
 fewer_left plan lines most left m s t u old mid new few made h =

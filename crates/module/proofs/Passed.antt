@@ -1,4 +1,4 @@
--- What ticks come to where the sink has taken all of their lines, and where it has failed.
+-- The result of ticks if the sink has taken all of their lines, and if it has failed.
 use Rattle.std.proofs.Common.{◌≡◌, ℕ, true, false, List, Option, ◌≤◌, sym, subst, ◌∙◌}
 use Rattle.apex_types.specs.Line.{text_of, TakesBeginning}
 use Rattle.apex_types.specs.declared.device.DeviceLine.{DeviceLine}
@@ -22,7 +22,7 @@ passed_some plan lines k n s next old new sound failed h =
     let sent = some_sent old new (text_of h.2.told) sound failed h.2.sent in
     record { ticks = n; told = h.2.told; next = next; within = h.0; leads = h.2.leads; beginning = sent.0; failed = sent.1 }
 
--- what the sink has taken and failed, by whatever name
+-- the bytes taken and the failures of the sink, by any name
 pub broken_there : {C : Type 0} {plan : Plan} {lines : List DeviceLine} {k : ℕ} {s : Standing C} {old mid new : Option (List ℕ)} {before between after : ℕ} → mid ≡ new → between ≡ after
     → IsBrokenOff plan lines k s old mid before between → IsBrokenOff plan lines k s old new before after
 broken_there {old = old} taken failures h = record {

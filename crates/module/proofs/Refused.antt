@@ -1,4 +1,4 @@
--- What is refused, and for what.
+-- Refusals, and their reasons.
 use Rattle.std.proofs.Common.{◌≡◌, inl, inr, ℕ, zero, suc, ◌+◌, false, List, [], ◌∷◌, ◌++◌, length, map, drop, Some, None, Result, Ok, Err, IfErr, refl, sym, ap, subst, ◌∙◌, arith, append-nil}
 use Rattle.std.specs.Prelude.{IsErr, IsErrAnd, slice_get}
 use Rattle.std.specs.List.{list_any}
@@ -24,12 +24,12 @@ use Rattle.module.specs.declared.fault.BuildFault.TheVariants as fault
 
 -- ---- answers
 
--- what is refused for one reason is refused for another that follows from it
+-- a refusal for one reason is a refusal for another that follows from it
 pub weaker : {A : Type 0} (P Q : BuildFault → Type 0) (answer : Result A BuildFault) → ((f : BuildFault) → P f → Q f) → IfErr answer P → IfErr answer Q
 weaker P Q (Ok x) h e = tt
 weaker P Q (Err f) h e = h f e
 
--- so is what is handed on
+-- so is a refusal that is passed on
 pub passed_on : {A : Type 0} (P Q : BuildFault → Type 0) (f : BuildFault) (answer : Result A BuildFault) → IsErr answer × IsErrAnd answer (λ e. e ≡ f) → ((f : BuildFault) → P f → Q f) → P f → IfErr answer Q
 passed_on P Q f (Ok x) h g p = tt
 passed_on P Q f (Err e) h g p = subst Q (sym h.1) (g f p)
@@ -60,7 +60,7 @@ drop_next (y ∷ xs) (suc i) x e =
     let at : suc i + 1 ≡ suc (i + 1) = omega arith in
     drop_next xs i x e ∙ ap (λ k. x ∷ drop k (y ∷ xs)) (sym at)
 
--- what the first sources are accepted as, whatever those from here on are accepted as
+-- the meaning of the first sources, whatever those from here on are accepted as
 abbrev pub AreBefore : List PartitionRow → List (List ℕ) → ℕ → List Checked → Type 0
 AreBefore rows texts i given =
     (more : List Checked) → AreSources (map partition_of (drop i rows)) (drop i texts) more → AreSources (map partition_of rows) texts (given ++ more)
@@ -135,7 +135,7 @@ as_many (r ∷ rows) [] given h = absurd h
 as_many (r ∷ rows) (s ∷ sources) [] h = absurd h
 as_many (r ∷ rows) (s ∷ sources) (a ∷ given) h = ap suc (as_many rows sources given h.1)
 
--- no program is too long where no partition is named
+-- no program is too long if no partition is named
 pub all_short : (other rows : List PartitionRow) (texts : List (List ℕ)) (seen given : List Checked) → other ≡ rows → seen ≡ given → AreSources (map partition_of rows) texts given
     → first_too_long (map partition_of other) (programs_of seen) ≡ None → list_any is_too_long (programs_of given) ≡ false
 all_short other rows texts seen given e f a none =

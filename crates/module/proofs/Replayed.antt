@@ -1,4 +1,4 @@
--- From the parts of a replay to what it promises.
+-- From the parts of a replay to its promise.
 use Rattle.std.proofs.Common.{◌≡◌, ◌≤◌, ◌^◌, ℕ, List, [], ◌∷◌, Option, Some, None, Result, Ok, Err, OnOk, option_map, refl, sym, ap, subst, ◌∙◌}
 use Rattle.std.proofs.lemmas.Option.{same_Some}
 use Rattle.std.specs.Io.KnownBytes.{Appends}
@@ -45,11 +45,11 @@ text_refused s inputs n old (text_fault.Line f) h = (refused (replay_verdict s.i
     refused (Ok ls) k = absurd k
     refused (Err g) k = ap (λ (x : DeviceFault). Err x) k
 
--- the lines that are lent are those that were taken
+-- the lines that are lent are the lines that were taken
 pub inputs_taken : {verdict : Result (List InputLine) DeviceFault} {lines : List InputLine} (lent : List InputLine) → lent ≡ lines → verdict ≡ Ok lines → verdict ≡ Ok lent
 inputs_taken lent same taken = taken ∙ ap (λ (ls : List InputLine). Ok ls) (sym same)
 
--- what is alone is the slice's
+-- what runs alone belongs to the slice
 same_alone : (s : Slice) (o : Option Slice) (a : Alone MachineControl) → Some a ≡ option_map machine_alone o → o ≡ Some s → a ≡ machine_alone s
 same_alone s o a e is = same_Some a (machine_alone s) (e ∙ ap (option_map machine_alone) is)
 
@@ -90,7 +90,7 @@ replayed read loaded name inputs n p old new answer is few number each =
     let its = slice_of loaded r.0.0 r.0.1 in
     slice_replayed read loaded name inputs n r.0 old new answer is few r.1 (each its (ap (slice loaded) r.2 ∙ numbered_slice loaded name r.0 r.1))
 
--- there is no partition of the name
+-- there is no partition with this name
 pub lacking : (read : Result Image Fault) (loaded : Image) (name : List ℕ) → read ≡ ok_image loaded → None ≡ option_map (λ (f : ℕ × Item). f.0) (numbered loaded name) → LacksPartition read name
 lacking (Ok image) loaded name is none = ap (λ (i : Image). numbered i name) (image_is image loaded is) ∙ no_number loaded name none
 lacking (Err f) loaded name is none = absurd cc
@@ -103,7 +103,7 @@ ok_inputs ls = Ok ls
 inputs_are : (ls ms : List InputLine) → ok_inputs ls ≡ ok_inputs ms → ls ≡ ms
 inputs_are ls ms e = cc
 
--- for what a run brings the partition its part of that run's trace is written
+-- for the inputs that a run brings the partition, its part of that run's trace is written
 pub replay_isolated : (read : Result Image Fault) (loaded : Image) (name inputs : List ℕ) (n : ℕ) (old new : Option (List ℕ)) (answer : Result (Unit {0}) RunFault)
     → IsLawful loaded → read ≡ ok_image loaded → Replays read name inputs n old new answer → OnOk answer (ReplaysPart read name inputs n old new)
 replay_isolated read loaded name inputs n old new (Err f) lawful is h = tt
@@ -127,7 +127,7 @@ replay_isolated read loaded name inputs n old new (Ok x) lawful is (s, ls, r, ou
 
 -- ---- the order of the inputs
 
--- as the lone partition asks for it
+-- in the form that the lone partition requires
 pub in_order : (before : ℕ) (ls : List InputLine) → AreInOrder before ls → AreFrom tick_of_input before ls
 in_order before [] h = tt
 in_order before (l ∷ ls) h = (h.0, in_order l.tick.0 ls h.1)

@@ -23,7 +23,7 @@ only_broken lines k m next old new before now fault.Partition h = absurd h
 only_broken lines k m next old new before now (fault.Device f) h = absurd h
 only_broken lines k m next old new before now fault.Memory h = absurd h
 
--- so many ticks more
+-- further ticks
 pub runs_by : {old mid new : Option (List ℕ)} {text : List ℕ} {before between : ℕ} (image : Image) (m next : Machine) (lines : List DeviceLine) (left n k : ℕ) → left ≡ n + k → m.image ≡ image
     → IsUnderWay old mid text (text_of (lines_of (machine_module image).plan lines left m.standing)) → HasRun (machine_module m.image).plan lines n m.standing next.standing mid new before between
     → IsUnderWay old new text (text_of (lines_of (machine_module image).plan lines k next.standing))

@@ -39,7 +39,7 @@ fresh_same R k initial = record { kernel = refl; controls = no_controls R k.proc
 abbrev Related : Program → SourceControl → MachineControl → Type 0
 Related p c m = Keeps (map reading (section_of p).code) p.procedures c m
 
--- a section has a handler where its program has one
+-- a section has a handler if its program has one
 handler_same : (p : Program) → is_some p.handler ≡ is_some (section_of p).handler
 handler_same p = one_too (body_row (handler_place p)) p.handler where
   one_too : {A B : Type 0} (f : A → B) (o : Option A) → is_some o ≡ is_some (option_map f o)

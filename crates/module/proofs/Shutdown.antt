@@ -1,4 +1,4 @@
--- The lines of the devices: the last of them, one that shuts the module down, and a fault of the module.
+-- The device lines: the last of them, a line that shuts the module down, and a fault of the module.
 use Rattle.std.proofs.Common.{◌≡◌, ℕ, ◌+◌, ◌<◌, ◌≤◌, List, ◌∷◌, length, get_or, drop, Option, Some, None, refl, sym, ap, ◌∙◌}
 use Rattle.std.proofs.lemmas.List.{drop_more, drop_all}
 use Rattle.apex_types.specs.declared.codes.ModuleAction.{ModuleAction}

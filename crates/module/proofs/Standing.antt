@@ -15,11 +15,11 @@ use Rattle.module.specs.Standing.{IsNow, Standing, at_first, begins, begins_and_
 use Rattle.module.proofs.DeviceLines.{not_true, of_tick_again, same_tick, tick_now}
 use Rattle.module.proofs.Texts.{text_append}
 
--- what begins, and then the tick
+-- the begin, and then the tick
 abbrev behind : {C : Type 0} → Advanced C → Course C → Course C
 behind b d = record { at = d.at; members = d.members; lines = b.lines ++ d.lines }
 
--- ---- other lines of the devices
+-- ---- other device lines
 
 -- only the lines of its tick count
 pub same_ticks : {C : Type 0} (plan : Plan) (xs ys : List DeviceLine) (t : ℕ) (ms : List (Member C)) (o : Option ℕ) → of_tick t xs ≡ of_tick t ys → ticks_from plan xs t ms o ≡ ticks_from plan ys t ms o
@@ -34,8 +34,8 @@ same_lines plan (suc n) s xs ys h =
     ap (λ (ls : List DeviceLine). (ticks plan ls s).lines ++ lines_of plan xs n (after s (ticks plan ls s))) (h s.now (omega arith))
     ∙ ap (λ (es : List Event). own.lines ++ es) (same_lines plan n (after s own) xs ys (λ u k. h u (omega (arith, k))))
 
--- The text of the first of several ticks, with the lines of this tick, and of the rest, with the lines
--- behind them.
+-- The text of the first of several ticks, with the lines of this tick, and that of the other ticks,
+-- with the later lines.
 pub tick_text : {C : Type 0} (plan : Plan) (lines now later : List DeviceLine) (n k : ℕ) (s next : Standing C) → n ≡ suc k
     → of_tick s.now now ≡ of_tick s.now lines → ((t : ℕ) → s.now < t → of_tick t later ≡ of_tick t lines)
     → next ≡ after s (ticks plan now s)
@@ -53,7 +53,7 @@ none_from : {C : Type 0} (plan : Plan) (lines : List DeviceLine) (n now : ℕ) (
 none_from plan lines zero now ms = refl
 none_from plan lines (suc n) now ms = none_from plan lines n (now + 1) ms
 
--- of a module that is shut down there is no line
+-- a module that is shut down has no lines
 pub none_down : {C : Type 0} (plan : Plan) (lines : List DeviceLine) (n now : ℕ) (ms : List (Member C)) (o : Option ℕ) → o ≡ None → lines_of plan lines n (record { members = ms; now = now; origin = o }) ≡ []
 none_down plan lines n now ms None e = none_from plan lines n now ms
 none_down plan lines n now ms (Some origin) e = absurd cc
@@ -82,7 +82,7 @@ later_is plan lines (suc n) now ms (Some origin) h =
     ∙ ap (λ (es : List Event). own.lines ++ es)
     (later_is plan lines n (now + 1) own.members (option_map origin_of own.at) (omega arith) ∙ ap (λ (x : Option At). trace_from plan lines n x own.members) (same_next now own.at (tick_now plan at lines ms)))
 
--- so many ticks of a module, one after another, make its trace
+-- n ticks of a module, one after another, make its trace
 pub is_traced : {C : Type 0} (plan : Plan) (devices : List DeviceLine) (n : ℕ) (ms : List (Member C)) → trace (record { plan = plan; members = ms }) devices n ≡ lines_of plan devices n (at_first ms)
 is_traced plan devices zero ms = refl
 is_traced plan devices (suc n) ms =
@@ -95,9 +95,9 @@ is_traced plan devices (suc n) ms =
     ∙ ap (λ (es : List Event). s.lines ++ (own.lines ++ es))
     (later_is plan devices n (0 + 1) own.members (option_map origin_of own.at) (omega arith) ∙ ap (λ (x : Option At). trace_from plan devices n x own.members) (same_next 0 own.at (tick_now plan first_tick devices s.members))))
 
--- ---- the tick that comes next
+-- ---- the next tick
 
--- it is the one that was to come, where it does not shut the module down
+-- the tick is the next one, unless it shuts the module down
 pub ticks_now : {C : Type 0} (plan : Plan) (lines : List DeviceLine) (s : Standing C) (answer : Option At) → answer ≡ (ticks plan lines s).at → IsNow s.now answer
 ticks_now plan lines s answer is = subst (IsNow s.now) (sym is) (from s.origin)
   where
@@ -115,12 +115,12 @@ pub moment_origin : (now : Ticks) (o : Option Ticks) (at : At) → Some at ≡ m
 moment_origin now None at e = absurd (none-some at (sym e))
 moment_origin now (Some origin) at e = ap (λ (a : At). Some a.origin) (sym (same_Some at (record { now = now; origin = origin }) e))
 
--- what happens in it
+-- the events of the next tick
 pub goes_from : {C : Type 0} (plan : Plan) (lines : List DeviceLine) (now : Ticks) (ms : List (Member C)) (o : Option Ticks) (at : At) → Some at ≡ moment_of now o → begins_and_ticks plan at lines ms ≡ ticks_from plan lines now.0 ms (ticks_in o)
 goes_from plan lines now ms None at e = absurd (none-some at (sym e))
 goes_from plan lines now ms (Some origin) at e = ap (λ (a : At). begins_and_ticks plan a lines ms) (same_Some at (record { now = now; origin = origin }) e)
 
--- after a shutdown nothing does
+-- after a shutdown nothing happens
 pub goes_nowhere : {C : Type 0} (plan : Plan) (lines : List DeviceLine) (now : Ticks) (ms : List (Member C)) (o : Option Ticks) → None ≡ moment_of now o → ticks_from plan lines now.0 ms (ticks_in o) ≡ record { at = None; members = ms; lines = [] }
 goes_nowhere plan lines now ms None e = refl
 goes_nowhere plan lines now ms (Some origin) e = let at : At = record { now = now; origin = origin } in absurd (none-some at e)

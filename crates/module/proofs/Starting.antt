@@ -17,7 +17,7 @@ module _ (at : At) (reason : StartCondition) where
   abbrev pub starts_member : {C : Type 0} → List (Member C) → ℕ → Option (Member C) → Advanced C
   starts_member members place o = steps_member (cold_start at reason) members place o
 
-  -- so many have started, and the rest not
+  -- the first n members have started, and the others have not
   abbrev pub started_to : {C : Type 0} → ℕ → List (Member C) → List (Member C)
   started_to n xs = map (started_member at reason) (take n xs) ++ drop n xs
 
@@ -88,7 +88,7 @@ module _ (at : At) (reason : StartCondition) where
   pub step_members : {C : Type 0} (now next xs : List (Member C)) (n : ℕ) → now ≡ started_to n xs → n < length xs → next ≡ (starts_member now n (slice_get now n)).members → next ≡ started_to (n + 1) xs
   step_members now next xs n so_far h e = e ∙ ap (λ ms. (starts_member ms n (slice_get ms n)).members) so_far ∙ next_members xs n h
 
-  -- its lines, and those of the rest
+  -- its lines, and those of the others
   pub step_lines : {C : Type 0} (now xs : List (Member C)) (n : ℕ) → now ≡ started_to n xs → n < length xs
       → flat_map (start_lines at reason) (drop n xs) ≡ (starts_member now n (slice_get now n)).lines ++ flat_map (start_lines at reason) (drop (n + 1) xs)
   step_lines now xs n so_far h =

@@ -1,4 +1,4 @@
--- From the parts of telling a partition's inputs to what it promises.
+-- From the parts of writing a partition's inputs to its promise.
 use Rattle.std.proofs.Common.{◌≡◌, ◌<◌, ◌≤◌, ◌^◌, ℕ, List, length, Option, Some, None, Result, Ok, Err, option_map, refl, sym, ap, subst, ◌∙◌}
 use Rattle.std.specs.Io.KnownBytes.{Appends}
 use Rattle.apex_types.specs.declared.limits.TheConstants.{MOST_DEVICE_LINES, MOST_TICKS}
@@ -27,7 +27,7 @@ use Rattle.module.proofs.Named.{by_number, numbered_slice}
 
 -- ---- one partition
 
--- the lines that are lent are those that were taken
+-- the lines that are lent are the lines that were taken
 pub lines_taken : {verdict : Result (List DeviceLine) DeviceFault} {lines : List DeviceLine} (lent : List DeviceLine) → lent ≡ lines → verdict ≡ Ok lines → verdict ≡ Ok lent
 lines_taken lent same taken = taken ∙ ap (λ (ls : List DeviceLine). Ok ls) (sym same)
 
@@ -40,7 +40,7 @@ text_refused image s devices n old (text_fault.Line f) h = (refused (verdict_for
     refused (Ok ls) k = absurd k
     refused (Err g) k = ap (λ (x : DeviceFault). Err x) k
 
--- there are too many, or memory runs out
+-- there are too many inputs, or memory runs out
 pub no_room_told : (image : Image) (s : Slice) (devices : List ℕ) (lines : List DeviceLine) (n : ℕ) (old : Option (List ℕ)) (f : InputsFault) → verdict_for image devices ≡ Ok lines
     → HasNoRoom (length (machine_inputs image s.number lines n)) f → TellsSlice image s devices n old old (Err f)
 no_room_told image s devices lines n old TooMany taken h = (lines, taken, (h, refl))

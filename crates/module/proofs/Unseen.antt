@@ -28,7 +28,7 @@ ran_unseen c rest last mid members split on same keeps h =
     subst (λ (d : Course _). IsMadeUnseen d (Some last) members) (sym (split ∙ ap (unless_down c rest) (sym on)))
     (record { at = sym keeps ∙ ap (λ ms. (rest last ms).at) same; members = h ∙ ap (λ ms. (rest last ms).members) same })
 
--- what begins, then a step
+-- the begin, then a step
 pub begun_unseen : {C : Type 0} (b : Advanced C) (at : At) (rest : At → List (Member C) → Course C) (mid members : List (Member C)) (r : Result (Option Moment) InputsFault) → mid ≡ b.members
     → IfOk r (λ last. IsMadeUnseen (rest at mid) (next_at last) members) → IfOk r (λ last. IsMadeUnseen (then_runs (meaning.goes_on at b) rest) (next_at last) members)
 begun_unseen b at rest mid members (Ok last) same h = record { at = h.at ∙ ap (λ ms. (rest at ms).at) same; members = h.members ∙ ap (λ ms. (rest at ms).members) same }
@@ -42,7 +42,7 @@ stands_after s next c last members h e =
 
 -- ---- what was collected
 
--- by the lines of the devices, then by the messages
+-- by the device lines, then by the messages
 pub tick_collected : {C X : Type 0} (tick : ℕ) (a brought : List Input) (old mid new : List InputLine) (plan : Plan) (p : ℕ) (c : Course C) (members : List (Member C)) (last : Option At) (r : Result X InputsFault)
     → brought ≡ a ++ brought_moved plan p c.members c.at → last ≡ c.at → members ≡ c.members → mid ≡ old ++ map (line_in tick) a → AreCollected tick (brought_moved plan p members last) mid new r → AreCollected tick brought old new r
 tick_collected tick a brought old mid new plan p c members last r parts on same first h =

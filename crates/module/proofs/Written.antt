@@ -1,4 +1,4 @@
--- What is written of one step of the module after another.
+-- The text written by one step of the module after another.
 use Rattle.std.proofs.Common.{◌≡◌, List, [], ◌++◌, Option, Some, None, refl, sym, ap, subst, ◌∙◌}
 use Rattle.std.proofs.lemmas.Option.{slice_get-map}
 use Rattle.apex_types.specs.declared.identity.At.{At}
@@ -9,13 +9,13 @@ use Rattle.lone_partition.proofs.Outputs.{lines_sent, nothing_sent}
 use Rattle.lone_partition.specs.Sent.{Sent}
 use Rattle.module.specs.Written.{IsMade, done_in, IsCourse}
 
--- nothing is written of a step that changes nothing
+-- a step that changes nothing writes nothing
 pub still_made : {C : Type 0} (members : List (Member C)) (s : Sent) → IsMade (still members) members s s
 still_made members s = record { members = refl; sent = nothing_sent s }
 
 pub ruleset nothing = (nothing_sent)
 
--- a step is made, and then another from where it led
+-- a step is made, and then another from the members after it
 pub then_made : {C : Type 0} {whole a : Advanced C} {old mid new : Sent} (rest : List (Member C) → Advanced C) (between : List (Member C)) {members : List (Member C)}
     → whole ≡ then_goes a rest → IsMade a between old mid → IsMade (rest between) members mid new → IsMade whole members old new
 then_made {whole = whole} {a = a} {old = old} {mid = mid} {new = new} rest between split h k = record {
@@ -30,7 +30,7 @@ pub record Completes {C : Type 0} (whole rest : Advanced C) (old now : Sent) : T
 pub starts_out : {C : Type 0} (whole : Advanced C) (s : Sent) → Completes whole whole s s
 starts_out whole s = record { ends = λ members new h. h }
 
--- one part more
+-- one more part
 pub goes_on : {C : Type 0} {whole now a : Advanced C} {old mid new : Sent} (rest : List (Member C) → Advanced C) (members : List (Member C))
     → now ≡ then_goes a rest → Completes whole now old mid → IsMade a members mid new → Completes whole (rest members) old new
 goes_on rest members split way h = record { ends = λ last end k. way.ends last end (then_made rest members split h k) }
@@ -41,7 +41,7 @@ is_over {new = new} members end way = way.ends members new (subst (λ (a : Advan
 
 -- ---- steps that may start the module again, or shut it down
 
--- a step is made, and then another from where it led
+-- a step is made, and then another from the members after it
 pub then_runs_made : {C : Type 0} {whole c : Course C} {old mid new : Sent} (rest : At → List (Member C) → Course C) (at : At) (between : List (Member C)) {answer : Option At} {members : List (Member C)}
     → whole ≡ then_runs c rest → Some at ≡ c.at → IsMade (done_in c) between old mid → IsCourse (rest at between) answer members mid new → IsCourse whole answer members old new
 then_runs_made {whole = whole} {c = c} rest at between split same h k =
@@ -63,7 +63,7 @@ pub record CompletesCourse {C : Type 0} (whole rest : Course C) (old now : Sent)
 pub course_starts_out : {C : Type 0} (whole : Course C) (s : Sent) → CompletesCourse whole whole s s
 course_starts_out whole s = record { ends = λ answer members new h. h }
 
--- one part more
+-- one more part
 pub runs_on : {C : Type 0} {whole now c : Course C} {old mid new : Sent} (rest : At → List (Member C) → Course C) (at : At) (members : List (Member C))
     → now ≡ then_runs c rest → Some at ≡ c.at → CompletesCourse whole now old mid → IsMade (done_in c) members mid new → CompletesCourse whole (rest at members) old new
 runs_on rest at members split same way h = record { ends = λ answer last end k. way.ends answer last end (then_runs_made rest at members split same h k) }
@@ -73,7 +73,7 @@ pub course_is_over : {C : Type 0} {whole now : Course C} {old new : Sent} (at : 
 course_is_over {new = new} at members end way =
     way.ends (Some at) members new (subst (λ (d : Course _). IsCourse d (Some at) members new new) (sym end) (record { at = refl; made = still_made members new }))
 
--- what begins, then a step that may start the module again, or shut it down
+-- the begin, then a step that may start the module again, or shut it down
 pub begun_made : {C : Type 0} {a : Advanced C} {old mid new : Sent} (at : At) (rest : At → List (Member C) → Course C) (between : List (Member C)) {answer : Option At} {members : List (Member C)}
     → IsMade a between old mid → IsCourse (rest at between) answer members mid new → IsCourse (then_runs (meaning.goes_on at a) rest) answer members old new
 begun_made at rest between h k = then_runs_made rest at between refl refl h k

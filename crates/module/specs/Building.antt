@@ -1,4 +1,4 @@
--- What building promises, and the parts of it.
+-- The promises of a build, and their parts.
 use Rattle.std.specs.Prelude.{◌≡◌, ◌≢◌, ℕ, false, List, map, Some, Ok, Err}
 use Rattle.std.specs.List.{list_any}
 use Rattle.apex_types.specs.declared.device.DeviceLine.{DeviceLine}
@@ -19,9 +19,9 @@ use Rattle.module.specs.declared.fault.BuildFault.{BuildFault}
 use Rattle.module.specs.declared.fault.BuildFault.TheVariants as fault
 use Rattle.module.specs.Refusals.{IsFirstRefused, IsSourceRefused, first_too_long, is_too_long}
 
--- The bytes are an image's, which for all lines of the devices and every number of ticks means what the
--- table and sources mean, and has the partitions and channels of the table: these are accepted, and no
--- program is too long.
+-- The bytes are those of an image that, for all device lines and every number of ticks, means what
+-- the table and sources mean, and has the partitions and channels of the table: these are accepted,
+-- and no program is too long.
 pub record IsImageOf (table : List ℕ) (sources : List (List ℕ)) (bytes : List ℕ) : Type 0 where
   pub rows : Table
   pub programs : List Program
@@ -35,19 +35,19 @@ pub record IsImageOf (table : List ℕ) (sources : List (List ℕ)) (bytes : Lis
 
 -- ---- the steps of building
 
--- what a table is refused for
+-- the reason for which a table is refused
 abbrev pub IsTableRefusal : List ℕ → BuildFault → Type 0
 IsTableRefusal text (fault.Table f) = (f ≢ table_fault.Memory) × AnswersText text (Err f)
 IsTableRefusal text fault.Memory = Unit {0}
 IsTableRefusal text _ = ⊥
 
--- what one source is refused for
+-- the reason for which one source is refused
 abbrev pub IsSourceRefusal : Partition → List ℕ → BuildFault → Type 0
 IsSourceRefusal row source (fault.Pal name f) = (name ≡ row.name) × IsSourceRefused row source f.refusal
 IsSourceRefusal row source fault.Memory = Unit {0}
 IsSourceRefusal row source _ = ⊥
 
--- want of memory is told as such
+-- out of memory is reported as such
 abbrev pub unless_memory : Refusal → BuildFault → BuildFault
 unless_memory refusal.Memory f = fault.Memory
 unless_memory _ f = f
@@ -56,13 +56,13 @@ unless_memory _ f = f
 abbrev pub refusal_of : List ℕ → PalFault → BuildFault
 refusal_of name f = unless_memory f.refusal (fault.Pal name f)
 
--- what sources are refused for, one for each partition
+-- the reasons for which sources are refused, one for each partition
 abbrev pub AreSourceRefusals : List Partition → List (List ℕ) → BuildFault → Type 0
 AreSourceRefusals rows sources (fault.Pal name f) = IsFirstRefused rows sources name f.refusal
 AreSourceRefusals rows sources fault.Memory = Unit {0}
 AreSourceRefusals rows sources _ = ⊥
 
--- what accepted programs are refused for: the first that is too long
+-- the reason for which accepted programs are refused: the first that is too long
 abbrev pub IsLengthRefusal : List Partition → List Program → BuildFault → Type 0
 IsLengthRefusal rows ps (fault.Compile name f) = (f ≡ compile.TooLong) × (first_too_long rows ps ≡ Some name)
 IsLengthRefusal rows ps _ = ⊥

@@ -16,7 +16,7 @@ use Rattle.machine_meaning.specs.Instructions.{reading}
 use Rattle.module_meaning.specs.Accepted.{AreAccepted}
 use Rattle.module.specs.Refusals.{is_too_long}
 
--- a partition with what its program is compiled to
+-- a partition with its compiled program
 abbrev pub built_item : Partition → Program → Item
 built_item row p = record { partition = row; section = section_of p }
 

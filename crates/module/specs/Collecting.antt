@@ -1,4 +1,4 @@
--- What is collected of the inputs of one partition, tick by tick.
+-- The inputs of one partition that are collected, tick by tick.
 use Rattle.std.specs.Prelude.{◌≡◌, ◌<◌, ◌≤◌, ℕ, zero, suc, ◌+◌, ℤ, List, [], ◌∷◌, ◌++◌, length, map, Option, Some, None, Result, Ok, Err}
 use Rattle.arrayvec.specs.ArrayVec.{ArrayVec}
 use Rattle.apex_types.specs.declared.limits.TheConstants.{MOST_DEVICE_LINES}
@@ -19,48 +19,48 @@ use Rattle.module.specs.declared.inputs_fault.InputsFault.TheVariants as fault
 
 -- ---- what is collected
 
--- So many inputs are more than there is room for. Want of memory says nothing.
+-- `count` inputs are more than there is room for. Out of memory says nothing.
 abbrev pub HasNoRoom : ℕ → InputsFault → Type 0
 HasNoRoom count fault.TooMany = MOST_DEVICE_LINES < count
 HasNoRoom count fault.Memory = Unit {0}
 HasNoRoom count _ = ⊥
 
--- these inputs of a tick stand behind those collected so far, unless there is no room for all of them
+-- these inputs of a tick follow those collected so far, unless there is no room for all of them
 abbrev pub AreCollected : {X : Type 0} → ℕ → List Input → List InputLine → List InputLine → Result X InputsFault → Type 0
 AreCollected tick inputs old new (Ok x) = new ≡ old ++ map (line_in tick) inputs
 AreCollected tick inputs old new (Err f) = HasNoRoom (length old + length inputs) f
 
 -- ---- what a port brings
 
--- what a message of a port brings, if there is one
+-- the inputs that a message of a port brings, if there is a message
 abbrev pub brought_found : ℕ → Option Channel → Option (ArrayVec ℤ) → List Input
 brought_found p channel None = []
 brought_found p channel (Some m) = brought_by p m channel
 
--- what a port of partition q brings, if there is one with this number
+-- the inputs that a port of partition q brings, if the partition has a port with this number
 abbrev pub held_found : List Channel → ℕ → PartitionId → ℕ → Option Port → List Input
 held_found channels p q number None = []
 held_found channels p q number (Some x) = held_port channels p q number x
 
 -- ---- a tick that is not shown
 
--- Such a step was made. The answer is the tick with the origin that counts from here on, or none.
+-- Such a step was made. The answer is the tick with the origin valid from here on, or none.
 pub record IsMadeUnseen {C : Type 0} (c : Course C) (answer : Option At) (now : List (Member C)) : Type 0 where
   pub at : answer ≡ c.at
   pub members : now ≡ c.members
 
 -- ---- what the next ticks bring
 
--- after a shutdown nothing comes
+-- after a shutdown there are no inputs
 abbrev pub brought_from : {C : Type 0} → Plan → ℕ → List DeviceLine → ℕ → List (Member C) → Option ℕ → List Input
 brought_from plan p lines now members None = []
 brought_from plan p lines now members (Some origin) = brought_tick plan p (tick_from origin now) lines (begins now members).members
 
--- what the tick that comes next brings partition p, with these lines of the devices
+-- the inputs that the next tick brings partition p, with these device lines
 abbrev pub brought_next : {C : Type 0} → Plan → ℕ → List DeviceLine → Standing C → List Input
 brought_next plan p lines s = brought_from plan p lines s.now s.members s.origin
 
--- what so many ticks bring it, one after another, each with the devices' lines of its own
+-- the inputs that n ticks bring it, one after another, each with the device lines of its own
 abbrev pub brought_of : {C : Type 0} → Plan → ℕ → List DeviceLine → ℕ → Standing C → List InputLine
 brought_of plan p lines zero s = []
 brought_of plan p lines (suc n) s =

@@ -1,4 +1,4 @@
--- What the bodies of the partitions of a module cost.
+-- The costs of the bodies of the partitions of a module.
 use Rattle.std.specs.Prelude.{◌≡◌, ℕ, List, [], ◌∷◌, ◌++◌, map, Option, Some, None, Ok}
 use Rattle.apex_types.specs.declared.cost.Costs.{Costs}
 use Rattle.pal_meaning.specs.Program as cost
@@ -78,7 +78,7 @@ AreCostsOf costs [] [] [] = Unit {0}
 AreCostsOf costs (row ∷ rows) (a ∷ accepted) (c ∷ cs) = IsCostOf costs row a c × AreCostsOf costs rows accepted cs
 AreCostsOf costs _ _ _ = ⊥
 
--- ---- refusals: as of building, but no program is too long
+-- ---- refusals: as for building, but no program is too long
 
 abbrev pub IsCostRefusedWith : Table → List (List ℕ) → BuildFault → Type 0
 IsCostRefusedWith t sources (fault.Compile name f) = ⊥

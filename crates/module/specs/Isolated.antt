@@ -1,4 +1,4 @@
--- What a run promises of isolation: it shows of each partition what the partition shows alone.
+-- The promise of isolation for a run: for each partition it shows what the partition shows alone.
 use Rattle.std.specs.Prelude.{◌≡◌, ℕ, List, Option, Some, Result, Ok}
 use Rattle.std.specs.Io.KnownBytes.{Appends}
 use Rattle.apex_types.specs.Line.{text_of}
@@ -12,8 +12,8 @@ use Rattle.isolation.specs.Replays.{numbered}
 use Rattle.isolation.specs.Slices.{Slice, machine_inputs, slice, slice_trace}
 use Rattle.module.specs.Runs.{IsRun}
 
--- Of each partition of an image the trace shows what the partition shows alone: from its slice of the image, and
--- from what these lines of the devices bring it.
+-- For each partition of an image, the trace shows what the partition shows alone: from its slice of
+-- the image, and from the inputs that these device lines bring it.
 abbrev pub AreAlone : Image → List DeviceLine → ℕ → Type 0
 AreAlone image lines n =
     (p : ℕ) (s : Slice) → slice image p ≡ Some s → part s.item.partition.name (machine_trace image lines n) ≡ slice_trace s (machine_inputs image p lines n) n
@@ -27,8 +27,8 @@ pub record WritesAlone (image : Image) (lines : List DeviceLine) (n : ℕ) (old 
 abbrev pub IsIsolated : Result Image Fault → List ℕ → ℕ → Option (List ℕ) → Option (List ℕ) → Type 0
 IsIsolated read devices n old new = (image : Image) × (lines : List DeviceLine) × IsRun read devices n image lines × WritesAlone image lines n old new
 
--- For what a run of the whole image brings a partition, the text was written of the partition's part of that
--- run's trace.
+-- For the inputs that a run of the whole image brings a partition, the text written is the
+-- partition's part of that run's trace.
 abbrev pub ReplaysPart : Result Image Fault → List ℕ → List ℕ → ℕ → Option (List ℕ) → Option (List ℕ) → Type 0
 ReplaysPart read name inputs n old new =
     (image : Image) (found : ℕ × Item) (devices : List ℕ) (lines : List DeviceLine) → IsRun read devices n image lines → numbered image name ≡ Some found

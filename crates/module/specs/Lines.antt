@@ -1,4 +1,4 @@
--- What is shown of each fault of building and running, and of telling inputs.
+-- The text shown for each fault of building and running, and of writing inputs.
 use Rattle.std.specs.Prelude.{ℕ, List, ◌++◌, codes}
 use Rattle.std.specs.Fmt.{decimal}
 use Rattle.compiler.specs.Numbers.{number_of as number_of_compile}

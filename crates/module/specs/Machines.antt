@@ -1,4 +1,4 @@
--- A machine that runs an image tick by tick, and what a tick of it promises.
+-- A machine that runs an image tick by tick, and the promise of a tick.
 use Rattle.std.specs.Prelude.{◌≡◌, ◌≤◌, ◌<◌, ◌^◌, ℕ, zero, suc, ◌+◌, Bool, true, false, List, Option, Result, Ok, Err, ◌⊎◌}
 use Rattle.std.specs.Io.KnownBytes.{Appends}
 use Rattle.apex_types.specs.declared.limits.TheConstants.{MOST_TICKS}
@@ -31,7 +31,7 @@ machine_of m = record { image = image_of m.module.image; standing = standing_of 
 abbrev pub fresh_machine : Image → Machine
 fresh_machine image = record { image = image; standing = at_first (machine_module image).members; failed = false }
 
--- the next tick of an image, with these lines of the devices
+-- the next tick of an image, with these device lines
 abbrev pub course_of : List DeviceLine → Machine → Course MachineControl
 course_of lines m = ticks (machine_module m.image).plan lines m.standing
 
@@ -41,7 +41,7 @@ pub record IsUntouched (m next : Machine) (old new : Option (List ℕ)) (before 
   pub taken : new ≡ old
   pub quiet : after ≡ before
 
--- The machine has gone one tick on, and the sink has taken the text of its lines.
+-- The machine has completed one tick, and the sink has taken the text of its lines.
 pub record HasGoneOn (lines : List DeviceLine) (m next : Machine) (old new : Option (List ℕ)) (before now : ℕ) : Type 0 where
   pub image : next.image ≡ m.image
   pub standing : next.standing ≡ after m.standing (course_of lines m)
@@ -49,14 +49,14 @@ pub record HasGoneOn (lines : List DeviceLine) (m next : Machine) (old new : Opt
   pub written : Appends old new (text_of (course_of lines m).lines)
   pub quiet : now ≡ before
 
--- The sink has failed, and has taken a beginning of the text of the tick's lines.
+-- The sink has failed, and has taken a prefix of the text of the tick's lines.
 pub record HasFailed (lines : List DeviceLine) (m next : Machine) (old new : Option (List ℕ)) (before now : ℕ) : Type 0 where
   pub failed : next.failed ≡ true
   pub beginning : TakesBeginning old new (text_of (course_of lines m).lines)
   pub once : now ≡ before + 1
 
--- What a tick has made of a machine and of a sink. A machine whose sink failed, and one that has gone 2^40
--- ticks, is refused.
+-- The effect of a tick on a machine and a sink. A machine whose sink failed, or that has completed
+-- 2^40 ticks, is refused.
 abbrev pub HasTicked : List DeviceLine → Machine → Machine → Option (List ℕ) → Option (List ℕ) → ℕ → ℕ → Result (Unit {0}) RunFault → Type 0
 HasTicked lines m next old new before now (Ok done) = (m.failed ≡ false) × (m.standing.now < MOST_TICKS) × HasGoneOn lines m next old new before now
 HasTicked lines m next old new before now (Err fault.Write) = (m.failed ≡ false) × (m.standing.now < MOST_TICKS) × HasFailed lines m next old new before now
@@ -64,15 +64,16 @@ HasTicked lines m next old new before now (Err fault.Failed) = (m.failed ≡ tru
 HasTicked lines m next old new before now (Err fault.Ticks) = (m.failed ≡ false) × (m.standing.now ≡ MOST_TICKS) × IsUntouched m next old new before now
 HasTicked lines m next old new before now (Err _) = ⊥
 
--- What so many calls of `Machine::tick`, one after another, have made of a machine and of a sink, where each is
--- handed the devices' lines of its own tick. The first call that is refused is the last one, and its answer is that of all.
+-- The effect of n calls of `Machine::tick`, one after another, on a machine and a sink, where each
+-- call gets the device lines of its own tick. The first call that is refused is the last one, and
+-- its answer is that of all.
 abbrev pub HaveTicked : List DeviceLine → ℕ → Machine → Machine → Option (List ℕ) → Option (List ℕ) → ℕ → ℕ → Result (Unit {0}) RunFault → Type 0
 HaveTicked lines zero m last old new before now answer = (answer ≡ Ok tt) × IsUntouched m last old new before now
 HaveTicked lines (suc n) m last old new before now answer =
     ((f : RunFault) × (answer ≡ Err f) × HasTicked (of_tick m.standing.now lines) m last old new before now answer)
     ⊎ ((next : Machine) × (mid : Option (List ℕ)) × (between : ℕ) × HasTicked (of_tick m.standing.now lines) m next old mid before between (Ok tt) × HaveTicked lines n next last mid new between now answer)
 
--- Some of so many ticks were made at once, as many as are answered, unless the sink failed.
+-- Of `most` ticks, n were made at once, unless the sink failed.
 abbrev pub HasRunOn : List DeviceLine → ℕ → Machine → Machine → Option (List ℕ) → Option (List ℕ) → ℕ → ℕ → Result ℕ RunFault → Type 0
 HasRunOn lines most m next old new before now (Ok n) =
     (next.image ≡ m.image) × (next.failed ≡ false) × (n ≤ most) × (next.standing.now ≡ m.standing.now + n) × HasRun (machine_module m.image).plan lines n m.standing next.standing old new before now

@@ -12,10 +12,10 @@ members_of g [] memory = []
 members_of g (p ∷ ps) [] = []
 members_of g (p ∷ ps) (part ∷ memory) = member_of g p part ∷ members_of g ps memory
 
--- how many words each part of its memory has that a partition's executor works on
+-- the number of words in each part of the memory that a partition's executor works on
 abbrev pub layout_in : {E X : Type 0} → (g : Ghosts E X) → Partition E X → List ℕ
 layout_in g p = g.layout p.executor
 
--- there are as many parts as partitions, and each has the layout of its partition's executor
+-- as many parts as partitions, each with the layout of its partition's executor
 abbrev pub AreFitting : {E X : Type 0} → (g : Ghosts E X) → List (Partition E X) → List X → Type 0
 AreFitting g ps memory = map g.laid memory ≡ map (layout_in g) ps

@@ -12,28 +12,28 @@ use Rattle.bursts.specs.Running.{advances_by}
 use Rattle.lone_partition.specs.Sent.{Sent, HasSent}
 use Rattle.module.specs.Standing.{Standing, lines_of}
 
--- So many ticks tell these lines and lead from one standing to another, whatever ticks come behind them.
+-- n ticks write these lines and lead from one standing to another, whatever ticks follow.
 abbrev pub LeadsTo : {C : Type 0} → Plan → List DeviceLine → ℕ → Standing C → List Event → Standing C → Type 0
 LeadsTo plan lines n s told next = (m : ℕ) → lines_of plan lines (n + m) s ≡ told ++ lines_of plan lines m next
 
--- So many ticks were made and their lines were to be written.
+-- n ticks were made, and their lines were to be written.
 pub record HasPassed {C : Type 0} (plan : Plan) (lines : List DeviceLine) (n : ℕ) (s next : Standing C) (old new : Sent) : Type 0 where
   pub told : List Event
   pub leads : LeadsTo plan lines n s told next
   pub sent : HasSent old new (text_of told)
 
--- Some of so many ticks were made, as many as are answered.
+-- Of k ticks, n were made.
 abbrev pub HasPassedSome : {C : Type 0} → Plan → List DeviceLine → ℕ → Standing C → Standing C → Sent → Sent → ℕ → Type 0
 HasPassedSome plan lines k s next old new n = (n ≤ k) × (next.now ≡ s.now + n) × HasPassed plan lines n s next old new
 
--- So many ticks were made and their lines were written.
+-- n ticks were made, and their lines were written.
 pub record HasRun {C : Type 0} (plan : Plan) (lines : List DeviceLine) (n : ℕ) (s next : Standing C) (old new : Option (List ℕ)) (before after : ℕ) : Type 0 where
   pub told : List Event
   pub leads : LeadsTo plan lines n s told next
   pub written : Appends old new (text_of told)
   pub quiet : after ≡ before
 
--- Within so many ticks the sink failed once, and took a beginning of their lines.
+-- Within k ticks the sink failed once, and took a prefix of their lines.
 pub record IsBrokenOff {C : Type 0} (plan : Plan) (lines : List DeviceLine) (k : ℕ) (s : Standing C) (old new : Option (List ℕ)) (before after : ℕ) : Type 0 where
   pub ticks : ℕ
   pub told : List Event
@@ -43,7 +43,8 @@ pub record IsBrokenOff {C : Type 0} (plan : Plan) (lines : List DeviceLine) (k :
   pub beginning : TakesBeginning old new (text_of told)
   pub failed : after ≡ before + 1
 
--- The partition at a place made so many ticks, or those up to the first with a line, and told these lines.
+-- The partition at `place` made k ticks, or those up to the first with a line; they are n, and
+-- wrote these lines.
 abbrev pub HasMoved : {C : Type 0} → At → ℕ → ℕ → List (Member C) → Option (Member C) → List (Member C) → List Event → ℕ → Type 0
 HasMoved at k place members None now told n = (now ≡ members) × (told ≡ []) × (n ≡ 0)
 HasMoved at k place members (Some x) now told n =

@@ -1,4 +1,4 @@
--- What building and running a module promises: the trace that the table and the sources mean.
+-- The promise of building and running a module: the trace that the table and the sources mean.
 use Rattle.std.specs.Prelude.{◌≡◌, ℕ, ◌^◌, ◌<◌, ◌≤◌, List, Option, Result, Ok, Err}
 use Rattle.std.specs.Io.KnownBytes.{Appends}
 use Rattle.apex_types.specs.declared.limits.TheConstants.{MOST_TICKS}
@@ -23,9 +23,9 @@ pub record IsDeviceRefused (table : List ℕ) (sources : List (List ℕ)) (devic
   pub refused : verdict rows.partitions rows.channels devices ≡ Err f
 
 -- What building and running has written between two states of its sink: the text of the trace of n
--- ticks that the accepted table and sources mean with the device text's lines; a beginning of that text where the sink failed;
--- nothing where it is refused, which is so only where it must be. What is built is an image, so its bytes are
--- never refused.
+-- ticks that the accepted table and sources mean with the device text's lines; a prefix of that
+-- text if the sink failed; nothing if it is refused, which happens only if it must be. The result
+-- of a build is an image, so its bytes are never refused.
 abbrev pub Means : List ℕ → List (List ℕ) → List ℕ → ℕ → Option (List ℕ) → Option (List ℕ) → Result (Unit {0}) BuildAndRunFault → Type 0
 Means table sources devices n old new (Ok _) = (t : Table) × (programs : List Program) × (lines : List DeviceLine) × IsAcceptedRun table sources devices n t programs lines × Appends old new (text_of (source_trace t programs lines n))
 Means table sources devices n old new (Err (Run Write)) = (t : Table) × (programs : List Program) × (lines : List DeviceLine) × IsAcceptedRun table sources devices n t programs lines × TakesBeginning old new (text_of (source_trace t programs lines n))

@@ -1,4 +1,4 @@
--- Why a module is refused, and where each refusal is right.
+-- The reasons for which a module is refused, and when each refusal is right.
 use Rattle.std.specs.Prelude.{◌≡◌, ◌≢◌, ◌⊎◌, ℕ, Bool, nat_lt, List, ◌∷◌, length, if◌then◌else◌, Option, Some, None, Err}
 use Rattle.apex_types.specs.declared.limits.TheConstants.{MOST_INSTRUCTIONS}
 use Rattle.pal_meaning.specs.Program.{size_of, Program}
@@ -22,11 +22,11 @@ use Rattle.module.specs.declared.fault.BuildFault.TheVariants as fault
 abbrev pub IsNotAccepted : Partition → List ℕ → Refusal → Type 0
 IsNotAccepted row source r = IsRefused r source ⊎ ((tree : written.Program) × IsProgramOf source tree × Refuses r (verdict row.ports row.period tree))
 
--- a refusal that says something of the source
+-- a refusal that says something about the source
 abbrev pub IsSourceRefused : Partition → List ℕ → Refusal → Type 0
 IsSourceRefused row source r = (r ≢ refusal.Memory) × IsNotAccepted row source r
 
--- one source for each partition: the first that is refused is that of the partition of this name
+-- one source for each partition: the first refused source is that of the partition with this name
 abbrev pub IsFirstRefused : List Partition → List (List ℕ) → List ℕ → Refusal → Type 0
 IsFirstRefused (row ∷ rows) (source ∷ sources) name r =
     ((name ≡ row.name) × IsSourceRefused row source r) ⊎ ((p : Program) × IsAccepted row source p × IsFirstRefused rows sources name r)
@@ -59,9 +59,9 @@ IsRefusedWith t sources (fault.Pal name f) = (length sources ≡ length t.partit
 IsRefusedWith t sources (fault.Compile name f) = (f ≡ compile.TooLong) × IsTooLong t sources name
 IsRefusedWith t sources fault.Memory = Unit {0}
 
--- Why a table and sources are refused: for the table; with an accepted table for the number of the
--- sources, or for the first source that is refused; with accepted sources for the first program that
--- is too long. Want of memory says nothing.
+-- Why a table and sources are refused: because of the table; with an accepted table, because of the
+-- number of sources or of the first source that is refused; with accepted sources, because of the
+-- first program that is too long. Out of memory says nothing.
 abbrev pub IsRefusal : List ℕ → List (List ℕ) → BuildFault → Type 0
 IsRefusal table sources (fault.Table f) = (f ≢ table_fault.Memory) × table_refusals.IsRefused table f
 IsRefusal table sources fault.Memory = Unit {0}

@@ -1,4 +1,4 @@
--- What the steps of running and of replaying promise, and how their faults are told.
+-- What the steps of running and of replaying promise, and how they report their faults.
 use Rattle.std.specs.Prelude.{◌≡◌, ℕ, List, Option, Result, Ok, Err}
 use Rattle.std.specs.Io.KnownBytes.{Appends}
 use Rattle.apex_types.specs.Line.{text_of, TakesBeginning}
@@ -40,12 +40,12 @@ IsRefused read (NoImage f) = IsImageRefusal read f
 IsRefused read Memory = Unit {0}
 IsRefused _ _ = ⊥
 
--- a fault of an image as one of its run; want of memory is told as such
+-- a fault of an image as one of its run; out of memory is reported as such
 abbrev pub fault_of_image : ImageFault → RunFault
 fault_of_image image_fault.Memory = Memory
 fault_of_image f = NoImage f
 
--- a fault of a text as one of its run; want of memory is told as such
+-- a fault of a text as one of its run; out of memory is reported as such
 abbrev pub fault_of_text : DeviceTextFault → RunFault
 fault_of_text (text_fault.Line f) = Device f
 fault_of_text text_fault.Memory = Memory

@@ -1,4 +1,4 @@
--- What running an image promises: the trace that the image means.
+-- The promise of running an image: the trace that the image means.
 use Rattle.std.specs.Prelude.{◌≡◌, ℕ, ◌^◌, ◌<◌, ◌≤◌, List, Option, Some, None, Result, Ok, Err}
 use Rattle.std.specs.Io.KnownBytes.{Appends}
 use Rattle.apex_types.specs.declared.limits.TheConstants.{MOST_TICKS}
@@ -19,7 +19,7 @@ pub record IsRun (read : Result Image Fault) (devices : List ℕ) (n : ℕ) (ima
   pub taken : verdict_for image devices ≡ Ok lines
   pub few : n ≤ MOST_TICKS
 
--- the bytes are refused with this fault, and not for want of memory
+-- the bytes are refused with this fault, which is not out of memory
 abbrev pub IsNamed : Result Image Fault → Option Fault → Type 0
 IsNamed read None = ⊥
 IsNamed read (Some f) = read ≡ Err f
@@ -34,8 +34,8 @@ abbrev pub IsImageRefusal : Result Image Fault → ImageFault → Type 0
 IsImageRefusal read f = IsNamed read (named f)
 
 -- What a run of an image has written between two states of its sink: the text of the image's trace
--- of n ticks with the device text's lines; a beginning of that text where the sink failed; nothing where
--- the run is refused.
+-- of n ticks with the device text's lines; a prefix of that text if the sink failed; nothing if the
+-- run is refused.
 abbrev pub Runs : Result Image Fault → List ℕ → ℕ → Option (List ℕ) → Option (List ℕ) → Result (Unit {0}) RunFault → Type 0
 Runs read devices n old new (Ok _) = (image : Image) × (lines : List DeviceLine) × IsRun read devices n image lines × Appends old new (text_of (machine_trace image lines n))
 Runs read devices n old new (Err Write) = (image : Image) × (lines : List DeviceLine) × IsRun read devices n image lines × TakesBeginning old new (text_of (machine_trace image lines n))

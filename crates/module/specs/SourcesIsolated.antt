@@ -1,4 +1,5 @@
--- What building and running promises of isolation: it shows of each partition what the partition shows alone.
+-- The promise of isolation for building and running: for each partition it shows what the partition
+-- shows alone.
 use Rattle.std.specs.Prelude.{◌≡◌, ℕ, List, Option, Some}
 use Rattle.std.specs.Io.KnownBytes.{Appends}
 use Rattle.apex_types.specs.Line.{text_of}
@@ -9,8 +10,8 @@ use Rattle.module_meaning.specs.SourceMeaning.{source_trace, IsAcceptedRun}
 use Rattle.isolation.specs.Brought.{part}
 use Rattle.isolation.specs.SourceSlices.{source_inputs, source_slice, source_slice_trace}
 
--- Of each partition of a table the trace shows what the partition shows alone: from its own row and program, from what surrounds it, and
--- from what comes to it.
+-- For each partition of a table, the trace shows what the partition shows alone: from its own row
+-- and program, its surroundings, and its inputs.
 abbrev pub AreSourcesAlone : Table → List Program → List DeviceLine → ℕ → Type 0
 AreSourcesAlone t programs lines n =
     (p : ℕ) (row : Partition) (program : Program) → at_number t.partitions p ≡ Some row → at_number programs p ≡ Some program

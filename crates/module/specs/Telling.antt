@@ -1,4 +1,4 @@
--- What telling the inputs of a partition promises.
+-- The promises of writing the inputs of a partition.
 use Rattle.std.specs.Prelude.{◌≡◌, ◌<◌, ◌≤◌, ◌^◌, ℕ, List, length, Option, Some, Result, Ok, Err}
 use Rattle.std.specs.Io.KnownBytes.{Appends}
 use Rattle.apex_types.specs.declared.limits.TheConstants.{MOST_DEVICE_LINES, MOST_TICKS}
@@ -23,8 +23,8 @@ use Rattle.module.specs.Replays.{LacksPartition}
 use Rattle.module.specs.declared.inputs_fault.InputsFault.{InputsFault}
 use Rattle.module.specs.declared.inputs_fault.InputsFault.TheVariants.{Ticks, Image as NoImage, Partition as NoPartition, Device, Memory, TooMany, Write}
 
--- An image was read, it has a partition of this name, with this row, and a device text was taken for it; in so many
--- ticks these inputs come to the partition.
+-- An image was read, it has a partition with this name and this row, and a device text was taken
+-- for it; n ticks bring the partition these inputs.
 pub record AreRunInputs (read : Result Image Fault) (name devices : List ℕ) (n : ℕ) (row : Partition) (inputs : List InputLine) : Type 0 where
   pub image : Image
   pub lines : List DeviceLine
@@ -34,8 +34,9 @@ pub record AreRunInputs (read : Result Image Fault) (name devices : List ℕ) (n
   pub its_row : row ≡ found.1.partition
   pub brought : inputs ≡ machine_inputs image found.0 lines n
 
--- The text of the inputs was written, which is accepted as a replay text of the partition with this row, and read as
--- these inputs; a beginning of it where the sink failed; nothing where there are more than 65,536.
+-- The text of the inputs was written; it is accepted as a replay text of the partition with this
+-- row, and read as these inputs. If the sink failed, a prefix of it was written; with more than
+-- 65,536 inputs, nothing.
 abbrev pub AreTold : Partition → List InputLine → Option (List ℕ) → Option (List ℕ) → Result (Unit {0}) InputsFault → Type 0
 AreTold row inputs old new (Ok _) = (length inputs ≤ MOST_DEVICE_LINES) × (replay_verdict row (replay_text row inputs) ≡ Ok inputs) × Appends old new (replay_text row inputs)
 AreTold row inputs old new (Err Write) = (length inputs ≤ MOST_DEVICE_LINES) × TakesBeginning old new (replay_text row inputs)
@@ -48,8 +49,8 @@ abbrev pub IsDeviceRefusalBeside : Result Image Fault → List ℕ → List ℕ 
 IsDeviceRefusalBeside (Err fault) name devices f = ⊥
 IsDeviceRefusalBeside (Ok image) name devices f = (found : ℕ × Item) × (numbered image name ≡ Some found) × (verdict_for image devices ≡ Err f)
 
--- What telling the inputs of a partition has written between two states of its sink: the text of what a run of so
--- many ticks brings the partition; nothing where that is refused.
+-- What writing the inputs of a partition adds to its sink: the text of the inputs that a run of n
+-- ticks brings the partition; nothing if the run is refused.
 abbrev pub Tells : Result Image Fault → List ℕ → List ℕ → ℕ → Option (List ℕ) → Option (List ℕ) → Result (Unit {0}) InputsFault → Type 0
 Tells read name devices n old new (Ok x) = (row : Partition) × (inputs : List InputLine) × AreRunInputs read name devices n row inputs × AreTold row inputs old new (Ok x)
 Tells read name devices n old new (Err Write) = (row : Partition) × (inputs : List InputLine) × AreRunInputs read name devices n row inputs × AreTold row inputs old new (Err Write)
@@ -60,13 +61,13 @@ Tells read name devices n old new (Err NoPartition) = (n ≤ MOST_TICKS) × Lack
 Tells read name devices n old new (Err (Device f)) = (n ≤ MOST_TICKS) × IsDeviceRefusalBeside read name devices f × (new ≡ old)
 Tells read name devices n old new (Err Memory) = new ≡ old
 
--- the same of the partition of a slice, once it is found
+-- the same for the partition of a slice, once it is found
 abbrev pub TellsSlice : Image → Slice → List ℕ → ℕ → Option (List ℕ) → Option (List ℕ) → Result (Unit {0}) InputsFault → Type 0
 TellsSlice image s devices n old new (Err (Device f)) = (verdict_for image devices ≡ Err f) × (new ≡ old)
 TellsSlice image s devices n old new (Err Memory) = new ≡ old
 TellsSlice image s devices n old new answer = (lines : List DeviceLine) × (verdict_for image devices ≡ Ok lines) × AreTold s.item.partition (machine_inputs image s.number lines n) old new answer
 
--- ---- faults as those of telling; want of memory is told as such
+-- ---- faults as those of writing inputs; out of memory is reported as such
 
 abbrev pub fault_of_image : ImageFault → InputsFault
 fault_of_image image_fault.Memory = Memory

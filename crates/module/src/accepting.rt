@@ -17,8 +17,8 @@ use pal_base::parse::parse;
 use std::alloc::Global;
 use window_table::PartitionRow;
 
-/// The sources of these partitions, in their order, if each is accepted; else the refusal of the
-/// first that is not.
+/// The sources of these partitions, in their order, if each is accepted; otherwise the refusal of
+/// the first that is not.
 pub fn accept_sources(
     alloc: Global,
     rows: &[PartitionRow],
@@ -64,7 +64,7 @@ fn judge(alloc: Global, row: &PartitionRow, source: &[u8]) -> Result<Checked, Pa
     check(alloc, written, row)
 }
 
-/// The refusal of the source of the partition of that name.
+/// The refusal of the source of the partition with this name.
 fn refused(partition: Name, fault: PalFault) -> BuildFault
     ensures { result ≡ refusal_of partition fault }
 {

@@ -23,7 +23,7 @@ const FIRST: Moment = Moment {
 };
 
 impl<E: Executor<Mem = PartitionMem>> Members<E> {
-    /// A tick of the partition whose window it is, if there is one.
+    /// A tick of the owner of the window, if the window has one.
     #[tactic(auto, using(crate::proofs::Written::nothing))]
     fn tick_owner<S: Sink>(
         &mut self,
@@ -42,7 +42,7 @@ impl<E: Executor<Mem = PartitionMem>> Members<E> {
         }
     }
 
-    /// What moves, then the tick of the owner.
+    /// Moves the messages, then makes the tick of the owner.
     pub fn move_and_tick<S: Sink>(
         &mut self,
         plan: &Image,
@@ -62,8 +62,8 @@ impl<E: Executor<Mem = PartitionMem>> Members<E> {
         self.tick_owner(moment, plan.schedule.owner(moment), output);
     }
 
-    /// A tick of the module with the devices' lines of this tick. It answers the tick with the origin that
-    /// counts from here on, or none where the module is shut down.
+    /// A tick of the module with its device lines. Returns the tick with the origin valid from here
+    /// on, or `None` if the module is shut down.
     #[tactic(auto, using(crate::proofs::Shutdown::tick_ends_down))]
     fn tick<S: Sink>(
         &mut self,
@@ -84,7 +84,7 @@ impl<E: Executor<Mem = PartitionMem>> Members<E> {
         Some(last)
     }
 
-    /// Before the first tick each partition starts.
+    /// Starts each partition before the first tick.
     #[tactic(auto, using(crate::proofs::Written::nothing))]
     pub fn begin<S: Sink>(&mut self, moment: Moment, output: &mut Output<'_, S>)
         ensures { IsMade (begins moment.at.now.0 (members_in E.Executor self.old))
@@ -96,8 +96,8 @@ impl<E: Executor<Mem = PartitionMem>> Members<E> {
         }
     }
 
-    /// What begins, then a tick of the module with the devices' lines of this tick. It answers as
-    /// [`Members::tick`] does.
+    /// Begins what is to begin, then makes a tick of the module with its device lines. Returns the
+    /// same as [`Members::tick`].
     pub fn begin_and_tick<S: Sink>(
         &mut self,
         plan: &Image,

@@ -1,4 +1,4 @@
-//! What messages and devices bring one partition.
+//! The inputs that messages and devices bring one partition.
 
 ghost use Rattle.std.specs.Prelude.{◌≡◌, ◌∷◌, [], option_map};
 ghost use Rattle.image.specs.Items.{channel_of};
@@ -15,7 +15,7 @@ use image::Image;
 use isolation::Input;
 use window_table::ChannelRow;
 
-/// A message to this end, if that is a port of the watched partition.
+/// Brings a message to this end, if it is a port of the watched partition.
 #[tactic(auto, using(crate::proofs::Collecting::collecting))]
 fn bring_to(
     end: ChannelEnd,
@@ -36,7 +36,7 @@ fn bring_to(
     inputs.push(now, Input::Arrive(port, copied(message)))
 }
 
-/// A message to each of these ends in turn.
+/// Brings a message to each of these ends in turn.
 fn bring_to_all(
     ends: &[ChannelEnd],
     message: &Words,
@@ -53,7 +53,7 @@ fn bring_to_all(
     Ok(())
 }
 
-/// A message by a channel; without a channel it goes nowhere.
+/// Brings a message of a channel; without a channel it goes nowhere.
 #[tactic(auto, using(crate::proofs::Collecting::collecting))]
 pub fn bring_by(
     channel: Option<&ChannelRow>,
@@ -75,7 +75,7 @@ pub fn bring_by(
     }
 }
 
-/// What a device does.
+/// Collects what an input of a device brings the watched partition.
 #[tactic(auto, using(crate::proofs::Written::channels, crate::proofs::Collecting::collecting))]
 fn bring_in(
     plan: &Image,
@@ -112,7 +112,7 @@ fn is_shutdown(action: ModuleAction) -> bool
     }
 }
 
-/// Whether what a device does shuts the module down.
+/// Whether an input of a device shuts the module down.
 fn shuts_down(fault: ModuleAction, input: &DeviceInput) -> bool
     ensures { result ≡ shuts_down fault input.now }
 {
@@ -122,8 +122,8 @@ fn shuts_down(fault: ModuleAction, input: &DeviceInput) -> bool
     }
 }
 
-/// What the devices do in these lines of a tick, one after another, unless one of them shuts the
-/// module down.
+/// Collects what the device lines of a tick bring the watched partition, one after another, until
+/// one of them shuts the module down.
 pub fn bring_in_all(
     plan: &Image,
     lines: &[DeviceLine],

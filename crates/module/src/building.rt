@@ -28,10 +28,10 @@ use window_table::{ModuleTable, PartitionRow, TableFault, read_table};
 ///
 /// # Errors
 ///
-/// Memory where there is none left. Else, in this order: the lowest rule that the table breaks;
+/// `Memory` if no memory is left. Otherwise, in this order: the lowest rule that the table breaks;
 /// a number of sources that is not the number of partitions; the lowest rule that a source breaks,
-/// with its line, of the first partition whose source is refused; and the first partition whose program
-/// would have more than 65,536 instructions.
+/// with its line, of the first partition whose source is refused; and the first partition whose
+/// program would have more than 65,536 instructions.
 pub fn build(alloc: Global, table: &[u8], sources: &[&[u8]]) -> Result<Vec<u8>, BuildFault>
     ensures image { IfOk result
         (λ bytes. IsImageOf table.now (map (λ s. s.now) sources.now) bytes.items) }
@@ -116,7 +116,7 @@ fn build_image(alloc: Global, table: ModuleTable, sources: &[Checked]) -> Result
     })
 }
 
-/// Each partition with what its program becomes.
+/// Each partition with its compiled program.
 fn build_items(
     alloc: Global,
     rows: Vec<PartitionRow>,
@@ -139,7 +139,7 @@ fn build_items(
     Ok(items)
 }
 
-/// A partition with what its program becomes.
+/// A partition with its compiled program.
 fn build_item(
     alloc: Global,
     row: PartitionRow,

@@ -13,7 +13,7 @@ use std::alloc::Global;
 /// The most lines of a replay text.
 const MOST_INPUTS: usize = MOST_DEVICE_LINES as usize;
 
-/// What has come to one partition so far, in its order.
+/// The inputs of one partition so far, in their order.
 #[derive(Drop)]
 pub struct Collected {
     pub lines: Vec<InputLine>,
@@ -21,7 +21,7 @@ pub struct Collected {
 }
 
 impl Collected {
-    /// Nothing has come.
+    /// No inputs so far.
     pub fn new(alloc: Global) -> Collected
         ensures { result.lines.items ≡ [] }
     {
@@ -30,7 +30,7 @@ impl Collected {
         }
     }
 
-    /// An input comes in this tick.
+    /// Adds an input of this tick.
     #[tactic(auto, using(crate::proofs::Collecting::collecting))]
     pub fn push(&mut self, now: Ticks, input: Input) -> Result<(), InputsFault>
         ensures { AreCollected now.0 (input ∷ []) self.old.lines.items self.new.lines.items result }

@@ -1,4 +1,4 @@
-//! What the bodies of accepted sources cost.
+//! The costs of the bodies of accepted sources.
 
 ghost use Rattle.std.specs.Prelude.{◌≡◌, length, map, IfOk, IfErr};
 ghost use Rattle.image.specs.Items.{partition_of};
@@ -20,13 +20,14 @@ pub struct PartitionCosts {
     pub bodies: Vec<BodyCost>,
 }
 
-/// The costs of the bodies of a module table's partitions, whose source texts stand in their order.
+/// The costs of the bodies of a module table's partitions, whose source texts are given in the same
+/// order.
 ///
 /// # Errors
 ///
-/// Memory where there is none left. Else, in this order: the lowest rule that the table breaks;
-/// a number of sources that is not the number of partitions; and the lowest rule that a source breaks,
-/// with its line, of the first partition whose source is refused.
+/// `Memory` if no memory is left. Otherwise, in this order: the lowest rule that the table breaks;
+/// a number of sources that is not the number of partitions; and the lowest rule that a source
+/// breaks, with its line, of the first partition whose source is refused.
 pub fn costs(
     alloc: Global,
     table: &[u8],

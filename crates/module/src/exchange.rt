@@ -18,7 +18,7 @@ use regions::PartitionMem;
 use window_table::ChannelRow;
 
 impl<E: Executor<Mem = PartitionMem>> Members<E> {
-    /// A message by a channel comes to one of its ends.
+    /// Delivers a message of a channel to one of its ends.
     #[tactic(auto, using(crate::proofs::Written::nothing))]
     fn deliver<S: Sink>(
         &mut self,
@@ -47,7 +47,7 @@ impl<E: Executor<Mem = PartitionMem>> Members<E> {
         }
     }
 
-    /// A message by a channel comes to each of these ends in turn.
+    /// Delivers a message of a channel to each of these ends in turn.
     #[tactic(auto, using(crate::proofs::Written::nothing))]
     fn deliver_all<S: Sink>(
         &mut self,
@@ -68,7 +68,7 @@ impl<E: Executor<Mem = PartitionMem>> Members<E> {
         }
     }
 
-    /// A message goes to all destinations of a channel, in their order; without a channel it goes
+    /// Sends a message to all destinations of a channel, in their order; without a channel it goes
     /// nowhere.
     #[tactic(auto, using(crate::proofs::Written::nothing))]
     pub fn go_by<S: Sink>(
@@ -111,7 +111,7 @@ impl<E: Executor<Mem = PartitionMem>> Members<E> {
         }
     }
 
-    /// So many messages of a port, one after another.
+    /// Moves `count` messages of a port, one after another.
     #[tactic(auto, using(crate::proofs::Written::nothing))]
     fn move_messages<S: Sink>(
         &mut self,
@@ -133,7 +133,7 @@ impl<E: Executor<Mem = PartitionMem>> Members<E> {
         }
     }
 
-    /// The kernel of the partition at a place among them, if there is one.
+    /// The kernel of the partition at `place`; `None` if there is no such partition.
     fn kernel_at(&self, place: usize) -> Option<&Kernel>
         ensures { option_map (λ k. k.now) result
             ≡ option_map (λ x. x.world.kernel) (slice_get (members_in E.Executor self.now) place) }
@@ -144,7 +144,7 @@ impl<E: Executor<Mem = PartitionMem>> Members<E> {
         Some(self.partitions[place].kernel())
     }
 
-    /// The kernel of the partition with a number, if there is one.
+    /// The kernel of the partition with this number; `None` if there is no such partition.
     pub fn kernel(&self, number: PartitionId) -> Option<&Kernel>
         ensures { option_map (λ k. k.now) result
             ≡ option_map (λ x. x.world.kernel)
@@ -154,7 +154,7 @@ impl<E: Executor<Mem = PartitionMem>> Members<E> {
         self.kernel_at(usize::from(place))
     }
 
-    /// How many messages a source port holds; none where there is no such source port.
+    /// How many messages a source port holds; `None` if it is no source port.
     #[tactic(auto, using(crate::proofs::Members::seen))]
     pub fn messages_to_move(&self, partition: PartitionId, port: PortId) -> Option<u8>
         ensures { result
@@ -192,7 +192,7 @@ impl<E: Executor<Mem = PartitionMem>> Members<E> {
         self.step(partition, moment, &PartitionStep::Admit(port), output);
     }
 
-    /// So many ports of a partition, in number order.
+    /// Moves the messages of the first `count` ports of a partition, in number order.
     #[tactic(auto, using(crate::proofs::Written::nothing))]
     fn move_ports<S: Sink>(
         &mut self,
@@ -214,7 +214,7 @@ impl<E: Executor<Mem = PartitionMem>> Members<E> {
         }
     }
 
-    /// How many ports a partition has; none where there is no such partition.
+    /// How many ports a partition has; 0 if there is no such partition.
     #[tactic(auto, using(crate::proofs::Members::seen))]
     pub fn port_count(&self, partition: PartitionId) -> u8
         ensures { result
@@ -226,7 +226,8 @@ impl<E: Executor<Mem = PartitionMem>> Members<E> {
         }
     }
 
-    /// Of the partition whose window has ended, if one has, the source ports move, in number order.
+    /// If a window has ended, moves the messages of the source ports of its partition, in number
+    /// order.
     #[tactic(auto, using(crate::proofs::Written::nothing))]
     pub fn move_ended<S: Sink>(
         &mut self,

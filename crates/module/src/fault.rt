@@ -17,21 +17,21 @@ use std::error::Error;
 use std::fmt;
 use window_table::TableFault;
 
-/// Why a table and sources are not built. Where several reasons hold, the first of this list is
-/// answered, and of several sources that are refused, or too long, the first; want of memory may be
-/// answered before. The module table comes first.
+/// Why a table and sources are not built. If several reasons hold, the first of this list is
+/// reported, and of several sources that are refused, or too long, the first; out of memory may be
+/// reported earlier. The module table comes first.
 #[derive(Clone, Copy, Debug, PartialEq, Eq)]
 pub enum BuildFault {
     Table(TableFault),
     /// There are fewer or more sources than partitions.
     Sources,
-    /// The source of the partition of that name is refused.
+    /// The source of the partition with this name is refused.
     Pal {
         partition: Name,
         fault: PalFault,
     },
-    /// The sources are accepted, and the program of the partition of that name is not compiled: it would
-    /// have more than 65,536 instructions.
+    /// The sources are accepted, and the program of the partition with this name is not compiled:
+    /// it would have more than 65,536 instructions.
     Compile {
         partition: Name,
         fault: CompileFault,
@@ -74,20 +74,20 @@ impl fmt::Display for BuildFault {
 
 impl Error for BuildFault {}
 
-/// Why an image is not run to the end. Where several reasons hold, the first of this list is answered;
-/// want of memory may be answered before.
+/// Why an image is not run to the end. If several reasons hold, the first of this list is reported;
+/// out of memory may be reported earlier.
 #[derive(Clone, Copy, Debug, PartialEq, Eq)]
 pub enum RunFault {
-    /// More than 2^40 ticks are wanted.
+    /// More than 2^40 ticks are requested.
     Ticks,
     /// The bytes are no image.
     Image(ImageFault),
-    /// The image has no partition of that name.
+    /// The image has no partition with this name.
     Partition,
     /// The device text is refused for the image, or the replay text for the partition.
     Device(DeviceFault),
     Memory,
-    /// The sink failed. What it took is a beginning of the trace's text.
+    /// The sink failed. It took a prefix of the trace's text.
     Write,
     /// The sink failed in an earlier tick of this machine.
     Failed,

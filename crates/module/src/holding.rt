@@ -1,4 +1,4 @@
-//! What the source ports of the partitions hold for one of them, before it moves.
+//! The messages that the source ports of the partitions hold for one of them, before they move.
 
 ghost use Rattle.std.specs.Prelude.{◌≡◌, ◌≤◌, length, option_map};
 ghost use Rattle.module_meaning.specs.Table.{at_number};
@@ -20,7 +20,8 @@ use regions::PartitionMem;
 use window_table::ChannelRow;
 
 impl<E: Executor<Mem = PartitionMem>> Members<E> {
-    /// A copy of the message of a port that has so many before it, if there is one.
+    /// A copy of the message of a port that has `before` messages before it, if there is such a
+    /// message.
     #[tactic(auto, using(crate::proofs::Members::seen))]
     fn message_behind(&self, from: PartitionId, port: PortId, before: u8) -> Option<Words>
         ensures { result
@@ -31,7 +32,8 @@ impl<E: Executor<Mem = PartitionMem>> Members<E> {
         kernel.message_behind(port, before)
     }
 
-    /// The message of a port that has so many before it, if there is one, by the port's channel.
+    /// Brings the message of a port that has `before` messages before it, if there is such a
+    /// message, by the port's channel.
     #[tactic(auto, using(crate::proofs::Collecting::collecting))]
     fn bring_message(
         &self,
@@ -55,7 +57,7 @@ impl<E: Executor<Mem = PartitionMem>> Members<E> {
         }
     }
 
-    /// All messages that a source port holds, the oldest first.
+    /// Brings all messages that a source port holds, the oldest first.
     fn bring_port(
         &self,
         channels: &[ChannelRow],
@@ -80,7 +82,7 @@ impl<E: Executor<Mem = PartitionMem>> Members<E> {
         Ok(())
     }
 
-    /// So many ports of a partition, in number order.
+    /// Brings the messages of the first `count` ports of a partition, in number order.
     fn bring_ports(
         &self,
         count: u8,
@@ -103,7 +105,8 @@ impl<E: Executor<Mem = PartitionMem>> Members<E> {
         Ok(())
     }
 
-    /// What the source ports hold of the partition whose window has ended, if one has, in number order.
+    /// Brings what the source ports of the partition whose window has ended hold, if a window has
+    /// ended, in number order.
     #[tactic(auto, using(crate::proofs::Collecting::collecting))]
     pub fn bring_ended(
         &self,

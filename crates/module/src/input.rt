@@ -1,4 +1,4 @@
-//! What the devices do to the module.
+//! The effects of the devices on the module.
 
 ghost use Rattle.std.specs.Prelude.{◌≡◌};
 ghost use Rattle.module_meaning.specs.Module as meaning;
@@ -14,7 +14,7 @@ use partition_base::Executor;
 use regions::PartitionMem;
 
 impl<E: Executor<Mem = PartitionMem>> Members<E> {
-    /// What a device does to the module. Of a module that is shut down there is no tick more.
+    /// The effect of a device on the module. After a shutdown there is no further tick.
     #[tactic(auto, using(crate::proofs::Written::channels))]
     fn input<S: Sink>(
         &mut self,
@@ -42,7 +42,8 @@ impl<E: Executor<Mem = PartitionMem>> Members<E> {
         }
     }
 
-    /// What the devices do in these lines, one after another, unless one of them shuts the module down.
+    /// The effects of the devices in these lines, one after another, until one of them shuts the
+    /// module down.
     #[tactic(auto, using(crate::proofs::Shutdown::lines_end))]
     pub fn input_all<S: Sink>(
         &mut self,

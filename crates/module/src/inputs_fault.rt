@@ -1,4 +1,4 @@
-//! Refusals of telling the inputs of a partition.
+//! Refusals of writing the inputs of a partition.
 
 ghost use Rattle.std.specs.Prelude.{◌≡◌, Some};
 ghost use Rattle.module.specs.Lines.{inputs_line};
@@ -12,22 +12,22 @@ use std::alloc::{AllocError, AllocFailed};
 use std::error::Error;
 use std::fmt;
 
-/// Why it is not told what a run brings a partition. Where several reasons hold, the first of this list
-/// is answered; want of memory may be answered before.
+/// Why the inputs that a run brings a partition are not written. If several reasons hold, the first
+/// of this list is reported; out of memory may be reported earlier.
 #[derive(Clone, Copy, Debug, PartialEq, Eq)]
 pub enum InputsFault {
-    /// More than 2^40 ticks are wanted.
+    /// More than 2^40 ticks are requested.
     Ticks,
     /// The bytes are no image.
     Image(ImageFault),
-    /// The image has no partition of that name.
+    /// The image has no partition with this name.
     Partition,
     /// The device text is refused for the image.
     Device(DeviceFault),
     Memory,
     /// The run brings the partition more than 65,536 inputs, which is more than a replay text has lines.
     TooMany,
-    /// The sink failed. What it took is a beginning of the text.
+    /// The sink failed. It took a prefix of the text.
     Write,
 }
 

@@ -23,7 +23,7 @@ use std::alloc::{AllocError, Global};
 use window_table::Schedule;
 
 impl Module<PartitionProcessor> {
-    /// The partitions of an image, idle, with nothing created. An error is one of memory.
+    /// Loads the partitions of an image, idle, with nothing created. `AllocError`: out of memory.
     #[tactic(auto, using(lone_partition::proofs::Lawful::fitting_items))]
     pub fn load(alloc: Global, image: Image) -> Result<Module<PartitionProcessor>, AllocError>
         ensures standing { IfOk result
@@ -54,7 +54,7 @@ fn load_memory(alloc: Global, items: &[PartitionItem]) -> Result<Memory, AllocEr
     Memory::new(alloc, &plan)
 }
 
-/// Each partition in order, with its number; instructions have these costs.
+/// Loads each partition in order, with its number. Instructions have these costs.
 fn load_partitions(
     alloc: Global,
     costs: &Costs,

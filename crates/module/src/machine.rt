@@ -28,8 +28,8 @@ use std::alloc::Global;
 
 /// An image that runs tick by tick.
 ///
-/// A program of one's own loads an image, reads the text of its devices, and hands each tick the
-/// lines of that tick. So many ticks write what [`run`](crate::run) writes.
+/// A program that embeds it loads an image, reads the text of its devices, and gives each tick the
+/// lines of that tick. The ticks write what [`run`](crate::run) writes for as many ticks.
 #[derive(Drop)]
 pub struct Machine {
     module: Module<PartitionProcessor>,
@@ -60,7 +60,8 @@ impl Machine {
     ///
     /// # Errors
     ///
-    /// [`RunFault::Device`] with the lowest rule that the first wrong line breaks; or want of memory.
+    /// [`RunFault::Device`] with the lowest rule that the first wrong line breaks; or out of
+    /// memory.
     #[tactic(auto, using(crate::proofs::Devices::read_in_order))]
     pub fn devices(&self, alloc: Global, text: &[u8]) -> Result<Vec<DeviceLine>, RunFault>
         ensures taken { IfOk result
@@ -76,7 +77,7 @@ impl Machine {
         }
     }
 
-    /// The tick that comes next, from 0.
+    /// The next tick, from 0.
     pub fn now(&self) -> u64
         ensures { result ≡ (machine_of self.now).standing.now }
     {
@@ -90,13 +91,13 @@ impl Machine {
         self.module.origin.is_none()
     }
 
-    /// Some of so many ticks at once, all of them before the first of these lines of the devices, which
-    /// are of the next tick or later ones: how many they were. Where it is none, the next tick is made
-    /// alone.
+    /// Executes some of `most` ticks at once, all of them before the first of these device lines,
+    /// which are of the next tick or later; returns how many. If it returns 0, the next tick has to
+    /// be made alone.
     ///
     /// # Errors
     ///
-    /// [`RunFault::Write`] where the sink fails: it has taken a beginning of the lines of these ticks.
+    /// [`RunFault::Write`] if the sink fails: it has taken a prefix of the lines of these ticks.
     #[tactic(auto, using(crate::proofs::Passed::passed))]
     pub(crate) fn advance<S: Sink>(
         &mut self,
@@ -122,14 +123,14 @@ impl Machine {
         Ok(count)
     }
 
-    /// The next tick, with the devices' lines of this tick in their order. The lines of its trace go into
-    /// the sink; before the first tick these are the lines of the start too.
+    /// Makes the next tick, with its device lines in their order. The lines of its trace go into
+    /// the sink; before the first tick, also the lines of the start.
     ///
     /// # Errors
     ///
-    /// [`RunFault::Failed`] where the sink failed in an earlier tick, and else [`RunFault::Ticks`] after
-    /// 2^40 ticks: nothing is changed, and nothing is written. [`RunFault::Write`] where the sink fails in
-    /// this tick: it has taken a beginning of the tick's lines.
+    /// [`RunFault::Failed`] if the sink failed in an earlier tick; otherwise [`RunFault::Ticks`]
+    /// after 2^40 ticks: nothing is changed, and nothing is written. [`RunFault::Write`] if the
+    /// sink fails in this tick: it has taken a prefix of the tick's lines.
     #[tactic(auto, using(crate::proofs::Passed::passed))]
     pub fn tick<S: Sink>(&mut self, lines: &[DeviceLine], sink: &mut S) -> Result<(), RunFault>
         requires lines { of_tick (machine_of self.old).standing.now lines.now ≡ lines.now }
@@ -154,9 +155,9 @@ impl Machine {
     }
 }
 
-/// So many calls of [`Machine::tick`] for an image, one after another, each with the devices' lines of
-/// its own tick, write what [`run`](crate::run) writes: the text of the trace of so many ticks, or a
-/// beginning of it where the sink fails. No call is refused but for that.
+/// `n` calls of [`Machine::tick`] for an image, one after another, each with the device lines of
+/// its own tick, write what [`run`](crate::run) writes: the text of the trace of n ticks, or a
+/// prefix of it if the sink fails. No call is refused for another reason.
 #[tactic(auto, using(crate::proofs::Machines::calls_write_the_trace, crate::proofs::Machines::ticks_are_the_trace))]
 pub fn ticks_make_the_trace()
     ensures written { (image : meant.Image) (lines : List DeviceLine) (n : ℕ)
@@ -169,8 +170,8 @@ pub fn ticks_make_the_trace()
         ≡ machine_trace image lines n }
 {}
 
-/// What such calls write shows of each partition of the image what the partition shows alone, from its
-/// slice of the image and from what these lines of the devices bring it: whatever code the others run.
+/// For each partition of the image, such calls write what the partition shows alone, from its slice
+/// of the image and from the inputs that these device lines bring it: whatever code the others run.
 pub fn ticks_isolate_the_partitions()
     ensures { (image : meant.Image) (text : List ℕ) (lines : List DeviceLine) (n : ℕ)
         (last : machines.Machine) (old new : Option (List ℕ)) (before now : ℕ)

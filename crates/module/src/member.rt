@@ -11,7 +11,7 @@ use partition::Partition;
 use partition_base::Executor;
 use regions::{Memory, PartitionMem};
 
-/// The partitions of an image in their order, and the memory of all of them. Each partition is lent
+/// The partitions of an image in their order, and the memory of all of them. Each partition borrows
 /// its own part of the memory.
 #[derive(Drop)]
 pub struct Members<E: Executor<Mem = PartitionMem>> {
@@ -24,13 +24,13 @@ pub struct Members<E: Executor<Mem = PartitionMem>> {
 /// A module between two ticks.
 #[derive(Drop)]
 pub struct Module<E: Executor<Mem = PartitionMem>> {
-    /// What no tick changes: the major frame with its windows, the channels, and what is done on a
-    /// fault of the module.
+    /// The parts that no tick changes: the major frame with its windows, the channels, and the
+    /// action on a fault of the module.
     pub image: Image,
     pub members: Members<E>,
-    /// The tick that comes next.
+    /// The next tick.
     pub now: Ticks,
-    /// The tick from which the major frames count. There is none after a shutdown.
+    /// The tick from which the major frames count; `None` after a shutdown.
     pub origin: Option<Ticks>,
     ghost limit: { now.0 ≤ MOST_TICKS },
     ghost past: { origin_or_zero origin ≤ now.0 },

@@ -7,7 +7,7 @@ ghost use Rattle.isolation.specs.Replays.{numbered};
 use apex_types::PartitionId;
 use image::Image;
 
-/// The number of the partition of a name, if the image has one.
+/// The number of the partition with this name, if the image has one.
 #[tactic(auto, using(std::proofs::lemmas::List::drop_more, lone_partition::proofs::Lawful::items_of_image_few), unfolding(module_meaning::specs::DeviceText::first_from))]
 pub fn numbered(image: &Image, name: &str) -> Option<PartitionId>
     ensures number { option_map (λ p. p.0) result

@@ -19,8 +19,8 @@ use partition_base::Executor;
 use regions::PartitionMem;
 
 impl<E: Executor<Mem = PartitionMem>> Members<E> {
-    /// Of so many ticks from one on, those in which nothing happens in any partition; none where
-    /// something may.
+    /// How many of `most` ticks, from `moment` on, pass in which nothing happens in any partition;
+    /// 0 if something may.
     fn still_ticks(&self, moment: Moment, most: u32) -> u32
         ensures within { result ≤ most }
         ensures still { 0 < result
@@ -39,9 +39,9 @@ impl<E: Executor<Mem = PartitionMem>> Members<E> {
         least
     }
 
-    /// So many ticks of the partition at a place among them, if there is one, or those up to the first
-    /// with an event, whose lines are written; how many they were. It is lent its own part of the memory,
-    /// and no other partition's memory changes.
+    /// Executes `most` ticks of the partition at `place`, or those up to the first with an event,
+    /// and writes their lines; returns how many, 0 if there is no such partition. The partition
+    /// borrows its own part of the memory, and no other partition's memory changes.
     #[tactic(auto, using(crate::proofs::Members::others))]
     fn advance_at<S: Sink>(
         &mut self,
@@ -65,8 +65,8 @@ impl<E: Executor<Mem = PartitionMem>> Members<E> {
     }
 }
 
-/// Of so many ticks from one on, those before the first of these lines, which are of this tick or later
-/// ones.
+/// How many of `most` ticks, from `now` on, come before the first of these lines. The lines are of
+/// the tick `now` or later.
 fn until_line(lines: &[DeviceLine], now: Ticks, most: u32) -> u32
     requires order { AreFrom now.0 lines.now }
     ensures within { result ≤ most }
@@ -78,7 +78,7 @@ fn until_line(lines: &[DeviceLine], now: Ticks, most: u32) -> u32
     }
 }
 
-/// So many ticks, or the most where there are more.
+/// `ticks`, or `most` if there are more.
 fn at_most(ticks: u64, most: u32) -> u32
     ensures within { result ≤ most }
     ensures ticks { result ≤ ticks }
@@ -91,7 +91,7 @@ fn at_most(ticks: u64, most: u32) -> u32
 }
 
 impl<E: Executor<Mem = PartitionMem>> Module<E> {
-    /// So many ticks are over, and the next one comes, with the same origin.
+    /// Skips `ticks` ticks; the origin stays.
     fn skip(&mut self, ticks: u32)
         requires soon { self.old.now.0 + ticks ≤ MOST_TICKS }
         ensures image { self.new.image ≡ self.old.image }
@@ -106,8 +106,8 @@ impl<E: Executor<Mem = PartitionMem>> Module<E> {
         self.now = Ticks(self.now.0 + u64::from(ticks));
     }
 
-    /// So many ticks of the owner of a window, or those up to the first with an event; how many they
-    /// were.
+    /// Executes `most` ticks of the owner of a window, or those up to the first with an event;
+    /// returns how many.
     fn stretch<S: Sink>(
         &mut self,
         moment: Moment,
@@ -139,8 +139,8 @@ impl<E: Executor<Mem = PartitionMem>> Module<E> {
         count
     }
 
-    /// So many ticks of the owner of a window, from one event to the next. There are no more of them once
-    /// the sink has failed.
+    /// Executes `most` ticks of the owner of a window, from one event to the next. Stops once the
+    /// sink has failed.
     fn piece<S: Sink>(
         &mut self,
         moment: Moment,
@@ -183,8 +183,8 @@ impl<E: Executor<Mem = PartitionMem>> Module<E> {
         most - left
     }
 
-    /// Some of so many ticks, all of them of one owner or of none; none where a window ends at the first
-    /// of them, since its messages move then.
+    /// Executes some of `most` ticks, all of them of one owner or all without an owner. It executes
+    /// none if a window ends at the first of them, since its messages move then.
     fn advance_window<S: Sink>(
         &mut self,
         moment: Moment,
@@ -217,10 +217,9 @@ impl<E: Executor<Mem = PartitionMem>> Module<E> {
         }
     }
 
-    /// Some of so many ticks at once, all of them before the first of these lines of the devices: how
-    /// many they were. It is none where the next tick has to be made alone, which is so of the first
-    /// one of a run, of one with a line of the devices, and of one at which a window ends; and after a
-    /// shutdown.
+    /// Executes some of `most` ticks at once, all of them before the first of these device lines;
+    /// returns how many. 0 if the next tick has to be made alone: the first tick of a run, one with
+    /// a device line, or one at which a window ends. 0 after a shutdown.
     pub fn advance<S: Sink>(
         &mut self,
         lines: &[DeviceLine],

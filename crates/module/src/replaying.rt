@@ -1,4 +1,4 @@
-//! Replaying one partition of an image from what comes to it.
+//! Replaying one partition of an image from its inputs.
 
 ghost use Rattle.std.specs.Prelude.{◌≡◌, ◌≢◌, ◌≤◌, ◌<◌, ◌+◌, ◌-◌, ◌^◌, Some, length, IfErr, OnOk, IsErrOf};
 ghost use Rattle.apex_types.specs.declared.limits.TheConstants.{MOST_TICKS};
@@ -18,18 +18,19 @@ use lone_partition::LonePartition;
 use module_base::read_inputs;
 use std::alloc::Global;
 
-/// Runs one partition of the image alone for so many ticks, with what the replay text says comes to it,
-/// and writes the text of its trace into the sink. Nothing of the other partitions is loaded or run.
-/// After [`RunFault::Write`] the sink has failed once and has taken a beginning of that text; every
+/// Runs one partition of the image alone for `ticks` ticks, with the inputs of the replay text, and
+/// writes the text of its trace into the sink. Nothing of the other partitions is loaded or run.
+/// After [`RunFault::Write`] the sink has failed once and has taken a prefix of that text; every
 /// other refusal comes before the sink is asked to take anything.
 ///
 /// For the inputs that a run of the whole image brings the partition, which
-/// [`inputs`](crate::inputs) tells, this is the part of that run's trace with the partition's name.
+/// [`inputs`](crate::inputs) writes, this is the part of that run's trace with the partition's
+/// name.
 ///
 /// # Errors
 ///
 /// In this order: more ticks than 2^40; bytes that are no image; a name of no partition; the lowest
-/// rule that the first wrong line of the replay text breaks. Want of memory may come before a later
+/// rule that the first wrong line of the replay text breaks. Out of memory may come before a later
 /// one is reached.
 pub fn replay<S: Sink>(
     alloc: Global,
@@ -60,7 +61,7 @@ pub fn replay<S: Sink>(
     replay_numbered(alloc, &image, number, inputs, ticks, sink)
 }
 
-/// The same of the partition with a number.
+/// The same for the partition with this number.
 fn replay_numbered<S: Sink>(
     alloc: Global,
     image: &Image,

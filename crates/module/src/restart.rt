@@ -15,7 +15,7 @@ use partition_base::Executor;
 use regions::PartitionMem;
 
 impl<E: Executor<Mem = PartitionMem>> Members<E> {
-    /// Each partition in order clears to a cold start, for a reason.
+    /// Clears each partition in order to a cold start, for a reason.
     pub fn start_all<S: Sink>(
         &mut self,
         moment: Moment,
@@ -34,7 +34,7 @@ impl<E: Executor<Mem = PartitionMem>> Members<E> {
         }
     }
 
-    /// A fault of the module is told. It is no partition's.
+    /// Writes the line of a fault of the module, which belongs to no partition.
     fn tell_fault<S: Sink>(&self, moment: Moment, action: ModuleAction, output: &mut Output<'_, S>)
         ensures { IsMade (meaning.tells_fault moment.at action (members_in E.Executor self.now))
             (members_in E.Executor self.now) (sent_of S.Sink output.old)
@@ -46,8 +46,8 @@ impl<E: Executor<Mem = PartitionMem>> Members<E> {
         output.write();
     }
 
-    /// A fault of the module resets it: this tick becomes the origin, and each partition in order clears
-    /// to a cold start. It answers the tick with this origin.
+    /// A fault of the module resets it: this tick becomes the origin, and each partition in order
+    /// clears to a cold start. Returns the tick with this origin.
     fn reset<S: Sink>(&mut self, moment: Moment, output: &mut Output<'_, S>) -> Moment
         ensures origin { result.at ≡ meaning.as_origin moment.at }
         ensures written { IsMade
@@ -66,8 +66,8 @@ impl<E: Executor<Mem = PartitionMem>> Members<E> {
         origin
     }
 
-    /// A fault of the module's hardware (ARINC 653 Part 1, health monitoring): it is ignored, shuts the
-    /// module down, or resets it. Of a module that is shut down there is no tick more.
+    /// A fault of the module's hardware (ARINC 653 Part 1, health monitoring): it is ignored, shuts
+    /// the module down, or resets it. After a shutdown there is no further tick.
     pub fn break_module<S: Sink>(
         &mut self,
         moment: Moment,

@@ -23,17 +23,17 @@ use apex_types::{DeviceLine, Sink};
 use image::load_image;
 use std::alloc::Global;
 
-/// Runs the image for so many ticks, with what the device text says, and writes the text of its trace
-/// into the sink. After [`RunFault::Write`] the sink has failed once and has taken a beginning of that
-/// text; every other refusal comes before the sink is asked to take anything.
+/// Runs the image for `ticks` ticks with the device text, and writes the text of its trace into the
+/// sink. After [`RunFault::Write`] the sink has failed once and has taken a prefix of that text;
+/// every other refusal comes before the sink is asked to take anything.
 ///
-/// What the trace shows of a partition is what [`replay`](crate::replay) writes of it for the inputs of this
-/// run: its trace alone, whatever code the others run.
+/// What the trace shows of a partition is what [`replay`](crate::replay) writes for the inputs of
+/// this run: its trace alone, whatever code the others run.
 ///
 /// # Errors
 ///
-/// In this order: more ticks than 2^40; bytes that are no image; the lowest rule that the first wrong
-/// line of the device text breaks. Want of memory may come before a later one is reached.
+/// In this order: more ticks than 2^40; bytes that are no image; the lowest rule that the first
+/// wrong line of the device text breaks. Out of memory may come before a later one is reached.
 pub fn run<S: Sink>(
     alloc: Global,
     image: &[u8],
@@ -62,7 +62,7 @@ pub fn run<S: Sink>(
 /// The most ticks that are made at once.
 const MOST_AT_ONCE: u32 = 4_000_000_000;
 
-/// So many ticks, or the most that are made at once.
+/// `ticks`, or the most that are made at once.
 fn at_once(ticks: u64) -> u32
     ensures { result ≤ ticks }
 {
@@ -105,12 +105,12 @@ fn run_ticks<S: Sink>(
     Ok(())
 }
 
-/// Builds a module table and its sources, and runs the image for so many ticks with what the device
-/// text says. What goes into the sink is the text of the trace that the sources mean, a beginning of it
-/// where the sink fails, and nothing where they are refused.
+/// Builds a module table and its sources, and runs the image for `ticks` ticks with the device
+/// text. The sink gets the text of the trace that the sources mean; a prefix of it if the sink
+/// fails; nothing if they are refused.
 ///
-/// What the trace shows of a partition depends on its own source and row, on what surrounds it in the
-/// module table, and on what comes to it, whatever the sources of the others are.
+/// What the trace shows of a partition depends on its own source and row, on its surroundings in
+/// the module table, and on its inputs, whatever the sources of the others are.
 pub fn build_and_run<S: Sink>(
     alloc: Global,
     table: &[u8],

@@ -1,4 +1,4 @@
-//! A step of one partition, the others stay as they are.
+//! A step of one partition; the others are unchanged.
 
 ghost use Rattle.std.specs.Prelude.{◌≡◌, ◌≢◌, ◌<◌, ◌+◌, ℕ, None, length, slice_get};
 ghost use Rattle.apex_types.specs.declared.limits.TheConstants.{MOST_PARTITIONS};
@@ -17,7 +17,7 @@ use lone_partition::{Output, PartitionStep, write_leave, write_step};
 use partition_base::Executor;
 use regions::PartitionMem;
 
-/// The number of the partition at a place.
+/// The number of the partition at `place`.
 pub fn number_at(place: usize) -> PartitionId
     requires { place < MOST_PARTITIONS }
     ensures number { result.0 ≡ place + 1 }
@@ -27,8 +27,9 @@ pub fn number_at(place: usize) -> PartitionId
 }
 
 impl<E: Executor<Mem = PartitionMem>> Members<E> {
-    /// A step of the partition at a place among them, if there is one, whose lines are written. It is
-    /// lent its own part of the memory, and no other partition's memory changes.
+    /// Executes a step of the partition at `place`, if there is such a partition, and writes its
+    /// lines. The partition borrows its own part of the memory, and no other partition's memory
+    /// changes.
     #[tactic(auto, using(crate::proofs::Members::others))]
     pub fn step_at<S: Sink>(
         &mut self,
@@ -53,7 +54,8 @@ impl<E: Executor<Mem = PartitionMem>> Members<E> {
         write_step(&mut self.partitions[place], mem, moment, step, output);
     }
 
-    /// A step of the partition with a number, if there is one, whose lines are written.
+    /// Executes a step of the partition with this number, if there is such a partition, and writes
+    /// its lines.
     #[tactic(auto, using(crate::proofs::Written::still_made))]
     pub fn step<S: Sink>(
         &mut self,
@@ -74,8 +76,8 @@ impl<E: Executor<Mem = PartitionMem>> Members<E> {
         }
     }
 
-    /// The first message of a port of the partition at a place among them leaves it, if it holds one. It
-    /// answers the message.
+    /// Takes the first message out of a port of the partition at `place`, if it holds one. Returns
+    /// the message.
     #[tactic(auto, using(crate::proofs::Members::others))]
     fn leave_at<S: Sink>(
         &mut self,
@@ -102,8 +104,8 @@ impl<E: Executor<Mem = PartitionMem>> Members<E> {
         write_leave(&mut self.partitions[place], mem, moment, port, output)
     }
 
-    /// The first message of a port leaves the partition with a number, if there is one and its port holds
-    /// one. It answers the message.
+    /// Takes the first message of a port out of the partition with this number, if there is such a
+    /// partition and its port holds a message. Returns the message.
     #[tactic(auto, using(crate::proofs::Written::still_made))]
     pub fn leave<S: Sink>(
         &mut self,

@@ -1,4 +1,4 @@
-//! What a run of an image brings one of its partitions.
+//! The inputs that a run of an image brings one of its partitions.
 
 ghost use Rattle.std.specs.Prelude.{◌≡◌, ◌≢◌, ◌≤◌, ◌<◌, ◌+◌, ◌-◌, ◌^◌, Some, length, IfErr, IfOk, OnOk, IsErrOf};
 ghost use Rattle.apex_types.specs.declared.limits.TheConstants.{MOST_TICKS};
@@ -27,18 +27,18 @@ use module_base::{read_devices, write_inputs};
 use partition_base::PartitionProcessor;
 use std::alloc::Global;
 
-/// Runs the image for so many ticks with what the device text says, and writes what comes to one of its
-/// partitions from outside, tick by tick, as a replay text: the messages that reach its ports, also
-/// those that find a port full, the faults of its hardware and those of the module. Of this text
-/// [`replay`](crate::replay) makes the part of the run's trace with the partition's name. After
-/// [`InputsFault::Write`] the sink has failed once and has taken a beginning of the text; every other
-/// refusal comes before the sink is asked to take anything.
+/// Runs the image for `ticks` ticks with the device text, and writes the inputs that one of its
+/// partitions gets from outside, tick by tick, as a replay text: the messages that reach its ports,
+/// also those that find a port full, the faults of its hardware and those of the module. From this
+/// text [`replay`](crate::replay) makes the part of the run's trace with the partition's name.
+/// After [`InputsFault::Write`] the sink has failed once and has taken a prefix of the text; every
+/// other refusal comes before the sink is asked to take anything.
 ///
 /// # Errors
 ///
-/// In this order: more ticks than 2^40; bytes that are no image; a name of no partition; the lowest rule
-/// that the first wrong line of the device text breaks; more than 65,536 inputs. Want of memory may come
-/// before a later one is reached.
+/// In this order: more ticks than 2^40; bytes that are no image; a name of no partition; the lowest
+/// rule that the first wrong line of the device text breaks; more than 65,536 inputs. Out of memory
+/// may come before a later one is reached.
 pub fn inputs<S: Sink>(
     alloc: Global,
     image: &[u8],
@@ -66,7 +66,7 @@ pub fn inputs<S: Sink>(
     tell_numbered(alloc, image, number, devices, ticks, sink)
 }
 
-/// The same of the partition with a number.
+/// The same for the partition with this number.
 fn tell_numbered<S: Sink>(
     alloc: Global,
     image: Image,
@@ -96,7 +96,7 @@ fn tell_numbered<S: Sink>(
     Ok(())
 }
 
-/// What so many ticks bring the watched partition, with these lines of the devices.
+/// Collects the inputs that `ticks` ticks with these device lines bring the watched partition.
 pub fn collect(
     alloc: Global,
     module: &mut Module<PartitionProcessor>,

@@ -15,7 +15,7 @@ use partition_base::Executor;
 use regions::PartitionMem;
 
 impl<E: Executor<Mem = PartitionMem>> Module<E> {
-    /// The tick that comes next, with the origin that counts. There is none after a shutdown.
+    /// The next tick with the current origin; `None` after a shutdown.
     pub fn moment(&self) -> Option<Moment>
         ensures { next_at result ≡ moment_of self.entry.now.now self.entry.now.origin }
     {
@@ -28,7 +28,7 @@ impl<E: Executor<Mem = PartitionMem>> Module<E> {
         })
     }
 
-    /// The next tick, with the devices' lines of it. Where the sink fails, the tick is not over.
+    /// Makes the next tick, with its device lines. If the sink fails, the tick is not over.
     #[tactic(auto, using(crate::proofs::Standing::ticks_now))]
     pub fn tick<S: Sink>(&mut self, lines: &[DeviceLine], output: &mut Output<'_, S>)
         requires now { self.old.now.0 < MOST_TICKS }
@@ -45,7 +45,7 @@ impl<E: Executor<Mem = PartitionMem>> Module<E> {
         }
     }
 
-    /// The tick is over, and the next one comes, with the origin that counts from here on.
+    /// Ends the tick; the next one follows, with the origin valid from here on.
     pub fn pass(&mut self, last: Option<Moment>)
         requires now { self.old.now.0 < MOST_TICKS }
         requires of_now { IsNow self.old.now.0 (next_at last) }
@@ -64,7 +64,7 @@ impl<E: Executor<Mem = PartitionMem>> Module<E> {
         };
     }
 
-    /// What happens in the next tick. After a shutdown nothing does.
+    /// The events of the next tick. After a shutdown nothing happens.
     fn go<S: Sink>(&mut self, lines: &[DeviceLine], output: &mut Output<'_, S>) -> Option<Moment>
         requires { meaning.of_tick self.old.now.0 lines.now ≡ lines.now }
         ensures image { self.new.image ≡ self.old.image }
@@ -82,7 +82,7 @@ impl<E: Executor<Mem = PartitionMem>> Module<E> {
     }
 }
 
-/// Of these lines, which are of this tick or later ones, those of this tick, and those of later ticks.
+/// Splits these lines, which are of `tick` or later ticks, into those of `tick` and the later ones.
 pub fn split_tick(lines: &[DeviceLine], tick: u64) -> (&[DeviceLine], &[DeviceLine])
     requires order { AreFrom tick lines.now }
     ensures own { result.0.now ≡ meaning.of_tick tick lines.now }
@@ -94,7 +94,7 @@ pub fn split_tick(lines: &[DeviceLine], tick: u64) -> (&[DeviceLine], &[DeviceLi
     lines.split_at(count_of_tick(lines, Ticks(tick)))
 }
 
-/// How many of these lines, which are of this tick or later ones, are of this tick.
+/// How many of these lines, which are of `now` or later ticks, are of `now`.
 fn count_of_tick(lines: &[DeviceLine], now: Ticks) -> usize
     requires order { AreFrom now.0 lines.now }
     ensures within { result ≤ length lines.now }

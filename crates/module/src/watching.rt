@@ -1,4 +1,4 @@
-//! Ticks of a module that are not shown, and what they bring one partition.
+//! Ticks of a module without output, and the inputs that they bring one partition.
 
 ghost use Rattle.std.specs.Prelude.{◌≡◌, ◌<◌, ◌+◌, ◌^◌, ℕ, None, Some, IfOk, OnOk};
 ghost use Rattle.apex_types.specs.declared.limits.TheConstants.{MOST_TICKS};
@@ -34,8 +34,8 @@ impl Sink for Forgetful {
 }
 
 impl<E: Executor<Mem = PartitionMem>> Members<E> {
-    /// What the source ports hold of the partition whose window ends in this tick comes to the watched
-    /// one; then what moves, and the tick of the owner.
+    /// Collects what the source ports of the partition whose window ends in this tick bring the
+    /// watched partition; then moves the messages, and makes the tick of the owner.
     fn move_and_tick_watched(
         &mut self,
         plan: &Image,
@@ -60,8 +60,8 @@ impl<E: Executor<Mem = PartitionMem>> Members<E> {
         Ok(())
     }
 
-    /// A tick of the module with the devices' lines of this tick, and what it brings the watched
-    /// partition. It answers as [`Members::tick`] does.
+    /// A tick of the module with its device lines, which collects what it brings the watched
+    /// partition. Returns the same as [`Members::tick`].
     fn tick_watched(
         &mut self,
         plan: &Image,
@@ -90,8 +90,8 @@ impl<E: Executor<Mem = PartitionMem>> Members<E> {
         Ok(Some(last))
     }
 
-    /// What begins, then a tick of the module, and what it brings the watched partition. It answers as
-    /// [`Members::tick`] does.
+    /// Begins what is to begin, then makes a tick of the module, and collects what it brings the
+    /// watched partition. Returns the same as [`Members::tick`].
     fn begin_and_tick_watched(
         &mut self,
         plan: &Image,
@@ -118,7 +118,8 @@ impl<E: Executor<Mem = PartitionMem>> Members<E> {
 }
 
 impl<E: Executor<Mem = PartitionMem>> Module<E> {
-    /// The next tick, with the devices' lines of it, and what it brings the watched partition.
+    /// Makes the next tick, with its device lines, and collects what it brings the watched
+    /// partition.
     pub fn tick_watched(
         &mut self,
         lines: &[DeviceLine],
@@ -143,8 +144,8 @@ impl<E: Executor<Mem = PartitionMem>> Module<E> {
         Ok(())
     }
 
-    /// What happens in the next tick, and what it brings the watched partition. After a shutdown nothing
-    /// happens.
+    /// The events of the next tick, and the inputs that it brings the watched partition. After a
+    /// shutdown nothing happens.
     fn go_watched(
         &mut self,
         lines: &[DeviceLine],

@@ -1,4 +1,4 @@
--- What the type of an image says of its numbers and of its partitions' rows.
+-- The facts that the type of an image gives about its numbers and its partitions' rows.
 use Rattle.std.proofs.Common.{◌≡◌, ℕ, zero, suc, ℤ, ◌<◌, ◌≤◌, Bool, true, false, cond, List, [], ◌∷◌, ◌++◌, length, map, get_or, Option, Some, refl, sym, ap, subst, ◌∙◌, arith}
 use Rattle.std.specs.Prelude.{slice_get, option_map, nat_le}
 use Rattle.std.specs.List.{AllByRecursion}

@@ -1,4 +1,4 @@
--- The text of a line of inputs is what is written part by part.
+-- The text of a line of inputs is the text written part by part.
 use Rattle.std.proofs.Common.{◌≡◌, ℕ, ℤ, codes, List, [], ◌∷◌, ◌++◌, map, refl, sym, ap, ◌∙◌, append-nil}
 use Rattle.std.specs.Prelude.{flat_map}
 use Rattle.std.specs.Fmt.{decimal, signed_decimal}

@@ -1,4 +1,4 @@
--- Words that are read one by one, of which the first ones are kept.
+-- Words that are read one by one, the first of which are kept.
 use Rattle.std.proofs.Common.{◌≡◌, ℕ, ℤ, ◌≤◌, Bool, true, false, cond, List, [], ◌∷◌, ◌++◌, length, Option, Some, None, refl, sym, ap, ◌∙◌, arith, append_assoc, append-nil, length-append}
 use Rattle.std.proofs.lemmas.Bool.{lt-leb, le-leb}
 use Rattle.apex_types.specs.declared.limits.TheConstants.{MOST_WORDS}
@@ -11,7 +11,8 @@ use Rattle.module_base.specs.Seen.{fitting}
 use Rattle.module_base.specs.declared.line.MessageWords.{MessageWords}
 use Rattle.module_base.specs.declared.line.MessageWords.TheVariants as held
 
--- what all words come to, where these were read and kept, or too many were, and the rest is still to come
+-- the words of a message, after these were read and kept, or were too many, and the rest is still
+-- to come
 abbrev pub read_on : List ℤ → Bool → Option (List ℤ) → Option MessageWords
 read_on kept is_long None = None
 read_on kept true (Some ws) = Some held.TooMany

@@ -1,4 +1,4 @@
--- The lines that were read, and those that are still to come.
+-- The lines that were read, and the lines still to come.
 use Rattle.std.proofs.Common.{◌≡◌, ℕ, suc, ◌+◌, ◌<◌, Bool, true, false, cond, List, [], ◌∷◌, ◌++◌, length, take, Ok, Err, Result, refl, sym, ap, subst, ◌∙◌, arith, length-append}
 use Rattle.std.specs.Prelude.{not, ◌==◌, IsErr, IsErrAnd, IfErr}
 use Rattle.std.specs.List.{prefix_len}
@@ -10,7 +10,7 @@ use Rattle.module_base.specs.TextLines.{Taking, line_by, taken_by, ends_with, pu
 use Rattle.module_base.specs.declared.fault.DeviceTextFault.{DeviceTextFault}
 use Rattle.module_base.specs.declared.fault.DeviceTextFault.TheVariants.{Line}
 
--- these lines, and those that are still to come
+-- these lines, followed by the lines still to come
 abbrev pub put_lines : {L : Type 0} → List L → Result (List L) DeviceFault → Result (List L) DeviceFault
 put_lines [] rest = rest
 put_lines (l ∷ ls) rest = put_line l (put_lines ls rest)

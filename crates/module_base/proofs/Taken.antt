@@ -1,4 +1,4 @@
--- What is taken of a line as the code holds it is what is taken of the line.
+-- The meaning of a line as the code holds it is the meaning of the line.
 use Rattle.std.proofs.Common.{◌≡◌, ℕ, ℤ, Bool, true, false, cond, List, Option, Some, None, Err, Result, refl, sym, ap, ◌∙◌}
 use Rattle.std.specs.Prelude.{option_map, nat_lt, if◌then◌else◌}
 use Rattle.apex_types.specs.declared.limits.TheConstants.{MOST_TICKS}
@@ -27,7 +27,7 @@ held_with tick w None o e h = cc
 held_with tick w (Some n) None e h = cc
 held_with tick w (Some n) (Some v) e h = let t : tick ≡ n = cc in let s : w ≡ seen v = cc in rw (t, s) refl
 
--- a line is its first piece, which is its tick, and what the pieces behind it say
+-- a line consists of its first piece, which is its tick, and the meaning of the pieces behind it
 pub held_line : (mark text front : List ℕ) (rest : Option (List ℕ)) (tick : ℕ) (w : Written) → front ≡ piece 32 text → pieces_behind_marks 32 text ≡ pieces_of 32 rest → Some tick ≡ plain_number MOST_TICKS front → Some w ≡ option_map seen (written_by mark (pieces_of 32 rest)) → Some (record { tick = record { 0 = tick }; written = w }) ≡ option_map seen_line (line_by mark text)
 held_line mark text front rest tick w f b t h =
     held_with tick w (plain_number MOST_TICKS (piece 32 text)) (written_by mark (pieces_behind_marks 32 text))
@@ -38,7 +38,7 @@ none_with None o h = refl
 none_with (Some n) None h = refl
 none_with (Some n) (Some w) h = cc
 
--- where the pieces behind the first one say nothing, there is no line
+-- if the pieces behind the first one mean nothing, there is no line
 pub unsaid_line : (mark text : List ℕ) (rest : Option (List ℕ)) → pieces_behind_marks 32 text ≡ pieces_of 32 rest → None ≡ option_map seen (written_by mark (pieces_of 32 rest)) → None ≡ option_map seen_line (line_by mark text)
 unsaid_line mark text rest b h =
     none_with (plain_number MOST_TICKS (piece 32 text)) (written_by mark (pieces_behind_marks 32 text))

@@ -1,4 +1,4 @@
--- Why a device text or a replay text is refused, and what is shown of it.
+-- The reasons for which a device text or a replay text is refused, and the text shown for them.
 use Rattle.std.specs.Prelude.{◌≡◌, ℕ, List, ◌++◌, codes, Result, Ok, Err}
 use Rattle.std.specs.Fmt.{decimal}
 use Rattle.apex_types.specs.declared.device.DeviceFault.{DeviceFault}

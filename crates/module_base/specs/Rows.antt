@@ -1,4 +1,4 @@
--- What the row of a partition of an image has.
+-- The facts about the row of a partition of an image.
 use Rattle.std.specs.Prelude.{◌≤◌, length, All}
 use Rattle.apex_types.specs.declared.limits.TheConstants.{MOST_PORTS, MOST_WORDS}
 use Rattle.apex_types.specs.declared.row.PortRow.{PortRow}

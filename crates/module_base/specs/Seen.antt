@@ -1,4 +1,4 @@
--- What the code holds of the lines of a device text.
+-- The code's view of the lines of a device text.
 use Rattle.std.specs.Prelude.{ℤ, List, length, nat_le, if◌then◌else◌}
 use Rattle.apex_types.specs.declared.limits.TheConstants.{MOST_WORDS}
 use Rattle.module_meaning.specs.DeviceText as meant

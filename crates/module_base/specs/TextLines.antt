@@ -1,4 +1,4 @@
--- The lines of a text, whatever they are taken as: device texts and replay texts are read alike.
+-- The lines of a text, whatever they mean: device texts and replay texts are read alike.
 use Rattle.std.specs.Prelude.{ℕ, ◌+◌, ◌^◌, nat_lt, if◌then◌else◌, List, [], ◌∷◌, codes, Option, Some, None, Result, Ok, Err}
 use Rattle.apex_types.specs.declared.limits.TheConstants.{MOST_TICKS}
 use Rattle.apex_types.specs.declared.device.DeviceFault.{DeviceFault}
@@ -23,18 +23,18 @@ line_by_pieces mark (tick ∷ rest) = line_with (plain_number MOST_TICKS tick) (
 abbrev pub line_by : List ℕ → List ℕ → Option WrittenLine
 line_by mark text = line_by_pieces mark (pieces 32 text)
 
--- ---- what a line is taken as
--- what a line of this tick is taken as behind so many others, by the names in it; or why it is refused
+-- ---- the meaning of a line
+-- the meaning of a line of this tick after `count` others, by the names in it; or why it is refused
 abbrev pub Taking : Type 0 → Type 0
 Taking L = (count tick : ℕ) → Written → Result L DeviceFault
 
--- A line, by what it says, behind so many others, the last of them of this tick.
+-- Takes a line by its meaning, after `count` lines of which the last has tick `before`.
 abbrev pub taken_by : {L : Type 0} → Taking L → (count before : ℕ) → Option WrittenLine → Result L DeviceFault
 taken_by named count before None = Err fault.Form
 taken_by named count before (Some l) = if nat_lt l.tick before then Err fault.Order else named count l.tick l.written
 
 -- ---- the verdict
--- behind the last line feed nothing stands
+-- no bytes follow the last line feed
 abbrev pub ends_with : {L : Type 0} → List ℕ → Result (List L) DeviceFault
 ends_with [] = Ok []
 ends_with _ = Err fault.Form
@@ -47,7 +47,7 @@ abbrev pub and_then : {L : Type 0} → Result L DeviceFault → (L → Result (L
 and_then (Err f) rest = Err f
 and_then (Ok l) rest = put_line l (rest l)
 
--- the lines of these pieces, behind so many others, the last of them of this tick
+-- the lines of these pieces, after `count` lines of which the last has tick `before`
 unfoldable pub lines_by : {L : Type 0} → List ℕ → Taking L → (L → ℕ) → (count before : ℕ) → List (List ℕ) → Result (List L) DeviceFault
 lines_by mark named tick_of count before [] = Ok []
 lines_by mark named tick_of count before (last ∷ []) = ends_with last

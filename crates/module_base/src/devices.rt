@@ -1,4 +1,4 @@
-//! Device texts: what the lines of a text are for an image.
+//! Device texts: the meaning of the lines of a text for an image.
 
 ghost use Rattle.std.specs.Prelude.{◌≡◌, ◌<◌, ℤ, List, Some, Ok, IfOk, IfErr};
 ghost use Rattle.module_meaning.specs.DeviceText as meant;
@@ -27,7 +27,7 @@ use window_table::ChannelRow;
 ///
 /// # Errors
 ///
-/// What is wrong in the first wrong line; or want of memory.
+/// The fault of the first wrong line, or out of memory.
 pub fn read_devices(
     alloc: Global,
     image: &Image,
@@ -79,7 +79,7 @@ fn taken(
     }
 }
 
-/// A message by the channel of that name.
+/// A message of the channel with this name.
 #[tactic(auto, using(std::proofs::lemmas::List::drop_more, crate::proofs::Lawful::few_channels), unfolding(module_meaning::specs::DeviceText::first_from))]
 fn message(
     image: &Image,
@@ -102,7 +102,7 @@ fn message(
     Err(DeviceFault::Name)
 }
 
-/// A message by this channel, whose source has to be the device.
+/// A message of this channel, whose source must be the device.
 #[tactic(auto, using(crate::proofs::Lawful::long_message))]
 fn message_by(
     image: &Image,
@@ -130,7 +130,7 @@ fn message_by(
     }
 }
 
-/// A fault of the partition of that name.
+/// A fault of the partition with this name.
 #[tactic(auto, using(std::proofs::lemmas::List::drop_more, crate::proofs::Lawful::few_partitions), unfolding(module_meaning::specs::DeviceText::first_from))]
 fn partition_fault(
     image: &Image,
@@ -151,7 +151,7 @@ fn partition_fault(
     Err(DeviceFault::Name)
 }
 
-/// The line of an input, unless too many stand before it or its message is too long.
+/// The line of an input, unless too many lines precede it or its message is too long.
 fn within(fits: bool, tick: Ticks, input: DeviceInput) -> Result<DeviceLine, DeviceFault>
     ensures { result ≡ meant.within fits tick.0 input }
 {

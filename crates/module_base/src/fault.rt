@@ -12,9 +12,9 @@ use std::fmt;
 /// Why a device text or a replay text is refused.
 #[derive(Clone, Copy, Debug, PartialEq, Eq)]
 pub enum DeviceTextFault {
-    /// What is wrong in the first line that is wrong.
+    /// The fault of the first wrong line.
     Line(DeviceFault),
-    /// This says nothing of the text.
+    /// Out of memory; this says nothing about the text.
     Memory,
 }
 

@@ -1,4 +1,4 @@
-//! Replay texts: what the lines of a text are for one partition.
+//! Replay texts: the meaning of the lines of a text for one partition.
 
 ghost use Rattle.std.specs.Prelude.{◌≡◌, ◌≤◌, ℤ, List, Some, Ok, Err, All, length, IfOk, IfErr, if◌then◌else◌};
 ghost use Rattle.apex_types.specs.declared.limits.TheConstants.{MOST_PORTS, MOST_WORDS};
@@ -29,7 +29,7 @@ use window_table::PartitionRow;
 ///
 /// # Errors
 ///
-/// What is wrong in the first wrong line; or want of memory.
+/// The fault of the first wrong line, or out of memory.
 pub fn read_inputs(
     alloc: Global,
     row: &PartitionRow,
@@ -85,7 +85,7 @@ fn taken(
     }
 }
 
-/// A message at the port of that name.
+/// A message at the port with this name.
 #[tactic(auto, using(std::proofs::lemmas::List::drop_more), unfolding(module_meaning::specs::DeviceText::first_from))]
 fn message(
     ports: &[PortRow],
@@ -108,7 +108,7 @@ fn message(
     Err(DeviceFault::Name)
 }
 
-/// A message at this port, which has to be a destination.
+/// A message at this port, which must be a destination.
 #[tactic(auto, using(crate::proofs::Lawful::long_arrival))]
 fn message_at(
     count: usize,
@@ -142,7 +142,7 @@ fn is_destination(direction: PortDirection) -> bool
     }
 }
 
-/// A fault of the partition, which has to be named by its own name.
+/// A fault of the partition, which must be named by its own name.
 fn own_fault(own: &Name, count: usize, tick: Ticks, name: Name) -> Result<InputLine, DeviceFault>
     ensures { result
         ≡ (if same own.now name then replay.within (is_room count)
@@ -155,7 +155,7 @@ fn own_fault(own: &Name, count: usize, tick: Ticks, name: Name) -> Result<InputL
     }
 }
 
-/// The line of an input, unless too many stand before it or its message is too long.
+/// The line of an input, unless too many lines precede it or its message is too long.
 fn within(fits: bool, tick: Ticks, input: Input) -> Result<InputLine, DeviceFault>
     ensures { result ≡ replay.within fits tick.0 input }
 {

@@ -1,7 +1,8 @@
-//! What a module is run on: the text of its devices, and the text of what comes to one partition alone.
+//! The inputs of a module: the text of its devices, and the text of the inputs of one partition
+//! alone.
 //!
-//! Both texts have the same forms and the same numbers of refusals; what differs is the word of a
-//! message and what a name may be.
+//! Both texts have the same forms and the same refusal numbers; they differ in the word of a
+//! message and in what a name may be.
 #![tactic(auto)]
 
 mod devices;

@@ -14,14 +14,14 @@ use text_lines::{plain_number, split_at, word};
 /// The last tick that a line may have.
 const LAST_TICK: u64 = MOST_TICKS;
 
-/// The words of a message, unless there are more than a message has.
+/// The words of a message, unless they are more than a message may have.
 #[derive(Drop)]
 pub enum MessageWords {
     Few(Words),
     TooMany,
 }
 
-/// What comes, by the names of the text.
+/// The content of a line, by the names of the text.
 #[derive(Drop)]
 pub enum Written {
     Message(Name, MessageWords),
@@ -36,7 +36,7 @@ pub struct WrittenLine {
     pub written: Written,
 }
 
-/// The line with this text, if it has one of the forms. Messages stand behind this mark.
+/// The line with this text, if it has one of the forms. Messages follow this mark.
 pub fn line_of(mark: &[u8], text: &[u8]) -> Option<WrittenLine>
     ensures { result ≡ option_map seen_line (line_by mark.now text.now) }
 {
@@ -49,7 +49,7 @@ pub fn line_of(mark: &[u8], text: &[u8]) -> Option<WrittenLine>
     })
 }
 
-/// What stands behind the tick.
+/// The content of the line after its tick.
 fn written_of(mark: &[u8], text: Option<&[u8]>) -> Option<Written>
     ensures { result
         ≡ option_map seen (written_by mark.now (pieces_of 32 (option_copied text.entry))) }

@@ -1,4 +1,4 @@
-//! The lines of a text, read one after another, whatever they are taken as.
+//! Reading the lines of a text, one after another, whatever they mean.
 
 ghost use Rattle.std.specs.Prelude.{◌≡◌, ◌<◌, ℕ, Some, Ok, IfOk, IfErr};
 ghost use Rattle.module_meaning.specs.DeviceText as meant;
@@ -17,9 +17,9 @@ use text_lines::split_at;
 /// The most lines of a text.
 const MOST_LINES: usize = MOST_DEVICE_LINES as usize;
 
-/// What knows the names in the lines of a text, and takes each line by them.
+/// Knows the names in the lines of a text, and takes each line by them.
 pub trait TakesLines {
-    /// What a line is taken as.
+    /// The result of taking a line.
     type Line: Drop;
 
     ghost is_readable: { Self → Type 0 };
@@ -28,7 +28,7 @@ pub trait TakesLines {
 
     ghost tick_of: { Self.Line → ℕ };
 
-    /// A line of this tick behind so many others, by the names in it.
+    /// Takes a line of tick `tick` after `count` others, by the names in it.
     fn take(&self, count: usize, tick: Ticks, written: Written) -> Result<Self::Line, DeviceFault>
         requires { is_readable self.now }
         ensures { (w : meant.Written) → written ≡ seen w → result ≡ named self.now count tick.0 w };
@@ -42,7 +42,7 @@ pub trait TakesLines {
 ///
 /// # Errors
 ///
-/// What is wrong in the first wrong line; or want of memory.
+/// The fault of the first wrong line, or out of memory.
 #[tactic(auto, unfolding(crate::specs::TextLines::verdict_by), using(crate::proofs::Reading::wrong_line, crate::proofs::Reading::right_line, crate::proofs::Reading::no_more, crate::proofs::Reading::no_line_feed))]
 pub fn read_lines<T: TakesLines>(
     alloc: Global,
@@ -71,7 +71,7 @@ pub fn read_lines<T: TakesLines>(
     Ok(lines)
 }
 
-/// The line with this text, behind so many others, of which the last is of the tick before.
+/// The line with this text, after `count` lines of which the last has the tick `before`.
 fn line_at<T: TakesLines>(
     mark: &[u8],
     taker: &T,
@@ -88,7 +88,7 @@ fn line_at<T: TakesLines>(
     }
 }
 
-/// The line by the names in it, behind so many others, of which the last is of the tick before.
+/// The line by the names in it, after `count` lines of which the last has the tick `before`.
 fn taken<T: TakesLines>(
     taker: &T,
     count: usize,
@@ -106,7 +106,7 @@ fn taken<T: TakesLines>(
     taker.take(count, tick, written)
 }
 
-/// Whether one more line may stand behind so many.
+/// Whether one more line may follow `count` lines.
 pub fn is_room(count: usize) -> bool
     ensures { result ≡ is_room count }
 {

@@ -1,4 +1,4 @@
-//! The text of what comes to one partition.
+//! The text of the inputs of one partition.
 
 ghost use Rattle.std.specs.Prelude.{◌≡◌, ◌+◌, ◌-◌, ◌*◌, ◌^◌, ◌<◌, ◌≤◌, ◌∷◌, ◌++◌, length, FitsSigned, OnErr, OnOk};
 ghost use Rattle.std.specs.Fmt.{decimal, signed_decimal};
@@ -20,15 +20,15 @@ use arrayvec::ArrayVec;
 use isolation::{Input, InputLine};
 use window_table::PartitionRow;
 
-/// The bytes of one line, which is no longer than one of a trace.
+/// The bytes of one line, which is no longer than a line of a trace.
 type Line = ArrayVec<u8, MOST_LINE_BYTES>;
 
-/// Writes the text of what comes to a partition: a line for each input, in their order. The words
-/// that are written are words of 64 bits.
+/// Writes the text of a partition's inputs: a line for each input, in their order. The words that
+/// are written are words of 64 bits.
 ///
 /// # Errors
 ///
-/// Only where the sink failed; then a beginning of the text is out.
+/// Only if the sink failed; then a prefix of the text is out.
 #[tactic(auto, using(apex_types::proofs::Writing::under_way))]
 pub fn write_inputs<S: Sink>(
     row: &PartitionRow,
@@ -83,7 +83,7 @@ fn line_bytes(row: &PartitionRow, line: &InputLine) -> Line
     bytes
 }
 
-/// What stands behind the tick.
+/// Appends the content of the line after its tick.
 fn push_input(line: &mut Line, row: &PartitionRow, input: &Input)
     requires { array_vec_len line.old + 64 + MOST_WORD_BYTES * MOST_WORDS ≤ MOST_LINE_BYTES }
     ensures items { line.new.items
@@ -106,7 +106,7 @@ fn push_input(line: &mut Line, row: &PartitionRow, input: &Input)
     }
 }
 
-/// The name of a port; nothing where there is no such port.
+/// The name of a port; empty if there is no such port.
 #[tactic(auto, using(crate::proofs::Lawful::from_place))]
 fn name_of_port(ports: &[PortRow], port: PortId) -> &[u8]
     ensures name { result.now ≡ name_of_port (at_number ports.now port.0) }

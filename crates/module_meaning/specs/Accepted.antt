@@ -1,4 +1,5 @@
--- What a module table and the sources of its partitions are accepted as.
+-- The table and the programs as which a module table and the sources of its partitions are
+-- accepted.
 use Rattle.std.specs.Prelude.{◌≡◌, ℕ, List, Some, IsUtf8, [], ◌∷◌, Ok}
 use Rattle.toml.specs.Data.{Members}
 use Rattle.toml.specs.Parse.{parse_document}

@@ -1,4 +1,4 @@
--- The text of the devices: what each line says, and why a line is refused.
+-- The text of the devices: the meaning of each line, and why a line is refused.
 use Rattle.std.specs.Prelude.{ℕ, zero, suc, ◌+◌, ◌-◌, ◌^◌, ℤ, pos, negsuc, Bool, true, false, not, ◌&&◌, ◌==◌, nat_lt, nat_le, if◌then◌else◌, List, [], ◌∷◌, length, codes, Option, Some, None, Result, Ok, Err}
 use Rattle.std.specs.List.{list_all}
 use Rattle.apex_types.specs.declared.limits.TheConstants.{MOST_DEVICE_LINES, MOST_TICKS}
@@ -17,17 +17,17 @@ use Rattle.kernel_meaning.specs.Step.{message}
 
 -- ---- pieces of a text
 
--- what stands before the first byte that is this one, or the whole text
+-- the text before the first byte `mark`, or the whole text
 abbrev pub piece : ℕ → List ℕ → List ℕ
 piece mark bs = front (λ b. not (b == mark)) bs
 
--- what stands behind each byte that is this one, up to the next
+-- the text behind each byte `mark`, up to the next
 unfoldable pub pieces_behind_marks : ℕ → List ℕ → List (List ℕ)
 pieces_behind_marks mark [] = []
 pieces_behind_marks mark (b ∷ bs) =
     if b == mark then piece mark bs ∷ pieces_behind_marks mark bs else pieces_behind_marks mark bs
 
--- what stands before, between and behind the bytes that are this one
+-- the text before, between and behind the bytes `mark`
 abbrev pub pieces : ℕ → List ℕ → List (List ℕ)
 pieces mark bs = piece mark bs ∷ pieces_behind_marks mark bs
 
@@ -72,7 +72,7 @@ words (t ∷ ts) = put_word (word t) (words ts)
 
 -- ---- the forms of a line
 
--- what a device does, by the names of the text
+-- the input of a device, by the names of the text
 pub data Written : Type 0 where
   Message : (channel : List ℕ) (words : List ℤ) → Written
   ModuleFault : Written
@@ -140,12 +140,12 @@ abbrev pub is_device : ChannelEnd → Bool
 is_device ends.Device = true
 is_device _ = false
 
--- the place of the first that is so, from a place on, with it
+-- the first item that passes the test, with its place, counted from a place
 unfoldable pub first_from : {A : Type 0} → ℕ → (A → Bool) → List A → Option (ℕ × A)
 first_from place test [] = None
 first_from place test (x ∷ xs) = if test x then Some (place, x) else first_from (place + 1) test xs
 
--- ---- what a line is taken as
+-- ---- the meaning of a line
 
 -- the line of an input, unless too many stand before it, or its message is too long
 abbrev pub within : Bool → ℕ → DeviceInput → Result DeviceLine DeviceFault
@@ -174,7 +174,7 @@ named rows channels count tick (Message channel ws) = taken_message rows count t
 named rows channels count tick ModuleFault = within (is_room count) tick input.ModuleFault
 named rows channels count tick (PartitionFault name) = taken_fault count tick (first_from 1 (λ p. same p.name name) rows)
 
--- A line, by what it says, behind so many others, the last of them of this tick.
+-- A line with its meaning, behind `count` others, the last of them of tick `before`.
 abbrev pub taken : List Partition → List Channel → (count before : ℕ) → Option WrittenLine → Result DeviceLine DeviceFault
 taken rows channels count before None = Err fault.Form
 taken rows channels count before (Some l) =
@@ -195,7 +195,7 @@ abbrev pub and_then : Result DeviceLine DeviceFault → (DeviceLine → Result (
 and_then (Err f) rest = Err f
 and_then (Ok l) rest = put_line l (rest l)
 
--- the lines of these pieces, behind so many others, the last of them of this tick
+-- the lines of these pieces, behind `count` others, the last of them of tick `before`
 unfoldable pub lines_from : List Partition → List Channel → (count before : ℕ) → List (List ℕ) → Result (List DeviceLine) DeviceFault
 lines_from rows channels count before [] = Ok []
 lines_from rows channels count before (last ∷ []) = ends_with last

@@ -23,8 +23,8 @@ use Rattle.kernel_meaning.specs.Partition.{Member, Moved, with_world, cold_start
 use Rattle.kernel_meaning.specs.Objects.{Port}
 use Rattle.kernel_meaning.specs.Windows.{Schedule, tick_from, owner, ended}
 
--- what no tick of the module changes: the major frame with its windows, the channels, and what is done on a
--- fault of the module
+-- the parts of a module that no tick changes: the major frame with its windows, the channels, and
+-- the action on a fault of the module
 pub record Plan : Type 0 where
   pub schedule : Schedule
   pub channels : List Channel
@@ -47,8 +47,8 @@ still members = record { members = members; lines = [] }
 abbrev pub then_goes : {C : Type 0} → Advanced C → (List (Member C) → Advanced C) → Advanced C
 then_goes a rest = let b = rest a.members in record { members = b.members; lines = a.lines ++ b.lines }
 
--- A step that may start the module again, or shut it down: the members after it, its lines, and the tick with
--- the origin that counts from here on; it is none where the module is shut down.
+-- A step that may start the module again, or shut it down: the members after it, its lines, and the
+-- tick with the origin that counts from here on; none if the module is shut down.
 pub record Course (Control : Type 0) : Type 0 where
   pub at : Option At
   pub members : List (Member Control)
@@ -99,8 +99,8 @@ starts members = starts_all first_tick condition.NormalStart members
 
 -- ---- messages
 
--- a message by a channel comes to one of its ends; what goes to a device is told by the partition that it
--- is from
+-- a message by a channel arrives at one of its ends; the partition of the source reports a message
+-- to a device
 abbrev pub delivers : {C : Type 0} → At → Channel → ArrayVec ℤ → ChannelEnd → ChannelEnd → List (Member C) → Advanced C
 delivers at c m source (ends.Port q port) members = steps (arrives at port m) members q.0
 delivers at c m (ends.Port p port) ends.Device members = steps (goes_out at c.name m) members p.0
@@ -165,7 +165,7 @@ is_port p port (ends.Port q other) = (q.0 == p.0) && (other.0 == port.0)
 abbrev pub channel_from : List Channel → PartitionId → PortId → Option Channel
 channel_from channels p port = find (λ c. is_port p port c.source) channels
 
--- what is seen of a partition, where there is one
+-- the view of a partition, or `none` without a partition
 abbrev pub of_member : {C B : Type 0} → B → (Member C → B) → Option (Member C) → B
 of_member none sees None = none
 of_member none sees (Some x) = sees x
@@ -179,12 +179,12 @@ moves_found channels at p port members (Some m) = then_goes (steps (leaves at po
 abbrev pub moves_message : {C : Type 0} → List Channel → At → PartitionId → PortId → List (Member C) → Advanced C
 moves_message channels at p port members = moves_found channels at p port members (of_member None (leaving port) (at_number members p.0))
 
--- so many messages of a port, one after another
+-- `n` messages of a port, one after another
 abbrev pub moves_messages : {C : Type 0} → ℕ → List Channel → At → PartitionId → PortId → List (Member C) → Advanced C
 moves_messages zero channels at p port members = still members
 moves_messages (suc n) channels at p port members = then_goes (moves_message channels at p port members) (moves_messages n channels at p port)
 
--- so many messages, then the senders that wait for room; of a port that is no source none
+-- `n` messages, then the senders that wait for room; nothing for a port that is not a source
 abbrev pub moves_so_many : {C : Type 0} → List Channel → At → PartitionId → PortId → List (Member C) → Option ℕ → Advanced C
 moves_so_many channels at p port members None = still members
 moves_so_many channels at p port members (Some n) = then_goes (moves_messages n channels at p port members) (λ ms. steps (admits at port) ms p.0)
@@ -199,13 +199,13 @@ ports_from members p = of_member [] ports_of (at_number members p)
 abbrev pub moves_port : {C : Type 0} → List Channel → At → PartitionId → PortId → List (Member C) → Advanced C
 moves_port channels at p port members = moves_so_many channels at p port members (messages_to_move (at_number (ports_from members p.0) port.0))
 
--- so many ports of a partition, from one of them on
+-- `n` ports of a partition, from port `number`
 abbrev pub moves_ports : {C : Type 0} → ℕ → ℕ → List Channel → At → PartitionId → List (Member C) → Advanced C
 moves_ports zero number channels at p members = still members
 moves_ports (suc n) number channels at p members =
     then_goes (moves_port channels at p (record { 0 = number }) members) (moves_ports n (number + 1) channels at p)
 
--- of the partition whose window has ended the source ports move, in number order
+-- the moves of the partition whose window has ended: those of its source ports, in number order
 abbrev pub moves_ended : {C : Type 0} → List Channel → At → List (Member C) → Option ℕ → Advanced C
 moves_ended channels at members None = still members
 moves_ended channels at members (Some p) = moves_ports (length (ports_from members p)) 1 channels at (record { 0 = p }) members
@@ -216,13 +216,14 @@ abbrev pub ticks_owner : {C : Type 0} → At → List (Member C) → Option ℕ 
 ticks_owner at members None = still members
 ticks_owner at members (Some p) = steps (advances at) members p
 
--- what moves, then the tick of the owner
+-- the moves of messages, then the tick of the owner
 abbrev pub moves_and_ticks : {C : Type 0} → Plan → At → List (Member C) → Course C
 moves_and_ticks plan at members =
     goes_on at (then_goes (moves_ended plan.channels at members (ended plan.schedule at)) (λ ms. ticks_owner at ms (owner plan.schedule at)))
 
--- In a tick the devices' lines of this tick act first. Then the messages move of the partition whose window
--- has ended. Then the owner of the tick's window goes on. After a shutdown nothing happens.
+-- In a tick the devices' lines of this tick act first. Then the messages of the partition move
+-- whose window has ended. Then the owner of the tick's window runs. After a shutdown nothing
+-- happens.
 abbrev pub module_tick : {C : Type 0} → Plan → At → List DeviceLine → List (Member C) → Course C
 module_tick plan at devices members =
     then_runs (inputs_all plan at (of_tick at.now.0 devices) members) (moves_and_ticks plan)
@@ -233,7 +234,7 @@ module_tick plan at devices members =
 abbrev pub next_tick : At → At
 next_tick at = tick_from at.origin.0 (at.now.0 + 1)
 
--- the lines of so many ticks from a tick on; of a module that is shut down there are none
+-- the lines of `n` ticks from a tick; a module that is shut down writes none
 abbrev pub trace_from : {C : Type 0} → Plan → List DeviceLine → ℕ → Option At → List (Member C) → List Event
 trace_from plan devices zero at members = []
 trace_from plan devices (suc n) None members = []

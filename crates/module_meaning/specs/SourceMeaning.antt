@@ -1,5 +1,5 @@
--- What the sources of a module mean: the trace. Kernel, windows and trace are those of an image too; here the processes run on their
--- sources.
+-- The meaning of the sources of a module: the trace. Kernel, windows and trace are those of an
+-- image too; here the processes run on their sources.
 use Rattle.std.specs.Prelude.{ℕ, ◌+◌, List, [], ◌∷◌, map, is_some, ◌≡◌, ◌^◌, ◌≤◌, Ok}
 use Rattle.apex_types.specs.declared.limits.TheConstants.{MOST_TICKS}
 use Rattle.apex_types.specs.declared.device.DeviceLine.{DeviceLine}
@@ -38,7 +38,7 @@ source_members costs schedule number [] sources = []
 source_members costs schedule number (p ∷ ps) [] = []
 source_members costs schedule number (p ∷ ps) (s ∷ ss) = source_member costs (fixed_of schedule number p) p.ports s ∷ source_members costs schedule (number + 1) ps ss
 
--- what a table and the programs of its partitions mean
+-- the module of a table and the programs of its partitions
 abbrev pub source_module : Table → List program.Program → Module SourceControl
 source_module t sources = record { plan = record { schedule = t.schedule; channels = t.channels; fault = t.fault }; members = source_members t.costs t.schedule 1 t.partitions sources }
 
@@ -46,8 +46,8 @@ source_module t sources = record { plan = record { schedule = t.schedule; channe
 abbrev pub source_trace : Table → List program.Program → List DeviceLine → ℕ → List Event
 source_trace t sources devices n = trace (source_module t sources) devices n
 
--- Table and sources are accepted as this table and these programs, and the device text as these lines for
--- them, to be run for so many ticks.
+-- Table and sources are accepted as this table and these programs, and the device text as these
+-- lines for them, for a run of `n` ticks.
 pub record IsAcceptedRun (table : List ℕ) (sources : List (List ℕ)) (devices : List ℕ) (n : ℕ) (t : Table) (programs : List Program) (lines : List DeviceLine) : Type 0 where
   pub accepted : IsModule table sources t programs
   pub taken : verdict t.partitions t.channels devices ≡ Ok lines

@@ -36,12 +36,12 @@ pub record Table : Type 0 where
   pub partitions : List Partition
   pub channels : List Channel
 
--- the one with a number: partitions, and the ports of each, are numbered from 1
+-- the item with a number: partitions, and the ports of each, are numbered from 1
 abbrev pub at_number : {A : Type 0} → List A → ℕ → Option A
 at_number xs zero = None
 at_number xs (suc place) = slice_get xs place
 
--- what is fixed of the partition with a number
+-- the fixed part of the partition with a number
 abbrev pub fixed_of : Schedule → ℕ → Partition → Fixed
 fixed_of schedule number p = record { name = p.name; number = number; period = p.period; duration = p.duration; schedule = schedule_of_partition number schedule; health = p.health }
 
@@ -57,7 +57,7 @@ has_twice equal (x ∷ xs) = list_any (equal x) xs || has_twice equal xs
 
 -- The rules on rows. Those of a table that is read and of an image that is loaded are the same.
 
--- Windows: a window of a partition that is none of so many, or that ends past the frame.
+-- Windows: a window that names no partition of the table, or ends after the frame.
 abbrev pub is_wrong_window : (frame count : ℕ) → WindowRow → Bool
 is_wrong_window frame count row = nat_lt row.partition.0 1 || nat_lt count row.partition.0 || nat_lt frame (row.offset + row.length)
 
@@ -78,12 +78,13 @@ common low high w = min high (w.offset + w.length) - max low w.offset
 unfoldable pub offered : ℕ → ℕ → ℕ → List WindowRow → ℕ
 offered partition low high windows = sum_by (λ w. if w.partition.0 == partition then common low high w else 0) windows
 
--- whether one of the first so many periods of a partition offers less than its duration
+-- whether one of the first periods of a partition offers less than its duration
 unfoldable pub falls_short : ℕ → ℕ → ℕ → ℕ → List WindowRow → Bool
 falls_short zero partition period duration windows = false
 falls_short (suc k) partition period duration windows = nat_lt (offered partition (k * period) ((k + 1) * period) windows) duration || falls_short k partition period duration windows
 
--- whether that is so of one of the partitions, which are numbered from a number on
+-- whether a period of one of the partitions, which are numbered from `n`, offers less than its
+-- duration
 unfoldable pub falls_short_from : ℕ → Schedule → List Partition → Bool
 falls_short_from n s [] = false
 falls_short_from n s (p ∷ ps) = falls_short (s.frame / p.period) n p.period p.duration s.windows || falls_short_from (n + 1) s ps
@@ -99,7 +100,7 @@ lacks_release_from n windows (p ∷ ps) = not (has_release windows n) || lacks_r
 abbrev pub lacks_release : List WindowRow → List Partition → Bool
 lacks_release windows ps = lacks_release_from 1 windows ps
 
--- Ends: what a channel connects.
+-- Ends: the ends that a channel connects.
 
 abbrev pub ends_of : Channel → List ChannelEnd
 ends_of c = c.source ∷ c.destinations
@@ -109,7 +110,7 @@ abbrev pub port_at : List Partition → ChannelEnd → Option PortRow
 port_at ps ends.Device = None
 port_at ps (ends.Port p q) = slice_get ps (p.0 - 1) >>= λ row. slice_get row.ports (q.0 - 1)
 
--- an end that is no port: a number of no partition, or of none of its ports
+-- an end that is no port: the partition or the port of that number does not exist
 abbrev pub is_unknown_port : List Partition → ChannelEnd → Bool
 is_unknown_port ps ends.Device = false
 is_unknown_port ps (ends.Port p q) = (p.0 == 0) || (q.0 == 0) || is_none (port_at ps (ends.Port p q))
@@ -142,7 +143,7 @@ abbrev pub is_source : PortDirection → Bool
 is_source directions.Source = true
 is_source directions.Destination = false
 
--- what holds of the port at an end, if there is one
+-- a test of the port at an end, false without a port
 abbrev pub port_is : List Partition → (PortRow → Bool) → ChannelEnd → Bool
 port_is ps test end = elim (port_at ps end) [ None ↦ false | Some row ↦ test row ]
 
@@ -159,7 +160,7 @@ is_queuing_port ps = port_is ps (λ row. is_queuing row.kind)
 abbrev pub differ : List Partition → ChannelEnd → ChannelEnd → Bool
 differ ps d e = port_is ps (λ a. port_is ps (λ b. not (is_same_kind a.kind b.kind) || not (a.words == b.words)) e) d
 
--- a source that is none, or a destination that is none
+-- a source that is a destination port, or a destination that is a source port
 abbrev pub has_wrong_direction : List Partition → Channel → Bool
 has_wrong_direction ps c = is_destination_port ps c.source || list_any (is_source_port ps) c.destinations
 

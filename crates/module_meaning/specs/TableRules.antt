@@ -1,5 +1,6 @@
--- What the text of a module table says, and the rules that it has to keep. A text is a TOML document whose keys are those of a module
--- table, each with a value of its type. The verdict on it is its table, or the first rule that it breaks.
+-- The text of a module table, and the rules that it has to keep. A text is a TOML document whose
+-- keys are those of a module table, each with a value of its type. The verdict on it is its table,
+-- or the first rule that it breaks.
 use Rattle.std.specs.Prelude.{ℕ, ℤ, codes, eqb, Bool, true, false, ◌&&◌, ◌||◌, is_some, if◌then◌else◌, List, [], ◌∷◌, Option, Some, None, ◌+◌, ◌^◌, pos, refl, ◌+ℤ◌, nat_abs, not, nat_lt, int_lt, is_none, ◌++◌, length, map, unwrap_or, Result, Ok, Err}
 use Rattle.std.specs.Cmp.Lexicographic.{pointwise}
 use Rattle.toml.specs.Data.{Items, no_items, item, Members, no_members, member, get_member, as_str, as_integer, as_bool, as_array, as_table}
@@ -26,11 +27,11 @@ use Rattle.apex_types.specs.declared.row.WindowRow.{WindowRow}
 use Rattle.apex_types.specs.declared.row.ChannelEnd.{ChannelEnd}
 use Rattle.apex_types.specs.declared.row.ChannelEnd.TheVariants as ends
 
--- What the text of a module table says: a TOML document whose keys are those of a module table,
--- each with a value of its type. Names are texts and numbers any, as they stand; the rules that
--- they have to keep stand in `TableRules`.
+-- The contents of the text of a module table: a TOML document whose keys are those of a module
+-- table, each with a value of its type. Names are texts and numbers any, as they are written; the
+-- rules that they have to keep stand in `TableRules`.
 
--- what only a port of its kind has
+-- the members of only one kind of port
 pub data KindText : Type 0 where
   Sampling : (refresh : ℤ) → KindText
   Queuing : (depth : ℤ) (discipline : Discipline) → KindText
@@ -41,7 +42,8 @@ pub record PortText : Type 0 where
   pub direction : PortDirection
   pub words : ℤ
 
--- no health table where the text's has not exactly the seven errors, each with a known action
+-- no health table if the text's table does not have exactly the seven errors, each with a known
+-- action
 pub record PartitionText : Type 0 where
   pub name : List ℕ
   pub period : ℤ
@@ -60,8 +62,8 @@ pub record ChannelText : Type 0 where
   pub source : List ℕ
   pub destinations : List (List ℕ)
 
--- no action on a module fault where the text's is not a known one; no costs where the text writes
--- none, else their numbers in the order of their keys
+-- no action on a module fault if the text's action is unknown; no costs if the text writes none,
+-- otherwise their numbers in the order of their keys
 pub record TableText : Type 0 where
   pub frame : ℤ
   pub fault : Option ModuleAction
@@ -90,7 +92,7 @@ unfoldable pub partition_action_of : List ℕ → Option PartitionAction
 partition_action_of word =
     if same word (codes "IGNORE") then Some partition_action.Ignore else (if same word (codes "IDLE") then Some partition_action.Idle else (if same word (codes "WARM_START") then Some partition_action.WarmStart else (if same word (codes "COLD_START") then Some partition_action.ColdStart else None)))
 
--- The value of a type at a key: none where there is no such key or a value of another type.
+-- The value of a type at a key; none if the key is missing or has a value of another type.
 
 abbrev pub text_at : List ℕ → Members → Option (List ℕ)
 text_at key ms = get_member key ms >>= as_str
@@ -262,7 +264,7 @@ optional_costs (Some ms) = costs_of ms >>= λ costs. Some (Some costs)
 abbrev pub is_table_key : List ℕ → Bool
 is_table_key = is_one_of (codes "frame" ∷ codes "fault" ∷ codes "cost" ∷ codes "partition" ∷ codes "window" ∷ codes "channel" ∷ [])
 
--- what a document says, if its keys, types and words are those of a module table
+-- the table that a document describes, if its keys, types and words are those of a module table
 unfoldable pub table_text_of : Members → Option TableText
 table_text_of ms = do
   frame ← integer_at (codes "frame") ms
@@ -273,8 +275,8 @@ table_text_of ms = do
   channels ← optional_array_at (codes "channel") ms >>= tables_of channel_of
   if has_only is_table_key ms then Some (record { frame = frame; fault = module_action_of fault; costs = costs; partitions = partitions; windows = windows; channels = channels }) else None
 
--- The rules that a module table keeps, in the order in which they are asked, and its verdict: the
--- table itself, or the first rule that it breaks.
+-- The rules that a module table keeps, in the order of their checks, and its verdict: the table
+-- itself, or the first rule that it breaks.
 
 -- The rule that is broken.
 pub data Refusal : Type 0 where
@@ -344,7 +346,7 @@ has_same_names t =
 -- Each name that the table mentions stands for a number: partitions and the ports of each are
 -- numbered from 1 in the order of the text. An end of a channel is `partition.port` or `DEVICE`.
 
--- the number of the first that is so, counted from a number on
+-- the number of the first item that passes the test, counted from a number
 unfoldable pub number_from : {A : Type 0} → ℕ → (A → Bool) → List A → Option ℕ
 number_from n test [] = None
 number_from n test (x ∷ xs) = if test x then Some n else number_from (n + 1) test xs
@@ -367,7 +369,7 @@ port_from n (p ∷ ps) text = elim (port_number p text) [
 unfoldable pub end_of : List PartitionText → List ℕ → Option ChannelEnd
 end_of ps text = if same text (codes "DEVICE") then Some ends.Device else port_from 1 ps text
 
--- a window's partition that is none, and an end of a channel that is none
+-- a window's partition that does not exist, and an end of a channel that does not exist
 abbrev pub is_unknown_window : List PartitionText → WindowText → Bool
 is_unknown_window ps w = is_none (partition_number ps w.partition)
 
@@ -377,7 +379,7 @@ has_unknown_end ps c = is_none (end_of ps c.source) || list_any (λ d. is_none (
 unfoldable pub has_unknown_name : TableText → Bool
 has_unknown_name t = list_any (is_unknown_window t.partitions) t.windows || list_any (has_unknown_end t.partitions) t.channels
 
--- The table that a text describes. What no table has stands as 0, the device or IGNORE until its
+-- The table that a text describes. A value that no table has is 0, the device or IGNORE until its
 -- rule refuses it.
 
 abbrev pub window_row : List PartitionText → WindowText → WindowRow
@@ -411,7 +413,7 @@ costs_or_written (Some numbers) = from_order (map cost_row numbers)
 unfoldable pub numbered : TableText → Table
 numbered t = record { schedule = record { frame = nat_abs t.frame; windows = map (window_row t.partitions) t.windows }; fault = unwrap_or t.fault module_action.Ignore; costs = costs_or_written t.costs; partitions = map partition_row t.partitions; channels = map (channel_row t.partitions) t.channels }
 
--- Overlap: a window that begins before the end of the window before it in the text, or ends past
+-- Overlap: a window that begins before the end of the window before it in the text, or ends after
 -- the frame.
 unfoldable pub overlaps_after : ℤ → ℤ → List WindowText → Bool
 overlaps_after frame end [] = false
@@ -426,7 +428,7 @@ has_unknown_action t = is_none t.fault || list_any (λ p. is_none p.health) t.pa
 
 -- The verdict.
 
--- of a table whose text keeps its limits and names
+-- the verdict on a table whose text keeps its limits and names
 unfoldable pub judge_table : TableText → Table → Result Table Refusal
 judge_table text t =
     if overlaps text then Err Overlap else (if has_odd_period t.schedule.frame t.partitions then Err Period else (if has_short_period t.schedule t.partitions then Err Duration else (if lacks_release t.schedule.windows t.partitions then Err Release else (if has_wrong_ends t.partitions t.channels then Err Ends else (if has_unknown_action text then Err Health else Ok t)))))

@@ -1,2 +1,3 @@
-//! What a module table and the text of the devices say, and what the sources of a module mean: the trace.
+//! The meaning of a module table, of the text of the devices, and of the sources of a module: the
+//! trace.
 #![tactic(auto)]

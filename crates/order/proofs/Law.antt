@@ -19,7 +19,7 @@ use Rattle.order.specs.RunLaw.{AreOrdered, disciplines_of, names_of, RunGoes, Ha
 use Rattle.order.proofs.Runs.{run_is}
 use Rattle.order.proofs.Through.{goes_through, ends_ordered}
 
--- where all lists are in order at first
+-- if all lists are in order at first
 pub run_goes : {C : Type 0} (m : Module C) (devices : List DeviceLine) (n : ℕ) → AreOrdered (disciplines_of m.members) (names_of m.members) (λ p. first_numbers) m.members → RunGoes m devices n
 run_goes {C = C} m devices n h =
     let r = run_is m devices n in
@@ -30,7 +30,7 @@ run_goes {C = C} m devices n h =
       order = goes_through (disciplines_of m.members) (names_of m.members) r.history (λ p. first_numbers) m.members h;
     }
 
--- the states after so many ticks
+-- the states after n ticks
 pub state_has_order : {C : Type 0} (m : Module C) (devices : List DeviceLine) (n p : ℕ) (x : Member C) → RunGoes m devices n → at_number (members_after m devices n) p ≡ Some x → HasOrder m p x
 state_has_order {C = C} m devices n p x run e =
     let end = ends_ordered (disciplines_of m.members) (names_of m.members) run.history (λ q. first_numbers) m.members run.order in

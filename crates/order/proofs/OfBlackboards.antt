@@ -1,4 +1,4 @@
--- The services on blackboards go on with the numbers.
+-- The services on blackboards continue the numbers.
 use Rattle.std.proofs.Common.{List, None, Option, Some, [], true, ℕ, ℤ, ◌∷◌, ◌≡◌}
 use Rattle.std.specs.Prelude.{length, not, pos}
 use Rattle.arrayvec.specs.ArrayVec.{ArrayVec}

@@ -1,4 +1,4 @@
--- The services on buffers go on with the numbers.
+-- The services on buffers continue the numbers.
 use Rattle.std.proofs.Common.{List, None, Option, Some, [], refl, true, ℕ, ℤ, ◌∷◌, ◌≡◌}
 use Rattle.std.specs.Prelude.{length, not, pos}
 use Rattle.arrayvec.specs.ArrayVec.{ArrayVec}

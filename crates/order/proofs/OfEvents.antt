@@ -1,4 +1,4 @@
--- The services on events go on with the numbers.
+-- The services on events continue the numbers.
 use Rattle.std.proofs.Common.{List, Some, [], false, true, ℕ, ℤ, ◌∷◌, ◌≡◌}
 use Rattle.std.specs.Prelude.{not}
 use Rattle.apex_types.specs.declared.codes.Discipline.{Discipline}

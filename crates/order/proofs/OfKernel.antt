@@ -1,4 +1,4 @@
--- Steps of a partition go on with the numbers.
+-- Steps of a partition continue the numbers.
 use Rattle.std.proofs.Common.{Bool, List, None, Option, Some, [], false, refl, suc, true, zero, ℕ, ℤ, ◌∷◌, ◌≡◌}
 use Rattle.std.specs.Ordering.{int_eq}
 use Rattle.std.specs.Prelude.{if◌then◌else◌, is_some, length, map, nat_le, not, pos, slice_get, ◌&&◌, ◌+◌}
@@ -201,7 +201,8 @@ module _ (d : ListKey → Discipline) (names : ℕ → List ℕ) where
   waits_told p e words (response.Partition action) = refl
   waits_told p e words (response.Module action) = refl
 
-  -- what leaves the partition as it is, and calls nobody ready, then the action that it leaves to be done
+  -- a step that leaves the partition unchanged and calls nobody ready, then the action that remains
+  -- to be done
   then_acts_moves : (may : May) (k : Kernel) (p : Runner) (e : ErrorKind) (s : Step (Option PartitionAction)) → IsReady k → [] ≡ ready_lines s.lines → Moves may k (then_acts k p e s)
   then_acts_moves may k p e s h told =
       after_moves may k _ _ (record { goes = record { takings = []; follows = λ n o. o; named = h.named; told = told; allowed = tt }; objects = h.objects; ports = h.ports }) (λ j. acts_moves may k p e s.part j)

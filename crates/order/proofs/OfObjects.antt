@@ -1,4 +1,4 @@
--- The services on objects go on with the numbers.
+-- The services on objects continue the numbers.
 use Rattle.std.proofs.Common.{List, ℕ, ℤ, refl}
 use Rattle.apex_types.specs.declared.codes.Discipline.{Discipline}
 use Rattle.apex_types.specs.declared.codes.Mode.{Mode}
@@ -18,7 +18,7 @@ use Rattle.order.proofs.OfSemaphores.{create_semaphore_shares, wait_semaphore_sh
 use Rattle.order.proofs.Shares.{Shares, IsSet, get_id_shares, get_status_shares, nothing_shares}
 
 module _ (d : ListKey → Discipline) (names : ℕ → List ℕ) where
-  -- The last clause is for services that only tell.
+  -- The last clause is for services that only write lines.
   pub serves_objects_shares : (m : Mode) (at : At) (b : Sharing Objects) (p : Runner) (c : Call) (words : List ℤ) → IsSet d names Objects (HaveDisciplines d) b
       → Shares d names Objects (HaveDisciplines d) (may_by p c) b (serves_objects m at b p c words)
   serves_objects_shares m at b p (call.CreateBuffer name) words h = create_buffer_shares d names (may_by p (call.CreateBuffer name)) m b p name h

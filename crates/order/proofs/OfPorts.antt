@@ -1,4 +1,4 @@
--- The services on ports, arrivals and senders that enter go on with the numbers.
+-- The services on ports, arrivals and senders that enter continue the numbers.
 use Rattle.std.proofs.Common.{Bool, List, None, Option, Some, [], false, refl, subst, true, ℕ, ℤ, ◌∷◌, ◌≡◌}
 use Rattle.std.proofs.lemmas.Option.{none-some, same_Some}
 use Rattle.std.specs.Prelude.{length, not, pos}
@@ -147,7 +147,7 @@ module _ (d : ListKey → Discipline) (names : ℕ → List ℕ) where
       (λ f e. after_shares d names Ports (PortsHaveDisciplines d) may b _ _ (answers_shares d names Ports (PortsHaveDisciplines d) may b p service.ClearQueuingPort code.NoError [] h)
       (λ k. puts may b f.0 (record f.1 { messages = []; overflowed = false }) k (queuing_fits b id f k e))))
 
-  -- The last clause is for services that only tell.
+  -- The last clause is for services that only write lines.
   pub serves_ports_shares : (m : Mode) (at : At) (b : Sharing Ports) (p : Runner) (c : Call) (words : List ℤ) → Set b → To (may_by p c) b (serves_ports m at b p c words)
   serves_ports_shares m at b p (call.CreateSamplingPort name) words h = create_sampling_port_shares (may_by p (call.CreateSamplingPort name)) m b p name h
   serves_ports_shares m at b p (call.WriteSamplingMessage id array length) words h = write_sampling_message_shares (may_by p (call.WriteSamplingMessage id array length)) b p id array length words h

@@ -1,4 +1,4 @@
--- The services on processes and on time go on with the numbers.
+-- The services on processes and on time continue the numbers.
 use Rattle.std.proofs.Common.{Bool, List, None, Option, Some, [], false, refl, subst, suc, sym, true, zero, ℕ, ℤ, ◌∷◌, ◌≡◌}
 use Rattle.std.specs.Prelude.{if◌then◌else◌, is_some, nat_le, negsuc, not, pos, ◌+◌, ◌==◌, ◌||◌}
 use Rattle.apex_types.specs.declared.limits.TheConstants.{MOST_LOCK_LEVEL}

@@ -1,4 +1,4 @@
--- The services on semaphores go on with the numbers.
+-- The services on semaphores continue the numbers.
 use Rattle.std.proofs.Common.{List, None, Option, Some, [], refl, true, ℕ, ℤ, ◌∷◌, ◌≡◌}
 use Rattle.std.specs.Prelude.{not, nat_lt, ◌+◌, ◌-◌}
 use Rattle.apex_types.specs.declared.codes.Discipline.{Discipline}

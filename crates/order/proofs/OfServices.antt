@@ -1,4 +1,4 @@
--- The services and the choice go on with the numbers.
+-- The services and the choice continue the numbers.
 use Rattle.std.proofs.Common.{Bool, List, None, Option, Some, [], false, refl, true, ℕ, ℤ, ◌∙◌, ◌∷◌, ◌≡◌}
 use Rattle.std.specs.Prelude.{if◌then◌else◌, length, not, ◌&&◌}
 use Rattle.apex_types.specs.declared.limits.TheConstants.{MOST_REPORT_WORDS}

@@ -1,4 +1,4 @@
--- Each step of a partition goes on with the numbers.
+-- Each step of a partition continues the numbers.
 use Rattle.std.proofs.Common.{List, None, Option, Some, [], ap, refl, subst, sym, ℕ, ℤ, ◌∙◌, ◌∷◌, ◌≡◌, ◌↔◌, ◌++◌}
 use Rattle.std.proofs.lemmas.List.{map-append}
 use Rattle.std.specs.Prelude.{map, slice_set}
@@ -97,7 +97,7 @@ module _ {C : Type 0} (d : ListKey → Discipline) (names : ℕ → List ℕ) wh
     allowed = g.goes.allowed;
   }
 
-  -- one step, then another from where it led
+  -- one step, then another from the world after it
   followed_goes : (may : May) (n : Numbers) (m : Moved C) (rest : World C → Moved C) → (g : GoesOn d names may n m) → GoesOn d names may (take_all g.takings n) (rest m.world)
       → GoesOn d names may n (followed_by m rest)
   followed_goes may n m rest g h = record {
@@ -132,7 +132,7 @@ module _ {C : Type 0} (d : ListKey → Discipline) (names : ℕ → List ℕ) wh
         ports = h.ports;
       })
 
-  -- the one that is picked runs
+  -- the picked runner runs
   chosen_runs : (e : Engine C) (at : At) (w : World C) → RecordsAgree w.kernel.processes → (choice_phase e at w).world.kernel.processes.running ≡ pick w.kernel.mode (chosen_among w.kernel)
   chosen_runs e at w h =
       let s = chooses_with_handler w.kernel in
@@ -187,6 +187,6 @@ module _ {C : Type 0} (d : ListKey → Discipline) (names : ℕ → List ℕ) wh
       moved_goes at x.engine nobody n (of_ports_alone x.world.kernel (arrival.leaves x.world.kernel.ports (place_of_port port))) x.world h
       (leaves_moves d names x.world.kernel (place_of_port port) (ready_of d names n x.world.kernel h)) h.records
 
-  -- what goes out by a channel changes nothing
+  -- a message that goes out by a channel changes nothing
   pub goes_out_goes : (n : Numbers) (at : At) (channel : List ℕ) (m : ArrayVec ℤ) (x : Member C) → IsOrdered d names n x.world.kernel → GoesOn d names nobody n (goes_out at channel m x)
   goes_out_goes n at channel m x h = record { takings = []; ordered = h; told = refl; allowed = tt }

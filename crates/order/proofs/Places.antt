@@ -1,4 +1,4 @@
--- What stands at the places of a list where one item is put.
+-- The items of a list after one of them is replaced.
 use Rattle.std.proofs.Common.{◌≡◌, ◌≢◌, ℕ, zero, suc, true, List, [], ◌∷◌, Some, refl, ap}
 use Rattle.std.proofs.lemmas.Option.{none-some}
 use Rattle.std.specs.Prelude.{is_some, slice_get, slice_set}
@@ -15,7 +15,7 @@ get_set_other (a ∷ xs) zero (suc j) y h = refl
 get_set_other (a ∷ xs) (suc i) zero y h = refl
 get_set_other (a ∷ xs) (suc i) (suc j) y h = get_set_other xs i j y (λ e. h (ap suc e))
 
--- where something stands, something stands
+-- where there was an item, there still is one
 pub some_set : {A : Type 0} (xs : List A) (i j : ℕ) (y : A) → is_some (slice_get xs j) ≡ true → is_some (slice_get (slice_set xs i y) j) ≡ true
 some_set [] i j y h = h
 some_set (a ∷ xs) zero zero y h = refl

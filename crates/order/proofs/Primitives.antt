@@ -1,4 +1,4 @@
--- What each primitive does with the numbers.
+-- The effect of each primitive on the numbers.
 use Rattle.std.proofs.Common.{List, Some, [], ap, refl, subst, suc, sym, zero, ℕ, ◌++◌, ◌∙◌, ◌∷◌, ◌≡◌, ◌+◌, arith}
 use Rattle.std.proofs.lemmas.List.{append_assoc}
 use Rattle.std.proofs.lemmas.Option.{same_Some}

@@ -1,4 +1,4 @@
--- Who is among the entries of a ready list when one has left it, or has joined it.
+-- The entries of a ready list when a process has left it, or has joined it.
 use Rattle.std.proofs.Common.{◌≡◌, inl, inr, ℕ, Bool, true, false, not, cond, nat_eq, nat_lt, List, [], ◌∷◌, refl, sym, subst, ◌∙◌}
 use Rattle.std.proofs.lemmas.Bool.{false≢true}
 use Rattle.std.specs.Prelude.{◌⊎◌, if◌then◌else◌}
@@ -6,9 +6,9 @@ use Rattle.apex_types.specs.declared.process.Entry.{Entry}
 use Rattle.kernel_laws.specs.Choice.{IsAmong}
 use Rattle.kernel_meaning.specs.Processes.{without, behind_equals}
 
--- ---- one has left
+-- ---- a process has left
 
--- another one stays
+-- another process stays
 pub stays : (p : ℕ) (e : Entry) (es : List Entry) → IsAmong e es → nat_eq p e.process.0 ≡ false → IsAmong e (without p es)
 stays p e [] h other = h
 stays p e (x ∷ xs) h other = by_test (nat_eq p x.process.0) refl h (λ later. stays p e xs later other)
@@ -19,7 +19,7 @@ stays p e (x ∷ xs) h other = by_test (nat_eq p x.process.0) refl h (λ later. 
     by_test false q (inl same) rest = inl same
     by_test false q (inr later) rest = inr (rest later)
 
--- who is left was there, and is another one
+-- an entry that is left was there, and is of another process
 pub left : (p : ℕ) (e : Entry) (es : List Entry) → IsAmong e (without p es) → IsAmong e es × (nat_eq p e.process.0 ≡ false)
 left p e [] h = absurd h
 left p e (x ∷ xs) h = by_test (nat_eq p x.process.0) refl h (λ later. left p e xs later)
@@ -30,7 +30,7 @@ left p e (x ∷ xs) h = by_test (nat_eq p x.process.0) refl h (λ later. left p 
     by_test false q (inl same) rest = (inl same, subst (λ (y : Entry). nat_eq p y.process.0 ≡ false) (sym same) q)
     by_test false q (inr later) rest = let g = rest later in (inr g.0, g.1)
 
--- ---- one has joined
+-- ---- a process has joined
 
 pub in_behind : (x e : Entry) (es : List Entry) → (e ≡ x) ⊎ IsAmong e es → IsAmong e (behind_equals x es)
 in_behind x e [] h = h

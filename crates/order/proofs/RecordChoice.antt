@@ -1,4 +1,4 @@
--- The choice keeps the agreement of the ready list with the records, and the one that is picked runs.
+-- The choice keeps the agreement of the ready list with the records, and the picked runner runs.
 use Rattle.std.proofs.Common.{◌≡◌, inl, ℕ, Bool, true, false, List, [], ◌∷◌, Option, Some, None, refl, sym, ap, subst, ◌∙◌}
 use Rattle.std.proofs.lemmas.Bool.{false≢true, eqb-true}
 use Rattle.std.proofs.lemmas.Option.{none-some, same_Some}
@@ -23,7 +23,7 @@ use Rattle.order.specs.Agreement.{IsPlain, IsReadyAt, RecordsAgree, record_at}
 use Rattle.order.proofs.RecordRows.{IsCaller}
 use Rattle.order.proofs.Records.{OfProcess, either, kept_agrees, plain_of, same_at, stays_ready, was_at}
 
--- ---- who is who
+-- ---- the identity of runners
 
 process_or : ProcessIndex → Runner → ProcessIndex
 process_or other (runner.Process p) = p
@@ -62,7 +62,7 @@ same_option None (Some q) e = absurd (false≢true e)
 same_option (Some p) None e = absurd (false≢true e)
 same_option (Some p) (Some q) e = ap Some (same_runner p q e)
 
--- who is READY or RUNNING has a record
+-- a runner that is READY or RUNNING has a record
 ready_some : (o : Option ProcessStatus) → is_ready o ≡ true → is_some o ≡ true
 ready_some None e = e
 ready_some (Some r) e = refl
@@ -78,11 +78,11 @@ has_record s h runner.Handler ready = h.handler
 has_record s h (runner.Process q) ready = ready_some (record_at s.rows q) (ready q refl)
 
 module _ (s : Processes) (h : RecordsAgree s) where
-  -- the one that runs is READY or RUNNING, if it is a process
+  -- the current runner is READY or RUNNING, if it is a process
   pub runs_ready : (p : Runner) → s.running ≡ Some p → IsCaller s p
   runs_ready p e q is = h.runs q (e ∙ ap Some is)
 
-  -- ---- another record of one that is READY or RUNNING
+  -- ---- another record of a runner that is READY or RUNNING
 
   as_ready : (p : Runner) (r x : ProcessStatus) → row_of s p ≡ Some r → IsCaller s p → OfProcess p (is_ready_state r.state ≡ true)
   as_ready p r x there ready q is = sym (ap is_ready (was_at s h p r x there q is)) ∙ ready q is
@@ -93,7 +93,7 @@ module _ (s : Processes) (h : RecordsAgree s) where
       let e = as_ready p r x there ready q is in
       record { suspended = λ n. suspended ∙ k.suspended e; waits = λ n. wait ∙ k.waits e; due = λ n. due ∙ k.due e }
 
-  -- ---- the one that was running leaves the processor
+  -- ---- the old runner leaves the processor
 
   preempts_agrees : (p : Runner) → s.running ≡ Some p → RecordsAgree (preempts s p (row_of s p)).part
   preempts_agrees p e = by_row (row_of s p) refl
@@ -110,7 +110,7 @@ module _ (s : Processes) (h : RecordsAgree s) where
   leaves_agrees None e = h
   leaves_agrees (Some p) e = preempts_agrees p e
 
-  -- then none runs
+  -- then nobody runs
   none_runs : (o : Option Runner) → s.running ≡ o → (leaves_processor s o).part.running ≡ None
   none_runs None e = e
   none_runs (Some p) e = by_row (row_of s p) refl
@@ -119,7 +119,7 @@ module _ (s : Processes) (h : RecordsAgree s) where
       by_row None there = absurd (false≢true (sym (ap is_some there) ∙ has_record s h p (runs_ready p e)))
       by_row (Some r) there = refl
 
-  -- ---- the one that is picked takes it
+  -- ---- the picked runner takes it
 
   runs_agrees : (p : Runner) → IsCaller s p → RecordsAgree (runs s p (row_of s p)).part
   runs_agrees p ready = by_row (row_of s p) refl
@@ -143,7 +143,7 @@ module _ (s : Processes) (h : RecordsAgree s) where
       by_row None there = absurd (false≢true (sym (ap is_some there) ∙ has_record s h p (ready p refl)))
       by_row (Some r) there = refl
 
-  -- ---- the one that is picked is READY or RUNNING, if it is a process
+  -- ---- the picked runner is READY or RUNNING, if it is a process
 
   first_is_ready : (ready : List Entry) → s.ready ≡ ready → (p : Runner) → first_ready ready ≡ Some p → IsCaller s p
   first_is_ready [] e p first q is = absurd (none-some p first)
@@ -166,7 +166,7 @@ module _ (s : Processes) (h : RecordsAgree s) where
       by_test true n = λ q is. absurd (not_handler q (same_Some runner.Handler p n ∙ is))
       by_test false n = unless_held_ready s.lock refl p n
 
-  -- it stays so when the one that was running leaves the processor
+  -- it stays so when the old runner leaves the processor
   kept_ready : (o : Option Runner) → s.running ≡ o → (q : ProcessIndex) → is_ready (record_at s.rows q) ≡ true → is_ready (record_at (leaves_processor s o).part.rows q) ≡ true
   kept_ready None e q ready = ready
   kept_ready (Some p) e q ready = by_row (row_of s p) refl
@@ -189,7 +189,7 @@ chooses_agrees m s h =
     either (λ v. v) (are_same s.running (pick m s)) _ _ (λ e. h)
     (λ e. takes_agrees (leaves_processor s s.running).part (leaves_agrees s h s.running refl) (pick m s) (picked_after s h m))
 
--- the one that is picked runs
+-- the picked runner runs
 pub picked_runs : (m : Mode) (s : Processes) → RecordsAgree s → (chooses m s).part.running ≡ pick m s
 picked_runs m s h =
     runs_by (are_same s.running (pick m s)) _ _ (pick m s) (λ e. same_option s.running (pick m s) e)

@@ -1,5 +1,5 @@
--- Clear, the services on the mode and on errors, what is due, and the choice keep the agreement of the ready list with the
--- records. The one that is picked runs.
+-- Clear, the services on the mode and on errors, what is due, and the choice keep the agreement of
+-- the ready list with the records. The picked runner runs.
 use Rattle.std.proofs.Common.{◌≡◌, ℕ, zero, suc, ◌+◌, ℤ, Bool, true, false, List, [], ◌∷◌, map, Option, Some, None, refl, sym, subst, ◌∙◌}
 use Rattle.std.proofs.lemmas.Bool.{false≢true}
 use Rattle.std.proofs.lemmas.Option.{none-some, same_Some}
@@ -45,7 +45,7 @@ use Rattle.order.proofs.Records.{either, not_free, not_ready_plain, released_agr
 
 -- ---- Clear
 
--- nobody is READY or RUNNING whose record is forgotten
+-- no process is READY or RUNNING whose record is forgotten
 forgotten_at : (rows : List ProcessStatus) (place : ℕ) (r : ProcessStatus) → slice_get (map forgotten rows) place ≡ Some r → is_ready_state r.state ≡ false
 forgotten_at [] place r e = absurd (none-some r e)
 forgotten_at (x ∷ xs) zero r e = subst (λ (y : ProcessStatus). is_ready_state y.state ≡ false) (same_Some (forgotten x) r e) refl

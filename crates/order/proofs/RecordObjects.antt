@@ -1,5 +1,5 @@
--- The services on objects and on ports, and the messages that come and leave, keep the agreement of the ready list with
--- the records.
+-- The services on objects and on ports, and the messages that arrive and leave, keep the agreement
+-- of the ready list with the records.
 use Rattle.std.proofs.Common.{ℕ, ℤ, Bool, List, [], ◌∷◌, Option, Some, None, refl}
 use Rattle.std.specs.Prelude.{nat_lt, if◌then◌else◌}
 use Rattle.arrayvec.specs.ArrayVec.{ArrayVec}
@@ -53,7 +53,7 @@ module _ (b : Sharing Objects) (h : RecordsAgree b.processes) (p : Runner) where
   waits_agrees : (at : At) (limit : ℤ) (w : Waiting) (m : ArrayVec ℤ) → IsKept (of_processes b (blocks at b.processes p limit w m))
   waits_agrees at limit w m = blocks_agrees at b.processes h p limit w m
 
-  -- the first who waits is released
+  -- the first waiting process is released
   signals_agrees : (place : ℕ) (x : Semaphore) → IsKept (semaphores.signals b place x (first_waiting b.processes (semaphores.list place)))
   signals_agrees place x = first (first_waiting b.processes (semaphores.list place)) (first_waiting_found b.processes (semaphores.list place))
     where
@@ -133,7 +133,7 @@ module _ (b : Sharing Objects) (h : RecordsAgree b.processes) (p : Runner) where
   read_blackboard_agrees : (at : At) (id : ℤ) (array : ArrayPlace) (limit : ℤ) → IsKept (blackboards.read_blackboard at b p id array limit)
   read_blackboard_agrees at id array limit = search (either, on_agrees, reads_shown_agrees)
 
-  -- Each service on objects. The last clause is for those that change no process.
+  -- Each service on objects. The last clause is for the services that change no process.
   pub objects_agree : (m : Mode) (at : At) (c : Call) (words : List ℤ) → IsKept (serves_objects m at b p c words)
   objects_agree m at (call.SendBuffer id array size limit) words = send_buffer_agrees at id array size limit words
   objects_agree m at (call.ReceiveBuffer id array limit) words = receive_buffer_agrees at id array limit
@@ -180,14 +180,14 @@ module _ (b : Sharing Ports) (h : RecordsAgree b.processes) (p : Runner) where
   receive_queuing_agrees : (at : At) (id : ℤ) (array : ArrayPlace) (limit : ℤ) → IsPortKept (ports.receive_queuing_message at b p id array limit)
   receive_queuing_agrees at id array limit = search (either, on_agrees, receives_own_at_port_agrees) depth 8
 
-  -- Each service on ports. The last clause is for those that change no process.
+  -- Each service on ports. The last clause is for the services that change no process.
   pub ports_agree : (m : Mode) (at : At) (c : Call) (words : List ℤ) → IsPortKept (ports.serves_ports m at b p c words)
   ports_agree m at (call.ReadSamplingMessage id array) words = read_sampling_agrees at id array
   ports_agree m at (call.SendQueuingMessage id array size limit) words = send_queuing_agrees at id array size limit words
   ports_agree m at (call.ReceiveQueuingMessage id array limit) words = receive_queuing_agrees at id array limit
   ports_agree m at c words = search (either, on_agrees)
 
--- ---- messages that come, and senders that enter
+-- ---- messages that arrive, and senders that enter
 
 module _ (b : Sharing Ports) (h : RecordsAgree b.processes) where
   queuing_agrees : (place : ℕ) (x : Port) (m : ArrayVec ℤ) → Agrees (ports.arrives_queuing b place x m (first_waiting b.processes (ports.list place)))

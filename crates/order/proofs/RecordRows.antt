@@ -78,7 +78,7 @@ module _ (s : Processes) (h : RecordsAgree s) where
 
   -- ---- starts
 
-  -- of one that is not ready
+  -- for a process that is not ready
   in_normal_agrees : (at : At) (next : ℕ) (q : Runner) (delay : Ticks) (r x : ProcessStatus) → row_of s q ≡ Some r → OfProcess q (is_ready_state r.state ≡ false) → is_ready_state x.state ≡ is_ready_state r.state
       → (x.suspended ≡ true → r.suspended ≡ true) → RecordsAgree (starts_in_normal at next s q delay x).part
   in_normal_agrees at next q delay r x there never state suspended =
@@ -92,7 +92,7 @@ module _ (s : Processes) (h : RecordsAgree s) where
       either (λ v. v) (is_normal m) _ _ (λ e. in_normal_agrees at next q delay r fresh there (λ i is. never) refl (λ k. k))
       (λ e. waits_agrees s h q r fresh _ _ there (free_of s h q r fresh there (λ i is. never)))
 
-  -- a dormant one is not ready
+  -- a dormant process is not ready
   started_not_ready : (id : ℤ) (q : Runner) (r : ProcessStatus) → not (has (process_at s id) is_dormant) ≡ false → process_at s id ≡ Some (q, r) → is_ready_state r.state ≡ false
   started_not_ready id q r e o = dormant_not_ready r.state (sym (ap (λ (f : Option (Runner × ProcessStatus)). has f is_dormant) o) ∙ was_true (has (process_at s id) is_dormant) e)
 
@@ -118,7 +118,7 @@ start_from_agrees : (at : At) (next n place : ℕ) (s : Processes) → RecordsAg
 start_from_agrees at next zero place s h = h
 start_from_agrees at next (suc n) place s h = start_from_agrees at next n (place + 1) _ (starts_waiting_agrees s h at next (runner.Process (index place)))
 
--- all start that wait for the normal start
+-- all processes that wait for the normal start are started
 pub all_start_agree : (at : At) (next : ℕ) (s : Processes) → RecordsAgree s → RecordsAgree (start_all_waiting at next s).part
 all_start_agree at next s h = start_from_agrees at next (length s.rows - 2) 0 s h
 
@@ -163,7 +163,7 @@ module _ (s : Processes) (h : RecordsAgree s) (p : Runner) where
       (λ b. unless s h (has (process_at s id) is_dormant) _ _ h
       (λ c. on_it s h id (takes_priority s (priority_of v)) (λ q r o there. takes_agrees (priority_of v) q r there))))
 
-  -- ---- who suspends and resumes
+  -- ---- the processes that suspend and resume
 
   suspends_self_agrees : (at : At) (limit : ℤ) → IsFree s p → RecordsAgree (suspends_self at s p limit (row_of s p)).part
   suspends_self_agrees at limit free = by_row (row_of s p) refl
@@ -203,7 +203,7 @@ module _ (s : Processes) (h : RecordsAgree s) (p : Runner) where
       (λ b. unless s h (not (has (process_at s id) is_suspended)) _ _ h
       (λ c. on_it s h id (resumes s) (λ q r o there. resumes_from_agrees q r there r.wait))))
 
-  -- ---- who stops and starts
+  -- ---- the processes that stop and start
 
   pub stop_agrees : (id : ℤ) → RecordsAgree (stop s p id).part
   stop_agrees id =

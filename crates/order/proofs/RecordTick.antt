@@ -23,7 +23,7 @@ use Rattle.order.proofs.RecordObjects.{objects_agree, ports_agree}
 use Rattle.order.proofs.RecordRows.{IsCaller, create_process_agrees, delayed_start_agrees, get_my_id_agrees, get_process_id_agrees, get_process_status_agrees, lock_preemption_agrees, periodic_wait_agrees, replenish_agrees, resume_agrees, set_priority_agrees, start_agrees, stop_agrees, suspend_agrees, suspend_self_agrees, timed_wait_agrees, unlock_preemption_agrees}
 use Rattle.order.proofs.Records.{either}
 
--- ---- what a process asks for
+-- ---- the requests of a process
 
 module _ (at : At) (k : Kernel) (h : KernelAgrees k) (p : Runner) (caller : IsCaller k.processes p) where
   abbrev IsKept : Step Kernel → Type 0
@@ -79,7 +79,7 @@ choice_agrees k h = chooses_agrees k.mode (chosen_among k) (handler_agrees k.mod
 pub choice_runs : (k : Kernel) → KernelAgrees k → (chooses_with_handler k).part.processes.running ≡ pick k.mode (chosen_among k)
 choice_runs k h = picked_runs k.mode (chosen_among k) (handler_agrees k.mode (with_errors k) h)
 
--- ---- what the kernel asks for changes no process
+-- ---- the actions of the kernel change no process
 
 module _ {C : Type 0} where
   act_same : (e : Engine C) (a : Action) (w : World C) → (act e a w).kernel.processes ≡ w.kernel.processes

@@ -33,9 +33,9 @@ use Rattle.order.specs.Agreement.{IsPlain, IsReadyAt, RecordsAgree, record_at}
 use Rattle.order.proofs.Places.{get_set_same, get_set_other, some_set}
 use Rattle.order.proofs.ReadyEntries.{stays, left, in_behind, of_behind}
 
--- ---- who is who
+-- ---- the identity of runners
 
--- what holds if it is a process
+-- the property, if it is a process
 abbrev pub OfProcess : Runner → Type 0 → Type 0
 OfProcess p P = (q : ProcessIndex) → p ≡ runner.Process q → P
 
@@ -49,7 +49,7 @@ other_place runner.Init q e k = absurd (omega (arith, k))
 other_place runner.Handler q e k = absurd (omega (arith, k))
 other_place (runner.Process p) q e k = eqb-false p.0 q.0 e (omega (arith, k))
 
--- ---- who runs, and who holds the lock
+-- ---- the current runner, and the holder of the lock
 
 still_runs : (p : Runner) (o : Option Runner) (q : Runner) → not_running p o ≡ Some q → (o ≡ Some q) × (is_same p q ≡ false)
 still_runs p None q e = absurd (none-some q e)
@@ -83,7 +83,7 @@ still_holds p (lock.Held other holder) level q e = by_test (is_same p (runner.Pr
 abbrev pub IsFree : Processes → Runner → Type 0
 IsFree s p = (level : ℕ) (q : ProcessIndex) → s.lock ≡ lock.Held level q → is_same p (runner.Process q) ≡ false
 
--- where nobody holds the lock
+-- if nobody holds the lock
 pub nobody_holds : (s : Processes) (p : Runner) → is_held s.lock ≡ false → IsFree s p
 nobody_holds s p e level q k = absurd (false≢true (sym e ∙ ap is_held k))
 
@@ -106,7 +106,7 @@ pub either : {P : Type 0} (of : P → Processes) (b : Bool) (t u : Step P) → (
 either of true t u h k = h refl
 either of false t u h k = k refl
 
--- ---- the record of one is another
+-- ---- the record of one runner is replaced
 
 module _ (s : Processes) (h : RecordsAgree s) (p : Runner) (r x : ProcessStatus) (there : row_of s p ≡ Some r) where
   abbrev new : List ProcessStatus
@@ -121,7 +121,7 @@ module _ (s : Processes) (h : RecordsAgree s) (p : Runner) (r x : ProcessStatus)
   other_at : (q : ProcessIndex) → is_same p (runner.Process q) ≡ false → record_at new q ≡ record_at s.rows q
   other_at q e = get_set_other s.rows (place_of p) (place_of (runner.Process q)) x (other_place p q e)
 
-  -- one that is ready stays so, if this one does
+  -- a ready process stays ready, if p does
   pub stays_ready : OfProcess p (is_ready_state r.state ≡ true → is_ready_state x.state ≡ true) → (q : ProcessIndex) → is_ready (record_at s.rows q) ≡ true → is_ready (record_at new q) ≡ true
   stays_ready keeps q ready = by_test (is_same p (runner.Process q)) refl
     where
@@ -227,7 +227,7 @@ module _ (s : Processes) (h : RecordsAgree s) (p : Runner) (r x : ProcessStatus)
     handler = handler_at;
   }
 
--- who is in the ready list, by who changes
+-- the processes in the ready list, by the runner that changes
 module _ (s : Processes) (h : RecordsAgree s) where
   ready_listed : (p : Runner) (r x : ProcessStatus) → row_of s p ≡ Some r → OfProcess p (is_ready_state x.state ≡ true) → (e : Entry)
       → (IsAmong e (goes_last p x.current_priority s.ready) ↔ IsReadyAt (record_at (slice_set s.rows (place_of p) x) e.process) e.priority)
@@ -274,7 +274,7 @@ module _ (s : Processes) (h : RecordsAgree s) where
     handler = handler_at s h p r x there;
   }
 
-  -- ---- one becomes ready, waits, or is dormant
+  -- ---- a process becomes ready, waits, or is dormant
 
   -- with its own state; it is suspended only if it was
   pub wakes_agrees : (p : Runner) (r x : ProcessStatus) → row_of s p ≡ Some r → is_ready_state x.state ≡ is_ready_state r.state → (x.suspended ≡ true → r.suspended ≡ true) → RecordsAgree (wakes s p x).part
@@ -309,7 +309,7 @@ pub released_agrees : (s : Processes) → RecordsAgree s → (p : Runner) (r x :
     → (x.suspended ≡ true → r.suspended ≡ true) → RecordsAgree (released s p x c).part
 released_agrees s h p r x c there state suspended = released_with_agrees s h p r x c (zeros_of_wait x.wait) there state suspended
 
--- ---- those who are found
+-- ---- the runners that are found
 
 -- the record that is found is its own
 abbrev pub IsFound : Processes → Option (Runner × ProcessStatus) → Type 0
@@ -339,7 +339,7 @@ pub on_agrees : (s : Processes) → RecordsAgree s → (o : Option (Runner × Pr
 on_agrees s h None step found k = h
 on_agrees s h (Some f) step found k = k f.0 f.1 refl (found f refl)
 
--- ---- who is released together
+-- ---- the processes released together
 
 pub all_released_agree : (es : List Entry) (s : Processes) → RecordsAgree s → RecordsAgree (releases_all es s).part
 all_released_agree [] s h = h
@@ -360,14 +360,14 @@ all_given_agree (e ∷ es) m s h = all_given_agree es m _ (one (numbered e.proce
     one None found = h
     one (Some f) found = gives_agrees s h f.0 f.1 m (found f refl)
 
--- ---- who waits
+-- ---- the processes that wait
 
 pub is_free : (s : Processes) (p : Runner) → is_busy s p ≡ false → IsFree s p
 is_free s runner.Init e = absurd (false≢true (sym e))
 is_free s runner.Handler e = absurd (false≢true (sym e))
 is_free s (runner.Process p) e = nobody_holds s (runner.Process p) e
 
--- one who calls and has to wait
+-- a caller that has to wait
 pub blocks_agrees : (at : At) (s : Processes) → RecordsAgree s → (p : Runner) (limit : ℤ) (w : Place) (m : ArrayVec ℤ) → RecordsAgree (blocks at s p limit w m).part
 blocks_agrees at s h p limit w m = either (λ t. t) (is_zero limit) _ _ (λ e. h) (λ e. either (λ t. t) (is_busy s p) _ _ (λ b. h) (λ b. found p (row_of s p) refl (is_free s p b)))
   where

@@ -36,7 +36,7 @@ length_last : {A : Type 0} (xs : List A) (y : A) → length (xs ++ y ∷ []) ≡
 length_last [] y = refl
 length_last (x ∷ xs) y = ap suc (length_last xs y)
 
--- the starts of so many partitions, from the one at a place on
+-- the starts of n partitions, from index `place` on
 abbrev starts_at : At → StartCondition → ℕ → ℕ → List Happening
 starts_at at c zero place = []
 starts_at at c (suc n) place = Moves (suc place) (Starts at c) ∷ starts_at at c n (suc place)
@@ -106,7 +106,7 @@ module _ {C : Type 0} where
       ap (steps_member (makes (Starts at c)) (done ++ x ∷ ms) (length done)) (get_behind done x ms)
       ∙ ap (λ (ns : List (Member C)). leads ns (start_lines at c x)) (set_behind done x (started_member at c x) ms)
 
-  -- where those before have started
+  -- if those before have started
   starts_behind : (at : At) (c : StartCondition) (done ms : List (Member C))
       → all_happen (starts_at at c (length ms) (length done)) (done ++ ms) ≡ leads (done ++ map (started_member at c) ms) (flat_map (start_lines at c) ms)
   starts_behind at c done [] = refl
@@ -203,7 +203,7 @@ module _ {C : Type 0} where
 
   -- ---- a run
 
-  -- the members and the lines of so many ticks
+  -- the members and the lines of n ticks
   abbrev run_from : Plan → List DeviceLine → ℕ → Option At → List (Member C) → Advanced C
   run_from plan devices n at ms = record { members = members_from plan devices n at ms; lines = trace_from plan devices n at ms }
 

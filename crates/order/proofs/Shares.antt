@@ -1,4 +1,4 @@
--- Steps of the processes with what they share go on with the numbers.
+-- Steps of the processes with what they share continue the numbers.
 use Rattle.std.proofs.Common.{Bool, List, None, Option, Some, [], false, refl, subst, suc, true, zero, ℕ, ℤ, ◌∷◌, ◌≡◌}
 use Rattle.std.proofs.lemmas.Option.{none-some, same_Some}
 use Rattle.std.specs.Prelude.{if◌then◌else◌, is_some, map, negsuc, not, pos, slice_get, slice_set}
@@ -62,7 +62,7 @@ module _ (d : ListKey → Discipline) (names : ℕ → List ℕ) (O : Type 0) (F
     pub goes : Goes d names may b.processes (lifted (λ (x : Sharing O). x.processes) t)
     pub fit : Fit t.part.shared
 
-  -- what a step needs
+  -- the premises of a step
   pub record IsSet (b : Sharing O) : Type 0 where
     pub named : Named d names b.processes
     pub fit : Fit b.shared

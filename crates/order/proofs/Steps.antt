@@ -1,4 +1,4 @@
--- Steps of the processes go on with the numbers.
+-- Steps of the processes continue the numbers.
 use Rattle.std.proofs.Common.{Bool, List, None, Option, Some, [], ap, false, refl, subst, suc, sym, true, zero, ℕ, ℤ, ◌++◌, ◌∷◌, ◌≡◌}
 use Rattle.std.proofs.lemmas.Option.{none-some, same_Some}
 use Rattle.std.specs.Prelude.{if◌then◌else◌, length, negsuc, pos}
@@ -68,7 +68,7 @@ module _ (d : ListKey → Discipline) (names : ℕ → List ℕ) where
   abbrev pub Named : Processes → Type 0
   Named s = AreNamed (subject_at names) s.rows
 
-  -- the record is of this one
+  -- the record names runner p
   abbrev pub IsOf : Runner → ProcessStatus → Type 0
   IsOf p r = r.who ≡ subject_at names (place_of p)
 
@@ -129,7 +129,7 @@ module _ (d : ListKey → Discipline) (names : ℕ → List ℕ) where
     allowed = allowed_readied may p;
   }
 
-  -- one who goes last, as it may
+  -- a process that goes last, as it may
   pub last_goes : (s : Processes) (p : Runner) (x : ProcessStatus) → Named s → IsOf p x → Goes d names (only_last (itself p)) s (nothing (put_ready s p x))
   last_goes s p x h e = record {
     takings = lasted p;
@@ -183,9 +183,9 @@ module _ (d : ListKey → Discipline) (names : ℕ → List ℕ) where
       after_goes may s (fills s (array_of_wait r.wait) m) _ (fills_goes may s (writes (array_of_wait r.wait) m) h)
       (λ k. released_goes may s p r code.NoError (pos (length m.items) ∷ []) r.wait h e)
 
-  -- ---- those who are found
+  -- ---- the runners that are found
 
-  -- the record of a process that is there is its own
+  -- the record found for a process is its own
   found_of : (s : Processes) (p : ProcessIndex) (o : Option ProcessStatus) (f : Runner × ProcessStatus) → Named s → row_of s (runner.Process p) ≡ o → numbered p o ≡ Some f
       → (f.0 ≡ runner.Process p) × IsOf f.0 f.1
   found_of s p None f h e g = absurd (none-some f g)
@@ -234,7 +234,7 @@ module _ (d : ListKey → Discipline) (names : ℕ → List ℕ) where
   give_all_goes may [] m s h = nothing_goes may s h
   give_all_goes may (e ∷ es) m s h = after_goes may s _ _ (give_found_goes may s e.process m h) (λ k. give_all_goes may es m _ k)
 
-  -- the first who waits
+  -- the first process that waits
   first_of : (s : Processes) (es : List Entry) (f : Runner × ProcessStatus) → Named s → found_first s es ≡ Some f → IsOf f.0 f.1
   first_of s [] f h e = absurd (none-some f e)
   first_of s (x ∷ xs) f h e = let both = found_of s x.process (row_of s (runner.Process x.process)) f h refl e in both.1

@@ -43,7 +43,7 @@ module _ {C : Type 0} (d : ListKey → Discipline) (names : ℕ → List ℕ) wh
 
 -- ---- all partitions
 
--- who keeps its numbers has them
+-- a partition that keeps its numbers has them
 same_numbers : (numbers : ℕ → Numbers) (p q : ℕ) → with_numbers p (numbers p) numbers q ≡ numbers q
 same_numbers numbers p q = by_test (p == q) refl
   where
@@ -82,7 +82,8 @@ module _ {C : Type 0} (d : ℕ → ListKey → Discipline) (names : ℕ → ℕ 
   happens_ordered numbers move zero ms h g = λ q x e. subst (λ (n : Numbers). IsSo q n x) (sym (same_numbers numbers 0 q)) (h q x e)
   happens_ordered numbers move (suc place) ms h g = step_ordered numbers move ms place (slice_get ms place) refl h g
 
-  -- Where all lists are in order they are so in every history, and every move goes on with the numbers.
+  -- If all lists are in order, they are in order throughout every history, and every move continues
+  -- the numbers.
   pub goes_through : (hs : List Happening) (numbers : ℕ → Numbers) (ms : List (Member C)) → AreOrdered d names numbers ms → GoThrough d names hs numbers ms
   goes_through [] numbers ms h = h
   goes_through (Tells line ∷ hs) numbers ms h = goes_through hs numbers ms h

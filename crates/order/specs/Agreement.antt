@@ -24,14 +24,15 @@ abbrev pub IsReadyAt : Option ProcessStatus → Priority → Type 0
 IsReadyAt None priority = ⊥
 IsReadyAt (Some r) priority = (is_ready_state r.state ≡ true) × (r.current_priority ≡ priority)
 
--- one that is READY or RUNNING is not suspended, waits for nothing, and has no due time
+-- a process that is READY or RUNNING is not suspended, waits for nothing, and has no due time
 pub record IsPlain (r : ProcessStatus) : Type 0 where
   pub suspended : is_ready_state r.state ≡ true → r.suspended ≡ false
   pub waits : is_ready_state r.state ≡ true → r.wait ≡ wait.Nothing
   pub due : is_ready_state r.state ≡ true → r.due ≡ None
 
--- The ready list holds just those processes whose records are READY or RUNNING, each with its current priority. If a
--- process runs, or holds the lock, it is one of these. INIT and the error handler have records.
+-- The ready list holds exactly the processes whose records are READY or RUNNING, each with its
+-- current priority. If a process runs, or holds the lock, it is one of these. INIT and the error
+-- handler have records.
 pub record Agree (rows : List ProcessStatus) (ready : List Entry) (running : Option Runner) (held : Lock) : Type 0 where
   pub listed : (e : Entry) → (IsAmong e ready ↔ IsReadyAt (record_at rows e.process) e.priority)
   pub plain : (p : ProcessIndex) (r : ProcessStatus) → record_at rows p ≡ Some r → IsPlain r

@@ -9,8 +9,9 @@ use Rattle.apex_types.specs.declared.identity.PortId.{PortId}
 use Rattle.module_meaning.specs.Module.{Plan, Module, Advanced, still, then_goes, steps, starts, first_tick, next_tick, module_tick}
 use Rattle.kernel_meaning.specs.Partition.{Member, Moved, cold_start, breaks_down, arrives, leaves, admits, goes_out, advances}
 
--- What a module does with a partition: it clears it to a cold start, breaks its hardware, lets a message arrive at a
--- port or leave it, lets the senders enter that wait at a port, lets a message go out by a channel, or gives it a tick.
+-- The moves of a module with a partition: it clears it to a cold start, breaks its hardware, lets a
+-- message arrive at a port or leave it, lets the senders that wait at a port enter, lets a message
+-- go out by a channel, or gives it a tick.
 pub data Move : Type 0 where
   Starts : (at : At) (condition : StartCondition) → Move
   BreaksDown : (at : At) → Move
@@ -45,7 +46,8 @@ all_happen (h ∷ hs) members = then_goes (happens h members) (all_happen hs)
 
 -- ---- the states of a run
 
--- the members after so many ticks from a tick on; no tick changes those of a module that is shut down
+-- the members after n ticks from `at` on; ticks do not change the members of a module that is shut
+-- down
 abbrev pub members_from : {C : Type 0} → Plan → List DeviceLine → ℕ → Option At → List (Member C) → List (Member C)
 members_from plan devices zero at members = members
 members_from plan devices (suc n) None members = members

@@ -1,5 +1,5 @@
--- The numbers of a partition, by which its ready list and its waiting lists are in order, and how a step goes on
--- with them. The state of a partition stores no number: its lists have their order.
+-- The numbers of a partition, by which its ready list and its waiting lists are in order, and how a
+-- step continues them. The state of a partition stores no number: its lists have their order.
 use Rattle.std.specs.Prelude.{◌≡◌, ℕ, zero, suc, ◌+◌, ℤ, pos, List, [], ◌∷◌, ◌++◌, Option, Some, None, slice_get}
 use Rattle.apex_types.specs.declared.codes.Discipline.{Discipline}
 use Rattle.apex_types.specs.declared.codes.Discipline.TheVariants as discipline
@@ -39,13 +39,13 @@ first_numbers = record { ready = λ p. 0; waiting = λ p. 0; next = 0 }
 
 -- ---- numbers are taken
 
--- who takes a number, and why
+-- the runner that takes a number, and why
 pub data Taking : Type 0 where
   BecomesReady : (p : ℕ) → Taking
   GoesLast : (p : ℕ) → Taking
   BeginsToWait : (p : ℕ) → Taking
 
--- the one who takes a number takes the next one, and all others keep theirs
+-- the taker gets the next number, and all others keep theirs
 abbrev pub take_one : Taking → Numbers → Numbers
 take_one (BecomesReady p) n = record { ready = takes n.ready p n.next; waiting = n.waiting; next = n.next + 1 }
 take_one (GoesLast p) n = record { ready = takes n.ready p n.next; waiting = n.waiting; next = n.next + 1 }
@@ -67,9 +67,9 @@ pub record IsInOrder (disciplines : ListKey → Discipline) (n : Numbers) (list 
 abbrev pub Follows : (ListKey → Discipline) → List Taking → Processes → Processes → Type 0
 Follows disciplines takings s t = (n : Numbers) → IsInOrder disciplines n s.ready s.queues → IsInOrder disciplines (take_all takings n) t.ready t.queues
 
--- ---- what the lines tell
+-- ---- the contents of the lines
 
--- who has the record at a place, where these are the names of the processes
+-- the subject of the record at a place, for these names of the processes
 abbrev pub subject_at : (ℕ → List ℕ) → ℕ → Subject
 subject_at names zero = Init
 subject_at names (suc zero) = Handler
@@ -88,7 +88,7 @@ abbrev pub ready_line : EventKind → List (List ℕ)
 ready_line (event.State who state) = called_ready state who
 ready_line _ = []
 
--- those that lines call ready, in their order
+-- the processes that lines call ready, in their order
 abbrev pub ready_lines : List EventKind → List (List ℕ)
 ready_lines [] = []
 ready_lines (l ∷ ls) = ready_line l ++ ready_lines ls
@@ -98,12 +98,12 @@ taken_ready names (BecomesReady p) = names p ∷ []
 taken_ready names (GoesLast p) = []
 taken_ready names (BeginsToWait p) = []
 
--- those that take numbers because they become ready, in their order
+-- the processes that take numbers because they become ready, in their order
 abbrev pub those_ready : (ℕ → List ℕ) → List Taking → List (List ℕ)
 those_ready names [] = []
 those_ready names (t ∷ ts) = taken_ready names t ++ those_ready names ts
 
--- ---- who may take a number though no line calls it ready
+-- ---- the processes that may take a number though no line calls them ready
 
 -- one process may go last, and one may begin to wait in a list
 pub record May : Type 0 where
@@ -132,7 +132,7 @@ goes_last_by p (call.SetPriority id v) = process_of id
 goes_last_by p (call.TimedWait delay) = itself p
 goes_last_by p _ = None
 
--- a call of p lets p begin to wait in the list of an object or a port, if the service is one that does so
+-- a call of p makes p wait in the list of an object or a port, if the service may do so
 abbrev pub waits_by : Runner → Call → Option ℕ
 waits_by p (call.SendBuffer id array length limit) = itself p
 waits_by p (call.ReceiveBuffer id array limit) = itself p
@@ -159,8 +159,8 @@ abbrev pub AreAllowed : May → List Taking → Type 0
 AreAllowed may [] = Unit {0}
 AreAllowed may (t ∷ ts) = IsAllowed may t × AreAllowed may ts
 
--- A step of the processes goes on with the numbers: those that its lines call ready take numbers in the order of
--- these lines, and of the others only those take one who may.
+-- A step of the processes continues the numbers: the processes that its lines call ready take
+-- numbers in the order of these lines; of the others, only those that may take a number do.
 pub record Goes (disciplines : ListKey → Discipline) (names : ℕ → List ℕ) (may : May) (s : Processes) (t : Step Processes) : Type 0 where
   pub takings : List Taking
   pub follows : Follows disciplines takings s t.part
@@ -170,7 +170,7 @@ pub record Goes (disciplines : ListKey → Discipline) (names : ℕ → List ℕ
 
 -- ---- the disciplines of the waiting lists
 
--- each item is so at its place
+-- each item has the property at its place
 abbrev pub EachAt : {X : Type 0} → (ℕ → X → Type 0) → List X → Type 0
 EachAt is xs = (place : ℕ) (x : _) → slice_get xs place ≡ Some x → is place x
 

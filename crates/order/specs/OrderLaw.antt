@@ -1,4 +1,4 @@
--- What a partition's steps do with its numbers.
+-- The effect of a partition's steps on its numbers.
 use Rattle.std.specs.Prelude.{◌≡◌, ◌↔◌, ℕ, List, Option, Some, None, map}
 use Rattle.apex_types.specs.Runners.{place_of}
 use Rattle.apex_types.specs.declared.codes.Discipline.{Discipline}
@@ -28,15 +28,16 @@ pub record IsOrdered (disciplines : ListKey → Discipline) (names : ℕ → Lis
   pub objects : HaveDisciplines disciplines k.objects
   pub ports : PortsHaveDisciplines disciplines k.ports
 
--- A step of a partition goes on with its numbers: those that its lines call ready take numbers in the order of these
--- lines, of the others only those take one who may, and all that take none keep theirs.
+-- A step of a partition continues its numbers: the processes that its lines call ready take numbers
+-- in the order of these lines; of the others, only those that may take a number do; and all that
+-- take none keep theirs.
 pub record GoesOn {C : Type 0} (disciplines : ListKey → Discipline) (names : ℕ → List ℕ) (may : May) (n : Numbers) (m : Moved C) : Type 0 where
   pub takings : List Taking
   pub ordered : IsOrdered disciplines names (take_all takings n) m.world.kernel
   pub told : those_ready names takings ≡ ready_lines (map kind_of m.lines)
   pub allowed : AreAllowed may takings
 
--- who may take a number in the tick of the one that runs
+-- who may take a number in the tick of the chosen runner
 abbrev pub may_of_chosen : {C : Type 0} → Engine C → World C → Option Runner → May
 may_of_chosen e w None = nobody
 may_of_chosen e w (Some p) = let r = ticked e (control_at w.controls (place_of p)) w.words in may_asked p r.asks
@@ -44,13 +45,13 @@ may_of_chosen e w (Some p) = let r = ticked e (control_at w.controls (place_of p
 abbrev pub may_spent : {C : Type 0} → Engine C → World C → May
 may_spent e w = may_of_chosen e w w.kernel.processes.running
 
--- the processes among whom is chosen: the handler has started, if an error waits for it
+-- the processes from which the choice is made: the handler has started, if an error waits for it
 abbrev pub chosen_among : Kernel → Processes
 chosen_among k = let s = starts_handler k.mode (with_errors k) in s.part
 
--- In a tick of a partition those that become ready by what is due take numbers. The choice gives nobody a number: it
--- picks the one whom `Picks` allows by these numbers, and there is no other. This one runs, and spends the tick; none
--- runs where none is picked.
+-- In a tick of a partition, the processes that become ready by what is due take numbers. The choice
+-- gives nobody a number: it picks the only runner that `Picks` allows by these numbers. The picked
+-- runner runs, and spends the tick; if nobody is picked, nobody runs.
 pub record TickGoes {C : Type 0} (disciplines : ListKey → Discipline) (names : ℕ → List ℕ) (n : Numbers) (e : Engine C) (at : At) (w : World C) : Type 0 where
   pub due : GoesOn disciplines names nobody n (due_phase e at w)
   pub picks : (p : Runner)

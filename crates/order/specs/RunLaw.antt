@@ -47,7 +47,7 @@ abbrev pub port_discipline : Option Port → Discipline
 port_discipline None = discipline.Fifo
 port_discipline (Some x) = discipline_of x.row.kind
 
--- the discipline of the waiting list of an object or a port, which is first in, first out where there is none
+-- the discipline of the waiting list of an object or a port; first in, first out for an unknown one
 abbrev pub disciplines_in : Kernel → ListKey → Discipline
 disciplines_in k (key.Semaphore place) = semaphore_discipline (slice_get k.objects.semaphores place)
 disciplines_in k (key.Event place) = discipline.Fifo
@@ -61,7 +61,7 @@ no_names p = []
 abbrev pub no_disciplines : ListKey → Discipline
 no_disciplines list = discipline.Fifo
 
--- those of the partition with a number
+-- the names in the partition with a number
 abbrev pub names_of : {C : Type 0} → List (Member C) → ℕ → ℕ → List ℕ
 names_of members p = of_member no_names (λ x. names_in x.world.kernel) (at_number members p)
 
@@ -70,7 +70,8 @@ disciplines_of members p = of_member no_disciplines (λ x. disciplines_in x.worl
 
 -- ---- a move of a partition
 
--- A move goes on with the numbers of its partition; in no move but a tick may anybody go last or begin to wait.
+-- A move continues the numbers of its partition; only in a tick may anybody go last or begin to
+-- wait.
 abbrev pub MoveGoes : {C : Type 0} → (ListKey → Discipline) → (ℕ → List ℕ) → Numbers → Move → Member C → Type 0
 MoveGoes d names n (Starts at condition) x = GoesOn d names nobody n (makes (Starts at condition) x)
 MoveGoes d names n (BreaksDown at) x = GoesOn d names nobody n (makes (BreaksDown at) x)
@@ -90,7 +91,7 @@ numbers_by d names n (Admits at port) x g = take_all g.takings n
 numbers_by d names n (GoesOut at channel message) x g = take_all g.takings n
 numbers_by d names n (Advances at) x g = take_all g.spent.takings (take_all g.due.takings n)
 
--- the same of the member with a number, if there is one
+-- the same for the member with a number, if there is such a member
 abbrev pub MoveGoesAt : {C : Type 0} → (ListKey → Discipline) → (ℕ → List ℕ) → Numbers → Move → Option (Member C) → Type 0
 MoveGoesAt d names n move None = Unit {0}
 MoveGoesAt d names n move (Some x) = MoveGoes d names n move x
@@ -109,8 +110,8 @@ AreOrdered d names numbers members = (p : ℕ) (x : Member _) → at_number memb
 abbrev pub with_numbers : ℕ → Numbers → (ℕ → Numbers) → ℕ → Numbers
 with_numbers p n numbers q = if p == q then n else numbers q
 
--- In each state of a history the lists of each partition have the order of its numbers, and each move goes on with
--- those of its partition.
+-- In each state of a history the lists of each partition have the order of its numbers, and each
+-- move continues those of its partition.
 abbrev pub GoThrough : {C : Type 0} → (ℕ → ListKey → Discipline) → (ℕ → ℕ → List ℕ) → List Happening → (ℕ → Numbers) → List (Member C) → Type 0
 GoThrough d names [] numbers members = AreOrdered d names numbers members
 GoThrough d names (Tells line ∷ hs) numbers members = GoThrough d names hs numbers members
@@ -128,10 +129,11 @@ pub record RunGoes {C : Type 0} (m : Module C) (devices : List DeviceLine) (n : 
   pub lines : trace m devices n ≡ (all_happen history m.members).lines
   pub order : GoThrough (disciplines_of m.members) (names_of m.members) history (λ p. first_numbers) m.members
 
--- There are numbers by which the lists of the partition with a number are in order, where this is its state.
+-- There are numbers by which the lists of the partition with a number are in order, in this state.
 abbrev pub HasOrder : {C : Type 0} → Module C → ℕ → Member C → Type 0
 HasOrder m p x = (n : Numbers) × IsOrdered (disciplines_of m.members p) (names_of m.members p) n x.world.kernel
 
--- Its ready list holds just those processes whose records are READY or RUNNING, each with its current priority.
+-- Its ready list holds exactly the processes whose records are READY or RUNNING, each with its
+-- current priority.
 abbrev pub HoldsReady : {C : Type 0} → Member C → Type 0
 HoldsReady x = (e : Entry) → (IsAmong e x.world.kernel.processes.ready ↔ IsReadyAt (record_at x.world.kernel.processes.rows e.process) e.priority)

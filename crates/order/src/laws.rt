@@ -26,7 +26,7 @@ ghost use Rattle.order.specs.Numbers.{Numbers};
 ghost use Rattle.order.specs.OrderLaw.{IsOrdered, TickGoes};
 ghost use Rattle.order.specs.RunLaw.{HasOrder, HoldsReady, MoveGoes, RunGoes};
 
-/// A tick of a partition whose lists are in order goes on with its numbers, on any engine: on the
+/// A tick of a partition whose lists are in order continues its numbers, on any engine: on the
 /// machine as on the sources.
 pub fn tick_goes_on()
     ensures machine { (disciplines : ListKey → Discipline) (names : ℕ → List ℕ) (n : Numbers)
@@ -37,8 +37,8 @@ pub fn tick_goes_on()
         → IsOrdered disciplines names n w.kernel → TickGoes disciplines names n e at w }
 {}
 
-/// So does each step that a module makes of a partition: beside its ticks its starts, a fault of its
-/// hardware, and what comes to its ports and leaves them.
+/// So does each step that a module makes of a partition: besides its ticks, its starts, a fault of
+/// its hardware, and the messages that arrive at its ports and leave them.
 pub fn steps_go_on()
     ensures machine { (disciplines : ListKey → Discipline) (names : ℕ → List ℕ) (n : Numbers)
         (step : Move) (x : Member MachineControl) → IsOrdered disciplines names n x.world.kernel
@@ -49,8 +49,8 @@ pub fn steps_go_on()
 {}
 
 /// In every state of every run, of every image and of all sources, the ready list and the waiting
-/// lists of each partition have the order of its numbers, which go on from each step to the next. So
-/// in each tick the one that is chosen is the one whom the numbers allow, and there is no other.
+/// lists of each partition have the order of its numbers, and each step continues them. So each
+/// tick chooses the only runner that the numbers allow.
 pub fn order_in_every_run()
     ensures machine { (image : Image) (devices : List DeviceLine) (n : ℕ)
         → RunGoes (machine_module image) devices n }
@@ -71,8 +71,8 @@ pub fn order_in_every_state()
         → HasOrder (source_module t sources) p x }
 {}
 
-/// In such a state the ready list of a partition holds just those processes whose records are READY or
-/// RUNNING, each with its current priority.
+/// In such a state the ready list of a partition holds exactly the processes whose records are
+/// READY or RUNNING, each with its current priority.
 pub fn ready_ones_are_listed()
     ensures machine { (image : Image) (devices : List DeviceLine) (n p : ℕ)
         (x : Member MachineControl)
@@ -82,8 +82,8 @@ pub fn ready_ones_are_listed()
         → at_number (members_after (source_module t sources) devices n) p ≡ Some x → HoldsReady x }
 {}
 
-/// Where the lists are in order, the one at the head of a waiting list is the one that is to be
-/// released first, and there is no other.
+/// If the lists are in order, an entry is at the head of a waiting list if and only if it is to be
+/// released first.
 pub fn head_is_released_first()
     ensures { (disciplines : ListKey → Discipline) (names : ℕ → List ℕ) (n : Numbers) (k : Kernel)
         (list : ListKey) (e : Entry)

@@ -1,4 +1,4 @@
--- What an accepted program costs has 64 bits, so that what is counted is the sum.
+-- The costs of an accepted program have 64 bits, so the count is the sum.
 use Rattle.std.proofs.Common.{◌≡◌, ℕ, ◌+◌, ◌<◌, List, [], ◌∷◌, length, map, drop, get_or, Option, Some, None, sym, ap, ◌∙◌, subst, arith}
 use Rattle.std.specs.Prelude.{min}
 use Rattle.std.specs.List.{sum}

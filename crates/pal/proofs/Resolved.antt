@@ -73,7 +73,7 @@ module _ (names : List (List ℕ)) (scope : Scope) where
   pub block_done : (xs : List written_stmt.Stmt) (i : ℕ) (done : List code_stmt.Stmt) (all : tree.Block) → length xs ≤ i → block_onto done (resolve_block scope (view.block_of names (drop i xs))) ≡ all → block_of done ≡ all
   block_done xs i done all le before = sym (block_alone done) ∙ ap (λ l. block_onto done (resolve_block scope (view.block_of names l))) (sym (drop_all i xs le)) ∙ before
 
--- where there are no more arguments or no more kinds, nothing follows
+-- without more arguments or more kinds, nothing follows
 pub no_arguments : (names : List (List ℕ)) (scope : Scope) (kinds : List ArgumentKind) (es : List written_expr.Expr) → length es ≡ 0 → resolve_arguments scope kinds (view.exprs_of names es) ≡ tree.NoExpr
 no_arguments names scope [] [] h = refl
 no_arguments names scope (k ∷ ks) [] h = refl

@@ -84,7 +84,7 @@ and_true false = refl
 pub not_new : (e : Entry) (es : List Entry) → is_some (find e.name es) ≡ true → (declared rest : List Entry) → (false && not (is_some (find e.name declared)) && are_new declared es rest) ≡ are_new declared es (e ∷ rest)
 not_new e es h declared rest = sym (and_false (not (is_some (find e.name declared))) (are_new declared (es ++ e ∷ []) rest)) ∙ ap (λ b. not (is_some (find e.name declared)) && not b && are_new declared (es ++ e ∷ []) rest) (sym h)
 
--- one that is not there is new, unless it is declared
+-- a name that is not there is new, unless it is declared
 pub is_new : (e : Entry) (es more : List Entry) → is_some (find e.name es) ≡ false → more ≡ es ++ e ∷ [] → (declared rest : List Entry) → (true && not (is_some (find e.name declared)) && are_new declared more rest) ≡ are_new declared es (e ∷ rest)
 is_new e es more h is declared rest =
     ap (λ a. a && are_new declared more rest) (sym (and_true (not (is_some (find e.name declared)))))

@@ -1,11 +1,11 @@
 -- Tests of two parts, of which the second is made if the first holds.
 use Rattle.std.proofs.Common.{◌≡◌, Bool, true, false, ◌&&◌, Result, Ok, Err, IsErr, is_ok, refl, ap, ◌∙◌}
 
--- where the first part holds, the second decides
+-- if the first part holds, the second decides
 pub then_of : (g first second : Bool) → true ≡ first → g ≡ second → g ≡ (first && second)
 then_of g first second holds is = is ∙ ap (λ b. b && second) holds
 
--- where the first part fails, both do
+-- if the first part fails, both do
 pub stops_at : (first second : Bool) → false ≡ first → false ≡ (first && second)
 stops_at first second fails = ap (λ b. b && second) fails
 

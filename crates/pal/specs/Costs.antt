@@ -1,5 +1,5 @@
--- What the report of a program's costs has: a row for each body, INIT, the handler, the processes and
--- the procedures, in this order.
+-- The rows of the report of a program's costs: one for each body, INIT, the handler, the processes
+-- and the procedures, in this order.
 use Rattle.std.specs.Prelude.{List, [], ◌∷◌, ◌++◌, map, Option, Some, None}
 use Rattle.apex_types.specs.declared.cost.Costs.{Costs}
 use Rattle.pal_meaning.specs.Program as cost
@@ -12,7 +12,7 @@ use Rattle.pal.specs.declared.report.BodyCost.{BodyCost}
 use Rattle.pal.specs.declared.report.BodyName.{BodyName}
 use Rattle.pal.specs.declared.report.BodyName.TheVariants as name
 
--- its instructions, its frame, and the sum of the costs of its constructs
+-- the row of a body: its instructions, its frame, and the sum of the costs of its constructs
 abbrev pub cost_of_body : Costs → BodyName → Body → BodyCost
 cost_of_body costs n b = record {
   name = n;

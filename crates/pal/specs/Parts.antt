@@ -1,5 +1,5 @@
--- The definitions of a well-formed program over entries of its declared names, and what stands before
--- other parts of a program.
+-- The definitions of a well-formed program over entries of its declared names, and parts of a
+-- program before other parts.
 use Rattle.std.specs.Prelude.{ℕ, Bool, ◌&&◌, nat_le, List, [], ◌∷◌, length, map, flat_map, filter_map, option_map}
 use Rattle.std.specs.List.{list_all}
 use Rattle.apex_types.specs.declared.limits.TheConstants.{MOST_PROCESSES}

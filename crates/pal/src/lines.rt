@@ -1,4 +1,4 @@
-//! What the check of a rule answers: nothing, or the line that breaks the rule.
+//! The answer of a check of a rule: nothing, or the line that breaks the rule.
 
 ghost use Rattle.std.specs.Prelude.{◌≡◌, ◌&&◌, is_ok};
 
@@ -8,7 +8,7 @@ pub struct Line(pub u32);
 
 /// The answer of a check: nothing if the rule holds, else the first line that breaks it.
 ///
-/// A check that goes through the text in its order stops at the first error with `?`. Where a later
+/// A check that goes through the text in its order stops at the first error with `?`. If a later
 /// test may be about an earlier line, [`earliest`] takes both answers.
 pub type Check = Result<(), Line>;
 

@@ -1,4 +1,4 @@
-//! What the declared names of a program stand for.
+//! The meanings of the declared names of a program.
 
 ghost use Rattle.std.specs.Prelude.{◌≡◌, ◌+◌, ◌++◌, ◌&&◌, [], List, ℕ, ◌<◌, map, take, position, is_ok, true, option_map, IfOk, IfSome};
 ghost use Rattle.apex_types.specs.declared.limits.TheConstants.{MOST_PORTS};
@@ -28,7 +28,7 @@ const PROCESSES: u32 = MOST_PROCESSES as u32;
 /// The most objects of a kind.
 const OBJECTS: u32 = MOST_OBJECTS as u32;
 
-/// How many words of data and how many of each kind are declared.
+/// The numbers of declared words of data and of declarations of each kind.
 #[derive(Clone, Copy)]
 pub struct Counts {
     pub words: u32,
@@ -76,7 +76,7 @@ fn port_place(ports: &[PortRow], name: &str) -> Option<usize>
     first.iter().position(|port| port.name.as_str() == name)
 }
 
-/// The number of the port with that name among a partition's ports, from 1; 0 if there is none.
+/// The number of the port `name` among a partition's ports, from 1; 0 if no port has that name.
 fn port_number(ports: &[PortRow], name: &str) -> u32
     ensures { result ≡ meant.port_number ports.now name.now }
 {
@@ -98,7 +98,7 @@ impl Counts {
         procedures: 0,
     };
 
-    /// What a name so declared stands for, where so much is declared before it.
+    /// The meaning of the name in a declaration, after the counts `self` of earlier declarations.
     fn meaning(&self, kind: &DeclarationKind, ports: &[PortRow], name: &str) -> Denotation
         ensures { (names : List (List ℕ))
             → result
@@ -162,11 +162,12 @@ impl Counts {
     }
 }
 
-/// What the declared names of a program stand for.
+/// The meanings of the declared names of a program.
 #[derive(Drop)]
 pub struct Declared<'a> {
     pub table: NameTable<'a>,
-    /// Whether each name is new. An error is the line of the first that is declared twice.
+    /// The check that each name is new. An error is the line of the first name that is declared
+    /// twice.
     pub fresh: Check,
 }
 

@@ -23,7 +23,7 @@ pub fn check_periods(processes: &[Process], partition: u32) -> Check
     Ok(())
 }
 
-/// Whether a period is infinite or a multiple of the partition's.
+/// Returns true if a period is infinite or a multiple of the partition's.
 fn is_aligned(partition: u32, period: &Numeral) -> bool
     ensures { result
         ≡ (if period.now.negative then true else is_written_multiple partition
@@ -32,8 +32,8 @@ fn is_aligned(partition: u32, period: &Numeral) -> bool
     period.negative || is_written_multiple(partition, period)
 }
 
-/// Whether a number as it is written is a multiple of the partition's period; one above 2^63 - 1 is
-/// not.
+/// Returns true if a number as it is written is a multiple of the partition's period; a number
+/// above 2^63 - 1 is not.
 fn is_written_multiple(partition: u32, number: &Numeral) -> bool
     ensures { result ≡ is_written_multiple partition (number_of number.now) }
 {

@@ -1,4 +1,4 @@
-//! What the bodies of a program cost.
+//! The costs of the bodies of a program.
 
 ghost use Rattle.std.specs.Prelude.{◌≡◌, ◌++◌, map, option_map, IfOk, IfErr, OnOk};
 ghost use Rattle.compiling_laws.specs.Bounds.{AreCostsHeld, AreProceduresHeld, AreProcessesHeld, IsBodyHeld, IsHandlerHeld, IsProcedureHeld};
@@ -24,7 +24,7 @@ pub enum BodyName {
     Procedure(Name),
 }
 
-/// What a body costs: its instructions, the words of stack of its frame, and the ticks of its
+/// The costs of a body: its instructions, the words of stack of its frame, and the ticks of its
 /// constructs, each construct once and its end included.
 #[derive(Clone, Copy, Debug, PartialEq, Eq)]
 pub struct BodyCost {

@@ -1,5 +1,5 @@
-//! The program with its names resolved. What is refused elsewhere stands as 0 here: a number beyond
-//! its limit, and a name that is not of the kind that is wanted.
+//! The program with its names resolved. A value that is refused elsewhere is 0 here: a number
+//! beyond its limit, or a name of the wrong kind.
 
 ghost use Rattle.std.specs.Prelude.{◌≡◌, ◌++◌, ◌-◌, ◌^◌, List, ℕ, pos, map, length, replicate, flat_map, filter_map, option_map, true, IfOk, OnOk};
 ghost use Rattle.std.specs.List.{list_all};
@@ -37,7 +37,7 @@ use pal_base::syntax::{
 };
 use std::alloc::{AllocError, Global};
 
-/// The program with its names resolved, where no limit is passed.
+/// The program with its names resolved, if no limit is passed.
 pub fn resolve(
     alloc: Global,
     declared: &NameTable,
@@ -159,7 +159,7 @@ fn semaphores_of(
     Ok(rows)
 }
 
-/// How many events are declared, up to the most.
+/// The number of declared events, up to the most.
 fn events_of(declarations: &[Declaration]) -> u8
     ensures { (names : List (List ℕ))
         → result ≡ (counts_of no_counts (map (view.declaration_of names) declarations.now)).events }

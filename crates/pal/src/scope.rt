@@ -17,7 +17,8 @@ use indexmap::IndexSet;
 use pal_base::syntax::Identifier;
 use std::alloc::{AllocError, Global};
 
-/// What the names stand for in a body: its parameters and locals, and what the program declares.
+/// The meanings of the names in a body: its parameters and locals, and the declarations of the
+/// program.
 #[derive(Drop)]
 pub struct Scope<'a> {
     pub names: &'a IndexSet<String>,
@@ -107,7 +108,7 @@ fn enter_names<'a>(
 }
 
 impl<'a> Scope<'a> {
-    /// What the name stands for.
+    /// The meaning of `name`.
     pub fn get(&self, name: Identifier) -> Option<Denotation>
         ensures { result ≡ sees self.now (name_of (names_of self.now) name) }
     {
@@ -118,7 +119,7 @@ impl<'a> Scope<'a> {
         }
     }
 
-    /// Checks that the name stands for something. The error is its line.
+    /// Checks that the name has a meaning. The error is its line.
     pub fn check_known(&self, name: Identifier) -> Check
         ensures { is_ok result ≡ is_some (sees self.now (name_of (names_of self.now) name)) }
     {
@@ -217,7 +218,7 @@ impl<'a> Scope<'a> {
     }
 }
 
-/// Whether both kinds are the same.
+/// Returns true if both kinds are the same.
 fn is_same_kind(found: ObjectKind, kind: ObjectKind) -> bool
     ensures { result ≡ well_formed.is_same_kind found kind }
 {

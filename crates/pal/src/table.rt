@@ -1,4 +1,4 @@
-//! Tables of what the names of a program stand for.
+//! Tables of the meanings of a program's names.
 
 ghost use Rattle.std.specs.Prelude.{◌≡◌, ◌++◌, ◌∷◌, ◌&&◌, [], List, ℕ, not, is_some, true, IfOk, OnOk};
 ghost use Rattle.pal_meaning.specs.Resolve.{Entry, find};
@@ -11,14 +11,14 @@ use indexmap::{IndexMap, IndexSet};
 use pal_base::syntax::NameId;
 use std::alloc::{AllocError, Global};
 
-/// What names stand for, by their texts, in the order in which they were entered.
+/// The meanings of names by their texts, in the order of entry.
 #[derive(Drop)]
 pub struct NameTable<'a> {
     pub entries: IndexMap<&'a str, Denotation>,
 }
 
 impl<'a> NameTable<'a> {
-    /// A table in which no name stands for anything.
+    /// An empty table.
     pub fn new(alloc: Global) -> Self
         ensures { entries_of result ≡ [] }
     {
@@ -27,15 +27,14 @@ impl<'a> NameTable<'a> {
         }
     }
 
-    /// What the name stands for.
+    /// The meaning of the name with this text.
     pub fn get(&self, text: &str) -> Option<Denotation>
         ensures { result ≡ find text.now (entries_of self.now) }
     {
         self.entries.get(text).copied()
     }
 
-    /// Lets the name stand for a meaning, unless it stands for one already; answers whether it is
-    /// new.
+    /// Gives the name a meaning, unless it has one already. Returns true if the name is new.
     pub fn enter(&mut self, text: &'a str, meaning: Denotation) -> Result<bool, AllocError>
         ensures sees { OnOk result
             ((name : List ℕ) (rest : List Entry)

@@ -1,4 +1,4 @@
--- What two lists of costs come to, one behind the other.
+-- The sum of two lists of costs, one behind the other.
 use Rattle.std.proofs.Common.{◌≡◌, ℕ, zero, suc, ◌+◌, ◌<◌, List, [], ◌∷◌, ◌++◌, length, map, append-nil, drop, get_or, refl, sym, ap, ◌∙◌, arith, append_assoc}
 use Rattle.std.proofs.lemmas.List.{drop_more}
 use Rattle.pal_base.specs.declared.cost.Cost.{Cost}
@@ -8,7 +8,7 @@ use Rattle.pal_base.specs.Costs.{comes_to}
 abbrev pub UnderWay : Cost → List ℕ → List ℕ → Type 0
 UnderWay cost rest all = (done : List ℕ) × (cost ≡ comes_to done) × (done ++ rest ≡ all)
 
--- a cost of which it is known what it adds to any other
+-- `new` is the sum of `cost` and `others`, whatever lists these are the sums of
 abbrev pub Adds : Cost → Cost → Cost → Type 0
 Adds cost others new = (xs ys : List ℕ) → cost ≡ comes_to xs → others ≡ comes_to ys → new ≡ comes_to (xs ++ ys)
 

@@ -14,7 +14,8 @@ use Rattle.pal_base.specs.declared.source.ReadError.{ReadError}
 use Rattle.pal_base.specs.declared.source.ReadError.TheVariants.{Memory, Refused}
 use Rattle.pal_base.specs.declared.word.Token.{Token}
 
--- while the words are read one after another: so many tokens were made of the text, the rest follows in this line
+-- the state while words are read one after another: `tokens` were made of the text, and `rest`
+-- follows, in line `line`
 pub record AreCounted (text : List ℕ) (tokens : List Token) (rest : List ℕ) (line : ℕ) : Type 0 where
   pub place : rest ≡ from_word (length tokens) text
   pub few : line + length rest ≤ suc (length text)

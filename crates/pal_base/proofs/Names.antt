@@ -50,7 +50,7 @@ added false ks k = (string_bytes k ∷ [], map-append string_bytes ks (k ∷ [])
 pub inserted : (eq : String Global → String Global → Bool) (ks : List (String Global)) (k : String Global) → Extends (texts ks) (texts (insert_key eq ks k))
 inserted eq ks k = added (list_any (eq k) ks) ks k
 
--- the text at the place of a key that equals this one
+-- the text at the place of a key that equals the key
 pub stored_text : (keys : List (String Global)) (i : ℕ) (key k : String Global) → slice_get keys i ≡ Some k → string_eq key k ≡ true → text_or_none (slice_get (texts keys) i) ≡ string_bytes key
 stored_text keys i key k e h =
     ap text_or_none (slice_get-map string_bytes keys i ∙ ap (option_map string_bytes) e)

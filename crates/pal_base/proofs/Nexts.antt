@@ -21,7 +21,7 @@ use Rattle.pal_base.specs.declared.looking.WordKind.{WordKind}
 use Rattle.pal_base.specs.declared.looking.WordKind.TheVariants as kind
 use Rattle.pal_base.specs.declared.mark.Mark.TheVariants as mark
 
--- what may follow is listed or still to be tried, and what is listed may follow
+-- kinds that may follow are listed or still to be tried, and listed kinds may follow
 abbrev pub Listing : List ℕ → List Word → List WordKind → List WordKind → Type 0
 Listing name before words kinds = ((k : WordKind) → MayFollow name before k → Contains (words ++ kinds) k) × ((k : WordKind) → Contains words k → MayFollow name before k)
 
@@ -162,7 +162,7 @@ next_of name before words tried = (
   tried.1 kind.End,
 )
 
--- what is looked for where a text leaves the grammar
+-- the result of looking where a text leaves the grammar
 pub looked_so : (text : List ℕ) (view : Token → Word) (all ts whole front back : List Token) (count last : ℕ) (found : Option Misfit) (misfit : Misfit) (name : List ℕ) (looked_for : LookedFor) →
     map view all ≡ words_of text → ts ≡ all → found ≡ Some misfit → IsMisfit (map view ts) found → whole ≡ all → count ≡ length all - misfit.left → front ≡ take count whole → back ≡ drop count whole →
     looked_for.place ≡ length front → looked_for.line ≡ first_line last back → (HasFewLines text → AreLined text 0 all × (last ≡ word_line text (length all))) → AreTried name (map view front) looked_for.words.items → IsLookedFor text (Some looked_for)

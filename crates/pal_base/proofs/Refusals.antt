@@ -1,4 +1,4 @@
--- What a refusal of the words says of the text.
+-- A refusal of the words, and what it says of the text.
 use Rattle.std.proofs.Common.{Option, Some, None, Result, Ok, Err, map, ◌≡◌, ◌++◌, ◌-◌, ◌<◌, ℕ, suc, List, [], ◌∷◌, length, take, take-append-drop, drop, append_assoc, append-nil, sym, ap, ◌∙◌, subst, arith}
 use Rattle.std.proofs.lemmas.List.{take_all, map-append}
 use Rattle.pal_meaning.specs.Beginning.{IsWhole, IsBeginning}

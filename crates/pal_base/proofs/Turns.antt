@@ -1,4 +1,4 @@
--- What a loop has found, followed by what the rest of the repetition finds, is the whole.
+-- The results of a loop, followed by those of the rest of the repetition, are the whole.
 use Rattle.std.proofs.Common.{◌≡◌, ℕ, ◌<◌, Bool, true, false, List, [], ◌∷◌, ◌++◌, length, map, Some, None, Result, Ok, Err, is_ok, refl, sym, ◌∙◌, ap, append_assoc, append-nil, arith, subst}
 use Rattle.std.proofs.lemmas.List.{length-map, map-append}
 use Rattle.pal_meaning.specs.Grammar.{Word}
@@ -38,7 +38,7 @@ pub turn_fails : {A X : Type 0} (view : A → X) (turn : Turn X) (whole : Answer
     whole ≡ after (map view found) (repeat turn ws) → turn ws ≡ Err left → whole ≡ Err left
 turn_fails view turn whole found ws left so_far failed = so_far ∙ ap (after (map view found)) (repeat_fails turn ws left failed)
 
--- the turns of a repetition that goes on as long as the words begin so
+-- the turns of a repetition that continues as long as the words begin so
 pub each_finds : {B X : Type 0} (front : Answer B) (b : B) (read : B → Answer (X × List Word)) (x : X × List Word) → front ≡ Ok b → read b ≡ Ok x → each front read ≡ Ok (Some x)
 each_finds front b read x stands found = ap (λ r. each r read) stands ∙ ap (λ r. r >>= λ y. Ok (Some y)) found
 
@@ -63,21 +63,21 @@ fewer view xs ys h = omega (arith, length-map xs view, length-map ys view)
 pub as_many : (s : Source) (ts : List Token) → length (seen s ts) ≡ length ts
 as_many s ts = length-map ts (token_of (names_of s))
 
--- where one reading refuses, the other refuses
+-- if one reading refuses, the other refuses
 pub refused_by : {B D : Type 0} (error : ReadError) (r : Answer B) (s : Answer D) → ((left : ℕ) → r ≡ Err left → s ≡ Err left) → Refuses error r → Refuses error s
 refused_by Memory r s h given = tt
 refused_by (Refused misfit) r s h given = h misfit.left given
 
--- what is found is found by each way of reading that reads the same
+-- a result is found by each way of reading that reads the same
 pub gives_same : {A B : Type 0} (view : A → B) (answer : Result A ReadError) (r s : Answer B) → r ≡ s → Gives view answer r → Gives view answer s
 gives_same view answer r s same = subst (λ t. Gives view answer t) same
 
--- what is made of what is found
+-- a value made of the result
 pub gives_more : {A B D : Type 0} (view : A → B) (make : B → D) (whole : A → D) (answer : Result A ReadError) (r : Answer B) → ((a : A) → make (view a) ≡ whole a) → Gives view answer r → Gives whole answer (r >>= λ b. Ok (make b))
 gives_more view make whole (Ok a) r same given = ap (λ t. t >>= λ b. Ok (make b)) given ∙ ap Ok (same a)
 gives_more view make whole (Err error) r same given = refused_by error r (r >>= λ b. Ok (make b)) (λ left e. ap (λ t. t >>= λ b. Ok (make b)) e) given
 
--- where so many words are left, a refusal may say so
+-- if `left` words are left, a refusal may say so
 pub refuses : {D : Type 0} (error : ReadError) (r : Answer D) (left : ℕ) → IsLeft error left → r ≡ Err left → Refuses error r
 refuses Memory r left h e = absurd h
 refuses (Refused misfit) r left h e = e ∙ ap Err (sym h)
@@ -95,7 +95,7 @@ pub until_stops : {B X : Type 0} (t : Bool) (front : Answer B) (read : Answer (X
 until_stops t (Err left) read h k = cc
 until_stops t (Ok b) read h k = refl
 
--- the same of a repetition of one thing behind a mark
+-- a repetition of one thing behind a mark finds the next one
 pub listed_finds : {A X : Type 0} (view : A → X) (mark : List ℕ) (read : Reading X) (whole : Answer (List X × List Word)) (old new : List A) (a : A) (ws vs us : List Word) →
     whole ≡ after (map view old) (listed mark read ws) → expect mark ws ≡ Ok vs → read vs ≡ Ok (view a, us) → length us < length ws → new ≡ old ++ a ∷ [] →
     whole ≡ after (map view new) (listed mark read us)
@@ -111,7 +111,7 @@ pub listed_fails : {A X : Type 0} (view : A → X) (mark : List ℕ) (read : Rea
 listed_fails view mark read whole found ws vs error so_far stands given =
     refused_by error (read vs) whole (λ left failed. turn_fails view (λ ws. each (expect mark ws) read) whole found ws left so_far (each_fails (expect mark ws) vs read left stands failed)) given
 
--- and of a repetition up to a mark
+-- a repetition up to a mark finds the next one
 pub up_to_finds : {A X : Type 0} (view : A → X) (mark : List ℕ) (read : Reading X) (whole : Answer (List X × List Word)) (old new : List A) (a : A) (ws us : List Word) (t : Bool) →
     whole ≡ after (map view old) (up_to mark read ws) → t ≡ is_ok (expect mark ws) → t ≡ false → read ws ≡ Ok (view a, us) → length us < length ws → new ≡ old ++ a ∷ [] →
     whole ≡ after (map view new) (up_to mark read us)

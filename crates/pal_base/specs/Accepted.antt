@@ -1,4 +1,4 @@
--- When a program with its names resolved is what a source text is accepted as.
+-- When a source text is accepted as a program with its names resolved.
 use Rattle.std.specs.Prelude.{◌≡◌, ℕ, List, Ok}
 use Rattle.apex_types.specs.declared.row.PortRow.{PortRow}
 use Rattle.pal_meaning.specs.Program.{Program}

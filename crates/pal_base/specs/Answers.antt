@@ -12,7 +12,7 @@ use Rattle.pal_base.specs.declared.fault.Refusal.TheVariants as refusal
 abbrev pub HasText : tree.Program → Type 0
 HasText program = (text : List ℕ) × IsProgramOf text program
 
--- where each refusal is answered; memory may run out on each source text
+-- the condition of each refusal; memory may run out on each source text
 abbrev pub IsRefused : Refusal → List ℕ → Type 0
 IsRefused Text text = IsText text → ⊥
 IsRefused Grammar text = IsText text × ((program : tree.Program) → IsProgramOf text program → ⊥)
@@ -22,7 +22,7 @@ IsRefused Limit text = ⊥
 IsRefused Period text = ⊥
 IsRefused Memory text = IsText text
 
--- a refusal has the number of the verdict; want of memory says nothing of it
+-- a refusal has the number of the verdict; a refusal for memory says nothing of the verdict
 abbrev pub Refuses : Refusal → Result resolved.Program Refused → Type 0
 Refuses refusal.Text verdict = ⊥
 Refuses refusal.Grammar verdict = ⊥

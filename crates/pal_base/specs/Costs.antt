@@ -1,4 +1,4 @@
--- What a list of costs comes to, as 64 bits hold it: its sum.
+-- The total of a list of costs, as 64 bits hold it: its sum.
 use Rattle.std.specs.Prelude.{ℕ, List, min}
 use Rattle.std.specs.List.{sum}
 use Rattle.pal_base.specs.declared.cost.Cost.{Cost}

@@ -13,7 +13,7 @@ use Rattle.pal_base.specs.declared.word.Token.{Token}
 abbrev pub HasFewLines : List ℕ → Type 0
 HasFewLines text = length text < 4294967295
 
--- each of these words of a text has its line, where so many words stand before them
+-- each of these words of a text has its line, where `n` words stand before them
 abbrev pub AreLined : List ℕ → ℕ → List Token → Type 0
 AreLined text n [] = Unit {0}
 AreLined text n (t ∷ ts) = (t.line ≡ word_line text n) × AreLined text (suc n) ts
@@ -23,7 +23,7 @@ abbrev pub first_line : ℕ → List Token → ℕ
 first_line last [] = last
 first_line last (t ∷ ts) = t.line
 
--- the line of the word that is refused, or the last line; want of memory has none
+-- the line of the refused word, or the last line; 0 if memory ran out
 abbrev pub refused_line : ℕ → List Token → ReadError → ℕ
 refused_line last tokens Memory = 0
 refused_line last tokens (Refused misfit) = first_line last (drop (length tokens - misfit.left) tokens)

@@ -1,4 +1,4 @@
--- How each mark of the grammar is written.
+-- The spelling of each mark of the grammar.
 use Rattle.std.specs.Prelude.{ℕ, List, codes}
 use Rattle.pal_base.specs.declared.mark.Mark.{Mark}
 use Rattle.pal_base.specs.declared.mark.Mark.TheVariants as mark

@@ -1,4 +1,4 @@
--- What may come next behind some words.
+-- The words that may follow some words.
 use Rattle.std.specs.Prelude.{◌≡◌, ℕ, ◌-◌, ◌<◌, ◌≤◌, List, [], ◌∷◌, ◌++◌, Option, Some, None, slice_get, take, length}
 use Rattle.std.specs.List.{Contains}
 use Rattle.apex_types.specs.declared.service.Service.{Service}
@@ -32,15 +32,15 @@ AreNext before kinds =
     × ((k : WordKind) (word : Word) → IsOf k word → Contains kinds k → IsBeginning (before ++ word ∷ []))
     × (IsWhole before → Contains kinds kind.End) × (Contains kinds kind.End → IsWhole before)
 
--- What is looked for in a text that is not in the grammar: the place where its words leave the grammar, the line of that
--- place, and what may stand there.
+-- The result of looking at a text outside the grammar: the place where its words leave the grammar,
+-- the line of that place, and the words that may stand there.
 abbrev pub IsLookedFor : List ℕ → Option LookedFor → Type 0
 IsLookedFor text None = IsWhole (words_of text)
 IsLookedFor text (Some looked_for) =
     LeavesAt (words_of text) looked_for.place × (HasFewLines text → looked_for.line ≡ word_line text looked_for.place) ×
     AreNext (take looked_for.place (words_of text)) looked_for.words.items
 
--- where these words leave the grammar, if they do
+-- the place where these words leave the grammar, or none
 abbrev pub IsMisfit : List Word → Option Misfit → Type 0
 IsMisfit words None = IsWhole words
 IsMisfit words (Some misfit) = (misfit.left ≤ length words) × LeavesAt words (length words - misfit.left)
@@ -58,7 +58,7 @@ MayFollow name before kind.End = IsWhole before
 abbrev pub AreTried : List ℕ → List Word → List WordKind → Type 0
 AreTried name before kinds = ((k : WordKind) → MayFollow name before k → Contains kinds k) × ((k : WordKind) → Contains kinds k → MayFollow name before k)
 
--- the first name of a text, where there is one
+-- the first name of a text, or an empty text
 abbrev pub first_name : List (List ℕ) → List ℕ
 first_name names = text_or_none (slice_get names 0)
 

@@ -1,4 +1,4 @@
--- What the definitions see of the parts of a program.
+-- The parts of a program as the definitions see them.
 use Rattle.std.specs.Prelude.{ℕ, List, map, option_map}
 use Rattle.pal_meaning.specs.Syntax as tree
 use Rattle.pal_base.specs.declared.parse.Parts.{Parts}

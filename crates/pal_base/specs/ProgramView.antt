@@ -1,4 +1,4 @@
--- What the definitions see of a program with its names resolved, as the code holds it.
+-- A program with its names resolved, as the definitions see the value in the code.
 use Rattle.std.specs.Prelude.{List, [], ◌∷◌, map}
 use Rattle.std.specs.Option.{option_map}
 use Rattle.pal_base.specs.declared.program.Expr as code_expr

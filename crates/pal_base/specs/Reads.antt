@@ -13,7 +13,7 @@ listed mark read ws = repeat (λ ws. each (expect mark ws) read) ws
 abbrev pub up_to : {X : Type 0} → List ℕ → Reading X → Reading (List X)
 up_to mark read ws = repeat (λ ws. until (expect mark ws) (read ws)) ws
 
--- this one, and then what is found behind it
+-- `x`, followed by what is read behind it
 abbrev pub and_more : {X : Type 0} → X → Answer (List X × List Word) → Answer (List X × List Word)
 and_more x read = read >>= λ xs. Ok (x ∷ xs.0, xs.1)
 
@@ -21,7 +21,7 @@ unfoldable pub integers_read : Reading (List tree.Integer)
 integers_read ws = integer_at ws >>= λ first. and_more first.0 (up_to (codes ";") integer_at first.1) >>= λ all.
     expect (codes ";") all.1 >>= λ rest. Ok (all.0, rest)
 
--- arguments behind an opened parenthesis, where so many levels may still be opened
+-- arguments behind an opened parenthesis, where `k` levels may still be opened
 unfoldable pub arguments_within : ℕ → Reading tree.Exprs
 arguments_within k ws = either (expect (codes ")") ws)
     (λ rest. Ok (tree.NoExpr, rest))
@@ -31,7 +31,7 @@ arguments_within k ws = either (expect (codes ")") ws)
 unfoldable pub arguments_read : ℕ → Reading tree.Exprs
 arguments_read k ws = if k == 0 then no_level ws else arguments_within (k - 1) ws
 
--- a request of a service, and a statement, where so many levels may still be opened
+-- a request of a service, and a statement, where `k` levels may still be opened
 unfoldable pub service_call_read : ℕ → Service → Reading tree.Stmt
 service_call_read k service ws = if k == 0 then no_level ws else (expect (codes "(") ws >>= λ rest. arguments_read k rest >>= λ es. targets_at es.1 >>= λ xs.
     expect (codes ";") xs.1 >>= λ rest. Ok (tree.CallService service es.0 xs.0, rest))

@@ -1,4 +1,4 @@
--- What the definitions see of operators with their operands, one by one.
+-- Operators with their operands, one by one, as the definitions see them.
 use Rattle.std.specs.Prelude.{ℕ, List}
 use Rattle.apex_types.specs.declared.instruction.BinaryOperator.{BinaryOperator}
 use Rattle.pal_meaning.specs.Syntax as tree

@@ -1,4 +1,4 @@
--- What the definitions see of the words and readers of the code.
+-- The words and readers of the code as the definitions see them.
 use Rattle.std.specs.Prelude.{◌≡◌, ℕ, List, length, map, Option, Some, None, Result, Ok, Err}
 use Rattle.pal_base.specs.declared.fault.Refusal.{Refusal}
 use Rattle.pal_base.specs.declared.fault.Refusal.TheVariants as refusal
@@ -20,7 +20,7 @@ rank_of rank.Comparison = grammar.Comparison
 rank_of rank.Sum = grammar.Sum
 rank_of rank.Product = grammar.Product
 
--- how many ranks bind more
+-- the number of ranks that bind more
 abbrev pub looseness : Rank → ℕ
 looseness rank.Disjunction = 4
 looseness rank.Conjunction = 3
@@ -31,16 +31,17 @@ looseness rank.Product = 0
 abbrev pub names_of : Source → List (List ℕ)
 names_of s = texts s.names.keys
 
--- the words that these tokens of the source are
+-- the words of these tokens of the source
 abbrev pub seen : Source → List Token → List grammar.Word
 seen s ts = map (token_of (names_of s)) ts
 
--- A refusal is given where reading refuses, and so many words are left; want of memory may always be answered.
+-- The code refuses only if reading refuses, with as many words left; it may always run out of
+-- memory.
 abbrev pub Refuses : {Y : Type 0} → ReadError → Answer Y → Type 0
 Refuses Memory read = Unit {0}
 Refuses (Refused misfit) read = read ≡ Err misfit.left
 
--- so many words are left where reading refuses them
+-- `left` words are left where reading refuses them
 abbrev pub IsLeft : ReadError → ℕ → Type 0
 IsLeft Memory left = ⊥
 IsLeft (Refused misfit) left = misfit.left ≡ left
@@ -50,12 +51,13 @@ abbrev pub refusal_of : ReadError → Refusal
 refusal_of Memory = refusal.Memory
 refusal_of (Refused line) = refusal.Grammar
 
--- What the code found is what reading finds, unless memory ran out.
+-- The code finds the same as reading, unless memory runs out.
 abbrev pub Gives : {X Y : Type 0} → (X → Y) → Result X ReadError → Answer Y → Type 0
 Gives view (Ok x) read = read ≡ Ok (view x)
 Gives view (Err error) read = Refuses error read
 
--- The same of what may stand at the front of some words; where it does not, all of them are left.
+-- The code finds the same as reading at the front of some words, for something that may be missing;
+-- if it is missing, all words are left.
 abbrev pub Finds : {X Y : Type 0} → (X → Y) → List grammar.Word → Option X → Answer Y → Type 0
 Finds view words (Some x) read = read ≡ Ok (view x)
 Finds view words None read = read ≡ Err (length words)

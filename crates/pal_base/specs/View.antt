@@ -1,5 +1,5 @@
--- What the definitions see of a program as the code holds it: the text of each name in place of its
--- number, and no lines.
+-- A program of the code as the definitions see it: the text of each name in place of its number,
+-- and no lines.
 use Rattle.std.specs.Prelude.{ℕ, ℤ, pos, negsuc, List, [], ◌∷◌, Option, Some, None, map, option_map, slice_get}
 use Rattle.std.specs.String.{string_bytes}
 use Rattle.std.specs.declared.string.String.{String}
@@ -21,7 +21,7 @@ use Rattle.pal_base.specs.declared.syntax.StackBody.{StackBody}
 use Rattle.pal_base.specs.declared.syntax.Process.{Process}
 use Rattle.pal_meaning.specs.Syntax as tree
 
--- the text of the name of that number, where there is one
+-- the text of the name of that number, or an empty text
 abbrev pub text_or_none : Option (List ℕ) → List ℕ
 text_or_none (Some text) = text
 text_or_none None = []

@@ -1,4 +1,4 @@
--- What the definitions see of a word.
+-- A word as the definitions see it.
 use Rattle.std.specs.Prelude.{◌≡◌, ℕ, ◌<◌, List, ◌++◌, length}
 use Rattle.pal_base.specs.declared.word.Token.{Token}
 use Rattle.pal_base.specs.declared.word.Word.{Word}

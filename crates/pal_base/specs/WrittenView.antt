@@ -1,4 +1,4 @@
--- What the definitions see of a whole program as it is written.
+-- A whole written program as the definitions see it.
 use Rattle.pal_base.specs.View.{program_from}
 use Rattle.pal_base.specs.declared.syntax.Program.{Program}
 use Rattle.pal_meaning.specs.Syntax as tree

@@ -1,4 +1,4 @@
-//! What the constructs of a program's parts cost: the sum of their ticks.
+//! The costs of the constructs of a program's parts: the sum of their ticks.
 
 ghost use Rattle.std.specs.Prelude.{◌≡◌, ◌∷◌, ◌++◌, [], ℕ, List, map};
 ghost use Rattle.pal_meaning.specs.Program as cost;
@@ -10,18 +10,18 @@ ghost use Rattle.pal_base.specs.Costs.{comes_to};
 use crate::program::{Body, Expr, Link, Procedure, Stmt};
 use apex_types::{Costs, Place, Service};
 
-/// What constructs cost, each once: the sum of their ticks. What does not fit 64 bits is the greatest
-/// number that does.
+/// The cost of constructs, each counted once: the sum of their ticks. A sum that does not fit 64
+/// bits is the greatest number that does.
 #[derive(Clone, Copy, Debug, PartialEq, Eq)]
 pub struct Cost {
     pub ticks: u64,
 }
 
 impl Cost {
-    /// What no construct costs.
+    /// The cost of an empty body.
     pub const NONE: Cost = Cost { ticks: 0 };
 
-    /// What one construct of so many ticks costs.
+    /// The cost of one construct of `ticks` ticks.
     fn one(ticks: u32) -> Self
         ensures { result ≡ comes_to (ticks ∷ []) }
     {
@@ -30,7 +30,7 @@ impl Cost {
         }
     }
 
-    /// What these constructs and others behind them come to.
+    /// The cost of these constructs and of `others` behind them.
     fn plus(self, others: Cost) -> Self
         ensures { (xs ys : List ℕ) → self ≡ comes_to xs → others ≡ comes_to ys
             → result ≡ comes_to (xs ++ ys) }
@@ -40,7 +40,7 @@ impl Cost {
         }
     }
 
-    /// What these constructs, one of so many ticks, and others behind it come to.
+    /// The cost of these constructs, of one of `ticks` ticks, and of `others` behind it.
     fn joined_by(self, ticks: u32, others: Cost) -> Self
         ensures { (xs ys : List ℕ) → self ≡ comes_to xs → others ≡ comes_to ys
             → result ≡ comes_to (xs ++ ticks ∷ ys) }
@@ -48,7 +48,7 @@ impl Cost {
         self.plus(Cost::one(ticks).plus(others))
     }
 
-    /// What these constructs and one of so many ticks behind them come to.
+    /// The cost of these constructs and of one of `ticks` ticks behind them.
     fn and(self, ticks: u32) -> Self
         ensures { (xs : List ℕ) → self ≡ comes_to xs → result ≡ comes_to (xs ++ ticks ∷ []) }
     {
@@ -56,7 +56,7 @@ impl Cost {
     }
 }
 
-/// What the constructs of an expression come to.
+/// The cost of the constructs of an expression.
 #[cycle(cost_of_expr)]
 pub fn cost_of_expr(costs: &Costs, expr: &Expr) -> Cost
     ensures { result ≡ comes_to (cost.costs_of_expr costs.now (expr_of expr.now)) }
@@ -108,7 +108,7 @@ fn cost_of_exprs(costs: &Costs, exprs: &[Expr]) -> Cost
 
 /// The writes of the targets of a service.
 fn cost_of_targets(costs: &Costs, targets: &[Place]) -> Cost
-    ensures { result ≡ comes_to (map (λ _. costs.now.scalar) targets.now) }
+    ensures { result ≡ comes_to (map (λ _. costs.now.scalar.ticks) targets.now) }
 {
     let mut cost = Cost::NONE;
     for _ in targets {
@@ -123,12 +123,12 @@ fn cost_of_service(costs: &Costs, service: Service, arguments: &[Expr], targets:
         ≡ comes_to
         (cost.costs_of_exprs costs.now (exprs_of arguments.now)
         ++ (services.cost_of_service costs.now service
-        ∷ map (λ _. costs.now.scalar) targets.now)) }
+        ∷ map (λ _. costs.now.scalar.ticks) targets.now)) }
 {
     cost_of_exprs(costs, arguments).joined_by(service.cost(costs), cost_of_targets(costs, targets))
 }
 
-/// What the constructs of a statement come to.
+/// The cost of the constructs of a statement.
 #[cycle(cost_of_stmt)]
 fn cost_of_stmt(costs: &Costs, stmt: &Stmt) -> Cost
     ensures { result ≡ comes_to (cost.costs_of_stmt costs.now (stmt_of stmt.now)) }
@@ -158,7 +158,7 @@ fn cost_of_stmt(costs: &Costs, stmt: &Stmt) -> Cost
     }
 }
 
-/// What the constructs of a block come to.
+/// The cost of the constructs of a block.
 #[cycle(cost_of_stmt)]
 pub fn cost_of_block(costs: &Costs, block: &[Stmt]) -> Cost
     ensures { result ≡ comes_to (cost.costs_of_block costs.now (block_of block.now)) }
@@ -170,14 +170,15 @@ pub fn cost_of_block(costs: &Costs, block: &[Stmt]) -> Cost
     cost
 }
 
-/// What the constructs of the body of INIT, of the handler or of a process come to, its end among them.
+/// The cost of the constructs of the body of INIT, of the handler or of a process, its end
+/// included.
 pub fn cost_of_body(costs: &Costs, body: &Body) -> Cost
     ensures { result ≡ comes_to (cost.costs_of_body costs.now (body_of body.now)) }
 {
     cost_of_block(costs, &body.block).and(costs.end.ticks)
 }
 
-/// What the constructs of a procedure come to, the `return 0` with which it closes among them.
+/// The cost of the constructs of a procedure, its closing `return 0` included.
 pub fn cost_of_procedure(costs: &Costs, procedure: &Procedure) -> Cost
     ensures { result ≡ comes_to (cost.costs_of_procedure costs.now (procedure_of procedure.now)) }
 {

@@ -201,7 +201,7 @@ impl Source {
         self.chain(alloc, Rank::Disjunction, levels - 1, tokens)
     }
 
-    /// What begins with this name: an element, a call or the name alone.
+    /// Reads the expression that begins with this name: an element, a call or the name alone.
     #[tactic(auto, unfolding(pal_laws::specs::GrammarReading::named_with))]
     #[cycle(expression)]
     fn named<'a>(
@@ -228,7 +228,7 @@ impl Source {
         Ok((Expr::Name(name), tokens))
     }
 
-    /// The arguments behind the parenthesis that opens their list, up to the one that closes it.
+    /// Reads the arguments behind the opening parenthesis of their list, up to the closing one.
     #[tactic(auto, unfolding(crate::specs::Reads::arguments_read, crate::specs::Reads::arguments_within, pal_laws::specs::GrammarReading::expr_at))]
     #[cycle(expression)]
     pub fn arguments<'a>(

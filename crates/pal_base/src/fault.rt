@@ -7,7 +7,7 @@ ghost use Rattle.pal_base.specs.Numbers.{refusal_number};
 use std::alloc::{AllocError, AllocFailed};
 use thiserror::Error;
 
-/// Why a source text is refused. If several reasons apply, the first in this list is answered.
+/// Why a source text is refused. If several reasons apply, the first in this list is returned.
 #[derive(Clone, Copy, Debug, PartialEq, Eq)]
 pub enum Refusal {
     /// A byte is not ASCII, or the text is longer than 1,048,576 bytes.

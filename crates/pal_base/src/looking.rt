@@ -1,4 +1,5 @@
-//! What the grammar looks for where a text leaves it: each kind of word is tried there.
+//! Finds the words that the grammar looks for where a text leaves it: tries each kind of word
+//! there.
 
 ghost use Rattle.std.specs.Prelude.{◌≡◌, ◌++◌, ◌∷◌, [], length, IfOk, OnOk};
 ghost use Rattle.pal_base.specs.Lined.{first_line};
@@ -77,10 +78,10 @@ static KINDS: [WordKind; 50] = [
     WordKind::End,
 ];
 
-/// What the grammar looks for at the first word of a text that does not fit.
+/// The words that the grammar looks for at the first word of a text that does not fit.
 #[derive(Drop)]
 pub struct LookedFor {
-    /// How many words stand before that word.
+    /// The number of words before that word.
     pub place: usize,
     /// The line of that word, or the last line of the text.
     pub line: u32,
@@ -95,19 +96,19 @@ pub struct LookedFor {
 /// How a word fits behind others.
 #[derive(Clone, Copy)]
 enum Fit {
-    /// Some program goes on with it.
+    /// Some program continues with it.
     Fits,
     /// It opens one level too many.
     TooDeep,
     Misfit,
 }
 
-/// What the grammar looks for at the first word of a text that does not fit; nothing where the text
-/// is in the grammar.
+/// Returns the words that the grammar looks for at the first word of a text that does not fit;
+/// `None` if the text is in the grammar.
 ///
 /// # Errors
 ///
-/// Only where memory ran out.
+/// Only if memory runs out.
 pub fn looked_for(alloc: Global, text: &[u8]) -> Result<Option<LookedFor>, AllocError>
     ensures { IfOk result (λ found. IsLookedFor text.now found) }
 {
@@ -129,7 +130,7 @@ pub fn looked_for(alloc: Global, text: &[u8]) -> Result<Option<LookedFor>, Alloc
 }
 
 impl Source {
-    /// Where these words leave the grammar, if they do.
+    /// The place where these words leave the grammar; `None` if they do not.
     fn misfit(&self, alloc: Global, tokens: &[Token]) -> Result<Option<Misfit>, AllocError>
         ensures { IfOk result (λ found. IsMisfit (seen self.now tokens.now) found) }
     {
@@ -140,7 +141,7 @@ impl Source {
         }
     }
 
-    /// What can stand between these words.
+    /// Returns the words that may stand between `before` and `behind`.
     fn looked_for(
         &self,
         alloc: Global,
@@ -192,7 +193,7 @@ impl Source {
         }
     }
 
-    /// How this word fits behind those: it does not where the words leave the grammar before their
+    /// How this word fits behind those. It does not if the words leave the grammar before their
     /// end.
     fn fit_of_word(&self, alloc: Global, before: &[Token], word: Word) -> Result<Fit, AllocError>
         ensures { IfOk result
@@ -225,7 +226,7 @@ fn note(
     Ok(())
 }
 
-/// How the last of some words fits that leave the grammar there.
+/// How the last of some words fits, if the words leave the grammar there.
 fn fit_at(misfit: Misfit) -> Fit
     ensures { IsFitAt result misfit }
 {

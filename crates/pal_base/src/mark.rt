@@ -109,7 +109,7 @@ impl Mark {
     ghost use Rattle.std.specs.Prelude.{◌≡◌};
     ghost use Rattle.pal_base.specs.Marks.{mark_text};
 
-    /// How this mark is written.
+    /// The spelling of this mark.
     pub fn text(self) -> &'static [u8]
         ensures { result.now ≡ mark_text self }
     {

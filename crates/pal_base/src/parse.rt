@@ -54,8 +54,8 @@ pub fn parse(alloc: Global, text: &[u8]) -> Result<Program, PalFault>
     })
 }
 
-/// Refuses what is no source text, in the line of the first byte that is no ASCII, else of the
-/// first byte too many.
+/// Refuses a text that is no source text, in the line of the first byte that is not ASCII, or else
+/// of the first byte too many.
 fn judge_text(text: &[u8]) -> Result<(), PalFault>
     ensures text { OnOk result (IsText text.now) }
     ensures refusal { IfErr result (λ fault. IsRefused fault.refusal text.now) }
@@ -89,7 +89,7 @@ fn line_beyond_ascii(text: &[u8]) -> Option<u32>
     None
 }
 
-/// The line in which what follows this text stands.
+/// The line in which the text behind `text` begins.
 fn line_behind(text: &[u8]) -> u32 {
     let mut line = 1u32;
     for byte in text {
@@ -180,7 +180,7 @@ impl Source {
     }
 
     #[tactic(auto, unfolding(pal_laws::specs::GrammarReading::process_at))]
-    /// What follows the word `process` of that line.
+    /// Reads the process behind the word `process` of that line.
     fn process<'a>(&self, alloc: Global, line: u32, tokens: &'a [Token]) -> Read<'a, Process>
         ensures shorter { IfOk result (λ x. length x.1.now < length tokens.now) }
         ensures exact { Gives (λ x. (process_of (names_of self.now) x.0, seen self.now x.1.now))

@@ -1,5 +1,5 @@
-//! How many constructs each part of a program has, and so how many instructions it becomes. A number
-//! that does not fit 64 bits is the greatest number of 64 bits.
+//! The number of constructs of each part of a program, which is its number of instructions. A
+//! number that does not fit 64 bits is the greatest number of 64 bits.
 
 ghost use Rattle.std.specs.Prelude.{◌≡◌, ◌+◌, min};
 ghost use Rattle.pal_meaning.specs.Program as cost;

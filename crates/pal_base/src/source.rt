@@ -16,10 +16,10 @@ use apex_types::{BinaryOperator, Discipline, Service};
 use indexmap::IndexSet;
 use std::alloc::{AllocError, AllocFailed};
 
-/// Where the words of a text leave the grammar.
+/// The place where the words of a text leave the grammar.
 #[derive(Clone, Copy, Debug, PartialEq, Eq)]
 pub struct Misfit {
-    /// How many words stand there and behind.
+    /// The number of words there and behind.
     pub left: usize,
     /// The word there would open one level too many.
     pub is_too_deep: bool,
@@ -54,14 +54,14 @@ impl<T: Drop> From<AllocFailed<T>> for ReadError {
     }
 }
 
-/// What all words of a text share: its names, and the line in which it ends.
+/// The parts that all words of a text share: its names, and the line in which it ends.
 #[derive(Drop)]
 pub struct Source {
     pub names: IndexSet<String>,
     pub last_line: u32,
 }
 
-/// What a reader found at the front of the words, and the words behind it.
+/// The result of a reader at the front of the words, and the words behind it.
 pub type Read<'a, T> = Result<(T, &'a [Token]), ReadError>;
 
 /// The ranks of the operators of chains, the weakest first.
@@ -108,7 +108,7 @@ fn operators_of(rank: Rank) -> &'static [BinaryOperator]
     }
 }
 
-/// How an operator is written.
+/// The mark of an operator.
 fn mark_of(operator: BinaryOperator) -> Mark
     ensures { mark_text result ≡ reading.operator_mark operator }
 {
@@ -199,7 +199,7 @@ impl Source {
         }
     }
 
-    /// Whether this mark stands at the front.
+    /// Returns true if this mark stands at the front.
     pub fn stands(&self, tokens: &[Token], mark: Mark) -> bool
         ensures { result ≡ is_ok (reading.expect (mark_text mark) (seen self.now tokens.now)) }
     {

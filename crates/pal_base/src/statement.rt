@@ -14,7 +14,7 @@ use apex_types::Service;
 use apex_types::limits::MOST_LEVELS;
 use std::alloc::Global;
 
-/// How many levels may be opened in a body, which opens the first.
+/// The number of levels that may be opened in a body, which opens the first.
 const LEVELS_IN_BODY: u32 = MOST_LEVELS - 1;
 
 impl Source {
@@ -157,7 +157,7 @@ impl Source {
         })
     }
 
-    /// What follows the word `while`.
+    /// Reads the loop behind the word `while`.
     #[tactic(auto, unfolding(pal_laws::specs::GrammarReading::while_with))]
     #[cycle(statement)]
     fn repetition<'a>(&self, alloc: Global, levels: u32, tokens: &'a [Token]) -> Read<'a, StmtKind>
@@ -171,7 +171,7 @@ impl Source {
     }
 
     #[tactic(auto, unfolding(pal_laws::specs::GrammarReading::branch_with))]
-    /// What follows the word `if`.
+    /// Reads the branches behind the word `if`.
     #[cycle(statement)]
     fn branch<'a>(&self, alloc: Global, levels: u32, tokens: &'a [Token]) -> Read<'a, StmtKind>
         ensures shorter { IfOk result (λ x. length x.1.now < length tokens.now) }
@@ -190,7 +190,7 @@ impl Source {
     }
 
     #[tactic(auto, unfolding(pal_laws::specs::GrammarReading::work_at))]
-    /// What follows the word `work`.
+    /// Reads the statement behind the word `work`.
     fn work<'a>(&self, tokens: &'a [Token]) -> Read<'a, StmtKind>
         ensures shorter { IfOk result (λ x. length x.1.now < length tokens.now) }
         ensures exact { Gives (λ x. (kind_of (names_of self.now) x.0, seen self.now x.1.now)) result
@@ -202,7 +202,7 @@ impl Source {
     }
 
     #[tactic(auto, unfolding(pal_laws::specs::GrammarReading::return_at))]
-    /// What follows the word `return`.
+    /// Reads the statement behind the word `return`.
     fn returned<'a>(&self, alloc: Global, levels: u32, tokens: &'a [Token]) -> Read<'a, StmtKind>
         ensures shorter { IfOk result (λ x. length x.1.now < length tokens.now) }
         ensures exact { Gives (λ x. (kind_of (names_of self.now) x.0, seen self.now x.1.now)) result
@@ -214,7 +214,7 @@ impl Source {
     }
 
     #[tactic(auto, unfolding(pal_laws::specs::GrammarReading::assignment_at))]
-    /// What follows the name at the front of an assignment.
+    /// Reads the assignment behind the name at its front.
     fn assignment<'a>(
         &self,
         alloc: Global,
@@ -242,7 +242,7 @@ impl Source {
     }
 
     #[tactic(auto, unfolding(crate::specs::Reads::service_call_read))]
-    /// What follows the name of a service.
+    /// Reads the request behind the name of a service.
     fn service_call<'a>(
         &self,
         alloc: Global,

@@ -24,7 +24,7 @@ pub enum Natural {
     TooLarge,
 }
 
-/// A number where it stands in the text; `negative` where a minus sign stands before it.
+/// A number where it stands in the text; `negative` is true if a minus sign stands before it.
 #[derive(Clone, Copy, Debug, PartialEq, Eq)]
 pub struct Numeral {
     pub magnitude: Natural,

@@ -77,7 +77,7 @@ pub fn words_of(alloc: Global, text: &[u8]) -> Result<Words, PalFault>
 }
 
 #[tactic(auto, unfolding(pal_meaning::specs::Grammar::behind_blanks))]
-/// What follows the blanks and the comments at the front, and the line in which it stands.
+/// The text behind the blanks and the comments at the front, and the line in which it begins.
 fn behind_blanks(text: &[u8], line: u32) -> (&[u8], u32)
     ensures text { result.0.now ≡ behind_blanks false text.now }
     ensures few { result.1 + length result.0.now ≤ line + length text.now }
@@ -144,7 +144,7 @@ fn belongs(byte: u8, run: Run) -> bool
     }
 }
 
-/// The word at the front, and what follows it.
+/// The word at the front, and the text behind it.
 #[tactic(auto, unfolding(pal_meaning::specs::Grammar::word_at, pal_meaning::specs::Grammar::lower_word, pal_meaning::specs::Grammar::upper_word, pal_meaning::specs::Grammar::sign_word))]
 fn word_at<'a>(
     alloc: Global,
@@ -246,7 +246,7 @@ fn service_of(run: &[u8]) -> Option<Service>
     None
 }
 
-/// The longest sign at the front, and what follows it.
+/// The longest sign at the front, and the text behind it.
 fn sign_at(text: &[u8]) -> Option<(Mark, &[u8])>
     ensures sign { option_map (λ x. mark_text x.0) result
         ≡ find (λ sign. starts_with nat_eq text.now sign) grammar.signs }

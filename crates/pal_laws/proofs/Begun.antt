@@ -1,4 +1,5 @@
--- Where the words of a thing are refused, those before that place begin a thing: some more words complete it.
+-- If the words of a thing are refused, those before that place begin a thing: some more words
+-- complete it.
 use Rattle.std.proofs.Common.{◌≡◌, ℕ, zero, suc, ◌<◌, Bool, true, false, cond, List, [], ◌∷◌, ◌++◌, length, Option, Some, None, Ok, Err, refl, sym, ap, ◌∙◌, arith, append_assoc}
 use Rattle.std.proofs.lemmas.Bool.{lt-ltb}
 use Rattle.pal_meaning.specs.Grammar.{Word, Name, Number, ServiceWord, Mark, Stray}
@@ -10,7 +11,7 @@ use Rattle.pal_laws.proofs.Spelled.{TurnSpells}
 use Rattle.pal_laws.proofs.Shaped.{TurnShapes}
 use Rattle.pal_laws.proofs.Longer.{Longer}
 
--- these words of which so many are left begin such a thing
+-- these words, of which `left` are left, begin such a thing
 pub record Begun {X : Type 0} (words : X → List Word → List Word) (P : X → Type 0) (ws : List Word) (left : ℕ) : Type 0 where
   pub front : List Word
   pub back : List Word
@@ -27,7 +28,7 @@ Begins X words P read = (ws : List Word) (n : ℕ) → read ws ≡ Err n → Beg
 abbrev pub TurnBegins : (X : Type 0) → (X → List Word → List Word) → (X → Type 0) → Turn X → Type 0
 TurnBegins X words P turn = (ws : List Word) (n : ℕ) → turn ws ≡ Err n → Begun words P ws n
 
--- what stands before some words
+-- words in front of others
 abbrev pub Front : (List Word → List Word) → Type 0
 Front front = (rest more : List Word) → front (rest ++ more) ≡ front rest ++ more
 

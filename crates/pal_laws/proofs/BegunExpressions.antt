@@ -1,4 +1,4 @@
--- Where the words of an expression are refused, those before that place begin one.
+-- If the words of an expression are refused, those before that place begin one.
 use Rattle.std.proofs.Common.{◌≡◌, ℕ, zero, suc, ◌-◌, ◌≤◌, Bool, true, false, cond, nat_eq, inl, inr, List, [], ◌∷◌, ◌++◌, length, Some, Ok, Err, refl, sym, ap, ◌∙◌, subst, arith}
 use Rattle.std.specs.Prelude.{codes, ◌⊎◌}
 use Rattle.apex_types.specs.declared.instruction.BinaryOperator.{BinaryOperator}
@@ -117,7 +117,7 @@ arguments_begin k read s p b ws n h = one_way (expect _ ws) _ _ _ h
 abbrev pub DeepBegins : (X : Type 0) → (X → List Word → List Word) → (X → Type 0) → Reading X → Type 0
 DeepBegins X words P read = (ws : List Word) (n : ℕ) → read ws ≡ Err n → (suc (length ws) ≡ n) ⊎ Begun words P ws n
 
--- what stands before the word that opens the level is complete as it stands, or with these words
+-- the words before the word that opens the level are complete by themselves, or with these words
 pub opened : {X Y : Type 0} (words : X → List Word → List Word) (P : X → Type 0) (whole : Y → List Word → List Word) (Q : Y → Type 0) (ws vs : List Word) (n : ℕ) (front : List Word → List Word) (opening : Word) (make : X → Y) (end : List Word) (y : Y) (short : List Word) →
     Front front → ws ≡ front (opening ∷ vs) → ((x : X) → P x → Q (make x)) → ((x : X) (rest : List Word) → whole (make x) rest ≡ front (opening ∷ words x (end ++ rest))) →
     Q y → ((rest : List Word) → whole y rest ≡ front (short ++ rest)) → (suc (length vs) ≡ n) ⊎ Begun words P vs n → Begun whole Q ws n
@@ -193,7 +193,7 @@ pub expr_begins : (k : ℕ) → Begins tree.Expr expr_words (Fits k 5) (expr_at 
 unfolding expr_at
 expr_begins k ws n h = whole_begins k (unary_at k) (unary_at_spells k) (unary_at_shapes k) (unary_at_begins k) ws n h
 
--- where a level is opened, one is left, or the word that opens it is refused
+-- if a level is opened, one is left, or the word that opens it is refused
 pub level : {B : Type 0} (k left n : ℕ) (t : Bool) (o : Answer B) → (t ≡ false → 1 ≤ k) → cond t (Err left) o ≡ Err n → (left ≡ n) ⊎ ((1 ≤ k) × (o ≡ Err n))
 level k left n true o le h = inl (left_is left n h)
 level k left n false o le h = inr (le refl, h)

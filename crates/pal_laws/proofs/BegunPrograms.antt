@@ -1,4 +1,4 @@
--- Where the words of a program are refused, those before that place begin one.
+-- If the words of a program are refused, those before that place begin one.
 use Rattle.std.proofs.Common.{◌≡◌, ℕ, true, false, List, [], ◌∷◌, ◌++◌, length, Option, Some, None, Err, refl, sym, ap, ◌∙◌, subst}
 use Rattle.std.specs.Prelude.{codes}
 use Rattle.apex_types.specs.declared.codes.Discipline.TheVariants as discipline
@@ -13,7 +13,7 @@ use Rattle.pal_laws.proofs.Shaped.{Holds, IsDeclared, declaration_turn_shapes, d
 use Rattle.pal_laws.proofs.Begun.{Begun, Begins, TurnBegins, Front, stopped, inside, something, refused, each_refused, until_refused, expect_left, name_left, number_left, repeat_begins}
 use Rattle.pal_laws.proofs.BegunStatements.{some_names, a_name, names_begin, statements_at_begin, end_words, block_end}
 
--- of which nothing is asked
+-- the condition that is always true
 abbrev No : {X : Type 0} → X → Type 0
 No x = Unit {0}
 

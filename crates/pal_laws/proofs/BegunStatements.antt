@@ -1,4 +1,4 @@
--- Where the words of a statement or of a block are refused, those before that place begin one.
+-- If the words of a statement or of a block are refused, those before that place begin one.
 use Rattle.std.proofs.Common.{◌≡◌, ℕ, zero, suc, ◌≤◌, nat_eq, inl, inr, List, [], ◌∷◌, length, Some, Ok, Err, refl, sym, ap, ◌∙◌, subst, arith}
 use Rattle.std.specs.Prelude.{codes, ◌⊎◌}
 use Rattle.apex_types.specs.declared.service.Service.{Service}

@@ -9,7 +9,7 @@ use Rattle.engine_meaning.specs.Digits.{same}
 use Rattle.pal_meaning.specs.Grammar.{Word, Name, Number, ServiceWord, Mark, Stray, operator_mark}
 use Rattle.pal_laws.specs.GrammarReading.{Answer, Reading, Turn, ◌>>=◌, either, each, until, expect, name_at, number_at, service_at, one_of, turned, repeat_within, repeat}
 
--- a word without what tells it from others of its kind
+-- a word without its difference from others of its kind
 abbrev pub shape : Word → Word
 shape (Name text) = Name []
 shape (Number value) = Number None
@@ -20,7 +20,7 @@ shape Stray = Stray
 abbrev pub shapes : List Word → List Word
 shapes ws = map shape ws
 
--- both found something, before words of the same shapes, or both leave so many words
+-- both found something before words of the same shapes, or both leave the same number of words
 unfoldable pub Same : {X Y : Type 0} → Answer (X × List Word) → Answer (Y × List Word) → Type 0
 Same (Ok x) (Ok y) = y.1 ≡ shapes x.1
 Same (Ok x) (Err m) = ⊥

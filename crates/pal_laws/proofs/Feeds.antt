@@ -143,7 +143,7 @@ unfolding word_at
 next_feeds [] plain = refl
 next_feeds (b ∷ bs) plain = word_feeds b bs plain
 
--- the next word begins behind the blanks that follow this one
+-- the next word begins behind the blanks that follow the word before it
 pub next_word : (n : ℕ) (text : List ℕ) → from_word (suc n) text ≡ behind_blanks false (word_at (from_word n text)).1
 unfolding from_word
 next_word zero text = refl

@@ -1,4 +1,4 @@
--- What may stand behind an expression: nothing that the expression would go on with.
+-- The words that may stand behind an expression: none with which it would continue.
 use Rattle.std.proofs.Common.{◌≡◌, ℕ, suc, ◌-◌, ◌<◌, ◌≤◌, List, ◌∷◌, length, Ok, Err, refl, arith, subst, ap}
 use Rattle.std.specs.Prelude.{codes}
 use Rattle.apex_types.specs.declared.instruction.BinaryOperator.{BinaryOperator}
@@ -181,7 +181,7 @@ operator_ends op rank rest e =
     let same : looseness (rank_of op) ≡ looseness rank = ap looseness e in
     record { no_index = no_index_mark op rest; no_arguments = no_arguments_mark op rest; no_operator = λ other le. tighter_fails op other rest (omega (arith, same, some_looseness rank, le)) }
 
--- what ends an expression ends those that bind more tightly
+-- the end of an expression ends those that bind more tightly
 pub ends_tighter : (n m : ℕ) (rest : List Word) → n ≤ m → Ends m rest → Ends n rest
 ends_tighter n m rest le ends = record { no_index = ends.no_index; no_arguments = ends.no_arguments; no_operator = λ rank l. ends.no_operator rank (omega (arith, le, l)) }
 

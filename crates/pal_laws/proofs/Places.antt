@@ -1,4 +1,4 @@
--- Where reading refuses a word, the words leave the grammar.
+-- If reading refuses a word, the words leave the grammar there.
 use Rattle.std.proofs.Common.{◌≡◌, ℕ, suc, ◌+◌, ◌-◌, ◌<◌, ◌≤◌, List, [], ◌∷◌, ◌++◌, length, length-append, append_assoc, take, Ok, Err, refl, sym, ap, ◌∙◌, subst, arith}
 use Rattle.std.proofs.lemmas.List.{take_at}
 use Rattle.pal_meaning.specs.Grammar.{Word, program_words, IsProgram}

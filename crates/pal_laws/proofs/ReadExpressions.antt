@@ -1,4 +1,4 @@
--- An expression that is written is read, where nothing follows that it would go on with.
+-- A written expression is read, if it would not continue with the words that follow.
 use Rattle.std.proofs.Common.{◌≡◌, ℕ, zero, suc, ◌-◌, ◌≤◌, inl, inr, true, false, cond, List, [], ◌∷◌, length, Option, Some, None, Ok, Err, refl, arith, subst, ap, ◌∙◌}
 use Rattle.std.specs.Prelude.{codes, ◌==◌}
 use Rattle.std.proofs.Math.Nat.{eq-or-lt_of_le}
@@ -65,7 +65,7 @@ no_links operand Comparison rest e = then_reads (link_at operand Comparison rest
 no_links operand Sum rest e = then_reads (repeat (link_at operand Sum) rest) _ _ _ (repeat_ends (link_at operand Sum) rest (no_link operand Sum rest e)) refl
 no_links operand Product rest e = then_reads (repeat (link_at operand Product) rest) _ _ _ (repeat_ends (link_at operand Product) rest (no_link operand Product rest e)) refl
 
--- what is read as an operand is read so where looser operators may stand too, if none does
+-- an operand that is read is also read where looser operators may stand, if none does
 raised : (u : Reading tree.Expr) (n : ℕ) (e : tree.Expr) (ws rest : List Word) → Ends (suc n) rest → loose_with u n ws ≡ Ok (e, rest) → loose_with u (suc n) ws ≡ Ok (e, rest)
 unfolding loose_with
 raised u n e ws rest ends h = chain_reads (loose_with u n) (rank_at n) ws rest rest e tree.NoLink h (no_links (loose_with u n) (rank_at n) rest (ends.no_operator (rank_at n) (rank_low n)))
@@ -230,7 +230,7 @@ module _ (deeper inside : Reading tree.Expr) (arguments : Reading tree.Exprs) wh
   sign_with unary.Negate e ws rest h = then_reads (deeper ws) _ _ _ h refl
   sign_with unary.Not e ws rest h = then_reads (deeper ws) _ _ _ h refl
 
--- an operand that is no chain is read where so many levels may be opened
+-- an operand without operators is read where `k` levels may be opened
 reads_alone : (k n : ℕ) (e : tree.Expr) (ws rest : List Word) → Ends n rest → unary_with (deeper_at k) (nested_at k) (arguments_at k) ws ≡ Ok (e, rest) → loose_with (unary_at k) n ws ≡ Ok (e, rest)
 unfolding unary_read
 reads_alone k n e ws rest ends h = alone (unary_at k) n e ws rest ends (unary_is k ws ∙ h)

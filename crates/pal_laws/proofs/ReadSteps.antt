@@ -1,15 +1,15 @@
--- How a reading goes on, step by step, where each part is read.
+-- How a reading continues, step by step, where each part is read.
 use Rattle.std.proofs.Common.{◌≡◌, ℕ, ◌<◌, List, [], ◌∷◌, length, Some, None, Ok, Err, ap, ◌∙◌}
 use Rattle.pal_meaning.specs.Grammar.{Word}
 use Rattle.pal_laws.specs.GrammarReading.{Answer, Turn, ◌>>=◌, either, repeat}
 use Rattle.pal_meaning.specs.Grammar.{all_words, Each}
 use Rattle.pal_laws.proofs.Repeats.{repeat_ends, repeat_goes_on}
 
--- what is read at the front, then what is read behind it
+-- a reading at the front, then a reading behind it
 pub then_reads : {A B : Type 0} (o : Answer A) (f : A → Answer B) (a : A) (y : Answer B) → o ≡ Ok a → f a ≡ y → (o >>= f) ≡ y
 then_reads o f a y e g = ap (λ p. p >>= f) e ∙ g
 
--- the second of two ways, where the first finds nothing
+-- the second of two ways, if the first finds nothing
 pub other_way : {A B : Type 0} (o : Answer A) (f : A → Answer B) (left : ℕ) (other y : Answer B) → o ≡ Err left → other ≡ y → either o f other ≡ y
 other_way o f left other y e g = ap (λ p. either p f other) e ∙ g
 
@@ -26,7 +26,7 @@ repeat_reads P words turn (x ∷ xs) rest one longer all ends =
     let vs = all_words words xs rest in
     repeat_reads_on turn (words x vs) vs rest x xs (one x vs all.0) (longer x vs) (repeat_reads P words turn xs rest one longer all.1 ends)
 
--- where nothing is asked of the things
+-- the condition that is always true
 abbrev pub Any : {X : Type 0} → X → Type 0
 Any x = Unit {0}
 

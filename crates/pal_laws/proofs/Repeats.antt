@@ -1,4 +1,4 @@
--- How a repetition goes on, whatever bounded it.
+-- How a repetition continues, whatever bounded it.
 use Rattle.std.proofs.Common.{◌≡◌, ℕ, zero, suc, ◌<◌, Bool, true, false, List, [], ◌∷◌, ◌++◌, length, Option, Some, None, Ok, Err, refl, ◌∙◌, ap, arith, cond}
 use Rattle.std.specs.Prelude.{nat_lt}
 use Rattle.std.proofs.lemmas.Bool.{ltb-true, lt-ltb}
@@ -40,6 +40,6 @@ repeat_goes_on turn ws x vs e l =
     ∙ ap (λ b. cond b (repeat_within (length ws) turn vs >>= λ xs. Ok (x ∷ xs.0, xs.1)) (Err (length ws))) (lt-ltb (length vs) (length ws) l)
     ∙ ap (λ r. r >>= λ xs. Ok (x ∷ xs.0, xs.1)) (bounds_agree turn (length ws) (suc (length vs)) vs l (omega arith))
 
--- what was found before, and then what the rest of the repetition finds
+-- the items found before, and then those of the rest of the repetition
 abbrev pub after : {X : Type 0} → List X → Answer (List X × List Word) → Answer (List X × List Word)
 after front read = read >>= λ xs. Ok (front ++ xs.0, xs.1)

@@ -1,4 +1,5 @@
--- What is read has its operators in the order of their ranks, and opens no more levels than it may.
+-- An expression that is read has its operators in the order of their ranks, and opens no more
+-- levels than it may.
 use Rattle.std.proofs.Common.{◌≡◌, ◌≤◌, ℕ, zero, suc, ◌-◌, Bool, true, false, cond, nat_eq, List, [], ◌∷◌, length, Option, Some, None, Ok, Err, refl, arith, subst}
 use Rattle.std.specs.Prelude.{codes, nat_lt}
 use Rattle.apex_types.specs.declared.instruction.BinaryOperator.{BinaryOperator}

@@ -1,4 +1,4 @@
--- What is read is written so: the words of the tree that is found, and then those behind it.
+-- Words that are read are the words of the tree that is found, followed by those behind it.
 use Rattle.std.proofs.Common.{◌≡◌, ℕ, zero, suc, ◌-◌, Bool, true, false, cond, nat_eq, List, [], ◌∷◌, length, Option, Some, None, Ok, Err, refl, sym, ◌∙◌, ap}
 use Rattle.std.specs.Prelude.{codes, nat_lt}
 use Rattle.std.specs.Cmp.Lexicographic.{same_text}

@@ -9,13 +9,13 @@ use Rattle.engine_meaning.specs.Digits.{same}
 use Rattle.pal_laws.specs.GrammarReading.{Answer, Reading, Turn, ◌>>=◌, either, each, until, expect, name_at, number_at, service_at, one_of, operators_of, operator_at, turned, repeat_within, repeat}
 use Rattle.pal_laws.proofs.Begun.{left_is}
 
--- at most so many words are left
+-- at most `n` words are left
 abbrev pub Within : {X : Type 0} → Answer (X × List Word) → ℕ → Type 0
 Within (Ok x) n = length x.1 ≤ n
 Within (Err left) n = left ≤ n
 
--- What was answered where more words follow: the same where a word was left, and nothing that stops before them where
--- none was.
+-- The answer where more words follow: the same if a word was left; nothing that stops before them
+-- if none was.
 abbrev pub StaysFound : {X : Type 0} → List Word → X → List Word → Answer (X × List Word) → Type 0
 StaysFound more x [] b = Within b (length more)
 StaysFound more x (u ∷ us) b = b ≡ Ok (x, u ∷ us ++ more)
@@ -28,8 +28,8 @@ abbrev pub Stays : {X : Type 0} → List Word → Answer (X × List Word) → An
 Stays more (Ok x) b = StaysFound more x.0 x.1 b
 Stays more (Err n) b = StaysRefused more n b
 
--- A reading that looks so far. It leaves no more words than it was given; behind a word that opens a level it may
--- refuse that word, too.
+-- A reading that looks at no word behind the place where it stops. It leaves at most `d` of the
+-- number of words that it was given; behind a word that opens a level it may refuse that word, too.
 abbrev pub SteadyBy : {X : Type 0} → (ℕ → ℕ) → Reading X → Type 0
 SteadyBy d read = (ws more : List Word) → Within (read ws) (d (length ws)) × Stays more (read ws) (read (ws ++ more))
 
@@ -80,7 +80,7 @@ module _ {A B : Type 0} (F : A × List Word → Answer (B × List Word)) (next :
 pub then_steady : {A B : Type 0} (d : ℕ → ℕ) (read : Reading A) (F : A × List Word → Answer (B × List Word)) → SteadyBy d read → ((x : A) → Steady (λ us. F (x, us))) → SteadyBy d (λ ws. read ws >>= F)
 then_steady d read F s next ws more = let r = s ws more in (within_then F next (read ws) (d (length ws)) r.0, stays_then F next more (read ws) (read (ws ++ more)) r.1)
 
--- what is found without reading on
+-- a result found without reading on
 found_so : {X : Type 0} (x : X) (ws more : List Word) → StaysFound more x ws (Ok (x, ws ++ more))
 found_so x [] more = omega arith
 found_so x (w ∷ ws) more = refl

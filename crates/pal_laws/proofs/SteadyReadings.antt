@@ -335,7 +335,7 @@ program_is ws =
     regroup (declarations_at ws) _ all_of ∙ deeper (declarations_at ws) _ _ (λ ds. regroup (stack_body_at (codes "init") ds.1) _ all_of ∙ deeper (stack_body_at (codes "init") ds.1) _ _ (λ i.
     regroup (handler_at i.1) _ all_of ∙ deeper (handler_at i.1) _ _ (λ h. regroup (processes_at h.1) _ all_of)))
 
--- Where more words are left than follow these, no program begins with these.
+-- If more words are left than follow these, no program begins with these.
 all_too_few : (x : tree.Program) (us : List Word) (n m : ℕ) → length us ≤ m → m < n → all_read x us ≡ Err n → ⊥
 all_too_few x [] n m l k h = let e : ⊥ = cc in e
 all_too_few x (u ∷ us) n m l k h = omega (arith, l, k, left_is (suc (length us)) n h)

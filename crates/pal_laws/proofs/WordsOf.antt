@@ -66,7 +66,7 @@ word_shorter b bs =
     (tested_short (is_upper b) _ _ _ (λ h. run_shorter in_service b bs (upper_in_service b h))
     (found_short (starts_with nat_eq (b ∷ bs)) signs b bs signs_have_bytes)))
 
--- what is left behind the first word and the blanks behind it
+-- the text behind the first word and the blanks behind it
 pub next_shorter : (b : ℕ) (bs : List ℕ) → length (behind_blanks false (word_at (b ∷ bs)).1) < length (b ∷ bs)
 next_shorter b bs = omega (arith, blanks_shorter false (word_at (b ∷ bs)).1, word_shorter b bs)
 
@@ -90,7 +90,7 @@ pub words_from_more : (b : ℕ) (bs : List ℕ) → words_from (b ∷ bs) ≡ (w
 unfolding words_from words_within
 words_from_more b bs = ap (λ ws. (word_at (b ∷ bs)).0 ∷ ws) (bounds_agree (length bs) _ _ (omega (arith, next_shorter b bs)) (omega arith))
 
--- the same of a text that is not empty, and of one that is
+-- the words of a text that is not empty, and of an empty text
 pub next_short : (bs : List ℕ) → 0 < length bs → length (behind_blanks false (word_at bs).1) < length bs
 next_short [] h = absurd (omega arith)
 next_short (b ∷ bs) h = next_shorter b bs

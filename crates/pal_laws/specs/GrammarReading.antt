@@ -13,11 +13,12 @@ use Rattle.engine_meaning.specs.Digits.{same}
 use Rattle.pal_meaning.specs.Syntax as tree
 pub use Rattle.pal_meaning.specs.Grammar.{operator_mark, Rank, Disjunction, Conjunction, Comparison, Sum, Product}
 
--- Something, or how many words are left where the words leave the grammar: the word there, and those behind it.
+-- A result, or the number of words that are left where the words leave the grammar: the word there,
+-- and those behind it.
 abbrev pub Answer : Type 0 → Type 0
 Answer X = Result X ℕ
 
--- what is read at the front of the words, and the words behind it
+-- the result of reading at the front of the words, and the words behind it
 abbrev pub Reading : Type 0 → Type 0
 Reading X = List Word → Answer (X × List Word)
 
@@ -181,7 +182,7 @@ arguments_with inside ws = either (expect (codes ")") ws)
     (inside ws >>= λ first. repeat (λ ws. each (expect (codes ",") ws) inside) first.1 >>= λ more.
     expect (codes ")") more.1 >>= λ rest. Ok (tree.MoreExprs first.0 (exprs_of more.0), rest))
 
--- what begins with a name; inside is an expression one level further in
+-- an expression that begins with a name; inside is an expression one level further in
 unfoldable pub named_with : Reading tree.Expr → Reading tree.Exprs → List ℕ → Reading tree.Expr
 named_with inside arguments x ws = either (expect (codes "[") ws)
     (λ rest. inside rest >>= λ e. expect (codes "]") e.1 >>= λ rest. Ok (tree.Element x e.0, rest))

@@ -8,14 +8,14 @@ ghost use Rattle.pal_laws.specs.GrammarReading.{program_at};
 ghost use Rattle.pal_meaning.specs.Grammar.{Word, Name, Number, ServiceWord};
 ghost use Rattle.pal_meaning.specs.Syntax.{Program};
 
-/// What is read as a program is written so: the words are those of the program, its operators stand
-/// in the order of their ranks, and it opens at most 64 levels.
+/// A program that is read is written so: the words are those of the program, its operators stand in
+/// the order of their ranks, and it opens at most 64 levels.
 pub fn program_is_written_so()
     ensures { (words : List Word) (program : Program) → program_at words ≡ Ok program
         → IsWritten words program }
 {}
 
-/// What is written as a program is read as it.
+/// The words of a written program are read as that program.
 pub fn written_program_is_read()
     ensures { (words : List Word) (program : Program) → IsWritten words program
         → program_at words ≡ Ok program }
@@ -27,8 +27,8 @@ pub fn words_are_of_one_program()
         → IsWritten words second → first ≡ second }
 {}
 
-/// What is refused leaves the grammar there: the words before the place begin a program, and with
-/// the word at the place none does.
+/// Refused words leave the grammar at the reported place: the words before the place begin a
+/// program, and no program begins with these words and the word at the place.
 pub fn refused_words_leave_the_grammar()
     ensures { (words : List Word) (left : ℕ) → program_at words ≡ Err left
         → (left ≤ length words) × LeavesAt words (length words - left) }

@@ -7,11 +7,11 @@ use Rattle.pal_meaning.specs.Syntax as tree
 abbrev pub IsWhole : List Word → Type 0
 IsWhole words = (program : tree.Program) × IsWritten words program
 
--- some program goes on with more words behind these
+-- some program begins with these words
 abbrev pub IsBeginning : List Word → Type 0
 IsBeginning words = (more : List Word) × IsWhole (words ++ more)
 
--- These words are no program, and leave the grammar behind so many of them: some program goes on behind these, and none
--- behind these and the next one, where there is one.
+-- These words are no program, and leave the grammar after the first `place`: some program begins
+-- with these, and no program begins with these and the next word, if a next word follows.
 abbrev pub LeavesAt : List Word → ℕ → Type 0
 LeavesAt words place = (IsWhole words → ⊥) × (place ≤ length words) × IsBeginning (take place words) × (place < length words → IsBeginning (take (suc place) words) → ⊥)

@@ -53,15 +53,15 @@ is_lower b = nat_le 97 b && nat_le b 122
 abbrev pub is_upper : ℕ → Bool
 is_upper b = nat_le 65 b && nat_le b 90
 
--- what may stand in a name, and in the name of a service
+-- the bytes of a name, and of the name of a service
 abbrev pub in_name : ℕ → Bool
 in_name b = is_lower b || is_digit b || (b == 95)
 
 abbrev pub in_service : ℕ → Bool
 in_service b = is_upper b || (b == 95)
 
--- What follows the blanks and comments at the front; true within a comment, which goes from # to the
--- end of the line.
+-- The text behind the blanks and comments at the front; the flag is true within a comment, which
+-- goes from # to the end of the line.
 unfoldable pub behind_blanks : Bool → List ℕ → List ℕ
 behind_blanks comment [] = []
 behind_blanks comment (b ∷ bs) =
@@ -97,7 +97,7 @@ upper_word text = service_or_stray (find (λ s. same (service_word s) text) serv
 unfoldable pub sign_word : ℕ → List ℕ → Word × List ℕ
 sign_word b bs = sign_or_stray (find (λ sign. starts_with nat_eq (b ∷ bs) sign) signs) b bs
 
--- the word at the front, and what follows it
+-- the word at the front, and the text behind it
 unfoldable pub word_at : List ℕ → Word × List ℕ
 word_at [] = (Stray, [])
 word_at (b ∷ bs) =
@@ -166,7 +166,7 @@ abbrev pub targets_words : List (List ℕ) → List Word → List Word
 targets_words [] rest = rest
 targets_words (x ∷ xs) rest = Mark (codes "->") ∷ names_words (x ∷ xs) rest
 
--- how a unary operator is written
+-- the spelling of a unary operator
 abbrev pub sign_of : UnaryOperator → List ℕ
 sign_of unary.Negate = codes "-"
 sign_of unary.Not = codes "not"

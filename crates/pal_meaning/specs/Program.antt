@@ -81,9 +81,9 @@ pub record Program : Type 0 where
   pub handler : Option Body
   pub processes : List Process
 
--- What a program's constructs cost in ticks, how many instructions they are, and how many words of
--- stack a body needs. Each construct is one instruction, and its cost does not depend on what
--- stands around it.
+-- The costs of a program's constructs in ticks, the number of their instructions, and the words of
+-- stack that a body needs. Each construct is one instruction, and its cost does not depend on the
+-- constructs around it.
 
 -- the costs of the constructs of an expression, in the order in which they take effect
 abbrev mutual
@@ -133,7 +133,7 @@ cost_of_procedure costs p = sum (costs_of_procedure costs p)
 abbrev pub cost_of_body : Costs → Body → ℕ
 cost_of_body costs b = sum (costs_of_body costs b)
 
--- how many constructs there are, and so how many instructions
+-- the number of constructs, which is the number of instructions
 abbrev mutual
   pub size_of_expr : Expr → ℕ
   size_of_expr (Literal value) = 1
@@ -218,7 +218,7 @@ abbrev mutual
   operands_of_block (MoreStmts first rest) = max (operands_of_stmt first) (operands_of_block rest)
 
 -- The words of stack of a body: its parameters, its locals, its operands (the 0 with which a
--- procedure closes is one), and two for the place and the frame to come back to.
+-- procedure closes is one), and two for the place and the frame of its caller.
 abbrev pub frame_of_procedure : Procedure → ℕ
 frame_of_procedure p = p.parameters + p.locals + max 1 (operands_of_block p.block) + 2
 

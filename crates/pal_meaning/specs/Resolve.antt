@@ -1,5 +1,5 @@
--- What the names of a program stand for, and the program with its names resolved. The resolution is
--- made for every program: what makes a program not well formed stands as 0 in it.
+-- The meanings of the names of a program, and the program with its names resolved. Every program is
+-- resolved: a part that makes a program not well formed is 0 in the result.
 use Rattle.std.specs.Prelude.{ℕ, ◌+◌, ◌-◌, ◌^◌, ℤ, pos, ◌-ℤ◌, nat_le, nat_lt, if◌then◌else◌, List, [], ◌∷◌, ◌++◌, map, length, take, replicate, flat_map, filter_map, position, Option, Some, None, option_map, unwrap_or, bytes_eq}
 use Rattle.apex_types.specs.declared.limits.TheConstants.{GREATEST_PRIORITY, MOST_DATA_WORDS, MOST_DEPTH, MOST_LOCALS, MOST_OBJECTS, MOST_PORTS, MOST_PROCEDURES, MOST_PROCESSES, MOST_SEMAPHORE_VALUE, MOST_SLOTS, MOST_STACK_WORDS, MOST_TICKS, MOST_WORDS, MOST_WORK_TICKS}
 use Rattle.apex_types.specs.declared.place.Place.{Place}
@@ -26,11 +26,11 @@ abbrev pub value_or_zero : Option ℕ → ℕ
 value_or_zero None = 0
 value_or_zero (Some n) = n
 
--- the word that a number with its sign is
+-- the word of a number with its sign
 abbrev pub signed_word : written.Integer → ℤ
 signed_word i = if i.negative then pos 0 -ℤ pos (value_or_zero i.magnitude) else pos (value_or_zero i.magnitude)
 
--- how many words of data and how many of each kind are declared
+-- the numbers of declared words of data and of declarations of each kind
 pub record Counts : Type 0 where
   pub words : ℕ
   pub semaphores : ℕ
@@ -43,7 +43,7 @@ pub record Counts : Type 0 where
 abbrev pub no_counts : Counts
 no_counts = record { words = 0; semaphores = 0; events = 0; buffers = 0; blackboards = 0; ports = 0; procedures = 0 }
 
--- a count after so many more, where that is within its limit
+-- a count raised by `more`, if the sum is within the limit
 abbrev pub counted : ℕ → ℕ → ℕ → Option ℕ
 counted limit count more = if nat_le (more + count) limit then Some (more + count) else None
 
@@ -62,12 +62,12 @@ after c (written.Procedure parameters body) = option_map (λ n. record c { proce
 abbrev pub next : ℕ → ℕ → ℕ
 next limit count = unwrap_or (counted limit count 1) 0
 
--- the number of the port of that name in the partition's row, from 1; 0 if there is none
+-- the number of the port `name` in the partition's row, from 1; 0 if no port has that name
 abbrev pub port_number : List PortRow → List ℕ → ℕ
 port_number ports name = unwrap_or (option_map (λ i. i + 1) (position (λ p. bytes_eq p.name name) (take MOST_PORTS ports))) 0
 
--- What a declared name stands for, after so much is declared: variables and arrays lie in the data
--- in the order of declaration, objects are numbered from 1, each kind by itself, procedures from 0.
+-- The meaning of a declared name after the counts `c`: variables and arrays lie in the data in the
+-- order of declaration, objects are numbered from 1, each kind by itself, procedures from 0.
 abbrev pub declared_meaning : List PortRow → Counts → List ℕ → written.Kind → Denotation
 declared_meaning ports c name (written.Variable value) = denotation.Scalar (Data c.words)
 declared_meaning ports c name (written.Array size values) = denotation.Array c.words (pos (within MOST_DATA_WORDS size))
@@ -78,17 +78,17 @@ declared_meaning ports c name (written.Blackboard words) = denotation.Object obj
 declared_meaning ports c name written.Port = denotation.Object object.Port (port_number ports name)
 declared_meaning ports c name (written.Procedure parameters body) = denotation.Procedure c.procedures (length parameters)
 
--- a name and what it stands for
+-- a name and its meaning
 pub record Entry : Type 0 where
   pub name : List ℕ
   pub meaning : Denotation
 
--- what a name stands for by the first entry that has it
+-- the meaning of a name by the first entry that has it
 abbrev pub find : List ℕ → List Entry → Option Denotation
 find name [] = None
 find name (e ∷ es) = if bytes_eq e.name name then Some e.meaning else find name es
 
--- the entries of the declarations, after so much is declared; a count that would pass its limit stays
+-- the entries of the declarations after the counts `c`; a count that would pass its limit stays
 abbrev pub declaration_entries : List PortRow → Counts → List written.Declaration → List Entry
 declaration_entries ports c [] = []
 declaration_entries ports c (d ∷ ds) = record { name = d.name; meaning = declared_meaning ports c d.name d.kind } ∷ declaration_entries ports (unwrap_or (after c d.kind) c) ds
@@ -101,16 +101,16 @@ process_entries count (p ∷ ps) = record { name = p.name; meaning = denotation.
 abbrev pub declared_entries : List PortRow → written.Program → List Entry
 declared_entries ports p = declaration_entries ports no_counts p.declarations ++ process_entries 0 p.processes
 
--- the slot of the parameter or local with so many before it
+-- the slot of the parameter or local with `place` others before it
 abbrev pub slot : ℕ → ℕ
 slot place = if nat_lt place MOST_SLOTS then place else 0
 
--- the entries of the parameters and locals of a body, with so many before them
+-- the entries of the parameters and locals of a body, with `place` others before them
 abbrev pub own_entries : ℕ → List (List ℕ) → List Entry
 own_entries place [] = []
 own_entries place (x ∷ xs) = record { name = x; meaning = denotation.Scalar (Slot (slot place)) } ∷ own_entries (place + 1) xs
 
--- what each name stands for in a body: a parameter or local, or what is declared of that name
+-- the meaning of each name in a body: a parameter or local, or the declaration of that name
 abbrev pub Scope : Type 0
 Scope = List ℕ → Option Denotation
 
@@ -121,7 +121,7 @@ or_else None other = other
 abbrev pub scope_of : List Entry → List Entry → Scope
 scope_of own declared name = or_else (find name own) (find name declared)
 
--- what stands for a name of the kind that is wanted; for any other name it is 0
+-- the resolution of a name of the wanted kind; 0 for any other name
 abbrev pub place_of : Option Denotation → Place
 place_of (Some (denotation.Scalar place)) = place
 place_of _ = Data 0
@@ -161,7 +161,7 @@ abbrev mutual
   resolve_exprs scope written.NoExpr = program.NoExpr
   resolve_exprs scope (written.MoreExprs first rest) = program.MoreExprs (resolve_expr scope first) (resolve_exprs scope rest)
 
--- what an expression stands for as the name of an argument
+-- the meaning of an expression as the name of an argument
 abbrev pub named : Scope → written.Expr → Option Denotation
 named scope (written.Name name) = scope name
 named scope _ = None

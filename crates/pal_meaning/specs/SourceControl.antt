@@ -1,6 +1,6 @@
--- What a process still has to do on the source, and what one tick of it does. A compound construct
--- unfolds into its parts without a tick; a simple construct takes the ticks of its cost and has its
--- one effect in the last of them, on the data as it is then.
+-- The parts that a process still has to do on the source, and the effect of one tick. A compound
+-- construct unfolds into its parts without a tick; a simple construct takes the ticks of its cost
+-- and has its one effect in the last of them, on the data as it is then.
 use Rattle.std.specs.Prelude.{ℕ, zero, suc, ◌+◌, ℤ, pos, List, [], ◌∷◌, ◌++◌, Option, Some, None, length, take, drop, reverse, replicate, map, slice_get, slice_set, nat_eq, nat_lt, nat_le, if◌then◌else◌}
 use Rattle.apex_types.specs.declared.codes.ErrorKind.{ErrorKind}
 use Rattle.apex_types.specs.declared.codes.ErrorKind.TheVariants as error
@@ -39,22 +39,22 @@ pub data Simple : Type 0 where
   Ask : (service : Service) → Simple
   EndBody : Simple
 
--- a part of what is still to do
+-- a part that is still to do
 pub data Part : Type 0 where
   Evaluate : (expr : Expr) → Part
   Execute : (stmt : Stmt) → Part
   Do : (construct : Simple) → Part
 
--- an open call that waits for the one that it made: what it has to do then, its values, the last
--- one first, and its slots
+-- an open call that waits for the call that it made: the parts to do after that, its values, the
+-- last one first, and its slots
 pub record OpenCall : Type 0 where
   pub parts : List Part
   pub values : List ℤ
   pub slots : List ℤ
 
--- What the running body still has to do, its values, the last one first, and its slots; the calls
--- that wait, the last one first; the ticks spent on the front construct; the words of an answer
--- that it awaits, 0 for none; and the words of stack of the process.
+-- The parts that the running body still has to do, its values, the last one first, and its slots;
+-- the calls that wait, the last one first; the ticks spent on the front construct; the words of an
+-- answer that it awaits, 0 for none; and the words of stack of the process.
 pub record SourceControl : Type 0 where
   pub parts : List Part
   pub values : List ℤ
@@ -64,7 +64,7 @@ pub record SourceControl : Type 0 where
   pub awaits : ℕ
   pub stack : ℕ
 
--- the front construct, and what is to do after it
+-- the front construct, and the parts to do after it
 pub record Front : Type 0 where
   pub construct : Simple
   pub rest : List Part
@@ -113,7 +113,7 @@ front_of_stmt (Work ticks) rest = front (Spend ticks) rest
 front_of_stmt (Return value) rest = front_of_expr value (Do ReturnValue ∷ rest)
 front_of_stmt (CallService service arguments targets) rest = front_of_exprs arguments (Ask service) (targets_then targets rest)
 
--- where nothing is to do the body is at its end
+-- if nothing is to do, the body is at its end
 abbrev pub front_of : List Part → Front
 front_of [] = front EndBody []
 front_of (Evaluate expr ∷ rest) = front_of_expr expr rest
@@ -145,7 +145,7 @@ abbrev pub taken : List OpenCall → ℕ
 taken [] = 0
 taken (call ∷ calls) = taken calls + length call.slots + 2 + length call.values
 
--- The control after a tick that went on: what is to do, and the values.
+-- The control after a tick that continued: the parts to do, and the values.
 abbrev pub moves : SourceControl → List Part → List ℤ → SourceControl
 moves c rest values = record { parts = rest; values = values; slots = c.slots; callers = c.callers; spent = 0; awaits = 0; stack = c.stack }
 
@@ -156,32 +156,32 @@ goes_on c rest values words = record { control = moves c rest values; words = wo
 abbrev pub stays : SourceControl → List ℤ → Asks → Ticked SourceControl
 stays c words asks = record { control = c; words = words; asks = asks }
 
--- goes on with a value more, or the error where there is none
+-- continues with one more value, or raises `error` if there is no value
 abbrev pub value_or : ErrorKind → Option ℤ → SourceControl → List Part → List ℤ → List ℤ → Ticked SourceControl
 value_or error None c rest values words = stays c words (Faults error)
 value_or error (Some v) c rest values words = goes_on c rest (v ∷ values) words
 
--- a word of a list, where there is one
+-- the word at a place of a list, if the place is within the list
 abbrev pub word_at : List ℤ → Option ℕ → Option ℤ
 word_at words None = None
 word_at words (Some place) = slice_get words place
 
--- words with one of them written, where there is one
+-- words with the word at a place changed, if the place is within them
 abbrev pub write_at : List ℤ → Option ℕ → ℤ → Option (List ℤ)
 write_at words None v = None
 write_at words (Some place) v = if nat_lt place (length words) then Some (slice_set words place v) else None
 
--- goes on over the data as written, or a memory violation where the place is none
+-- continues with the data as written, or raises a memory violation if the place is outside the data
 abbrev pub writes : Option (List ℤ) → SourceControl → List Part → List ℤ → List ℤ → Ticked SourceControl
 writes None c rest values words = stays c words (Faults error.MemoryViolation)
 writes (Some written) c rest values words = goes_on c rest values written
 
--- the same of the slots of the running body
+-- continues with the slots of the running body as written, or raises a memory violation
 abbrev pub writes_slot : Option (List ℤ) → SourceControl → List Part → List ℤ → List ℤ → Ticked SourceControl
 writes_slot None c rest values words = stays c words (Faults error.MemoryViolation)
 writes_slot (Some slots) c rest values words = record { control = record { parts = rest; values = values; slots = slots; callers = c.callers; spent = 0; awaits = 0; stack = c.stack }; words = words; asks = Nothing }
 
--- what is to do in a procedure: its block, then `return 0`
+-- the parts of a procedure: its block, then `return 0`
 abbrev pub parts_of_procedure : Procedure → List Part
 parts_of_procedure p = block_then p.block (Do (Value (pos 0)) ∷ Do ReturnValue ∷ [])
 
@@ -200,7 +200,7 @@ opens (Some p) c rest values words =
     }
     else stays c words (Faults error.StackOverflow)
 
--- a call gives its value back to the one that made it
+-- a call gives its value back to its caller
 abbrev pub gives_back : List OpenCall → ℤ → SourceControl → List ℤ → Ticked SourceControl
 gives_back [] v c words = stays c words (Faults error.MemoryViolation)
 gives_back (caller ∷ callers) v c words = record { control = record { parts = caller.parts; values = v ∷ caller.values; slots = caller.slots; callers = callers; spent = 0; awaits = 0; stack = c.stack }; words = words; asks = Nothing }
@@ -213,8 +213,8 @@ asks_service service call c rest values words =
     then record { control = record { parts = rest; values = values; slots = c.slots; callers = c.callers; spent = 0; awaits = answer_words service; stack = c.stack }; words = words; asks = Calls call }
     else stays c words (Faults error.MemoryViolation)
 
--- The effect of a simple construct, given what is to do after it and the values. The last line is
--- a construct that finds too few values, which a program with its names resolved never does.
+-- The effect of a simple construct, given the parts to do after it and the values. The last line is
+-- a construct that finds too few values, which a program with its names resolved never has.
 abbrev pub effect : Program → Simple → List Part → SourceControl → List ℤ → List ℤ → Ticked SourceControl
 effect program (Value v) rest c values words = goes_on c rest (v ∷ values) words
 effect program (ReadScalar (Data x)) rest c values words = value_or error.MemoryViolation (slice_get words x) c rest values words
@@ -254,7 +254,7 @@ abbrev pub source_tick : Costs → Program → SourceControl → List ℤ → Ti
 source_tick costs program c words = tick_awaiting costs program c.awaits c words
 
 -- The words of an answer become values, the code as the last one; an answer of another length than
--- the one that is awaited changes nothing.
+-- the awaited one changes nothing.
 abbrev pub source_reply : SourceControl → List ℤ → SourceControl
 source_reply c answer = if nat_eq (length answer) c.awaits then record { parts = c.parts; values = answer ++ c.values; slots = c.slots; callers = c.callers; spent = c.spent; awaits = 0; stack = c.stack } else c
 
@@ -264,7 +264,7 @@ body_of_process p = p.body
 abbrev pub source_body : Program → Runner → Body
 source_body program p = body_at program.init program.handler (map body_of_process program.processes) p
 
--- what is to do in the body of INIT, of the handler or of a process: its block, then its end
+-- the parts of the body of INIT, of the handler or of a process: its block, then its end
 abbrev pub parts_of_body : Body → List Part
 parts_of_body b = block_then b.block (Do EndBody ∷ [])
 

@@ -51,7 +51,7 @@ pub record Body : Type 0 where
   pub locals : List (List ℕ)
   pub block : Block
 
--- what a declaration says of its name; an array without first values has none
+-- the kind of a declared name; an array without first values has none
 pub data Kind : Type 0 where
   Variable : (value : Option Integer) → Kind
   Array : (size : Option ℕ) (values : List Integer) → Kind

@@ -91,7 +91,7 @@ abbrev pub is_array : Option Denotation → Bool
 is_array (Some (denotation.Array place size)) = true
 is_array _ = false
 
--- a procedure with so many parameters
+-- a procedure with `n` parameters
 abbrev pub is_procedure : ℕ → Option Denotation → Bool
 is_procedure n (Some (denotation.Procedure number parameters)) = nat_eq parameters n
 is_procedure n _ = false
@@ -273,7 +273,7 @@ limits_hold ports p = let declared = declared_entries ports p in
 
 -- PERIODS: the finite period of a process is a multiple of its partition's.
 
--- whether a number as it is written is a multiple of the partition's period; one above 2^63 - 1 is not
+-- whether a written number is a multiple of the partition's period; a number above 2^63 - 1 is not
 abbrev pub is_written_multiple : ℕ → Option ℕ → Bool
 is_written_multiple partition None = false
 is_written_multiple partition (Some n) = nat_lt 0 partition && nat_eq (n % partition) 0

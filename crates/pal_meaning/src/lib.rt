@@ -1,3 +1,3 @@
-//! What a source of Pal says: its words, its grammar, its rules, its costs, and what each of its processes does
-//! tick by tick.
+//! The meaning of a source of Pal: its words, its grammar, its rules, its costs, and the behavior
+//! of each of its processes tick by tick.
 #![tactic(auto)]

@@ -1,4 +1,4 @@
--- A step on an error, then the action that it leaves to be done.
+-- A step on an error, then the action that remains to be done.
 use Rattle.std.proofs.Common.{◌≡◌, List, ◌++◌, Option, ap, subst, ◌∙◌, append_assoc}
 use Rattle.apex_types.specs.declared.codes.ErrorKind.{ErrorKind}
 use Rattle.apex_types.specs.declared.codes.PartitionAction.{PartitionAction}

@@ -1,4 +1,4 @@
--- What is told in a log of events.
+-- The events recorded in a log.
 use Rattle.std.proofs.Common.{◌≡◌, List, [], ◌++◌, ap, sym, subst, ◌∙◌, append-nil}
 use Rattle.apex_types.specs.declared.event.Event.{Event}
 use Rattle.apex_types.specs.declared.log.EventLog.{Ghosts as Log}
@@ -8,7 +8,7 @@ use Rattle.partition.specs.Members.{IsTold}
 pub tells_none : {L : Type 0} (g : Log L) (log : L) → g.pieces [] ≡ [] → IsTold g log log []
 tells_none g log none = sym (append-nil (g.held log)) ∙ ap (λ ps. g.held log ++ ps) (sym none)
 
--- where the log was empty and is so still, no event was told
+-- if the log was empty and still is, no event was recorded
 pub silent_events : {L : Type 0} (g : Log L) (old new : L) (events : List Event) → ((es : List Event) → g.pieces es ≡ [] → es ≡ [])
     → g.held old ≡ [] → g.held new ≡ [] → IsTold g old new events → events ≡ []
 silent_events g old new events silent before after told = silent events (ap (λ ps. ps ++ g.pieces events) (sym before) ∙ sym told ∙ after)

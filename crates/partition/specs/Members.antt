@@ -26,22 +26,22 @@ acts action x = with_world x (act x.engine action x.world)
 abbrev pub acts_all : {C : Type 0} → List Action → Member C → Member C
 acts_all actions x = with_world x (act_all x.engine actions x.world)
 
--- The log holds what it held, and behind it these events.
+-- The log holds what it held before, followed by these events.
 abbrev pub IsTold : {L : Type 0} → (g : Log L) → L → L → List Event → Type 0
 IsTold g old new events = g.held new ≡ g.held old ++ g.pieces events
 
--- Some events were told, of which this is so.
+-- Some events with this property were recorded.
 abbrev pub TellsSome : {L : Type 0} → (g : Log L) → L → L → (List Event → Type 0) → Type 0
 TellsSome g old new is_so = (told : List Event) × IsTold g old new told × is_so told
 
--- A member moved: this is the one after it, and its lines were told.
+-- A member moved: `after` is the member after it, and its lines were recorded.
 abbrev pub IsMoved : {C : Type 0} → Moved C → Member C → Member C → (List Event → Type 0) → Type 0
 IsMoved m before after is_told = (after ≡ with_world before m.world) × is_told m.lines
 
--- Ticks of a member from one on: it is now this one, they told these lines, and were so many.
+-- Ticks of a member from `at` on: `ticks` ticks lead to `after` and write `lines`.
 abbrev pub HasGone : {C : Type 0} → At → Member C → Member C → List Event → ℕ → Type 0
 HasGone at before after lines ticks = (after ≡ with_world before after.world) × Goes before.engine at.origin.0 before.world at.now.0 (record { control = after.world; words = at.now.0 + ticks; told = lines; ticks = ticks })
 
--- n ticks of a member from one on, or those up to the first with a line: so many.
+-- n ticks of a member from `at` on, or those up to the first with a line: `ticks` ticks.
 abbrev pub HasAdvanced : {C : Type 0} → At → ℕ → Member C → Member C → List Event → ℕ → Type 0
 HasAdvanced at n before after lines ticks = (after ≡ with_world before after.world) × (advances_by before.engine at.origin.0 n before.world at.now.0 ≡ record { control = after.world; words = at.now.0 + ticks; told = lines; ticks = ticks })

@@ -1,4 +1,4 @@
--- How the state of a partition in the code is seen.
+-- The view of the state of a partition in the code.
 use Rattle.kernel_meaning.specs.Kernel as meaning
 use Rattle.window_table.specs.Schedules.{schedule_of}
 use Rattle.partition.specs.declared.fixed.Fixed.{Fixed}

@@ -1,4 +1,4 @@
-//! What the kernel asks for is done, and what happened is told.
+//! Performs the kernel's actions, and records the lines as events.
 
 ghost use Rattle.std.specs.Prelude.{◌≡◌, ◌≤◌, ◌+◌, [], ◌++◌, length};
 ghost use Rattle.kernel_meaning.specs.Partition.{line, told};
@@ -8,7 +8,8 @@ use crate::kernel::Kernel;
 use apex_types::{Action, EventLog, Happenings, Moment, Name};
 use partition_base::Executor;
 
-/// Does what the kernel asks of the processor, of the memory and of the errors that wait for the handler.
+/// Performs an action of the kernel on the processor, on the memory or on the errors that wait for
+/// the handler.
 fn act<E: Executor>(kernel: &mut Kernel, executor: &mut E, mem: &mut E::Mem, action: &Action)
     requires { E.laid mem.old ≡ E.layout executor.old }
     ensures fits { E.laid mem.new ≡ E.layout executor.new }
@@ -26,7 +27,7 @@ fn act<E: Executor>(kernel: &mut Kernel, executor: &mut E, mem: &mut E::Mem, act
     }
 }
 
-/// Does all that is asked, in order.
+/// Performs all actions, in order.
 pub(crate) fn act_all<E: Executor>(
     kernel: &mut Kernel,
     executor: &mut E,
@@ -43,7 +44,7 @@ pub(crate) fn act_all<E: Executor>(
     }
 }
 
-/// What happened in a tick is told as events of the partition.
+/// Records the lines of a tick as events of the partition.
 pub(crate) fn tell<L: EventLog>(name: Name, moment: Moment, lines: &mut Happenings, log: &mut L)
     requires { length lines.old.items ≤ L.room log.old }
     ensures told { IsTold L.EventLog log.old log.new (told name moment.at lines.old.items) }

@@ -18,8 +18,8 @@ use partition_base::Executor;
 use processor::{Burst, Outcome};
 
 impl<E: Executor> Partition<E> {
-    /// So many ticks of the one that runs, or those up to the first in which it asks for something. What it
-    /// asks for is not yet done.
+    /// Executes `k` ticks of the current runner, or those up to the first that makes a request: a
+    /// service call, a fault, or the end of the body. The request is not yet treated.
     fn run_for(&mut self, mem: &mut E::Mem, runner: Runner, k: u32) -> Burst
         requires some { 0 < k }
         requires fits { E.laid mem.old ≡ E.layout self.old.executor }
@@ -40,7 +40,7 @@ impl<E: Executor> Partition<E> {
         self.executor.advance(mem, runner, k)
     }
 
-    /// What a tick of the one that runs came to is treated, and what it asks for is done.
+    /// Treats the outcome of a tick of the current runner, and performs the actions that follow.
     fn settle<L: EventLog>(
         &mut self,
         mem: &mut E::Mem,
@@ -69,8 +69,8 @@ impl<E: Executor> Partition<E> {
         self.finish(mem, name, moment, log);
     }
 
-    /// Ticks of the one that runs, while nothing is due and the choice stays: how many they were. It asks
-    /// for something in the last one alone, so this one alone is treated.
+    /// Executes ticks of the current runner, while nothing is due and the choice stays; returns how
+    /// many. Only the last tick makes a request, so only that one is treated.
     fn burst<L: EventLog>(
         &mut self,
         mem: &mut E::Mem,
@@ -109,9 +109,9 @@ impl<E: Executor> Partition<E> {
 }
 
 impl<E: Executor> Partition<E> {
-    /// Ticks of the partition, at least one: how many they were. Where something is due or the choice may
-    /// change it is one whole tick; else the one that runs goes on until it asks for something, and where
-    /// nobody runs nothing happens.
+    /// Executes at least one tick of the partition; returns how many. If something is due or the
+    /// choice may change, it is one whole tick; otherwise the current runner continues until it
+    /// makes a request. While nobody runs, nothing happens.
     fn phase<L: EventLog>(&mut self, mem: &mut E::Mem, moment: Moment, k: u32, log: &mut L) -> u32
         requires some { 0 < k }
         requires soon { moment.at.now.0 + k ≤ MOST_TICKS }
@@ -137,9 +137,10 @@ impl<E: Executor> Partition<E> {
         }
     }
 
-    /// `k` ticks of the partition, this one the first, or those up to the first with an event: how many
-    /// they were. The partition is then as so many calls of [`Partition::tick`] leave it, and the events
-    /// are those of the last one. Nothing from outside of the partition may happen in these ticks.
+    /// Executes `k` ticks of the partition, from `moment` on, or those up to the first with an
+    /// event; returns how many. The partition is then as that many calls of [`Partition::tick`]
+    /// leave it, and the events are those of the last call. Nothing from outside of the partition
+    /// may happen in these ticks.
     pub fn advance<L: EventLog>(
         &mut self,
         mem: &mut E::Mem,

@@ -39,7 +39,7 @@ impl Kernel {
         }
     }
 
-    /// The partition enters the mode that its action for the error leads to, if it leads to one.
+    /// Enters the mode that the partition's action for the error leads to, if any.
     fn enter_mode(&mut self, runner: Runner, error: ErrorKind, mode: Option<Mode>, out: &mut Out)
         requires { HasRoom LINES_TO_CLEAR ACTIONS_TO_CLEAR out.old }
         ensures step { IsMade (meaning.enters_mode self.old runner error mode)
@@ -52,7 +52,7 @@ impl Kernel {
         }
     }
 
-    /// The partition's action for an error is done, if one is left to be done.
+    /// Performs the partition's action for an error, if one remains to be done.
     fn act_on_error(
         &mut self,
         runner: Runner,
@@ -70,7 +70,8 @@ impl Kernel {
         }
     }
 
-    /// The line of an error with how it is handled, then what is done. `words` are its message.
+    /// Writes the line of an error with the response, then performs the response. `words` are its
+    /// message.
     fn handle(&mut self, runner: Runner, error: ErrorKind, words: Words, out: &mut Out)
         requires { HasRoom (1 + LINES_TO_CLEAR) (1 + ACTIONS_TO_CLEAR) out.old }
         ensures step { IsMade (meaning.handles self.old runner error words.items)
@@ -89,7 +90,7 @@ impl Kernel {
         self.act_on_error(runner, error, left, out);
     }
 
-    /// One with a fault becomes dormant first; then its error is handled.
+    /// Makes a runner with a fault dormant, then handles its error.
     pub(crate) fn fault(&mut self, runner: Runner, error: ErrorKind, out: &mut Out)
         requires { HasRoom (2 + LINES_TO_CLEAR) (2 + ACTIONS_TO_CLEAR) out.old }
         ensures step { IsMade (meaning.faults self.old runner error) self.new out.old out.new }
@@ -99,7 +100,7 @@ impl Kernel {
         self.handle(runner, error, Words::new(), out);
     }
 
-    /// A Clear that an error leads to, if it leads to one.
+    /// Performs the Clear that an error leads to, if any.
     pub(crate) fn then_clear(&mut self, mode: Option<Mode>, out: &mut Out)
         requires { HasRoom LINES_TO_CLEAR ACTIONS_TO_CLEAR out.old }
         ensures step { IsMade (meaning.then_clears self.old mode) self.new out.old out.new }
@@ -110,7 +111,8 @@ impl Kernel {
         }
     }
 
-    /// A fault of the partition's hardware: its line, then what the partition's action for it does.
+    /// A fault of the partition's hardware: writes its line, then performs the partition's action
+    /// for it.
     pub(crate) fn break_down(&mut self, out: &mut Out)
         requires { HasRoom (1 + LINES_TO_CLEAR) ACTIONS_TO_CLEAR out.old }
         ensures step { IsMade (meaning.breaks self.old) self.new out.old out.new }
@@ -175,8 +177,8 @@ impl Kernel {
         get_error_status(&self.processes, &mut self.errors, request, array, out);
     }
 
-    /// RAISE_APPLICATION_ERROR (ARINC 653 Part 1, health monitoring), with the partition's action that it
-    /// leaves to be done.
+    /// RAISE_APPLICATION_ERROR (ARINC 653 Part 1, health monitoring), with the partition's action
+    /// that remains to be done.
     pub(crate) fn raise_application_error(
         &mut self,
         moment: Moment,
@@ -210,7 +212,7 @@ impl Kernel {
     }
 }
 
-/// Whether it is an error in what a process executes, after which it does not go on.
+/// Whether it is an error in the code of a process, after which the process does not continue.
 fn is_fault(error: ErrorKind) -> bool
     ensures { result ≡ meaning.is_fault error }
 {

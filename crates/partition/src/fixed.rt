@@ -1,4 +1,4 @@
-//! What no tick of a partition changes.
+//! The parts of a partition that no tick changes.
 
 use apex_types::{HealthTable, Name, PartitionId};
 use window_table::Schedule;

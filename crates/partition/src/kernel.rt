@@ -25,8 +25,8 @@ use std::alloc::{AllocError, Global};
 use std::marker::Model;
 use sync_objects_base::Objects;
 
-/// The state of a partition that is no control and no data. A contract sees it as the kernel of the
-/// definitions.
+/// The state of a partition other than its controls and its data. A contract sees it as the kernel
+/// of the definitions.
 #[derive(Drop)]
 pub struct Kernel {
     pub(crate) fixed: Fixed,
@@ -49,8 +49,8 @@ impl Model for Kernel {
 }
 
 impl Kernel {
-    /// The kernel of a section's partition with these ports, in idle mode: no process, object or port is
-    /// created, no message is there, and no error waits. An error is one of memory.
+    /// The kernel of a section's partition with these ports, in idle mode: no process, object or
+    /// port is created, there is no message, and no error waits. `AllocError`: out of memory.
     pub fn new(alloc: Global, fixed: Fixed, rows: PartitionRows<'_>) -> Result<Kernel, AllocError>
         ensures { IfOk result
             (λ kernel.
@@ -77,7 +77,7 @@ impl Kernel {
         })
     }
 
-    /// What a start counts from: this tick, and the partition's next release point.
+    /// The points from which a start counts: this tick, and the partition's next release point.
     pub(crate) fn points(&self, moment: Moment) -> Points
         ensures at { result.moment.at ≡ moment.at }
         ensures next { result.next.0 ≡ next_release_of moment.at self.now }
@@ -93,7 +93,7 @@ impl Kernel {
         self.fixed.name
     }
 
-    /// The one that is running.
+    /// The current runner.
     pub(crate) fn running(&self) -> Option<Runner>
         ensures { result ≡ self.now.processes.running }
     {
@@ -106,7 +106,7 @@ impl Kernel {
         self.processes.subject(runner)
     }
 
-    /// The error handler starts if an error waits for it; then the choice of who runs.
+    /// Starts the error handler if an error waits for it; then chooses the runner.
     pub(crate) fn choose(&mut self, out: &mut Out)
         requires { HasRoom LINES_TO_CHOOSE ACTIONS_TO_CHOOSE out.old }
         ensures step { IsMade (tick.chooses_with_handler self.old) self.new out.old out.new }
@@ -117,8 +117,8 @@ impl Kernel {
         self.processes.choose(mode, out);
     }
 
-    /// How many of so many ticks, this one the first, come before anything is due, if neither the start of
-    /// the error handler nor the choice of who runs would change anything now; else none.
+    /// How many of `k` ticks, from `moment` on, come before anything is due; 0 if the start of the
+    /// error handler or the choice of the runner would change anything now.
     #[tactic(auto, using(crate::proofs::Quiet::quiet_due, crate::proofs::Quiet::choice_stays))]
     pub(crate) fn quiet_ticks(&self, moment: Moment, k: u32) -> u32
         ensures within { result ≤ k }
@@ -136,8 +136,8 @@ impl Kernel {
         self.processes.quiet_ticks(moment.at.now, k)
     }
 
-    /// Due times and deadlines are treated; the mode of the Clear that a missed deadline leads to, if it
-    /// leads to one.
+    /// Treats due times and deadlines. Returns the mode of the Clear that a missed deadline leads
+    /// to, if any.
     pub(crate) fn treat_due(&mut self, moment: Moment, out: &mut Out) -> Option<Mode>
         requires room { HasRoom LINES_TO_TREAT_DUE ACTIONS_TO_TREAT_DUE out.old }
         ensures step { IsMade (of_processes self.old (tick.treats_due moment.at self.old).step)

@@ -1,6 +1,6 @@
 //! One partition: its kernel, over any executor.
 //!
-//! It serves all calls of its processes, and it alone carries out what a step asks of the
+//! It serves all calls of its processes, and only it performs the actions of a step on the
 //! processor, the data and the error queue. No contract above this crate names a service or an
 //! opcode.
 #![tactic(auto)]

@@ -1,4 +1,4 @@
-//! The messages that come to a partition and leave it.
+//! The messages that arrive at a partition and leave it.
 
 ghost use Rattle.std.specs.Prelude.{◌≡◌, ◌≤◌, ◌<◌, ◌-◌, ◌+◌, ◌++◌, ◌^◌, [], length, option_map};
 ghost use Rattle.apex_types.specs.Room.{HasRoom, Grows};
@@ -52,7 +52,7 @@ impl Kernel {
         self.ports.move_one(place_of(port), out)
     }
 
-    /// The senders that wait at a port enter it in their order, as long as there is room.
+    /// The senders that wait at a port enter it in their order, while there is room.
     fn admit(&mut self, port: PortId, out: &mut Out)
         requires { HasRoom LINES_TO_RELEASE_ALL ACTIONS_TO_RELEASE_ALL out.old }
         ensures step { IsMade
@@ -63,14 +63,14 @@ impl Kernel {
         admit(&mut self.processes, &mut self.ports, place_of(port), out);
     }
 
-    /// How many ports the partition has.
+    /// The number of ports of the partition.
     pub fn port_count(&self) -> u8
         ensures { result ≡ length self.now.ports.ports }
     {
         self.ports.count()
     }
 
-    /// Whether a port is a source, if there is one of this number.
+    /// Whether the port is a source; `None` if there is no port of this number.
     pub fn is_source(&self, port: PortId) -> Option<bool>
         ensures { result ≡ option_map is_source (at_number self.now.ports.ports port.0) }
     {
@@ -78,7 +78,7 @@ impl Kernel {
         self.ports.is_source(place)
     }
 
-    /// How many messages a port holds, if there is one of this number.
+    /// How many messages the port holds; `None` if there is no port of this number.
     pub fn message_count(&self, port: PortId) -> Option<u8>
         ensures { result
             ≡ option_map (λ x. length x.messages) (at_number self.now.ports.ports port.0) }
@@ -87,7 +87,8 @@ impl Kernel {
         self.ports.message_count(place)
     }
 
-    /// A copy of the message of a port that has so many before it, if there is one.
+    /// A copy of the message of the port that has `before` messages before it, if there is such a
+    /// port and message.
     pub fn message_behind(&self, port: PortId, before: u8) -> Option<Words>
         ensures { result ≡ message_behind before (at_number self.now.ports.ports port.0) }
     {
@@ -143,8 +144,8 @@ impl<E: Executor> Partition<E> {
         message
     }
 
-    /// The senders that wait at a source port enter it in their order, as long as there is room
-    /// (ARINC 653 Part 1, interpartition communication).
+    /// The senders that wait at a source port enter it in their order, while there is room (ARINC
+    /// 653 Part 1, interpartition communication).
     pub fn admit<L: EventLog>(
         &mut self,
         mem: &mut E::Mem,
@@ -165,7 +166,7 @@ impl<E: Executor> Partition<E> {
         self.finish(mem, name, moment, log);
     }
 
-    /// A message of the partition leaves the module by a channel: its line.
+    /// Writes the line of a message of the partition that leaves the module by a channel.
     pub fn go_out<L: EventLog>(
         &self,
         mem: &E::Mem,

@@ -1,4 +1,4 @@
-//! Clear, the normal start, SET_PARTITION_MODE, and what ends a body.
+//! Clear, the normal start, SET_PARTITION_MODE, and the end of a body.
 
 ghost use Rattle.std.specs.Prelude.{◌≡◌, ◌+◌, length, pos};
 ghost use Rattle.apex_types.specs.Room.{HasRoom, Grows};
@@ -16,8 +16,8 @@ use apex_types::{
 use process_table::stop_self;
 
 impl Kernel {
-    /// All processes and objects go, no error waits, and the ports are empty and no longer created; a
-    /// cold start restores the data; unless the mode is idle, INIT starts.
+    /// Removes all processes, objects and waiting errors; empties the ports, which are no longer
+    /// created; for a cold start restores the data; unless the mode is idle, starts INIT.
     pub(crate) fn clear(&mut self, mode: Mode, condition: StartCondition, out: &mut Out)
         requires { HasRoom LINES_TO_CLEAR ACTIONS_TO_CLEAR out.old }
         ensures step { IsMade (meaning.clears self.old mode condition) self.new out.old out.new }
@@ -41,7 +41,7 @@ impl Kernel {
         self.errors.clear();
     }
 
-    /// This one becomes dormant.
+    /// Makes `runner` dormant.
     pub(crate) fn rest(&mut self, runner: Runner, out: &mut Out)
         requires { HasRoom 1 1 out.old }
         ensures step { IsMade
@@ -64,7 +64,8 @@ impl Kernel {
         self.mode = Mode::Normal;
     }
 
-    /// INIT becomes dormant, the mode normal, then those that wait for it start in number order.
+    /// INIT becomes dormant, the mode normal; then the processes that wait for the normal start are
+    /// started in number order.
     fn start_normally(&mut self, moment: Moment, out: &mut Out)
         requires room { HasRoom LINES_TO_START_NORMALLY ACTIONS_TO_START_NORMALLY out.old }
         ensures step { IsMade (meaning.starts_normally moment.at self.old)
@@ -77,7 +78,7 @@ impl Kernel {
         self.processes.start_all_waiting(points, out);
     }
 
-    /// The words that GET_PARTITION_STATUS answers.
+    /// The words that GET_PARTITION_STATUS returns.
     fn status(&self) -> [i64; 6]
         ensures { result ≡ meaning.status_of self.now }
     {
@@ -92,9 +93,9 @@ impl Kernel {
         ]
     }
 
-    /// GET_PARTITION_STATUS (ARINC 653 Part 1, partition management): the partition's number, its
-    /// period and duration in ticks, the level of the preemption lock, the mode, and the start
-    /// condition.
+    /// GET_PARTITION_STATUS (ARINC 653 Part 1, partition management): returns the partition's
+    /// number, its period and duration in ticks, the level of the preemption lock, the mode, and
+    /// the start condition.
     pub fn get_partition_status(&self, caller: Runner, out: &mut Out)
         requires { HasRoom 1 1 out.old }
         ensures step { IsTold (meaning.get_partition_status self.now caller) out.old out.new }
@@ -107,8 +108,8 @@ impl Kernel {
     }
 
     /// SET_PARTITION_MODE (ARINC 653 Part 1, partition management): the partition enters a mode.
-    /// INVALID_PARAM: the number is no mode's; NO_ACTION: normal mode in normal mode; INVALID_MODE: a
-    /// warm start in a cold start.
+    /// INVALID_PARAM: no mode has this number; NO_ACTION: normal mode in normal mode; INVALID_MODE:
+    /// a warm start in a cold start.
     pub fn set_partition_mode(&mut self, moment: Moment, caller: Runner, mode: i64, out: &mut Out)
         requires room { HasRoom LINES_TO_SET_MODE ACTIONS_TO_SET_MODE out.old }
         ensures step { IsMade (meaning.set_partition_mode moment.at self.old caller mode)
@@ -158,7 +159,7 @@ fn number_of_condition(condition: StartCondition) -> i64
     condition as i64
 }
 
-/// The mode of a number, where it is one.
+/// The mode with this number; `None` if no mode has it.
 fn mode_of(number: i64) -> Option<Mode>
     ensures { result ≡ meaning.mode_of number }
 {

@@ -20,19 +20,19 @@ pub struct PartitionRows<'a> {
     pub ghost within: { AreWithinLimits ports.now section.now } by { within_prop ports.now section.now },
 }
 
-/// The kernel of a partition, and what runs its processes.
+/// The kernel of a partition, and the executor of its processes.
 #[derive(Drop)]
 pub struct Partition<E: Executor> {
     pub(crate) kernel: Kernel,
     pub(crate) executor: E,
-    /// What a phase has told and asked for, before it is done.
+    /// The lines and the actions of a phase, before they are done.
     pub(crate) out: Out,
 }
 
 impl<E: Executor + Drop> Partition<E> {
-    /// The partition of a section with these ports, in idle mode: no process, object or port is created, no
-    /// message is there, and no error waits. Its processes run on the executor, on which what was begun
-    /// stays so. An error is one of memory.
+    /// The partition of a section with these ports, in idle mode: no process, object or port is
+    /// created, there is no message, and no error waits. Its processes run on the executor, where
+    /// what was begun stays begun. `AllocError`: out of memory.
     pub fn new(
         alloc: Global,
         fixed: Fixed,
@@ -53,14 +53,14 @@ impl<E: Executor + Drop> Partition<E> {
 }
 
 impl<E: Executor> Partition<E> {
-    /// The kernel's state, to be read.
+    /// The kernel's state, for reading.
     pub fn kernel(&self) -> &Kernel
         ensures { result.now ≡ self.now.kernel }
     {
         &self.kernel
     }
 
-    /// What runs its processes, to be read.
+    /// The executor of its processes, for reading.
     pub fn executor(&self) -> &E
         ensures { result.now ≡ self.now.executor }
     {

@@ -1,4 +1,4 @@
-//! The room that the parts of a tick need: for their lines, and for what they ask for.
+//! The room that the parts of a tick need: for their lines, and for their actions.
 
 use apex_types::MOST_PROCESSES;
 use process_table_base::{ACTIONS_TO_GIVE_ALL, LINES_TO_GIVE_ALL, LINES_TO_TREAT_DUE};
@@ -6,10 +6,10 @@ use process_table_base::{ACTIONS_TO_GIVE_ALL, LINES_TO_GIVE_ALL, LINES_TO_TREAT_
 /// A Clear: the mode, and that INIT is ready.
 pub const LINES_TO_CLEAR: u16 = 2;
 
-/// A Clear: all stop, the data are as they were at first, and INIT begins.
+/// A Clear: all runners stop, the data are restored, and INIT begins.
 pub const ACTIONS_TO_CLEAR: u16 = 3;
 
-/// The choice: the handler is ready, one leaves the processor, another one takes it.
+/// The choice: the handler is ready, one runner leaves the processor, another one takes it.
 pub const LINES_TO_CHOOSE: u16 = 3;
 
 /// The choice: the handler begins.
@@ -27,10 +27,12 @@ pub const LINES_TO_SET_MODE: u16 = 1 + LINES_TO_START_NORMALLY;
 /// A service that sets the mode: its answer, and the Clear.
 pub const ACTIONS_TO_SET_MODE: u16 = 1 + ACTIONS_TO_CLEAR;
 
-/// A call: none tells more than the one that hands a message to all who wait for it, with its answer.
+/// A call: no call writes more lines than one that hands a message to all waiting processes, and
+/// its answer.
 pub const LINES_TO_SERVE: u16 = 1 + LINES_TO_GIVE_ALL;
 
-/// A call: none asks for more than the one that hands a message to all who wait for it, with its answer.
+/// A call: no call has more actions than one that hands a message to all waiting processes, and its
+/// answer.
 pub const ACTIONS_TO_SERVE: u16 = 1 + ACTIONS_TO_GIVE_ALL;
 
 /// What is due, with the Clear that a missed deadline leads to.
@@ -39,5 +41,5 @@ pub const LINES_FOR_DUE: u16 = LINES_TO_TREAT_DUE + LINES_TO_CLEAR;
 /// What is due, then the choice.
 pub const LINES_TO_PREPARE: u16 = LINES_FOR_DUE + LINES_TO_CHOOSE;
 
-/// A whole tick: what is due, the choice, and the call of the one that runs.
+/// A whole tick: what is due, the choice, and the call of the current runner.
 pub const LINES_FOR_TICK: u16 = LINES_TO_PREPARE + LINES_TO_SERVE;

@@ -20,7 +20,7 @@ use process_table_base::{Handed, Request};
 use processor::Outcome;
 
 impl Kernel {
-    /// A call of someone in this tick, in the mode of the partition.
+    /// A call of `caller` in this tick, in the mode of the partition.
     pub(crate) fn request(&self, moment: Moment, caller: Runner) -> Request
         ensures caller { result.caller ≡ caller }
         ensures moment { result.moment ≡ moment }
@@ -33,7 +33,7 @@ impl Kernel {
         }
     }
 
-    /// What a tick of this one came to; `words` are those that a call hands in.
+    /// Treats the outcome of a tick of `runner`; `words` are those that a call hands in.
     pub(crate) fn treat(
         &mut self,
         moment: Moment,
@@ -56,8 +56,8 @@ impl Kernel {
         }
     }
 
-    /// Serves a call; `words` are those that it hands in. A call on objects or on ports has a dispatch of
-    /// its own; all others are here.
+    /// Serves a call; `words` are those that it hands in. Calls on objects and on ports have a
+    /// dispatch of their own; all others are here.
     fn serve(&mut self, moment: Moment, caller: Runner, call: Call, words: &Words, out: &mut Out)
         requires room { HasRoom LINES_TO_SERVE ACTIONS_TO_SERVE out.old }
         ensures step { IsMade (meaning.serves moment.at self.old caller call words.now.items)

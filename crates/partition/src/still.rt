@@ -12,7 +12,7 @@ use crate::kernel::Kernel;
 use apex_types::{ListKey, Moment};
 
 impl Kernel {
-    /// Whether nobody waits at the port at a place.
+    /// Whether no process waits at the port at `place`.
     #[tactic(auto, using(crate::proofs::AtRest::nobody_enters))]
     fn nobody_waits(&self, place: u8) -> bool
         requires { place < MOST_OBJECTS }
@@ -22,7 +22,8 @@ impl Kernel {
         self.processes.waiting_count(ListKey::Port(place)) == 0
     }
 
-    /// Whether no message of the port at a place can move, and nobody who waits at it can enter.
+    /// Whether no message of the port at `place` can move, and no process that waits at it can
+    /// enter.
     fn port_rests(&self, place: u8) -> bool
         requires { place < MOST_OBJECTS }
         ensures { result ≡ true → IsAtRest self.now (record { 0 = place + 1 }) }
@@ -33,7 +34,7 @@ impl Kernel {
         }
     }
 
-    /// Whether [`Kernel::port_rests`] holds of all ports.
+    /// Whether [`Kernel::port_rests`] is true for all ports.
     fn ports_rest(&self) -> bool
         ensures { result ≡ true → (port : PortId) → IsAtRest self.now port }
     {
@@ -45,9 +46,9 @@ impl Kernel {
         true
     }
 
-    /// How many of so many ticks, this one the first, come in which nothing happens in the partition:
-    /// nobody runs or is chosen, nothing is due, no message can leave a port, and nobody who waits at a
-    /// port can enter it. None where something may happen at this tick.
+    /// How many of `k` ticks, from `moment` on, pass in which nothing happens in the partition:
+    /// nobody runs or is chosen, nothing is due, no message can leave a port, and no process that
+    /// waits at a port can enter it. 0 if something may happen at this tick.
     pub fn still_ticks(&self, moment: Moment, k: u32) -> u32
         ensures within { result ≤ k }
         ensures still { 0 < result

@@ -18,7 +18,7 @@ use partition_base::Executor;
 use processor::Outcome;
 
 impl<E: Executor> Partition<E> {
-    /// What a step asked for is done, and what happened is told.
+    /// Performs the actions of a step, and records its lines.
     pub(crate) fn finish<L: EventLog>(
         &mut self,
         mem: &mut E::Mem,
@@ -49,7 +49,7 @@ impl<E: Executor> Partition<E> {
         tell(name, moment, &mut self.out.lines, log);
     }
 
-    /// Clear to a cold start, for a reason (ARINC 653 Part 1, partition management).
+    /// Clears to a cold start, for a reason (ARINC 653 Part 1, partition management).
     pub fn clear<L: EventLog>(
         &mut self,
         mem: &mut E::Mem,
@@ -71,8 +71,8 @@ impl<E: Executor> Partition<E> {
         self.finish(mem, name, moment, log);
     }
 
-    /// A fault of the partition's hardware (ARINC 653 Part 1, health monitoring): its line, then what
-    /// the partition's action for it does.
+    /// A fault of the partition's hardware (ARINC 653 Part 1, health monitoring): writes its line,
+    /// then performs the partition's action for it.
     pub fn fault<L: EventLog>(&mut self, mem: &mut E::Mem, moment: Moment, log: &mut L)
         requires fits { E.laid mem.old ≡ E.layout self.old.executor }
         requires empty { L.held log.old ≡ [] }
@@ -87,8 +87,8 @@ impl<E: Executor> Partition<E> {
         self.finish(mem, name, moment, log);
     }
 
-    /// Due times and deadlines are treated; the mode of the Clear that a missed deadline leads to, if it
-    /// leads to one.
+    /// Treats due times and deadlines. Returns the mode of the Clear that a missed deadline leads
+    /// to, if any.
     fn treat<L: EventLog>(&mut self, mem: &mut E::Mem, moment: Moment, log: &mut L) -> Option<Mode>
         requires fits { E.laid mem.old ≡ E.layout self.old.executor }
         requires idle { IsEmpty self.old.out }
@@ -109,7 +109,7 @@ impl<E: Executor> Partition<E> {
         clears
     }
 
-    /// The Clear that a missed deadline leads to, if it leads to one.
+    /// Performs the Clear that a missed deadline leads to, if any.
     fn then_clear<L: EventLog>(
         &mut self,
         mem: &mut E::Mem,
@@ -134,7 +134,7 @@ impl<E: Executor> Partition<E> {
         }
     }
 
-    /// What is due is treated; a missed deadline may lead to a Clear.
+    /// Treats what is due; a missed deadline may lead to a Clear.
     fn treat_due<L: EventLog>(&mut self, mem: &mut E::Mem, moment: Moment, log: &mut L)
         requires fits { E.laid mem.old ≡ E.layout self.old.executor }
         requires idle { IsEmpty self.old.out }
@@ -150,7 +150,7 @@ impl<E: Executor> Partition<E> {
         self.then_clear(mem, moment, clears, log);
     }
 
-    /// The choice of who runs.
+    /// Chooses the runner.
     fn choose<L: EventLog>(&mut self, mem: &mut E::Mem, moment: Moment, log: &mut L)
         requires fits { E.laid mem.old ≡ E.layout self.old.executor }
         requires idle { IsEmpty self.old.out }
@@ -167,7 +167,7 @@ impl<E: Executor> Partition<E> {
         self.finish(mem, name, moment, log);
     }
 
-    /// What is due, then the choice.
+    /// Treats what is due, then chooses the runner.
     fn prepare<L: EventLog>(&mut self, mem: &mut E::Mem, moment: Moment, log: &mut L)
         requires fits { E.laid mem.old ≡ E.layout self.old.executor }
         requires idle { IsEmpty self.old.out }
@@ -183,7 +183,7 @@ impl<E: Executor> Partition<E> {
         self.choose(mem, moment, log);
     }
 
-    /// This one spends a tick, and what it asks for is done.
+    /// `runner` spends a tick; then its actions are performed.
     fn spend<L: EventLog>(&mut self, mem: &mut E::Mem, moment: Moment, runner: Runner, log: &mut L)
         requires fits { E.laid mem.old ≡ E.layout self.old.executor }
         requires idle { IsEmpty self.old.out }
@@ -202,7 +202,7 @@ impl<E: Executor> Partition<E> {
         self.finish(mem, name, moment, log);
     }
 
-    /// The chosen one spends a tick, if there is one.
+    /// The chosen runner, if any, spends a tick.
     fn spend_chosen<L: EventLog>(&mut self, mem: &mut E::Mem, moment: Moment, log: &mut L)
         requires fits { E.laid mem.old ≡ E.layout self.old.executor }
         requires idle { IsEmpty self.old.out }
@@ -232,7 +232,7 @@ impl<E: Executor> Partition<E> {
         }
     }
 
-    /// One tick: what is due, then the choice, then the tick of the chosen one.
+    /// One tick: what is due, then the choice, then the tick of the chosen runner.
     pub fn tick<L: EventLog>(&mut self, mem: &mut E::Mem, moment: Moment, log: &mut L)
         requires fits { E.laid mem.old ≡ E.layout self.old.executor }
         requires empty { L.held log.old ≡ [] }
@@ -246,7 +246,7 @@ impl<E: Executor> Partition<E> {
         self.whole_tick(mem, moment, log);
     }
 
-    /// The same, where no phase has told or asked for anything that is not yet done.
+    /// The same, if no line or action of a phase remains to be done.
     pub(crate) fn whole_tick<L: EventLog>(&mut self, mem: &mut E::Mem, moment: Moment, log: &mut L)
         requires fits { E.laid mem.old ≡ E.layout self.old.executor }
         requires idle { IsEmpty self.old.out }
@@ -262,14 +262,14 @@ impl<E: Executor> Partition<E> {
     }
 }
 
-/// Whether nothing happened, and nothing is asked for.
+/// Whether there are no lines and no actions.
 fn is_empty(out: &Out) -> bool
     ensures { result ≡ true → IsEmpty out.now }
 {
     out.lines.is_empty() && out.actions.is_empty()
 }
 
-/// How many words of an array of a size a call hands in, at most those of a message.
+/// How many words of an array of `size` words a call hands in, at most those of a message.
 fn most_words(size: i64) -> u8
     ensures words { result ≡ meaning.most_words size }
     ensures most { result ≤ MOST_WORDS }

@@ -14,7 +14,7 @@ use Rattle.partition_base.specs.Slots.{controls_from}
 use Rattle.partition_base.specs.declared.slot.Slot.{Slot}
 use Rattle.partition_base.proofs.Places.{none_behind, none_past, same_behind, same_past}
 
--- one that has nothing left to do
+-- a runner that has nothing left to do
 pub burst_none : {C : Type 0} (e : Engine C) (n : ℕ) (w : List ℤ) → burst (ticked e) n None w ≡ record { control = None; words = w; told = Nothing; ticks = n }
 burst_none e zero w = refl
 burst_none e (suc n) w =
@@ -60,7 +60,7 @@ burst_keeps_words costs code rs (suc n) m w =
     ] in
     step (is_nothing t.asks)
 
--- where there is no control, nothing changes
+-- without a control, nothing changes
 pub no_burst : (e : Engine MachineControl) (slots : List Slot) (ks : List (List ℤ)) (p n : ℕ) (w : List ℤ) → control_at (controls_from slots ks) p ≡ None
     → ((c : Option MachineControl) → slice_set (controls_from slots ks) p c ≡ controls_from slots ks)
     → record { control = controls_from slots ks; words = w; told = Nothing; ticks = n } ≡ burst_at e n p (controls_from slots ks) w

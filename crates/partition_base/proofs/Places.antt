@@ -33,7 +33,7 @@ there (a ∷ slots) [] p s e h = absurd (omega (arith, h))
 there (a ∷ slots) (k ∷ ks) zero s e h = ap (λ (b : Slot). control_of_slot b k) (same_Some a s e)
 there (a ∷ slots) (k ∷ ks) (suc p) s e h = there slots ks p s e (omega (arith, h))
 
--- behind the slots, and behind the stacks, there are no controls
+-- there are no controls behind the slots and behind the stacks
 pub none_behind : (slots : List Slot) (ks : List (List ℤ)) (p : ℕ) → length slots ≤ p → control_at (controls_from slots ks) p ≡ None
 none_behind [] ks p h = refl
 none_behind (a ∷ slots) [] p h = refl
@@ -86,7 +86,7 @@ stopped (a ∷ slots) [] (suc p) s h = refl
 stopped (a ∷ slots) (k ∷ ks) zero s h = ap (λ b. control_while b (control_on s.context k) ∷ controls_from slots ks) h
 stopped (a ∷ slots) (k ∷ ks) (suc p) s h = ap (λ l. control_of_slot a k ∷ l) (stopped slots ks p s h)
 
--- one more has nothing left to do
+-- one more runner has nothing left to do
 one_more_without : {C : Type 0} (xs : List (Option C)) (i : ℕ) → slice_set (map no_control (take i xs) ++ drop i xs) i None ≡ map no_control (take (i + 1) xs) ++ drop (i + 1) xs
 one_more_without [] zero = refl
 one_more_without {C = C} [] (suc i) =

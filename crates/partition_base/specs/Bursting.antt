@@ -4,10 +4,10 @@ use Rattle.engine_meaning.specs.Engine.{Engine, Asks}
 use Rattle.kernel_meaning.specs.Partition.{control_at, ticked}
 use Rattle.bursts.specs.Bursts.{Burst, burst}
 
--- a burst of the control at a place, the others stay as they are
+-- a burst of the control at a place; the others are unchanged
 abbrev pub at_place : {C : Type 0} → ℕ → List (Option C) → Burst (Option C) (List ℤ) Asks → Burst (List (Option C)) (List ℤ) Asks
 at_place place controls b = record { control = slice_set controls place b.control; words = b.words; told = b.told; ticks = b.ticks }
 
--- so many ticks of the control at a place, or those up to the first in which it asks for something
+-- n ticks of the control at a place, or those up to the first that makes a request
 abbrev pub burst_at : {C : Type 0} → Engine C → ℕ → ℕ → List (Option C) → List ℤ → Burst (List (Option C)) (List ℤ) Asks
 burst_at e n place controls words = at_place place controls (burst (ticked e) n (control_at controls place) words)

@@ -1,4 +1,5 @@
--- What the processor of a partition counts on in a loaded section, and how it is seen.
+-- The properties of a loaded section that the processor of a partition relies on, and the view of
+-- it.
 use Rattle.std.specs.Prelude.{◌≤◌, List, ◌∷◌, map, length}
 use Rattle.apex_types.specs.declared.cost.Costs.{Costs}
 use Rattle.apex_types.specs.declared.row.BodyRow.{BodyRow}

@@ -10,7 +10,7 @@ use Rattle.partition_base.specs.declared.slot.Slot.{Slot}
 abbrev pub control_on : Context → List ℤ → MachineControl
 control_on c stack = record { pc = c.pc; fp = c.fp; sp = c.sp; stack = stack; spent = c.spent; awaits = c.awaits }
 
--- the control of a context, where there is something left to do
+-- the control of a context, if something is left to do
 abbrev pub control_while : Bool → MachineControl → Option MachineControl
 control_while true control = Some control
 control_while false control = None
@@ -28,7 +28,7 @@ controls_from [] stacks = []
 controls_from (slot ∷ slots) [] = []
 controls_from (slot ∷ slots) (stack ∷ stacks) = control_of_slot slot stack ∷ controls_from slots stacks
 
--- how many words each stack of a memory has
+-- the number of words of each stack of a memory
 abbrev pub stack_lengths : Space → List ℕ
 stack_lengths s = map length (stacks_of s)
 

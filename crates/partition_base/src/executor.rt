@@ -1,4 +1,4 @@
-//! The processor as the kernel sees it: who runs, over a partition's memory.
+//! The processor as the kernel sees it: what runs the runners, over a partition's memory.
 
 ghost use Rattle.std.specs.Prelude.{true, ◌≡◌, ◌≤◌, ℕ, ℤ, List, Option, Some, None, map, slice_set};
 ghost use Rattle.apex_types.specs.declared.limits.TheConstants.{MOST_WORDS};
@@ -13,12 +13,12 @@ use apex_types::{Runner, Words};
 use processor::{Burst, Outcome};
 
 /// Runs INIT, the error handler and the processes of one partition. A runner without a control has
-/// nothing left to do; a process that does not exist never has a control. No call takes memory.
+/// nothing left to do; a process that does not exist never has a control. No call allocates memory.
 ///
-/// Each call is lent the partition's memory. How many words each part of it has, its layout, is the
-/// one that the executor was made for, and stays so.
+/// Each call borrows the partition's memory. Its layout, the number of words of each part, is the
+/// one that the executor was made for, and never changes.
 pub trait Executor {
-    /// The partition's memory: its data, and what its runners need beside them.
+    /// The partition's memory: its data, and what its runners need besides them.
     type Mem;
 
     ghost Control: { Type 0 };
@@ -35,7 +35,7 @@ pub trait Executor {
 
     ghost laid: { Self.Mem → List ℕ };
 
-    /// The runner begins its body afresh.
+    /// Begins the body of the runner afresh.
     fn start(&mut self, mem: &mut Self::Mem, runner: Runner)
         requires { laid mem.old ≡ layout self.old }
         ensures fits { laid mem.new ≡ layout self.new }
@@ -46,7 +46,7 @@ pub trait Executor {
             (Some ((engine self.old).start runner)) }
         ensures words { words mem.new ≡ words mem.old };
 
-    /// The runner has nothing left to do.
+    /// Stops the runner: it has nothing left to do.
     fn stop(&mut self, mem: &Self::Mem, runner: Runner)
         requires { laid mem.now ≡ layout self.old }
         ensures fits { laid mem.now ≡ layout self.new }
@@ -54,7 +54,7 @@ pub trait Executor {
         ensures initial { initial self.new ≡ initial self.old }
         ensures controls { controls self.new mem.now ≡ slice_set (controls self.old mem.now) (place_of runner) None };
 
-    /// No runner has anything left to do.
+    /// Stops all runners: none has anything left to do.
     fn stop_all(&mut self, mem: &Self::Mem)
         requires { laid mem.now ≡ layout self.old }
         ensures fits { laid mem.now ≡ layout self.new }
@@ -62,7 +62,7 @@ pub trait Executor {
         ensures initial { initial self.new ≡ initial self.old }
         ensures controls { controls self.new mem.now ≡ map no_control (controls self.old mem.now) };
 
-    /// One tick of the runner.
+    /// Executes one tick of the runner.
     fn tick(&mut self, mem: &mut Self::Mem, runner: Runner) -> Outcome
         requires { laid mem.old ≡ layout self.old }
         ensures fits { laid mem.new ≡ layout self.new }
@@ -77,8 +77,9 @@ pub trait Executor {
             (words mem.old)).words }
         ensures asks { asks_of result ≡ (ticked (engine self.old) (control_at (controls self.old mem.old) (place_of runner)) (words mem.old)).asks };
 
-    /// So many ticks of the runner, or those up to the first in which it asks for something: how many
-    /// they were, and what the last one came to.
+    /// Executes `k` ticks of the runner, or those up to the first that makes a request: a service
+    /// call, a fault, or the end of the body. Returns the number of ticks and the outcome of the
+    /// last.
     fn advance(&mut self, mem: &mut Self::Mem, runner: Runner, k: u32) -> Burst
         requires { laid mem.old ≡ layout self.old }
         ensures fits { laid mem.new ≡ layout self.new }
@@ -94,7 +95,7 @@ pub trait Executor {
             (words mem.old) }
         ensures whole { is_nothing (asks_of result.outcome) ≡ true → result.ticks ≡ k };
 
-    /// The answer to the runner's service call: the code, then the outputs.
+    /// Gives the answer to the runner's service call: the code, then the outputs.
     fn reply(&mut self, mem: &mut Self::Mem, runner: Runner, answer: &Words)
         requires { laid mem.old ≡ layout self.old }
         ensures fits { laid mem.new ≡ layout self.new }
@@ -106,12 +107,12 @@ pub trait Executor {
             answer.now.items) }
         ensures words { words mem.new ≡ words mem.old };
 
-    /// At most 16 words of the data, from a place on.
+    /// At most 16 words of the data, from `place` on.
     fn read(&self, mem: &Self::Mem, place: i64, count: u8) -> Words
         requires { count ≤ MOST_WORDS }
         ensures { result.items ≡ message_from place count (words mem.now) };
 
-    /// Words go into the data, one after the other from a place on. A word whose place is outside
+    /// Writes words into the data, one after another from `place` on. A word whose place is outside
     /// of the data is dropped.
     fn write(&self, mem: &mut Self::Mem, place: i64, array: &Words)
         requires { laid mem.old ≡ layout self.now }
@@ -119,7 +120,7 @@ pub trait Executor {
         ensures controls { controls self.now mem.new ≡ controls self.now mem.old }
         ensures words { words mem.new ≡ written place array.now.items (words mem.old) };
 
-    /// The data become the initial data.
+    /// Restores the initial data.
     fn restore(&self, mem: &mut Self::Mem)
         requires { laid mem.old ≡ layout self.now }
         ensures fits { laid mem.new ≡ layout self.now }

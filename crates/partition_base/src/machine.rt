@@ -81,7 +81,7 @@ fn stack_sizes(
     Ok(sizes)
 }
 
-/// The memory that a section's partition asks for. An error is one of memory.
+/// The memory that a section's partition needs. `AllocError`: out of memory.
 pub fn memory_plan(alloc: Global, section: &Section) -> Result<MemoryPlan, AllocError>
     ensures { IfOk result (λ plan. planned plan ≡ fresh_memory section.now) }
 {
@@ -92,7 +92,7 @@ pub fn memory_plan(alloc: Global, section: &Section) -> Result<MemoryPlan, Alloc
     })
 }
 
-/// At most 16 words, from a place on.
+/// At most 16 words, from `place` on.
 pub fn message(words: &[i64], place: i64, count: u8) -> Words
     requires { count ≤ MOST_WORDS }
     ensures { result.items ≡ message_from place count words.now }
@@ -108,7 +108,7 @@ pub fn message(words: &[i64], place: i64, count: u8) -> Words
     message
 }
 
-/// Writes words into the data one after the other from a place on, as far as there are places.
+/// Writes words into the data, one after another from `place` on, as far as the data reach.
 pub fn put(memory: &mut PartitionMem, place: usize, array: &[i64])
     requires { place < 2 ^ 63 }
     ensures { memory.new
@@ -135,8 +135,8 @@ impl PartitionProcessor {
     ghost use Rattle.partition_base.specs.Machines.{engine_of, controls_of, initial_of, bodies_in, layout_of, laid_of};
     ghost use Rattle.partition_base.specs.Sections.{engine_of_section, fresh_memory};
 
-    /// The processor of a partition's section whose instructions have these costs, with nothing begun. An error is
-    /// one of memory.
+    /// The processor of a partition's section, whose instructions have these costs, before its start.
+    /// `AllocError`: out of memory.
     pub fn new(
         alloc: Global,
         costs: &Costs,
@@ -170,7 +170,7 @@ impl PartitionProcessor {
         })
     }
 
-    /// The body of INIT, of the handler or of a process; INIT's where there is none.
+    /// The body of INIT, of the handler or of a process; INIT's body if there is no such body.
     fn body(&self, runner: Runner) -> BodyRow
         ensures body { result
             ≡ body_at self.now.init self.now.handler self.now.processes.items runner }

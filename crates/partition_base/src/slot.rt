@@ -44,14 +44,14 @@ impl Slot {
         self.is_active = true;
     }
 
-    /// Nothing is left to do.
+    /// Stops: nothing is left to do.
     fn stop(&mut self)
         ensures { self.new.is_active ≡ false }
     {
         self.is_active = false;
     }
 
-    /// One tick on the own stack, where something is left to do.
+    /// If something is left to do, executes one tick on the own stack.
     fn tick(&mut self, memory: &mut PartitionMem, code: &Code) -> Outcome
         ensures control { (bodies : Runner → BodyRow)
             → control_of_slot self.new memory.new.stack
@@ -81,8 +81,8 @@ impl Slot {
         step(&mut self.context, memory, code)
     }
 
-    /// So many ticks on the own stack, or those up to the first in which something is asked, where
-    /// something is left to do.
+    /// If something is left to do, executes `k` ticks on the own stack, or those up to the first
+    /// that makes a request.
     fn advance(&mut self, memory: &mut PartitionMem, code: &Code, k: u32) -> Burst
         ensures burst { (bodies : Runner → BodyRow)
             → record {
@@ -110,7 +110,7 @@ impl Slot {
         advance(&mut self.context, memory, code, k)
     }
 
-    /// The answer to a service call, where something is left to do.
+    /// If something is left to do, gives the answer to a service call.
     fn reply(&mut self, memory: &mut PartitionMem, answer: &[i64])
         ensures control { (costs : _) (code : _) (routines : _) (bodies : Runner → BodyRow)
             → control_of_slot self.new memory.new.stack
@@ -125,7 +125,7 @@ impl Slot {
     }
 }
 
-/// The runner of a place begins a body afresh; where there is none, nothing changes.
+/// The runner at `place` begins a body afresh; without such a runner, nothing changes.
 #[tactic(auto, using(crate::proofs::Places::views))]
 pub(crate) fn begin_at(
     slots: &mut Vec<Slot>,
@@ -149,7 +149,7 @@ pub(crate) fn begin_at(
     }
 }
 
-/// The runner of a place has nothing left to do.
+/// Stops the runner at `place`: it has nothing left to do.
 pub(crate) fn stop_at(slots: &mut Vec<Slot>, place: usize)
     ensures { (stacks : List (List ℤ))
         → controls_from slots.new.items stacks
@@ -160,7 +160,7 @@ pub(crate) fn stop_at(slots: &mut Vec<Slot>, place: usize)
     }
 }
 
-/// Each slot has nothing left to do.
+/// Stops each runner: it has nothing left to do.
 fn stop_each(slots: &mut Vec<Slot>)
     ensures { map alone slots.new.items ≡ map no_control (map alone slots.old.items) }
 {
@@ -169,7 +169,7 @@ fn stop_each(slots: &mut Vec<Slot>)
     }
 }
 
-/// No runner has anything left to do.
+/// Stops all runners: none has anything left to do.
 pub(crate) fn stop_all(slots: &mut Vec<Slot>)
     ensures { (stacks : List (List ℤ))
         → controls_from slots.new.items stacks
@@ -178,7 +178,7 @@ pub(crate) fn stop_all(slots: &mut Vec<Slot>)
     stop_each(slots);
 }
 
-/// One tick of the runner of a place.
+/// Executes one tick of the runner at `place`.
 #[tactic(auto, using(crate::proofs::Places::views))]
 pub(crate) fn tick_at(
     slots: &mut Vec<Slot>,
@@ -220,7 +220,7 @@ pub(crate) fn tick_at(
     }
 }
 
-/// So many ticks of the runner of a place, or those up to the first in which it asks for something.
+/// Executes `k` ticks of the runner at `place`, or those up to the first that makes a request.
 #[tactic(auto, using(crate::proofs::Places::views))]
 pub(crate) fn advance_at(
     slots: &mut Vec<Slot>,
@@ -259,7 +259,7 @@ pub(crate) fn advance_at(
     }
 }
 
-/// The answer to the service call of the runner of a place.
+/// Gives the answer to the service call of the runner at `place`.
 #[tactic(auto, using(crate::proofs::Places::views))]
 pub(crate) fn reply_at(
     slots: &mut Vec<Slot>,

@@ -1,4 +1,4 @@
--- What the kind of a port tells of its room.
+-- The room of a port, by its kind.
 use Rattle.std.proofs.Common.{◌≡◌, true, refl, rules}
 use Rattle.apex_types.specs.declared.row.PortKind.{PortKind}
 use Rattle.apex_types.specs.declared.row.PortKind.TheVariants as kind

@@ -1,4 +1,4 @@
--- Senders where there is no port.
+-- Senders at a place without a port.
 use Rattle.std.proofs.Common.{◌≡◌, ◌≤◌, ℕ, zero, suc, List, [], ◌∷◌, length, None, refl, arith}
 use Rattle.std.specs.Prelude.{slice_get}
 use Rattle.apex_types.specs.declared.process.Entry.{Entry}

@@ -14,12 +14,12 @@ use Rattle.kernel_meaning.specs.Sharing.{Sharing, both, of_processes, refuses}
 use Rattle.kernel_meaning.specs.Step.{after}
 use Rattle.ports.specs.Delivering.{delivers}
 
--- there is none
+-- without a message
 pub reads_none : (at : At) (b : Sharing Ports) (p : Runner) (array : ArrayPlace) (place : ℕ) (x : Port) (ms : List (ArrayVec ℤ)) → slice_get ms 0 ≡ None → reads_sample at b p array place x ms ≡ refuses b p service.ReadSamplingMessage code.NoAction
 reads_none at b p array place x [] e = refl
 reads_none at b p array place x (m ∷ ms) e = absurd (search rules)
 
--- there is one
+-- with a message
 pub reads_some : (at : At) (s : Processes) (o : Ports) (p : Runner) (array : ArrayPlace) (place : ℕ) (x : Port) (m : ArrayVec ℤ) (ms : List (ArrayVec ℤ)) → slice_get ms 0 ≡ Some m → reads_sample at (both s o) p array place x ms ≡ after (of_processes (both s o) (delivers s p service.ReadSamplingMessage code.NoError (pos (length m.items) ∷ pos (validity_number (is_valid at x)) ∷ []) array m)) (becomes_port (both s o) place (record x { valid = is_valid at x }))
 reads_some at s o p array place x m [] e = absurd (search rules)
 reads_some at s o p array place x m (n ∷ ms) e = search rules

@@ -1,4 +1,4 @@
--- What the rows of ports keep to.
+-- Bounds of the rows of ports.
 use Rattle.std.specs.Prelude.{◌≡◌, ◌≤◌, ◌^◌, ℕ, List, Some, slice_get}
 use Rattle.apex_types.specs.declared.limits.TheConstants.{MOST_TICKS}
 use Rattle.apex_types.specs.declared.row.PortRow.{PortRow}

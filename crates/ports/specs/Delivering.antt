@@ -9,6 +9,6 @@ use Rattle.kernel_meaning.specs.Processes.{Processes, answers}
 use Rattle.kernel_meaning.specs.Step.{Step, after}
 use Rattle.kernel_meaning.specs.Sharing.{fills}
 
--- the service ends with a code and its outputs, and the words go into the array
+-- ends the service with a code and its outputs, and writes the words into the array
 abbrev pub delivers : Processes → Runner → Service → ReturnCode → List ℤ → ArrayPlace → ArrayVec ℤ → Step Processes
 delivers s p service c outputs array m = after (answers s p service c outputs) (fills s (Some array) m)

@@ -1,4 +1,4 @@
--- What is told of ports in place of their messages.
+-- What the status of a port shows in place of its messages.
 use Rattle.std.specs.Prelude.{ℕ, [], drop, length, Option, Some, None, slice_index_or}
 use Rattle.apex_types.specs.declared.row.PortDirection.TheVariants as direction
 use Rattle.apex_types.specs.declared.row.PortKind.TheVariants as kind
@@ -12,16 +12,16 @@ port_status x = record { row = x.row; created = x.created; messages = length x.m
 abbrev pub placed_port : Ports → ℕ → Port
 placed_port o place = slice_index_or o.ports place (fresh_port (record { name = []; kind = kind.Sampling 0; direction = direction.Source; words = 0 }))
 
--- the port that a status with its place is of
+-- the port of a status with its place
 abbrev pub port_of_status : Ports → Option (ℕ × PortStatus) → Option (ℕ × Port)
 port_of_status o None = None
 port_of_status o (Some f) = Some (f.0, placed_port o f.0)
 
--- its first message is gone
+-- removes its first message
 abbrev pub without_first : Port → Port
 without_first x = record x { messages = drop 1 x.messages }
 
--- the port at a place that a status is of
+-- the port at the place of a status
 abbrev pub port_with_status : Ports → ℕ → Option PortStatus → Option Port
 port_with_status o place None = None
 port_with_status o place (Some s) = Some (placed_port o place)

@@ -1,4 +1,4 @@
--- How the fields of ports are seen, and what always holds of them.
+-- The view of the fields of ports, and their invariants.
 use Rattle.std.specs.Prelude.{◌≤◌, ◌^◌, length}
 use Rattle.apex_types.specs.declared.limits.TheConstants.{MOST_OBJECTS, MOST_TICKS}
 use Rattle.kernel_meaning.specs.Objects as meaning
@@ -8,7 +8,8 @@ use Rattle.ports.specs.declared.ports.Ports.TheInside as ports
 abbrev pub port_of : port.Inside → meaning.Port
 port_of x = record { row = x.row; created = x.created; messages = x.messages.items; arrival = x.arrival; valid = x.valid; overflowed = x.overflowed }
 
--- the messages are no more than there may be, and these have memory; the refresh period is at most 2^40 ticks
+-- no more messages than the port may hold, and memory for as many as it may hold; the refresh
+-- period is at most 2^40 ticks
 pub record HasRing (x : port.Inside) : Type 0 where
   pub few : length x.messages.items ≤ meaning.depth_of x.row.kind
   pub room : meaning.depth_of x.row.kind ≤ x.messages.capacity
@@ -17,6 +18,6 @@ pub record HasRing (x : port.Inside) : Type 0 where
 abbrev pub ports_of : ports.Inside → meaning.Ports
 ports_of o = record { ports = o.ports.items }
 
--- no more than a partition may have
+-- no more ports than a partition may have
 pub record AreFew (o : ports.Inside) : Type 0 where
   pub ports : length o.ports.items ≤ MOST_OBJECTS

@@ -17,7 +17,7 @@ use crate::ports::Ports;
 use apex_types::{Entry, EventKind, ListKey, Moment, Out, ReturnCode, Words, copied};
 use process_table_base::ProcessTable;
 
-/// A sampling port has the message, with its tick, in place of the one before.
+/// Replaces the message of a sampling port, and its tick of arrival.
 fn arrive_sampling(
     table: &ProcessTable,
     ports: &mut Ports,
@@ -41,7 +41,7 @@ fn arrive_sampling(
     ports.put_arrived(place, message, moment.at.now);
 }
 
-/// Where nobody waits the message goes behind the others, and where there is no room it is lost.
+/// Without a waiting receiver: appends the message; if the port is full, the message is lost.
 fn store(
     table: &ProcessTable,
     ports: &mut Ports,
@@ -68,8 +68,8 @@ fn store(
     }
 }
 
-/// The first receiver that waits takes the message. Where nobody waits it goes behind the others, and
-/// where there is no room it is lost.
+/// Gives the message to the first waiting receiver. Without one, appends it; if the port is full,
+/// the message is lost.
 fn arrive_queuing(
     table: &mut ProcessTable,
     ports: &mut Ports,
@@ -97,10 +97,10 @@ fn arrive_queuing(
     }
 }
 
-/// A message arrives at the port at a place, created or not. A sampling port has it in place of the one
-/// before; of a queuing port the first receiver that waits takes it, else it goes behind the others,
-/// and where there is no room it is lost, which the port remembers. Where there is no port nothing
-/// happens.
+/// A message arrives at the port at `place`, created or not. It replaces the message of a sampling
+/// port. Of a queuing port, the first waiting receiver takes it; without one, the port appends it;
+/// if the port is full, the message is lost, which the port remembers. Without a port at `place`,
+/// nothing happens.
 pub fn arrive(
     table: &mut ProcessTable,
     ports: &mut Ports,
@@ -124,7 +124,7 @@ pub fn arrive(
     }
 }
 
-/// The message of a sender comes behind the others if there is room, and the sender is released.
+/// Appends the message of a sender if there is room, and releases the sender.
 fn admit_one(table: &mut ProcessTable, ports: &mut Ports, entry: Entry, place: u8, out: &mut Out)
     requires { HasRoom 2 1 out.old }
     ensures step { IsMade
@@ -144,7 +144,7 @@ fn admit_one(table: &mut ProcessTable, ports: &mut Ports, entry: Entry, place: u
     }
 }
 
-/// Each of these senders in turn.
+/// Admits each of these senders in turn.
 fn admit_each(
     table: &mut ProcessTable,
     ports: &mut Ports,
@@ -163,7 +163,7 @@ fn admit_each(
     }
 }
 
-/// The senders that wait at the port at a place enter it in their order, as long as there is room.
+/// Admits the senders that wait at the port at `place` in their order, while there is room.
 #[tactic(auto, using(crate::proofs::Entering::entering))]
 pub fn admit(table: &mut ProcessTable, ports: &mut Ports, place: u8, out: &mut Out)
     requires { HasRoom LINES_TO_RELEASE_ALL ACTIONS_TO_RELEASE_ALL out.old }

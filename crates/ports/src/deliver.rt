@@ -1,4 +1,4 @@
-//! How a message goes into the array of a caller.
+//! Writing a message into the array of a caller.
 
 ghost use Rattle.std.specs.Prelude.{◌≡◌, ◌≤◌, length};
 ghost use Rattle.apex_types.specs.Room.{HasRoom, Grows};
@@ -8,7 +8,7 @@ ghost use Rattle.ports.specs.Delivering.{delivers};
 use apex_types::{Action, ArrayPlace, Out, ReturnCode, Service, Words};
 use process_table_base::{ProcessTable, Request};
 
-/// The service ends with a code and its outputs, and the message goes into the caller's array.
+/// Ends the service with a code and its outputs, and writes the message into the caller's array.
 pub(crate) fn deliver(
     table: &ProcessTable,
     request: Request,

@@ -1,5 +1,5 @@
-//! The ports of a partition: the services on them, one call each, and the messages that arrive at them
-//! and leave them.
+//! The ports of a partition: the services on them, one function each, and the messages that arrive
+//! at them and leave them.
 #![tactic(auto)]
 
 mod arrival;

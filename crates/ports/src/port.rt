@@ -34,7 +34,7 @@ impl Model for Port {
     ghost invariant = { HasRing };
 }
 
-/// How a port stands, without its messages.
+/// The status of a port, without its messages.
 #[derive(Clone, Copy, Debug, PartialEq, Eq)]
 pub(crate) struct PortStatus {
     pub(crate) row: PortRow,
@@ -45,7 +45,7 @@ pub(crate) struct PortStatus {
     pub(crate) valid: bool,
 }
 
-/// For how many messages a port of this kind has room.
+/// The number of messages that a port of this kind has room for.
 fn depth_of(kind: PortKind) -> u8
     ensures { result ≡ meaning.depth_of kind }
 {
@@ -55,7 +55,7 @@ fn depth_of(kind: PortKind) -> u8
     }
 }
 
-/// For how many ticks from its arrival on a message is valid.
+/// For how many ticks after its arrival a message is valid.
 fn refresh_of(kind: PortKind) -> u64
     ensures { result ≡ meaning.refresh_of kind }
 {
@@ -65,7 +65,7 @@ fn refresh_of(kind: PortKind) -> u64
     }
 }
 
-/// The order of those who wait.
+/// The order of the waiting processes.
 fn discipline_of(kind: PortKind) -> Discipline
     ensures { result ≡ meaning.discipline_of kind }
 {
@@ -133,7 +133,7 @@ impl PortStatus {
         depth_of(self.row.kind) <= self.messages
     }
 
-    /// For how many messages there is room.
+    /// The number of messages that it has room for.
     pub(crate) fn depth(&self) -> u8
         ensures { result ≡ meaning.depth_of self.now.row.kind }
     {
@@ -147,7 +147,7 @@ impl PortStatus {
         refresh_of(self.row.kind)
     }
 
-    /// The order of those who wait.
+    /// The order of the waiting processes.
     pub(crate) fn discipline(&self) -> Discipline
         ensures { result ≡ meaning.discipline_of self.now.row.kind }
     {
@@ -172,7 +172,7 @@ impl Port {
         })
     }
 
-    /// The port is not created, and holds no message.
+    /// Resets the port: it is not created, and holds no message.
     pub(crate) fn clear(&mut self)
         ensures { self.new ≡ meaning.cleared_port self.old }
     {
@@ -183,14 +183,14 @@ impl Port {
         self.overflowed = false;
     }
 
-    /// It is created.
+    /// Creates the port.
     pub(crate) fn create(&mut self)
         ensures { self.new ≡ record self.old { created = true } }
     {
         self.created = true;
     }
 
-    /// A message takes the place of the one before.
+    /// Replaces the message of the port.
     pub(crate) fn put_sample(&mut self, message: Words)
         requires { 1 ≤ meaning.depth_of self.old.row.kind }
         ensures { self.new ≡ meaning.with_sample self.old message }
@@ -199,21 +199,21 @@ impl Port {
         let _ = self.messages.try_push_back(message);
     }
 
-    /// Its message arrived in this tick.
+    /// Sets the tick in which its message arrived.
     pub(crate) fn set_arrival(&mut self, arrival: Ticks)
         ensures { self.new ≡ record self.old { arrival = arrival } }
     {
         self.arrival = arrival;
     }
 
-    /// The last message read was valid, or was not.
+    /// Records whether the last message read was valid.
     pub(crate) fn set_valid(&mut self, valid: bool)
         ensures { self.new ≡ record self.old { valid = valid } }
     {
         self.valid = valid;
     }
 
-    /// A message was lost, or that is forgotten.
+    /// Records whether a message was lost.
     pub(crate) fn set_overflowed(&mut self, overflowed: bool)
         ensures { self.new ≡ record self.old { overflowed = overflowed } }
     {
@@ -227,7 +227,7 @@ impl Port {
         self.overflowed
     }
 
-    /// A message goes behind the others.
+    /// Appends a message.
     pub(crate) fn push(&mut self, message: Words)
         requires { length self.old.messages < meaning.depth_of self.old.row.kind }
         ensures { self.new ≡ meaning.with_message self.old message }
@@ -254,7 +254,7 @@ impl Port {
         }
     }
 
-    /// A copy of the message that has so many before it.
+    /// A copy of the message that has `before` messages before it.
     pub(crate) fn message_behind(&self, before: u8) -> Option<Words>
         ensures { result ≡ slice_get self.now.messages before }
     {
@@ -264,21 +264,21 @@ impl Port {
         }
     }
 
-    /// Whether its message arrived no longer ago than its refresh period.
+    /// Whether its message arrived at most its refresh period ago.
     pub(crate) fn is_valid(&self, moment: Moment) -> bool
         ensures { result ≡ services.is_valid moment.at self.now }
     {
         moment.at.now.0.saturating_sub(self.arrival.0) <= refresh_of(self.row.kind)
     }
 
-    /// Its messages are gone.
+    /// Removes its messages.
     pub(crate) fn empty(&mut self)
         ensures { self.new ≡ record self.old { messages = [] } }
     {
         self.messages.clear();
     }
 
-    /// How it stands.
+    /// Its status.
     pub(crate) fn status(&self) -> PortStatus
         ensures status { result ≡ port_status self.now }
         ensures short { meaning.refresh_of result.row.kind ≤ MOST_TICKS }

@@ -1,4 +1,4 @@
-//! The ports of a partition, and the few ways in which they change.
+//! The ports of a partition, and the few ways to change them.
 
 ghost use Rattle.std.specs.Prelude.{◌≡◌, ◌<◌, ◌≤◌, ◌^◌, [], length, map, option_map, slice_get, true, false, IfOk, IfSome, IsNone, OnSome, None, Some};
 ghost use Rattle.apex_types.specs.Room.{HasRoom, Grows};
@@ -56,8 +56,8 @@ fn clear_ports(all: &mut Vec<Port>)
 }
 
 impl Ports {
-    /// The ports of these rows, none of them created, with memory for their messages. An error is one
-    /// of memory.
+    /// Makes the ports of these rows, none of them created, with memory for their messages.
+    /// `AllocError`: out of memory.
     pub fn new(alloc: Global, rows: &[PortRow]) -> Result<Ports, AllocError>
         requires few { length rows.now ≤ MOST_OBJECTS }
         requires short { AreShort rows.now }
@@ -68,14 +68,14 @@ impl Ports {
         })
     }
 
-    /// No port is created, and all are empty.
+    /// Resets all ports: none is created, and all are empty.
     pub fn clear(&mut self)
         ensures { self.new ≡ meaning.cleared_ports self.old }
     {
         clear_ports(&mut self.ports);
     }
 
-    /// How many there are.
+    /// The number of ports.
     pub fn count(&self) -> u8
         ensures count { result ≡ length self.now.ports }
         ensures few { result ≤ MOST_OBJECTS }
@@ -83,7 +83,7 @@ impl Ports {
         self.ports.len() as u8
     }
 
-    /// How the port at a place stands, if there is one.
+    /// The status of the port at `place`, if there is such a port.
     pub(crate) fn status(&self, place: u8) -> Option<PortStatus>
         ensures found { meaning.port_at self.now place ≡ port_with_status self.now place result }
         ensures status { IfSome result (λ port. port ≡ port_status (placed_port self.now place)) }
@@ -95,7 +95,7 @@ impl Ports {
         }
     }
 
-    /// Whether the port at a place is a source, if there is one.
+    /// Whether the port at `place` is a source; `None` if there is no such port.
     pub fn is_source(&self, place: u8) -> Option<bool>
         ensures { result ≡ option_map meaning.is_source (slice_get self.now.ports place) }
     {
@@ -105,7 +105,7 @@ impl Ports {
         }
     }
 
-    /// How many messages the port at a place holds, if there is one.
+    /// How many messages the port at `place` holds; `None` if there is no such port.
     pub fn message_count(&self, place: u8) -> Option<u8>
         ensures { result ≡ option_map (λ x. length x.messages) (slice_get self.now.ports place) }
     {
@@ -115,7 +115,8 @@ impl Ports {
         }
     }
 
-    /// A copy of the message that has so many before it in the port at a place, if there is one.
+    /// A copy of the message that has `before` messages before it in the port at `place`, if there
+    /// is such a port and message.
     pub fn message_behind(&self, place: u8, before: u8) -> Option<Words>
         ensures { result ≡ message_behind before (slice_get self.now.ports place) }
     {
@@ -123,7 +124,7 @@ impl Ports {
         port.message_behind(before)
     }
 
-    /// How the port with a number stands, with its place.
+    /// The place and the status of the port with number `id`.
     #[tactic(auto, using(crate::proofs::Finding::finding))]
     fn numbered(&self, id: i64) -> Option<(u8, PortStatus)>
         ensures found { numbered_in self.now.ports id ≡ port_of_status self.now result }
@@ -136,7 +137,7 @@ impl Ports {
         Some((place as u8, self.ports[place].status()))
     }
 
-    /// How the sampling port with a number stands, with its place.
+    /// The place and the status of the sampling port with number `id`.
     pub(crate) fn sampling(&self, id: i64) -> Option<(u8, PortStatus)>
         ensures found { meaning.sampling self.now id ≡ port_of_status self.now result }
         ensures status { IfSome result
@@ -154,7 +155,7 @@ impl Ports {
         }
     }
 
-    /// How the queuing port with a number stands, with its place.
+    /// The place and the status of the queuing port with number `id`.
     pub(crate) fn queuing(&self, id: i64) -> Option<(u8, PortStatus)>
         ensures found { meaning.queuing self.now id ≡ port_of_status self.now result }
         ensures status { IfSome result
@@ -169,7 +170,7 @@ impl Ports {
         }
     }
 
-    /// A port is created.
+    /// Creates the port at `place`.
     pub(crate) fn create(&mut self, place: u8)
         ensures { self.new
             ≡ meaning.put_port self.old place
@@ -180,7 +181,7 @@ impl Ports {
         }
     }
 
-    /// A message takes the place of the one before in a sampling port.
+    /// Replaces the message of a sampling port.
     #[tactic(auto, using(crate::proofs::Depth::depths))]
     pub(crate) fn put_sample(&mut self, place: u8, message: Words)
         requires { meaning.is_sampling (placed_port self.old place) ≡ true }
@@ -193,7 +194,7 @@ impl Ports {
         }
     }
 
-    /// A message arrives in a tick, and takes the place of the one before in a sampling port.
+    /// Replaces the message of a sampling port with one that arrives in the tick `now`.
     #[tactic(auto, using(crate::proofs::Depth::depths))]
     pub(crate) fn put_arrived(&mut self, place: u8, message: Words, now: Ticks)
         requires { meaning.is_sampling (placed_port self.old place) ≡ true }
@@ -208,7 +209,8 @@ impl Ports {
         }
     }
 
-    /// Reads the message of a sampling port: a copy, and whether it is valid, which the port remembers.
+    /// Reads the message of a sampling port: a copy, and whether it is valid, which the port
+    /// remembers.
     pub(crate) fn read_message(&mut self, place: u8, moment: Moment) -> Option<(Words, bool)>
         ensures none { IsNone result → slice_get (placed_port self.old place).messages 0 ≡ None }
         ensures first { IfSome result
@@ -228,7 +230,7 @@ impl Ports {
         Some((message, valid))
     }
 
-    /// A message goes behind the others of a port.
+    /// Appends a message to a port.
     pub(crate) fn push_message(&mut self, place: u8, message: Words)
         requires { let x = placed_port self.old place in
             length x.messages < meaning.depth_of x.row.kind }
@@ -241,7 +243,7 @@ impl Ports {
         }
     }
 
-    /// A message was lost at a port.
+    /// Records that a port lost a message.
     pub(crate) fn lose_message(&mut self, place: u8)
         ensures { self.new
             ≡ meaning.put_port self.old place
@@ -252,7 +254,8 @@ impl Ports {
         }
     }
 
-    /// Takes the first message of a port, and tells whether one was lost before, which the port forgets.
+    /// Takes the first message of a port. Returns it, and whether a message was lost before, which
+    /// the port forgets.
     pub(crate) fn receive_message(&mut self, place: u8) -> Option<(Words, bool)>
         ensures none { IsNone result → slice_get (placed_port self.old place).messages 0 ≡ None }
         ensures first { IfSome result
@@ -272,7 +275,7 @@ impl Ports {
         Some((message, overflowed))
     }
 
-    /// The messages of a port are gone, and that one was lost is forgotten.
+    /// Removes the messages of a port, and forgets that a message was lost.
     pub(crate) fn empty(&mut self, place: u8)
         ensures { self.new
             ≡ meaning.put_port self.old place
@@ -296,7 +299,7 @@ impl Ports {
         port.pop()
     }
 
-    /// The first message of the port at a place leaves it, if it holds one.
+    /// Takes the first message from the port at `place`, if it holds one.
     #[tactic(auto, using(crate::proofs::Moving::moving))]
     pub fn move_one(&mut self, place: u8, out: &mut Out) -> Option<Words>
         requires { HasRoom 1 0 out.old }

@@ -13,14 +13,15 @@ ghost use Rattle.ports.specs.Status.{placed_port, port_status};
 use crate::deliver::deliver;
 use crate::port::PortStatus;
 use crate::ports::Ports;
-use apex_types::{ArrayPlace, Discipline, ListKey, Mode, Out, ReturnCode, Service, Waiting, Words};
+use apex_types::{ArrayPlace, Discipline, ListKey, Out, ReturnCode, Service, Waiting, Words};
 use process_table_base::{
     Handed, ProcessTable, Request, first_words, is_duration, is_large_enough, is_length,
 };
 
-/// CREATE_QUEUING_PORT (ARINC 653 Part 1, interpartition communication): the queuing port of that
-/// number exists, and its output is its number. INVALID_MODE: in normal mode; INVALID_CONFIG: the
-/// partition has no such port in the module table, or it is a sampling port; NO_ACTION: it exists.
+/// CREATE_QUEUING_PORT (ARINC 653 Part 1, interpartition communication): creates the queuing port
+/// of this number, and returns the number. INVALID_MODE: in normal mode; INVALID_CONFIG: the
+/// partition has no such port in the module table, or it is a sampling port; NO_ACTION: it was
+/// already created.
 pub fn create_queuing_port(
     table: &ProcessTable,
     ports: &mut Ports,
@@ -35,21 +36,16 @@ pub fn create_queuing_port(
     ensures grows { Grows 1 1 out.old out.new }
 {
     let service = Service::CreateQueuingPort;
-    if request.mode == Mode::Normal {
-        return table.refuse(request.caller, service, ReturnCode::InvalidMode, out);
+    let found = ports
+        .queuing(name)
+        .map(|(place, port)| (place, port.created));
+    if let Some(place) = table.answer_create(&request, service, name, found, out) {
+        ports.create(place);
     }
-    let Some((place, port)) = ports.queuing(name) else {
-        return table.refuse(request.caller, service, ReturnCode::InvalidConfig, out);
-    };
-    if port.created {
-        return table.refuse(request.caller, service, ReturnCode::NoAction, out);
-    }
-    table.answer(request.caller, service, ReturnCode::NoError, &[name], out);
-    ports.create(place);
 }
 
-/// GET_QUEUING_PORT_ID (ARINC 653 Part 1, interpartition communication): the number of a queuing
-/// port, as its output. INVALID_CONFIG: no queuing port of this number was created.
+/// GET_QUEUING_PORT_ID (ARINC 653 Part 1, interpartition communication): returns the number of a
+/// queuing port. INVALID_CONFIG: no queuing port of this number was created.
 pub fn get_queuing_port_id(
     table: &ProcessTable,
     ports: &Ports,
@@ -64,15 +60,11 @@ pub fn get_queuing_port_id(
     ensures grows { Grows 1 1 out.old out.new }
 {
     let service = Service::GetQueuingPortId;
-    match ports.queuing(name) {
-        Some((_, port)) if port.created => {
-            table.answer(request.caller, service, ReturnCode::NoError, &[name], out)
-        }
-        _ => table.refuse(request.caller, service, ReturnCode::InvalidConfig, out),
-    }
+    let created = ports.queuing(name).is_some_and(|(_, port)| port.created);
+    table.answer_id(request.caller, service, name, created, out);
 }
 
-/// A message goes behind the others of a port. While it is full the caller waits.
+/// Appends a message to a port. If the port is full, blocks the caller for at most `limit` ticks.
 fn send(
     table: &mut ProcessTable,
     ports: &mut Ports,
@@ -107,13 +99,13 @@ fn send(
     ports.push_message(place, message);
 }
 
-/// SEND_QUEUING_MESSAGE (ARINC 653 Part 1, interpartition communication): the first words of those
-/// that the call hands in go behind the other messages of the port, until the end of the partition's
-/// window moves them. While it is full the caller waits, at most so many ticks; -1 is without limit.
+/// SEND_QUEUING_MESSAGE (ARINC 653 Part 1, interpartition communication): appends a message, the
+/// first `handed.length` words handed in, to the port, until the end of the partition's window
+/// moves it. If the port is full, blocks the caller for at most `limit` ticks; -1 is no limit.
 /// INVALID_PARAM: no queuing port of this number was created, or a limit below -1 or above 2^40
 /// ticks; INVALID_MODE: it is a destination; INVALID_PARAM: a length below 1, above the port's or
-/// above the array's; NOT_AVAILABLE: it is full and the limit is 0; INVALID_MODE: the caller may not
-/// wait; TIMED_OUT: it waited for so long.
+/// above the array's; NOT_AVAILABLE: it is full and the limit is 0; INVALID_MODE: the caller may
+/// not wait; TIMED_OUT: the wait reached the limit.
 pub fn send_queuing_message(
     table: &mut ProcessTable,
     ports: &mut Ports,
@@ -149,7 +141,7 @@ pub fn send_queuing_message(
     send(table, ports, request, limit, message, place, port, out);
 }
 
-/// The code of a receive. The first after an overflow tells of it.
+/// The return code of a receive; the first after an overflow reports it.
 fn code_of_receive(overflowed: bool) -> ReturnCode
     ensures { result ≡ meaning.code_of_receive overflowed }
 {
@@ -159,7 +151,8 @@ fn code_of_receive(overflowed: bool) -> ReturnCode
     }
 }
 
-/// The first message of a port goes into an array. While there is none the caller waits.
+/// Takes the first message of a port into the array. If the port is empty, blocks the caller for at
+/// most `limit` ticks.
 #[tactic(auto, using(crate::proofs::Receiving::receiving))]
 fn receive(
     table: &mut ProcessTable,
@@ -197,13 +190,14 @@ fn receive(
     table.block(request, limit, waiting, Words::new(), out);
 }
 
-/// RECEIVE_QUEUING_MESSAGE (ARINC 653 Part 1, interpartition communication): the first message of the
-/// port goes into the array, and its words are counted. While there is none the caller waits, at most
-/// so many ticks; -1 is without limit. INVALID_PARAM: no queuing port of this number was created, or
-/// a limit below -1 or above 2^40 ticks; INVALID_MODE: it is a source; INVALID_PARAM: an array without
-/// room for its longest message; NOT_AVAILABLE: it is empty and the limit is 0; INVALID_MODE: the
-/// caller may not wait; TIMED_OUT: it waited for so long; INVALID_CONFIG, with the message: a message
-/// was lost since the last receive, because the port was full.
+/// RECEIVE_QUEUING_MESSAGE (ARINC 653 Part 1, interpartition communication): takes the first
+/// message of the port into the array, and returns its length in words. If the port is empty,
+/// blocks the caller for at most `limit` ticks; -1 is no limit. INVALID_PARAM: no queuing port of
+/// this number was created, or a limit below -1 or above 2^40 ticks; INVALID_MODE: it is a source;
+/// INVALID_PARAM: an array without room for its longest message; NOT_AVAILABLE: it is empty and the
+/// limit is 0; INVALID_MODE: the caller may not wait; TIMED_OUT: the wait reached the limit;
+/// INVALID_CONFIG, with the message: a message was lost since the last receive, because the port
+/// was full.
 pub fn receive_queuing_message(
     table: &mut ProcessTable,
     ports: &mut Ports,
@@ -237,8 +231,8 @@ pub fn receive_queuing_message(
     receive(table, ports, request, array, limit, place, discipline, out);
 }
 
-/// Tells how a port stands: its messages, its room for messages, the most words of one, the direction,
-/// and how many wait.
+/// Answers with the status of a port: the number of its messages, the number it has room for, the
+/// most words of a message, the direction, and the number of waiting processes.
 fn tell_status(
     table: &ProcessTable,
     ports: &Ports,
@@ -269,9 +263,9 @@ fn tell_status(
     table.answer(request.caller, service, ReturnCode::NoError, &outputs, out);
 }
 
-/// GET_QUEUING_PORT_STATUS (ARINC 653 Part 1, interpartition communication): how many messages the
-/// port holds, how many it has room for, the most words of one, its direction, and how many processes
-/// wait. INVALID_PARAM: no queuing port of this number was created.
+/// GET_QUEUING_PORT_STATUS (ARINC 653 Part 1, interpartition communication): returns the number of
+/// messages in the port, the number it has room for, the most words of a message, its direction,
+/// and the number of waiting processes. INVALID_PARAM: no queuing port of this number was created.
 pub fn get_queuing_port_status(
     table: &ProcessTable,
     ports: &Ports,
@@ -295,9 +289,9 @@ pub fn get_queuing_port_status(
     tell_status(table, ports, request, place, port, out);
 }
 
-/// CLEAR_QUEUING_PORT (ARINC 653 Part 1, interpartition communication): the messages of the port are
-/// gone, and a lost message is forgotten; receivers go on waiting. INVALID_PARAM: no queuing port of
-/// this number was created; INVALID_MODE: it is a source.
+/// CLEAR_QUEUING_PORT (ARINC 653 Part 1, interpartition communication): removes the messages of the
+/// port, and forgets that a message was lost; receivers continue to wait. INVALID_PARAM: no queuing
+/// port of this number was created; INVALID_MODE: it is a source.
 pub fn clear_queuing_port(
     table: &ProcessTable,
     ports: &mut Ports,

@@ -10,12 +10,13 @@ ghost use Rattle.ports.specs.Status.{placed_port};
 use crate::deliver::deliver;
 use crate::port::validity_number;
 use crate::ports::Ports;
-use apex_types::{ArrayPlace, Mode, Out, ReturnCode, Service, Words};
+use apex_types::{ArrayPlace, Out, ReturnCode, Service, Words};
 use process_table_base::{Handed, ProcessTable, Request, first_words, is_large_enough, is_length};
 
-/// CREATE_SAMPLING_PORT (ARINC 653 Part 1, interpartition communication): the sampling port of that
-/// number exists, and its output is its number. INVALID_MODE: in normal mode; INVALID_CONFIG: the
-/// partition has no such port in the module table, or it is a queuing port; NO_ACTION: it exists.
+/// CREATE_SAMPLING_PORT (ARINC 653 Part 1, interpartition communication): creates the sampling port
+/// of this number, and returns the number. INVALID_MODE: in normal mode; INVALID_CONFIG: the
+/// partition has no such port in the module table, or it is a queuing port; NO_ACTION: it was
+/// already created.
 pub fn create_sampling_port(
     table: &ProcessTable,
     ports: &mut Ports,
@@ -30,21 +31,16 @@ pub fn create_sampling_port(
     ensures grows { Grows 1 1 out.old out.new }
 {
     let service = Service::CreateSamplingPort;
-    if request.mode == Mode::Normal {
-        return table.refuse(request.caller, service, ReturnCode::InvalidMode, out);
+    let found = ports
+        .sampling(name)
+        .map(|(place, port)| (place, port.created));
+    if let Some(place) = table.answer_create(&request, service, name, found, out) {
+        ports.create(place);
     }
-    let Some((place, port)) = ports.sampling(name) else {
-        return table.refuse(request.caller, service, ReturnCode::InvalidConfig, out);
-    };
-    if port.created {
-        return table.refuse(request.caller, service, ReturnCode::NoAction, out);
-    }
-    table.answer(request.caller, service, ReturnCode::NoError, &[name], out);
-    ports.create(place);
 }
 
-/// GET_SAMPLING_PORT_ID (ARINC 653 Part 1, interpartition communication): the number of a sampling
-/// port, as its output. INVALID_CONFIG: no sampling port of this number was created.
+/// GET_SAMPLING_PORT_ID (ARINC 653 Part 1, interpartition communication): returns the number of a
+/// sampling port. INVALID_CONFIG: no sampling port of this number was created.
 pub fn get_sampling_port_id(
     table: &ProcessTable,
     ports: &Ports,
@@ -59,17 +55,13 @@ pub fn get_sampling_port_id(
     ensures grows { Grows 1 1 out.old out.new }
 {
     let service = Service::GetSamplingPortId;
-    match ports.sampling(name) {
-        Some((_, port)) if port.created => {
-            table.answer(request.caller, service, ReturnCode::NoError, &[name], out)
-        }
-        _ => table.refuse(request.caller, service, ReturnCode::InvalidConfig, out),
-    }
+    let created = ports.sampling(name).is_some_and(|(_, port)| port.created);
+    table.answer_id(request.caller, service, name, created, out);
 }
 
-/// WRITE_SAMPLING_MESSAGE (ARINC 653 Part 1, interpartition communication): the first words of those
-/// that the call hands in take the place of the port's message, until the end of the partition's
-/// window moves it. INVALID_PARAM: no sampling port of this number was created; INVALID_MODE: it is a
+/// WRITE_SAMPLING_MESSAGE (ARINC 653 Part 1, interpartition communication): replaces the port's
+/// message with the first `handed.length` words handed in, until the end of the partition's window
+/// moves it. INVALID_PARAM: no sampling port of this number was created; INVALID_MODE: it is a
 /// destination; INVALID_PARAM: a length below 1, above the port's or above the array's.
 pub fn write_sampling_message(
     table: &ProcessTable,
@@ -104,7 +96,8 @@ pub fn write_sampling_message(
     ports.put_sample(place, first_words(handed.length, words));
 }
 
-/// The port's message goes into the array, and stays in the port. Where there is none nothing is done.
+/// Copies the port's message into the array; the message stays in the port. NO_ACTION: the port
+/// holds no message.
 #[tactic(auto, using(crate::proofs::Reading::reading))]
 fn read(
     table: &ProcessTable,
@@ -141,11 +134,11 @@ fn read(
     }
 }
 
-/// READ_SAMPLING_MESSAGE (ARINC 653 Part 1, interpartition communication): the port's message goes
-/// into the array, and stays in the port; its outputs are its length, and whether it is valid, which
-/// it is as long as its arrival is no longer ago than the port's refresh period. INVALID_PARAM: no
-/// sampling port of this number was created; INVALID_MODE: it is a source; INVALID_PARAM: an array
-/// without room for its longest message; NO_ACTION: no message has arrived.
+/// READ_SAMPLING_MESSAGE (ARINC 653 Part 1, interpartition communication): copies the port's
+/// message into the array; the message stays in the port. Returns its length in words, and whether
+/// it is valid: its arrival is at most the port's refresh period ago. INVALID_PARAM: no sampling
+/// port of this number was created; INVALID_MODE: it is a source; INVALID_PARAM: an array without
+/// room for its longest message; NO_ACTION: no message has arrived.
 pub fn read_sampling_message(
     table: &ProcessTable,
     ports: &mut Ports,
@@ -177,9 +170,9 @@ pub fn read_sampling_message(
     read(table, ports, request, array, place, out);
 }
 
-/// GET_SAMPLING_PORT_STATUS (ARINC 653 Part 1, interpartition communication): the most words of a
-/// message, the direction, the refresh period in ticks, and whether the last message read was valid.
-/// INVALID_PARAM: no sampling port of this number was created.
+/// GET_SAMPLING_PORT_STATUS (ARINC 653 Part 1, interpartition communication): returns the most
+/// words of a message, the direction, the refresh period in ticks, and whether the last message
+/// read was valid. INVALID_PARAM: no sampling port of this number was created.
 pub fn get_sampling_port_status(
     table: &ProcessTable,
     ports: &Ports,

@@ -1,5 +1,5 @@
-//! The services on processes and on time, one call each: a call makes the part of its service that
-//! the processes hold, and puts out its lines and what it asks for.
+//! The services on processes and on time, one function each: a function does the part of its
+//! service that concerns the processes, and adds its lines and actions to `out`.
 #![tactic(auto)]
 
 mod lock;

@@ -1,4 +1,4 @@
-//! The preemption lock, and who a process is.
+//! The preemption lock, and the number of the caller.
 
 ghost use Rattle.std.specs.Prelude.{◌≡◌, ◌<◌, ◌≤◌, ◌+◌, length};
 ghost use Rattle.apex_types.specs.declared.limits.TheConstants.{MOST_LOCK_LEVEL};
@@ -10,7 +10,8 @@ use apex_types::limits::MOST_LOCK_LEVEL;
 use apex_types::{Lock, Mode, Out, ReturnCode, Runner, Service};
 use process_table_base::{ProcessTable, Request};
 
-/// The handler, and anyone before normal mode, may neither lock nor unlock.
+/// Whether the caller may neither lock nor unlock preemption: it is the handler, or the mode is not
+/// normal.
 pub(crate) fn may_not_lock(request: Request) -> bool
     ensures { result ≡ meaning.may_not_lock request.mode request.caller }
 {
@@ -29,7 +30,7 @@ fn level_of(lock: Lock) -> u8
     }
 }
 
-/// The lock a level up; from none the caller is its holder.
+/// The lock one level up; the caller becomes the holder of a free lock.
 fn locked_by(caller: Runner, lock: Lock) -> Lock
     requires { meaning.level_of lock < MOST_LOCK_LEVEL }
     ensures { result ≡ meaning.locked_by caller lock }
@@ -46,7 +47,7 @@ fn locked_by(caller: Runner, lock: Lock) -> Lock
     }
 }
 
-/// The lock a level down; at none it has no holder.
+/// The lock one level down; at level 0 it is free.
 fn unlocked(lock: Lock) -> Lock
     ensures { result ≡ meaning.unlocked lock }
 {
@@ -59,9 +60,9 @@ fn unlocked(lock: Lock) -> Lock
     }
 }
 
-/// LOCK_PREEMPTION (ARINC 653 Part 1, process management): no other process runs until the lock is
-/// free again; the level is its output. NO_ACTION: the caller is the handler, or the mode is not
-/// normal; INVALID_CONFIG: the level is 16.
+/// LOCK_PREEMPTION (ARINC 653 Part 1, process management): raises the lock level, which is its
+/// output; no other process runs until the lock is free again. NO_ACTION: the caller is the
+/// handler, or the mode is not normal; INVALID_CONFIG: the level is 16.
 pub fn lock_preemption(table: &mut ProcessTable, request: Request, out: &mut Out)
     requires { HasRoom 1 1 out.old }
     ensures step { IsMade (meaning.lock_preemption request.mode table.old request.caller)
@@ -81,9 +82,9 @@ pub fn lock_preemption(table: &mut ProcessTable, request: Request, out: &mut Out
     table.set_lock(lock);
 }
 
-/// UNLOCK_PREEMPTION (ARINC 653 Part 1, process management): the lock loses a level, which is its
-/// output; at 0 it is free. NO_ACTION: the caller is the handler, the mode is not normal, or the
-/// level is 0.
+/// UNLOCK_PREEMPTION (ARINC 653 Part 1, process management): lowers the lock level, which is its
+/// output; at 0 the lock is free. NO_ACTION: the caller is the handler, the mode is not normal, or
+/// the level is 0.
 pub fn unlock_preemption(table: &mut ProcessTable, request: Request, out: &mut Out)
     requires { HasRoom 1 1 out.old }
     ensures step { IsMade (meaning.unlock_preemption request.mode table.old request.caller)
@@ -100,7 +101,7 @@ pub fn unlock_preemption(table: &mut ProcessTable, request: Request, out: &mut O
     table.set_lock(lock);
 }
 
-/// GET_MY_ID (ARINC 653 Part 1, process management): the number of the caller, as its output.
+/// GET_MY_ID (ARINC 653 Part 1, process management): returns the number of the caller.
 /// INVALID_MODE: the caller is INIT or the handler.
 pub fn get_my_id(table: &ProcessTable, request: Request, out: &mut Out)
     requires { HasRoom 1 1 out.old }

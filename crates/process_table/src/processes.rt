@@ -12,7 +12,7 @@ use apex_types::limits::GREATEST_PRIORITY;
 use apex_types::{Mode, Out, Priority, ProcessStatus, ReturnCode, Runner, Service, Ticks};
 use process_table_base::{Points, ProcessTable, Request, is_delay, is_dormant, is_same};
 
-/// The number of a deadline's tick, -1 for none.
+/// The tick of a deadline as a word, -1 for none.
 fn word_of_deadline(deadline: Option<Ticks>) -> i64
     requires { IfSome deadline (λ tick. tick.0 ≤ LATEST_RELEASE_POINT) }
     ensures { result ≡ meaning.word_of_deadline deadline }
@@ -23,7 +23,7 @@ fn word_of_deadline(deadline: Option<Ticks>) -> i64
     }
 }
 
-/// GET_PROCESS_ID (ARINC 653 Part 1, process management): the number of a process, as its output.
+/// GET_PROCESS_ID (ARINC 653 Part 1, process management): returns the number of a process.
 /// INVALID_CONFIG: no process of this number was created.
 pub fn get_process_id(table: &ProcessTable, request: Request, name: i64, out: &mut Out)
     requires { HasRoom 1 1 out.old }
@@ -39,9 +39,9 @@ pub fn get_process_id(table: &ProcessTable, request: Request, name: i64, out: &m
     }
 }
 
-/// GET_PROCESS_STATUS (ARINC 653 Part 1, process management): the state of a process, its current
-/// priority, and the tick of its deadline, -1 for none. INVALID_PARAM: no process of this number was
-/// created.
+/// GET_PROCESS_STATUS (ARINC 653 Part 1, process management): returns the state of a process, its
+/// current priority, and the tick of its deadline, -1 for none. INVALID_PARAM: no process of this
+/// number was created.
 pub fn get_process_status(table: &ProcessTable, request: Request, id: i64, out: &mut Out)
     requires { HasRoom 1 1 out.old }
     ensures step { IsTold (meaning.get_process_status table.now request.caller id) out.old out.new }
@@ -60,9 +60,9 @@ pub fn get_process_status(table: &ProcessTable, request: Request, id: i64, out: 
     }
 }
 
-/// CREATE_PROCESS (ARINC 653 Part 1, process management): the process of that number exists, and its
-/// output is its number. INVALID_MODE: in normal mode; INVALID_CONFIG: no such process is declared;
-/// NO_ACTION: it exists.
+/// CREATE_PROCESS (ARINC 653 Part 1, process management): creates the process of this number, and
+/// returns the number. INVALID_MODE: in normal mode; INVALID_CONFIG: no such process is declared;
+/// NO_ACTION: it was already created.
 pub fn create_process(table: &mut ProcessTable, request: Request, name: i64, out: &mut Out)
     requires { HasRoom 1 1 out.old }
     ensures step { IsMade (meaning.create_process request.mode table.old request.caller name)
@@ -83,9 +83,9 @@ pub fn create_process(table: &mut ProcessTable, request: Request, name: i64, out
     table.create(&found);
 }
 
-/// SET_PRIORITY (ARINC 653 Part 1, process management): another current priority of a process. A
-/// ready process goes last among those that have it. INVALID_PARAM: no process of this number was
-/// created, or a priority below 1 or above 239; INVALID_MODE: it is dormant.
+/// SET_PRIORITY (ARINC 653 Part 1, process management): changes the current priority of a process.
+/// A ready process goes last among those of its new priority. INVALID_PARAM: no process of this
+/// number was created, or a priority below 1 or above 239; INVALID_MODE: it is dormant.
 pub fn set_priority(
     table: &mut ProcessTable,
     request: Request,
@@ -112,8 +112,8 @@ pub fn set_priority(
     table.take_priority(&found, Priority(priority as u8));
 }
 
-/// STOP (ARINC 653 Part 1, process management): another process becomes dormant. INVALID_PARAM: no
-/// process of this number was created, or the caller's own; NO_ACTION: it is dormant.
+/// STOP (ARINC 653 Part 1, process management): makes another process dormant. INVALID_PARAM: no
+/// process of this number was created, or it is the caller; NO_ACTION: it is dormant.
 pub fn stop(table: &mut ProcessTable, request: Request, id: i64, out: &mut Out)
     requires { HasRoom 2 2 out.old }
     ensures step { IsMade (meaning.stop table.old request.caller id) table.new out.old out.new }
@@ -133,8 +133,9 @@ pub fn stop(table: &mut ProcessTable, request: Request, id: i64, out: &mut Out)
     table.rest(&found, out);
 }
 
-/// STOP_SELF (ARINC 653 Part 1, process management), and the end of a body: the caller becomes dormant,
-/// and gets no answer. At the end of INIT nothing is done here: the partition's Clear is left to be done.
+/// STOP_SELF (ARINC 653 Part 1, process management), and the end of a body: the caller becomes
+/// dormant, and gets no answer. At the end of INIT this does nothing: the partition's Clear remains
+/// to be done.
 pub fn stop_self(table: &mut ProcessTable, caller: Runner, out: &mut Out)
     requires { HasRoom 1 1 out.old }
     ensures step { IsMade (meaning.stop_self table.old caller) table.new out.old out.new }
@@ -148,9 +149,9 @@ pub fn stop_self(table: &mut ProcessTable, caller: Runner, out: &mut Out)
     }
 }
 
-/// START (ARINC 653 Part 1, process management): a dormant process starts its body with a fresh stack
-/// and its base priority; before normal mode it waits for it. INVALID_PARAM: no process of this
-/// number was created; NO_ACTION: it is not dormant.
+/// START (ARINC 653 Part 1, process management): starts the body of a dormant process with a fresh
+/// stack and its base priority; before normal mode the process waits for the normal start.
+/// INVALID_PARAM: no process of this number was created; NO_ACTION: it is not dormant.
 pub fn start(table: &mut ProcessTable, request: Request, points: Points, id: i64, out: &mut Out)
     requires room { HasRoom 2 2 out.old }
     ensures step { IsMade
@@ -172,7 +173,7 @@ pub fn start(table: &mut ProcessTable, request: Request, points: Points, id: i64
     table.start(request.mode, points, &found, Ticks(0), out);
 }
 
-/// Whether a delay is at least a period, where there is one.
+/// Whether `delay` is at least `period`, if there is a period.
 fn is_beyond(delay: i64, period: Option<Ticks>) -> bool
     ensures { result ≡ meaning.is_beyond (amount delay) period }
 {
@@ -182,10 +183,10 @@ fn is_beyond(delay: i64, period: Option<Ticks>) -> bool
     }
 }
 
-/// DELAYED_START (ARINC 653 Part 1, process management): as START, so many ticks after now or after
-/// the partition's next release point. INVALID_PARAM: no process of this number was created, a delay
-/// below 0 or above 2^40 ticks, or one of at least the period of a periodic process; NO_ACTION: it is
-/// not dormant.
+/// DELAYED_START (ARINC 653 Part 1, process management): like START, `delay` ticks from now or, for
+/// a periodic process, after the partition's next release point. INVALID_PARAM: no process of this
+/// number was created, a delay below 0 or above 2^40 ticks, or one of at least the period of a
+/// periodic process; NO_ACTION: it is not dormant.
 pub fn delayed_start(
     table: &mut ProcessTable,
     request: Request,

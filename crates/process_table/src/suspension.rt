@@ -13,7 +13,7 @@ use process_table_base::{
     Found, ProcessTable, Request, answer, is_dormant, is_duration, is_same, name_of, refuse,
 };
 
-/// Whether someone was found who is a periodic process.
+/// Whether a periodic process was found.
 fn is_periodic(found: &Option<Found>) -> bool
     ensures { result ≡ meaning.of_row is_periodic (record_of found.now) }
 {
@@ -23,9 +23,9 @@ fn is_periodic(found: &Option<Found>) -> bool
     }
 }
 
-/// SUSPEND_SELF (ARINC 653 Part 1, process management): the caller waits until it is resumed, or for
-/// so many ticks; -1 is without limit, and at 0 nothing happens. INVALID_MODE: the caller may not
-/// wait, or is periodic; INVALID_PARAM: a time-out below -1 or above 2^40 ticks.
+/// SUSPEND_SELF (ARINC 653 Part 1, process management): suspends the caller until it is resumed,
+/// for at most `limit` ticks; -1 is no limit, and at 0 nothing happens. INVALID_MODE: the caller
+/// may not wait, or is periodic; INVALID_PARAM: a time-out below -1 or above 2^40 ticks.
 pub fn suspend_self(table: &mut ProcessTable, request: Request, limit: i64, out: &mut Out)
     requires room { HasRoom 1 1 out.old }
     ensures step { IsMade (meaning.suspend_self request.moment.at table.old request.caller limit)
@@ -53,7 +53,7 @@ pub fn suspend_self(table: &mut ProcessTable, request: Request, limit: i64, out:
     }
 }
 
-/// Whether the process of a runner holds the preemption lock.
+/// Whether `process` holds the preemption lock.
 fn holds(lock: Lock, process: Runner) -> bool
     ensures { result ≡ meaning.holds lock process }
 {
@@ -63,9 +63,9 @@ fn holds(lock: Lock, process: Runner) -> bool
     }
 }
 
-/// SUSPEND (ARINC 653 Part 1, process management): another process waits until it is resumed.
-/// INVALID_PARAM: no process of this number was created, or the caller's own; INVALID_MODE: it is
-/// dormant or periodic, or holds the preemption lock; NO_ACTION: it is suspended.
+/// SUSPEND (ARINC 653 Part 1, process management): suspends another process until it is resumed.
+/// INVALID_PARAM: no process of this number was created, or it is the caller; INVALID_MODE: it is
+/// dormant or periodic, or holds the preemption lock; NO_ACTION: it is already suspended.
 pub fn suspend(table: &mut ProcessTable, request: Request, id: i64, out: &mut Out)
     requires { HasRoom 2 1 out.old }
     ensures step { IsMade (meaning.suspend table.old request.caller id) table.new out.old out.new }
@@ -88,10 +88,10 @@ pub fn suspend(table: &mut ProcessTable, request: Request, id: i64, out: &mut Ou
     table.suspend(&found, out);
 }
 
-/// RESUME (ARINC 653 Part 1, process management): another process is suspended no longer. Its
-/// SUSPEND_SELF ends; if it waits for nothing else it is ready. INVALID_PARAM: no process of this
-/// number was created, or the caller's own; INVALID_MODE: it is dormant or periodic; NO_ACTION: it is
-/// not suspended.
+/// RESUME (ARINC 653 Part 1, process management): ends the suspension of another process. Its
+/// SUSPEND_SELF ends; if it waits for nothing else it becomes READY. INVALID_PARAM: no process of
+/// this number was created, or it is the caller; INVALID_MODE: it is dormant or periodic;
+/// NO_ACTION: it is not suspended.
 pub fn resume(table: &mut ProcessTable, request: Request, id: i64, out: &mut Out)
     requires { HasRoom 3 2 out.old }
     ensures step { IsMade (meaning.resume table.old request.caller id) table.new out.old out.new }

@@ -14,7 +14,7 @@ use process_table_base::{
     Found, ProcessTable, Request, answer, is_delay, is_duration, name_of, refuse,
 };
 
-/// GET_TIME (ARINC 653 Part 1, time management): the current tick.
+/// GET_TIME (ARINC 653 Part 1, time management): returns the current tick.
 pub fn get_time(table: &ProcessTable, request: Request, out: &mut Out)
     requires room { HasRoom 1 1 out.old }
     ensures step { IsTold (meaning.get_time request.moment.at table.now request.caller)
@@ -26,8 +26,8 @@ pub fn get_time(table: &ProcessTable, request: Request, out: &mut Out)
     table.answer(request.caller, service, ReturnCode::NoError, &[now], out);
 }
 
-/// TIMED_WAIT (ARINC 653 Part 1, time management): without a delay the caller goes last among those
-/// of its priority, else it waits for so many ticks. INVALID_MODE: the caller may not wait;
+/// TIMED_WAIT (ARINC 653 Part 1, time management): blocks the caller for `delay` ticks; at a delay
+/// of 0 the caller goes last among those of its priority. INVALID_MODE: the caller may not wait;
 /// INVALID_PARAM: a delay below 0 or above 2^40 ticks.
 pub fn timed_wait(table: &mut ProcessTable, request: Request, delay: i64, out: &mut Out)
     requires room { HasRoom 1 1 out.old }
@@ -55,18 +55,8 @@ fn wait_for(table: &mut ProcessTable, request: Request, delay: i64, out: &mut Ou
     let service = Service::TimedWait;
     let caller = request.caller;
     if delay == 0 {
-        let found = table.found(caller);
-        answer(
-            caller,
-            name_of(&found),
-            service,
-            ReturnCode::NoError,
-            &[],
-            out,
-        );
-        if let Some(found) = &found {
-            table.go_last(found);
-        }
+        table.answer(caller, service, ReturnCode::NoError, &[], out);
+        table.go_last(caller);
     } else {
         let found = table.found(caller);
         let due = Due::Delay(Ticks(request.moment.at.now.0 + delay as u64));
@@ -76,8 +66,9 @@ fn wait_for(table: &mut ProcessTable, request: Request, delay: i64, out: &mut Ou
     }
 }
 
-/// PERIODIC_WAIT (ARINC 653 Part 1, time management): the caller waits for its next release, a period
-/// after the last; it has kept its deadline. INVALID_MODE: the caller may not wait, or is aperiodic.
+/// PERIODIC_WAIT (ARINC 653 Part 1, time management): blocks the caller until its next release, one
+/// period after the last; it has met its deadline. INVALID_MODE: the caller may not wait, or is
+/// aperiodic.
 pub fn periodic_wait(table: &mut ProcessTable, request: Request, out: &mut Out)
     requires { HasRoom 1 1 out.old }
     ensures step { IsMade (meaning.periodic_wait table.old request.caller)
@@ -97,7 +88,7 @@ pub fn periodic_wait(table: &mut ProcessTable, request: Request, out: &mut Out)
     }
 }
 
-/// A deadline so many ticks from now, none without a limit.
+/// The deadline `budget` ticks from now; `None` without a limit.
 fn deadline_in(moment: Moment, budget: i64) -> Option<Ticks>
     requires budget { is_duration budget ≡ true }
     ensures deadline { result ≡ meaning.deadline_in moment.at budget }
@@ -110,7 +101,7 @@ fn deadline_in(moment: Moment, budget: i64) -> Option<Ticks>
     }
 }
 
-/// Whether a budget reaches past the next release of a periodic process.
+/// Whether `budget` reaches past the next release of a periodic process.
 fn reaches_past(moment: Moment, budget: i64, found: &Found) -> bool
     requires budget { is_duration budget ≡ true }
     ensures { result ≡ meaning.reaches_past moment.at budget found.now.row found.now.row.period }
@@ -122,10 +113,10 @@ fn reaches_past(moment: Moment, budget: i64, found: &Found) -> bool
     }
 }
 
-/// REPLENISH (ARINC 653 Part 1, time management): the caller's deadline is so many ticks from now;
-/// -1 is without limit. NO_ACTION: the caller is the handler, the mode is not normal, or its time
-/// capacity is without limit; INVALID_PARAM: a budget below -1 or above 2^40 ticks; INVALID_MODE: the
-/// new deadline of a periodic process is past its next release.
+/// REPLENISH (ARINC 653 Part 1, time management): moves the caller's deadline to `budget` ticks
+/// from now; -1 is no limit. NO_ACTION: the caller is the handler, the mode is not normal, or its
+/// time capacity is unlimited; INVALID_PARAM: a budget below -1 or above 2^40 ticks; INVALID_MODE:
+/// the new deadline of a periodic process is past its next release.
 pub fn replenish(table: &mut ProcessTable, request: Request, budget: i64, out: &mut Out)
     requires room { HasRoom 1 1 out.old }
     ensures step { IsMade

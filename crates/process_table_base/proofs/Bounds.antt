@@ -1,5 +1,5 @@
 -- Records that stay bounded.
-use Rattle.std.proofs.Common.{◌≡◌, ◌≤◌, ◌^◌, ℕ, zero, suc, List, [], ◌∷◌, map, length, refl, ap, arith}
+use Rattle.std.proofs.Common.{◌≡◌, ◌≤◌, ℕ, zero, suc, List, [], ◌∷◌, map, length, refl, ap, arith}
 use Rattle.std.proofs.lemmas.List.{length-map}
 use Rattle.std.specs.Prelude.{slice_set, slice_get, Option, Some, None, IfSome}
 use Rattle.apex_types.specs.declared.limits.TheConstants.{LATEST_RELEASE_POINT, MOST_PROCESSES, MOST_RUNNERS, MOST_TICKS}
@@ -69,7 +69,7 @@ wait_bounded next d b = record { released = b.released; every = b.every; within 
 pub deadline_bounded : {release : Ticks} {period capacity deadline : Option Ticks} {reason : Wait} (next : Option Ticks) → IsAtMost LATEST_RELEASE_POINT next → AreBounded release period capacity deadline reason → AreBounded release period capacity next reason
 deadline_bounded next d b = record { released = b.released; every = b.every; within = b.within; until = d; delayed = b.delayed }
 
--- a deadline goes
+-- a deadline is removed
 pub without_deadline : {release : Ticks} {period capacity deadline : Option Ticks} {reason : Wait} → AreBounded release period capacity deadline reason → AreBounded release period capacity None reason
 without_deadline b = record { released = b.released; every = b.every; within = b.within; until = tt; delayed = b.delayed }
 

@@ -5,3 +5,4 @@ pub mod Released
 pub mod States
 pub mod Timed
 pub mod Treating
+pub mod Yielding

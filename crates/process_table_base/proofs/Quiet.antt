@@ -13,12 +13,12 @@ use Rattle.links.specs.Timers.{IsLeastTick, IsNextDue, earlier, has_come, number
 use Rattle.process_table_base.proofs.Treating.{skips_rest}
 use Rattle.process_table_base.specs.Timed.{AreQuiet, deadlines, due_times}
 
--- now comes before the tick, if there is one
+-- `now` is before the tick, if there is a tick
 abbrev IsBefore : ℕ → Option ℕ → Type 0
 IsBefore now None = Unit {0}
 IsBefore now (Some tick) = now < tick
 
--- before the least of these ticks none has come
+-- before the least of these ticks, none of them has come
 none_has_come : (ticks : ℕ → Option ℕ) (least : Option ℕ) (now : ℕ) → IsLeastTick ticks least → IsBefore now least → (p : ℕ) → has_come now (ticks p) ≡ false
 none_has_come ticks None now h before p = ap (has_come now) (h p)
 none_has_come ticks (Some tick) now h before p = by_tick (ticks p) refl
@@ -50,7 +50,7 @@ quiet_until rows tick now h before p =
       missed = none_has_come (deadlines rows) h.deadline now h.earliest both.1 p;
     }
 
--- where nothing will ever be due
+-- if nothing will ever be due
 pub quiet_for_ever : (rows : List ProcessStatus) (now : ℕ) → IsNextDue (due_times rows) (deadlines rows) (number_of None) → AreQuiet now rows
 quiet_for_ever rows now h = quiet_until rows None now h tt
 

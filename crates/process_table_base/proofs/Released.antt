@@ -1,4 +1,4 @@
--- The first of a list is released first, and those who wait on keep their order.
+-- The first of a list is released first, and the processes that continue to wait keep their order.
 use Rattle.std.proofs.Common.{◌≡◌, ℕ, true, false, [], ◌∷◌, Option, Some, None, refl, slice_get}
 use Rattle.std.specs.Prelude.{IfSome, if◌then◌else◌}
 use Rattle.apex_types.specs.declared.codes.Discipline.{Discipline}

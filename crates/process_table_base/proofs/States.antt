@@ -19,7 +19,7 @@ state_bounded state place (Some row) rows is all =
     let one : IsBounded row = rw is at (bounded_at rows place all) in
     set_bounded rows place (record row { state = state }) one all
 
--- what is the same of both records is the same of all
+-- what the two records have in common does not change in any record
 kept : {A : Type 0} (of : Option ProcessStatus → A) (rows : List ProcessStatus) (n q : ℕ) (old new : ProcessStatus) → slice_get rows n ≡ Some old → of (Some new) ≡ of (Some old) → of (slice_get (slice_set rows n new) q) ≡ of (slice_get rows q)
 kept of [] n q old new is same = refl
 kept of (r ∷ rows) zero zero old new is same = same ∙ sym (ap of is)

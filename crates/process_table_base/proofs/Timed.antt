@@ -35,7 +35,7 @@ get_same (a ∷ xs) (suc n) x old h = get_same xs n x old h
 
 -- ---- a process with another tick
 
--- where its tick is the same, all is as it was
+-- if its tick is the same, nothing changes
 pub unchanged : (p : ℕ) (old next : Option Ticks) (ticks : ℕ → Option ℕ) (dues : List DueEntry) → old ≡ next → ticks p ≡ number_of old → IsExact ticks dues → IsExact (ticks_with p (number_of next) ticks) dues
 unchanged p old next ticks dues same is h q = by_test (nat_eq q p) refl
   where
@@ -45,7 +45,7 @@ unchanged p old next ticks dues same is h q = by_test (nat_eq q p) refl
         rw t (h q ∙ (ap ticks here ∙ (is ∙ ap number_of same)))
     by_test false t = rw t (h q)
 
--- the ticks of the records, where one of them is another
+-- the ticks of the records, when one of the records is replaced
 module _ (of : Option ProcessStatus → Option ℕ) (rows : List ProcessStatus) (p : ℕ) (old new : ProcessStatus) (is : record_of rows p ≡ Some old) where
   with_record : (q : ℕ) → ticks_with p (of (Some new)) (λ i. of (record_of rows i)) q ≡ of (record_of (slice_set rows (suc (suc p)) new) q)
   with_record q = by_test (nat_eq q p) refl
@@ -61,7 +61,7 @@ module _ (of : Option ProcessStatus → Option ℕ) (rows : List ProcessStatus) 
   pub exact_with : (dues : List DueEntry) → IsExact (ticks_with p (of (Some new)) (λ i. of (record_of rows i))) dues → IsExact (λ i. of (record_of (slice_set rows (suc (suc p)) new) i)) dues
   exact_with dues h q = h q ∙ with_record q
 
--- ---- one that is no process
+-- ---- a runner that is no process
 
 timed_first : (rows : List ProcessStatus) (place : ℕ) (new : ProcessStatus) (t : Timers) → place < 2 → AreTimed rows t → AreTimed (slice_set rows place new) t
 timed_first rows place new t lt h = record {

@@ -1,4 +1,5 @@
--- Those for whom nothing is due may be passed over, and one who is treated leaves the records of all others.
+-- A process for which nothing is due may be passed over, and the treatment of a process leaves the
+-- records of all others.
 use Rattle.std.proofs.Common.{◌≡◌, ◌⊎◌, inl, inr, ℕ, zero, suc, ◌+◌, ◌-◌, ◌*◌, ◌<◌, ◌≤◌, ◌++◌, cond, length, subst, Bool, true, false, List, Option, Some, None, slice_set, refl, sym, ap, ◌∙◌, arith}
 use Rattle.std.specs.Prelude.{if◌then◌else◌, nat_le}
 use Rattle.std.specs.Int.{bit_at}
@@ -28,7 +29,7 @@ use Rattle.process_table_base.proofs.Timed.{get_other}
 use Rattle.process_table_base.specs.DueMask.{IsFirstOf}
 use Rattle.process_table_base.specs.Timed.{IsQuiet, deadline_of, deadlines, due_of, due_tick, due_times, record_of}
 
--- ---- one for whom nothing is due
+-- ---- a process for which nothing is due
 
 quiet_due : (at : At) (s : Processes) (p : Runner) (r : ProcessStatus) (o : Option Due) → has_come at.now.0 (due_tick o) ≡ false → treats_due at s p r o ≡ nothing s
 quiet_due at s p r None h = refl
@@ -51,7 +52,7 @@ skips_one : (at : At) (action : PartitionAction) (n place free : ℕ) (s : Proce
 skips_one at action n place free s h =
     ap (λ (t : Treated). then_others t (due_from at action n (place + 1) t.free t.step.part)) (quiet_treats at free action s (index place) (row_of s (runner.Process (index place))) refl h)
 
--- So are all before the next one for whom something is due.
+-- All processes before the next one for which something is due may be passed over.
 pub skips : (at : At) (action : PartitionAction) (k n place free : ℕ) (s : Processes) → ((q : ℕ) → place ≤ q → q < place + k → IsQuiet at.now.0 (record_of s.rows q)) → due_from at action (k + n) place free s ≡ due_from at action n (place + k) free s
 skips at action zero n place free s h =
     let one : 0 + n ≡ n = omega arith in
@@ -62,7 +63,7 @@ skips at action (suc k) n place free s h =
     let other : (place + 1) + k ≡ place + suc k = omega arith in
     ap (λ m. due_from at action m place free s) one ∙ (skips_one at action (k + n) place free s (h place (omega arith) (omega arith)) ∙ (skips at action k n (place + 1) free s (λ q least most. h q (omega (arith, least)) (omega (arith, most))) ∙ ap (λ q. due_from at action n q free s) other))
 
--- Where nothing more is due the treatment ends.
+-- If nothing more is due, the treatment ends.
 pub skips_rest : (at : At) (action : PartitionAction) (n place free : ℕ) (s : Processes) → ((q : ℕ) → place ≤ q → IsQuiet at.now.0 (record_of s.rows q)) → due_from at action n place free s ≡ without_clear free (nothing s)
 skips_rest at action zero place free s h = refl
 skips_rest at action (suc n) place free s h = skips_one at action n place free s (h place (omega arith)) ∙ skips_rest at action n (place + 1) free s (λ q least. h q (omega (arith, least)))
@@ -114,12 +115,12 @@ module _ (p : ProcessIndex) (q : ℕ) (other : suc (suc q) ≡ suc (suc p.0) →
       let d = treats_due at s (runner.Process p) r r.due in
       deadline_same at free action d.part (row_of d.part (runner.Process p)) ∙ due_same at s r r.due
 
--- ---- the bits of those for whom something is due
+-- ---- the bits of the processes for which something is due
 
 pub clash : (b : ℕ) → b ≡ 0 → b ≡ 1 → ⊥
 clash b none one = absurd (omega (arith, none, one))
 
--- who has no bit has nothing due
+-- nothing is due for a process without a bit
 pub no_bit_is_quiet : (now mask : ℕ) (rows : List ProcessStatus) → IsDueMask now (due_times rows) (deadlines rows) mask → (q : ℕ) → bit_at mask q ≡ 0 → IsQuiet now (record_of rows q)
 no_bit_is_quiet now mask rows h q none = by_tests (has_come now (due_times rows q)) (has_come now (deadlines rows q)) refl refl (sym (h q) ∙ none)
   where
@@ -128,7 +129,7 @@ no_bit_is_quiet now mask rows h q none = by_tests (has_come now (due_times rows 
     by_tests false true e f g = absurd (clash 1 (rw (e, f) at g) refl)
     by_tests false false e f g = record { due = e; missed = f }
 
--- who has a bit has a record
+-- a process with a bit has a record
 pub bit_is_of_a_record : (now mask : ℕ) (rows : List ProcessStatus) → IsDueMask now (due_times rows) (deadlines rows) mask → (q : ℕ) → bit_at mask q ≡ 1 → suc (suc q) < length rows
 bit_is_of_a_record now mask rows h q one = by_row (record_of rows q) refl (sym (h q) ∙ one)
   where
@@ -136,8 +137,9 @@ bit_is_of_a_record now mask rows h q one = by_row (record_of rows q) refl (sym (
     by_row None e g = absurd (clash 0 refl (rw e at g))
     by_row (Some r) e g = slice_get_within rows (suc (suc q)) r e
 
--- What is left of the treatment, while those with a bit are treated in turn: from a place on, so many; all with a bit
--- are among them, and who has none has nothing due.
+-- The remaining treatment, while the processes with a bit are treated in turn: `count` processes
+-- from `place` on. All processes with a bit are among them; for a process without a bit nothing is
+-- due.
 pub record IsLeft (now mask : ℕ) (rows : List ProcessStatus) (place count : ℕ) : Type 0 where
   pub below : (q : ℕ) → q < place → bit_at mask q ≡ 0
   pub within : (q : ℕ) → bit_at mask q ≡ 1 → q < place + count
@@ -151,7 +153,7 @@ left_at_first now mask rows h = record {
 }
 
 module _ (at : At) (action : PartitionAction) (mask place count free p rest : ℕ) (s : Processes) (h : IsLeft at.now.0 mask s.rows place count) (f : IsFirstOf mask p rest) where
-  -- the first with a bit is p, which is among those that are left
+  -- the first process with a bit is p, which is among those that remain
   pub first_is_left : place ≤ p
   first_is_left = by_order (cases_lt p place)
     where
@@ -171,7 +173,7 @@ module _ (at : At) (action : PartitionAction) (mask place count free p rest : �
       ∙ skips at action k (place + count - p) place free s (λ q least most. h.quiet q least (f.lower q (omega (arith, there, most))))
       ∙ ap (λ q. due_from at action (place + count - p) q free s) there
 
-  -- once it is treated, the rest is left
+  -- once it is treated, the rest remains
   pub next_left : IsLeft at.now.0 rest (treats at free action s (index p) (row_of s (runner.Process (index p)))).step.part.rows (p + 1) (place + count - p - 1)
   next_left = record {
     below = λ q lt. below q lt (cases_eq q p);
@@ -204,7 +206,8 @@ none_left at action place count free s h = skips_rest at action count place free
 
 -- ---- the treatment under way
 
--- Once some were treated, the rest from a place on comes, behind what was told, to the whole.
+-- After some processes were treated: the rest from `place` on, behind what was written, gives the
+-- whole.
 pub record IsUnderWay (at : At) (action : PartitionAction) (mask free : ℕ) (s : Processes) (out first : Out) (whole : Treated) : Type 0 where
   pub place : ℕ
   pub count : ℕ
@@ -218,7 +221,7 @@ pub record IsUnderWay (at : At) (action : PartitionAction) (mask free : ℕ) (s 
   pub lines_room : length out.lines.items ≤ length first.lines.items + 3 * place
   pub actions_room : length out.actions.items ≤ length first.actions.items + 2 * place
 
--- Where nobody has a bit any longer, what was told is the whole.
+-- When no process has a bit any longer, what was written is the whole.
 pub ended : (at : At) (action : PartitionAction) (mask free : ℕ) (s : Processes) (out first : Out) (whole : Treated) → mask ≡ 0 → IsUnderWay at action mask free s out first whole →
     ((s ≡ whole.step.part) × (out.lines.items ≡ first.lines.items ++ whole.step.lines) × (out.actions.items ≡ first.actions.items ++ whole.step.actions)) × (free ≡ whole.free) × (None ≡ whole.clears)
 ended at action mask free s out first whole none w =

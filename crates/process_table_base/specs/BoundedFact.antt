@@ -1,12 +1,12 @@
 -- That the ticks of a record are not too great is one fact: it has at most one proof, so that a struct can carry it.
-use Rattle.std.specs.Prelude.{◌≤◌, ℕ, Option, Some, None}
+use Rattle.std.specs.Prelude.{ℕ, Option, Some, None}
 use Rattle.std.specs.Coded.{Unit-prop}
 use Rattle.std.proofs.Props.{props}
 use Rattle.apex_types.specs.declared.identity.Ticks.{Ticks}
 use Rattle.apex_types.specs.declared.process.ProcessStatus.{ProcessStatus}
 use Rattle.apex_types.specs.declared.process.Wait.{Wait}
 use Rattle.apex_types.specs.declared.process.Wait.TheVariants as wait
-use Rattle.process_table_base.specs.Bounds.{AreBounded, IsAtMost, IsBounded, IsDelayed}
+use Rattle.process_table_base.specs.Bounds.{IsAtMost, IsBounded, IsDelayed}
 
 at_most_prop : (most : ℕ) (count : Option Ticks) → IsProp (IsAtMost most count)
 at_most_prop most None = Unit-prop

@@ -1,5 +1,5 @@
 -- How great the ticks in a record are at most, so that no sum of them is too great for a word.
-use Rattle.std.specs.Prelude.{◌≤◌, ◌^◌, ℕ, List, [], ◌∷◌, Option, IfSome}
+use Rattle.std.specs.Prelude.{◌≤◌, ℕ, List, [], ◌∷◌, Option, IfSome}
 use Rattle.apex_types.specs.declared.limits.TheConstants.{LATEST_RELEASE_POINT, MOST_TICKS}
 use Rattle.apex_types.specs.declared.identity.Ticks.{Ticks}
 use Rattle.apex_types.specs.declared.process.ProcessStatus.{ProcessStatus}
@@ -11,7 +11,7 @@ use Rattle.machine_meaning.specs.MachineMeaning.{machine_row}
 abbrev pub IsAtMost : ℕ → Option Ticks → Type 0
 IsAtMost most count = IfSome count (λ (n : Ticks). n.0 ≤ most)
 
--- the delay of one that waits for the normal start
+-- the delay of a process that waits for the normal start
 abbrev pub IsDelayed : Wait → Type 0
 IsDelayed (wait.NormalStart delay) = delay.0 ≤ MOST_TICKS
 IsDelayed _ = Unit {0}

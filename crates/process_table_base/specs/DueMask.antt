@@ -11,7 +11,7 @@ pub record IsFirstOf (mask p rest : ℕ) : Type 0 where
   pub others : (q : ℕ) → (q ≡ p → ⊥) → bit_at rest q ≡ bit_at mask q
   pub fewer : rest < mask
 
--- the first of a set and the rest, or none where it is empty
+-- the first of a set and the rest; None if it is empty
 abbrev pub IsSplit : ℕ → Option (ProcessIndex × ℕ) → Type 0
 IsSplit mask None = mask ≡ 0
 IsSplit mask (Some f) = IsFirstOf mask f.0.0 f.1

@@ -5,7 +5,9 @@ pub mod ShortFact
 pub mod DueMask
 pub mod LeastNumber
 pub mod RecordView
+pub mod Sharing
 pub mod States
 pub mod Timed
 pub mod Treating
 pub mod View
+pub mod Yielding

@@ -1,4 +1,4 @@
--- How the records are seen, and what always holds of them.
+-- The view of the records, and their invariants.
 use Rattle.std.specs.Prelude.{◌≤◌, List, length}
 use Rattle.apex_types.specs.declared.limits.TheConstants.{MOST_RUNNERS}
 use Rattle.apex_types.specs.declared.process.ProcessStatus.{ProcessStatus}
@@ -9,8 +9,8 @@ use Rattle.process_table_base.specs.declared.records.Records.TheInside.{Inside}
 abbrev pub rows_of : Inside → List ProcessStatus
 rows_of r = r.rows.items
 
--- INIT, the handler and no more processes than a partition may have; no record has ticks too great for a sum;
--- the timers are those of the records
+-- INIT, the handler and no more processes than a partition may have; no record has ticks too great
+-- for a sum; the timers are those of the records
 pub record IsSound (r : Inside) : Type 0 where
   pub few : length r.rows.items ≤ MOST_RUNNERS
   pub bounded : AreAllBounded r.rows.items

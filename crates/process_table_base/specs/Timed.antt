@@ -6,12 +6,12 @@ use Rattle.kernel_meaning.specs.Times.{tick_of}
 use Rattle.links.specs.Timers.{IsExact, has_come, number_of}
 use Rattle.process_table_base.specs.declared.timers.Timers.{Timers}
 
--- the tick of a due time, if there is one
+-- the tick of a due time, if any
 abbrev pub due_tick : Option Due → Option ℕ
 due_tick None = None
 due_tick (Some due) = Some (tick_of due)
 
--- the record of a process, which stands behind those of INIT and the handler
+-- the record of a process, which follows those of INIT and the handler
 abbrev pub record_of : List ProcessStatus → ℕ → Option ProcessStatus
 record_of rows p = slice_get rows (suc (suc p))
 
@@ -36,7 +36,7 @@ pub record AreTimed (rows : List ProcessStatus) (t : Timers) : Type 0 where
   pub dues : IsExact (due_times rows) t.dues
   pub missed : IsExact (deadlines rows) t.deadlines
 
--- neither the due time nor the deadline of this one has come
+-- neither the due time nor the deadline of the record has come
 pub record IsQuiet (now : ℕ) (row : Option ProcessStatus) : Type 0 where
   pub due : has_come now (due_of row) ≡ false
   pub missed : has_come now (deadline_of row) ≡ false

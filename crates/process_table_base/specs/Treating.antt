@@ -1,4 +1,4 @@
--- What the treatment of processes leaves, as the code has it.
+-- The result of treating the processes, as the code has it.
 use Rattle.std.specs.Prelude.{◌≡◌}
 use Rattle.apex_types.specs.declared.out.Out.{Out}
 use Rattle.kernel_meaning.specs.Times as meaning

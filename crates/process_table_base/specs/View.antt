@@ -1,4 +1,4 @@
--- How the fields of the process table are seen.
+-- The view of the fields of the process table.
 use Rattle.kernel_meaning.specs.Processes.{Processes}
 use Rattle.process_table_base.specs.declared.table.ProcessTable.TheInside.{Inside}
 

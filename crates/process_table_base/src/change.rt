@@ -15,7 +15,7 @@ use apex_types::{
     Service, Subject, Wait, Words,
 };
 
-/// A service ends with a code and its outputs: its line, then the answer to the process.
+/// Ends a service with a code and its outputs: its line, then the answer to the process.
 pub fn answer(
     runner: Runner,
     who: Subject,
@@ -38,7 +38,7 @@ pub fn answer(
         .push(Action::Reply(runner, answer_of(code, outputs)));
 }
 
-/// A service of someone is refused: its outputs are 0.
+/// Refuses a service of a runner: its outputs are 0.
 pub fn refuse(runner: Runner, who: Subject, service: Service, code: ReturnCode, out: &mut Out)
     requires room { HasRoom 1 1 out.old }
     ensures lines { out.new.lines.items
@@ -89,7 +89,7 @@ fn zeros_of_wait(wait: Wait) -> &'static [i64]
     }
 }
 
-/// The line of one that begins to wait; there is none where it waited before.
+/// Writes the line of a runner that begins to wait; no line if it waited before.
 fn tell_waiting(row: &ProcessStatus, out: &mut Out)
     requires { HasRoom 1 0 out.old }
     ensures lines { out.new.lines.items
@@ -106,17 +106,15 @@ fn tell_waiting(row: &ProcessStatus, out: &mut Out)
 }
 
 impl ProcessTable {
-    /// Who the lines of this one name.
+    /// The subject that trace lines show for a runner.
     pub fn subject(&self, runner: Runner) -> Subject
         ensures { result ≡ meaning.subject self.now runner }
     {
-        match self.row(runner) {
-            Some(row) => row.who,
-            None => Subject::Init,
-        }
+        self.name_in(runner).unwrap_or(Subject::Init)
     }
 
-    /// With this record it becomes ready and goes last. One that is suspended waits on until it is resumed.
+    /// The runner becomes READY with this record, and goes last. A suspended process continues to
+    /// wait until it is resumed.
     #[tactic(auto, using(crate::proofs::Bounds::bounds))]
     pub(crate) fn wake_as(&mut self, runner: Runner, row: &ProcessStatus, out: &mut Out)
         requires runner { place_of runner < MOST_RUNNERS }
@@ -144,7 +142,8 @@ impl ProcessTable {
         self.put_ready(runner, &ready);
     }
 
-    /// With this record it waits, until its due time if it has one. There is no line where it waited before.
+    /// The runner waits with this record, until its due time if it has one. Writes no line if it
+    /// waited before.
     #[tactic(auto, using(crate::proofs::Bounds::bounds))]
     pub(crate) fn wait_as(
         &mut self,
@@ -171,8 +170,8 @@ impl ProcessTable {
         self.put_unready(runner, &waiting);
     }
 
-    /// With this record it becomes dormant: it is in no list, has no due time, no deadline and nothing
-    /// left to do, and the lock is free if it held it.
+    /// The runner becomes dormant with this record: it is in no list, has no due time, no deadline
+    /// and nothing left to do; if it held the lock, the lock is free.
     #[tactic(auto, using(crate::proofs::Bounds::bounds))]
     pub(crate) fn rest_as(&mut self, runner: Runner, row: &ProcessStatus, out: &mut Out)
         requires bounded { IsBounded row.now }
@@ -194,7 +193,7 @@ impl ProcessTable {
         out.actions.push(Action::Stop(runner));
     }
 
-    /// The service in which a process waits answers, if it waits in one.
+    /// Answers the service in which a process waits, if it waits in one.
     fn answer_wait(
         &self,
         runner: Runner,
@@ -218,8 +217,8 @@ impl ProcessTable {
         }
     }
 
-    /// The service in which a process waits answers with these outputs, if it waits in one; then it is
-    /// ready.
+    /// Answers the service in which a process waits with these outputs, if it waits in one; then
+    /// the process is ready.
     pub(crate) fn release_with(
         &mut self,
         runner: Runner,
@@ -241,8 +240,8 @@ impl ProcessTable {
         self.wake_as(runner, row, out);
     }
 
-    /// With this record the service in which a process waits answers with outputs of 0, if it waits in
-    /// one; then it is ready.
+    /// With this record, answers the service in which a process waits with outputs of 0, if it
+    /// waits in one; then the process is ready.
     pub(crate) fn release_as(
         &mut self,
         runner: Runner,
@@ -260,7 +259,7 @@ impl ProcessTable {
         self.release_with(runner, row, code, zeros_of_wait(row.wait), out);
     }
 
-    /// A service of a process ends with a code and its outputs.
+    /// Ends a service of a process with a code and its outputs.
     pub fn answer(
         &self,
         runner: Runner,
@@ -278,7 +277,7 @@ impl ProcessTable {
         answer(runner, self.subject(runner), service, code, outputs, out);
     }
 
-    /// A refused service changes nothing, and its outputs are zeros.
+    /// Refuses a service, which changes nothing; its outputs are 0.
     pub fn refuse(&self, runner: Runner, service: Service, code: ReturnCode, out: &mut Out)
         requires room { HasRoom 1 1 out.old }
         ensures step { IsTold (meaning.refuses self.now runner service code) out.old out.new }

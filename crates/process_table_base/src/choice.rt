@@ -1,4 +1,4 @@
-//! The choice of who runs.
+//! The choice of the runner.
 
 ghost use Rattle.std.specs.Prelude.{◌≡◌, ◌↔◌, ◌≤◌, ◌+◌, ◌^◌, ℕ, true, Some, length};
 ghost use Rattle.apex_types.specs.Room.{HasRoom, Grows};
@@ -12,10 +12,10 @@ use crate::table::{ProcessTable, is_same};
 use apex_types::{EventKind, Lock, Mode, Out, ProcessState, ProcessStatus, Runner};
 
 impl ProcessTable {
-    /// Who is to run: before the normal start INIT; then the handler if it is ready, the one that
-    /// holds the lock, or the first of those that are ready. Whatever numbers the ready ones have taken
-    /// in their order, that is the one of the highest priority with the least number. Each record that
-    /// is read adds one to `reads`; at most three are.
+    /// Chooses the runner: before the normal start INIT; then the handler if it is ready, the
+    /// holder of the lock, or the first ready process. Whatever numbers the ready processes have
+    /// taken in their order, that is the process of the highest priority with the least number.
+    /// Adds 1 to `reads` for each record read, at most 3.
     #[tactic(auto, using(kernel_laws::proofs::Choosing::chosen))]
     pub fn pick(&self, mode: Mode, reads: &mut u64) -> Option<Runner>
         requires { reads.old ≤ 2 ^ 32 }
@@ -47,7 +47,7 @@ impl ProcessTable {
         }
     }
 
-    /// The one that was running is ready, and keeps its place.
+    /// The old runner becomes READY, and keeps its place.
     fn leave_processor(&mut self, running: Option<Runner>, out: &mut Out)
         requires { HasRoom 1 0 out.old }
         ensures step { IsMade (meaning.leaves_processor self.old running) self.new out.old out.new }
@@ -63,7 +63,7 @@ impl ProcessTable {
         }
     }
 
-    /// This one runs.
+    /// The chosen runner becomes RUNNING.
     fn take_processor(&mut self, chosen: Option<Runner>, out: &mut Out)
         requires { HasRoom 1 0 out.old }
         ensures step { IsMade (meaning.takes_processor self.old chosen) self.new out.old out.new }
@@ -79,7 +79,8 @@ impl ProcessTable {
         }
     }
 
-    /// Whether a choice would change nothing: the one chosen is the one that runs, or there is neither.
+    /// Whether a choice would change nothing: the chosen runner runs already, or nobody is chosen
+    /// and nobody runs.
     pub fn choice_stays(&self, mode: Mode) -> bool
         ensures { result ≡ true → meaning.chooses mode self.now ≡ nothing self.now }
     {
@@ -87,7 +88,7 @@ impl ProcessTable {
         are_same(self.running(), self.pick(mode, &mut reads))
     }
 
-    /// A change of the chosen one writes that the old one is ready and that the new one runs.
+    /// If the choice changes: the old runner becomes READY, the new one RUNNING.
     pub fn choose(&mut self, mode: Mode, out: &mut Out)
         requires { HasRoom 2 0 out.old }
         ensures step { IsMade (meaning.chooses mode self.old) self.new out.old out.new }

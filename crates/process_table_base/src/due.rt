@@ -20,7 +20,7 @@ use apex_types::{
     ProcessStatus, Response, ReturnCode, Runner, Service, Ticks, Wait, WaitingError, Words,
 };
 
-/// What the treatment of processes comes to beside its lines: how many more errors may wait for the
+/// The result of treating the processes, besides its lines: how many more errors may wait for the
 /// error handler, and the mode of the Clear that ended it, if one did.
 #[derive(Clone, Copy, Debug, PartialEq, Eq)]
 pub struct Treated {
@@ -29,7 +29,7 @@ pub struct Treated {
 }
 
 impl ProcessTable {
-    /// A release point is reached, a delay is over, or a wait was in vain.
+    /// Ends a wait: a release point is reached, a delay is over, or the wait was in vain.
     fn end_wait(&mut self, runner: Runner, row: &ProcessStatus, due: Due, out: &mut Out)
         requires runner { place_of runner < MOST_RUNNERS }
         requires bounded { IsBounded row.now }
@@ -63,7 +63,8 @@ impl ProcessTable {
         }
     }
 
-    /// A missed deadline waits for the handler where there is room; else it is the partition's.
+    /// Queues a missed deadline for the handler if there is room; otherwise the partition handles
+    /// it.
     #[tactic(auto, using(crate::proofs::Bounds::bounds))]
     fn miss(
         &mut self,
@@ -129,7 +130,7 @@ impl ProcessTable {
         Treated { free, clears: None }
     }
 
-    /// One process: its due time, then its deadline.
+    /// Treats one process: its due time, then its deadline.
     fn treat(
         &mut self,
         moment: Moment,
@@ -153,9 +154,10 @@ impl ProcessTable {
         self.treat_deadline(moment, free, action, process, out)
     }
 
-    /// Each process in number order: its due time if it is at most now, then its deadline if it is
-    /// at most now. `free` more errors may wait for the error handler, and `action` is the
-    /// partition's for a missed deadline: an action that leads to a Clear ends the treatment.
+    /// Treats each process in number order: its due time if it is at most now, then its deadline if
+    /// it is at most now. `free` more errors may wait for the error handler, and `action` is the
+    /// partition's action for a missed deadline: an action that leads to a Clear ends the
+    /// treatment.
     pub fn due(
         &mut self,
         moment: Moment,
@@ -182,7 +184,7 @@ impl ProcessTable {
     }
 }
 
-/// The first process that has a bit, and the bits of the others.
+/// The first process with a bit, and the bits of the others.
 fn split_first(mask: u64) -> Option<(ProcessIndex, u64)>
     ensures { IsSplit mask result }
 {
@@ -194,7 +196,8 @@ fn split_first(mask: u64) -> Option<(ProcessIndex, u64)>
     Some((ProcessIndex(place as u8), rest))
 }
 
-/// One that suspended itself is suspended no longer at its time-out; any other stays suspended.
+/// A process that suspended itself is no longer suspended at its time-out; any other stays
+/// suspended.
 fn timed_out(row: &ProcessStatus) -> ProcessStatus
     requires { IsBounded row.now }
     ensures row { result ≡ meaning.timed_out row.now row.now.wait }

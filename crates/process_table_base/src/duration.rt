@@ -24,7 +24,7 @@ pub fn is_duration(ticks: i64) -> bool
     ticks == -1 || is_delay(ticks)
 }
 
-/// The due time of one that waits at most so long.
+/// The due time of a wait of at most `limit` ticks; `None` without a limit.
 pub fn time_out(moment: Moment, limit: i64) -> Option<Due>
     requires limit { meaning.is_duration limit ≡ true }
     ensures { result ≡ services.time_out moment.at limit }

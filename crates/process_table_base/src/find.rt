@@ -17,7 +17,7 @@ impl Found {
     }
 }
 
-/// The name of someone in lines; of nobody it is that of INIT.
+/// The subject of the runner found; that of INIT if none was found.
 pub fn name_of(found: &Option<Found>) -> Subject
     ensures { result ≡ meaning.who_of (record_of found.now) }
 {
@@ -47,7 +47,7 @@ impl ProcessTable {
         self.found(Runner::Process(process))
     }
 
-    /// The caller may not wait: it is INIT or the handler, or preemption is locked.
+    /// Whether the caller may not wait: it is INIT or the handler, or preemption is locked.
     pub fn is_busy(&self, caller: Runner) -> bool
         ensures { result ≡ meaning.is_busy self.now caller }
     {
@@ -60,7 +60,7 @@ impl ProcessTable {
         }
     }
 
-    /// A process is created in its record.
+    /// Marks a process as created in its record.
     pub fn create(&mut self, found: &Found)
         ensures { self.new
             ≡ meaning.put_row self.old found.now.runner (record found.now.row { created = true }) }

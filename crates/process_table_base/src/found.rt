@@ -1,4 +1,4 @@
-//! Someone whose record was looked up, so that a service looks a record up once.
+//! A runner whose record was looked up, so that a service looks a record up once.
 
 ghost use Rattle.std.specs.Prelude.{◌<◌};
 ghost use Rattle.apex_types.specs.Runners.{place_of};

@@ -1,10 +1,10 @@
-//! The processes of a partition: their records, the choice of who runs, what is due, and the changes
-//! of one process that services are made of.
+//! The processes of a partition: their records, the choice of the runner, what is due, and the
+//! changes of one process that make up services.
 //!
-//! A contract says that a call makes the step of its definition (`IsMade`), or tells it where
-//! nothing changes (`IsTold`), and how many lines and actions it adds at most (`Grows`). A call
-//! that changes a process is handed the process with its record, as it was looked up ([`Found`]): a
-//! service looks each record up once.
+//! A contract says that a call makes the step of its definition (`IsMade`), or only its lines and
+//! actions if nothing changes (`IsTold`), and how many lines and actions it adds at most (`Grows`).
+//! A call that changes a process gets the process with its record, as it was looked up ([`Found`]):
+//! a service looks each record up once.
 #![tactic(auto)]
 
 mod change;
@@ -19,6 +19,7 @@ mod records;
 mod request;
 mod rooms;
 mod serve;
+mod sharing;
 mod start;
 mod table;
 mod timers;

@@ -6,8 +6,8 @@ ghost use Rattle.kernel_meaning.specs.Step.{first_words, message};
 
 use apex_types::{ArrayPlace, Words, copied};
 
-/// Whether a message of an array has a good length: 1 word at least, no more than the object takes,
-/// and no more than the array has.
+/// Whether a message of an array has a valid length: at least 1 word, no more than the object
+/// takes, and no more than the array has.
 pub fn is_length(words: u8, array: ArrayPlace, length: i64) -> bool
     ensures { result ≡ meaning.is_length words array length }
 {
@@ -21,7 +21,7 @@ pub fn is_large_enough(words: u8, array: ArrayPlace) -> bool
     i64::from(words) <= array.size
 }
 
-/// The first words, as many as a good length says.
+/// The first `length` words, for a valid length.
 #[tactic(auto, using(kernel_laws::proofs::Numbers::handed_words))]
 pub fn first_words(length: i64, words: &Words) -> Words
     requires { pos 1 ≤ℤ length }

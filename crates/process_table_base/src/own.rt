@@ -1,4 +1,4 @@
-//! Changes of one whose record was looked up, as services make them.
+//! Changes of a runner whose record was looked up, as services make them.
 
 ghost use Rattle.std.specs.Prelude.{◌≡◌, ◌<◌, ◌≤◌, ◌+◌, ◌^◌, ℕ, length};
 ghost use Rattle.apex_types.specs.Room.{HasRoom, Grows};
@@ -8,13 +8,15 @@ ghost use Rattle.kernel_meaning.specs.Processes as meaning;
 ghost use Rattle.kernel_meaning.specs.Made.{IsMade};
 ghost use Rattle.kernel_meaning.specs.Sharing.{gives};
 ghost use Rattle.kernel_laws.specs.WaitingOrder.{AreQueues};
+ghost use Rattle.process_table_base.specs.Yielding.{yields_in};
 
 use crate::found::Found;
 use crate::table::ProcessTable;
-use apex_types::{Due, Out, ReturnCode, Service, Wait, Words};
+use apex_types::{Due, Out, ReturnCode, Runner, Service, Wait, Words};
 
 impl ProcessTable {
-    /// It waits in a service, until its due time if it has one. There is no line where it waited before.
+    /// The process waits in a service, until its due time if it has one. Writes no line if it
+    /// waited before.
     pub fn wait(&mut self, found: &Found, service: Service, due: Option<Due>, out: &mut Out)
         requires { HasRoom 1 0 out.old }
         ensures step { IsMade
@@ -25,8 +27,8 @@ impl ProcessTable {
         self.wait_as(found.runner, &found.row, Wait::Service(service), due, out);
     }
 
-    /// The service in which it waits answers with outputs of 0, if it waits in one; then it is ready.
-    /// Those who wait on keep their order.
+    /// The service in which the process waits, if any, answers with outputs of 0; then the process
+    /// is ready. The processes that continue to wait keep their order.
     pub fn release(&mut self, found: &Found, code: ReturnCode, out: &mut Out)
         requires { HasRoom 2 1 out.old }
         ensures order { (disciplines : Key → Discipline) (number : ℕ → ℕ) (next : ℕ)
@@ -39,7 +41,8 @@ impl ProcessTable {
         self.release_as(found.runner, &found.row, code, out);
     }
 
-    /// It becomes ready and goes last. One that is suspended waits on until it is resumed.
+    /// The process becomes READY, and goes last. A suspended process continues to wait until it is
+    /// resumed.
     pub fn wake(&mut self, found: &Found, out: &mut Out)
         requires { HasRoom 1 0 out.old }
         ensures step { IsMade (meaning.wakes self.old found.now.runner found.now.row)
@@ -49,8 +52,8 @@ impl ProcessTable {
         self.wake_as(found.runner, &found.row, out);
     }
 
-    /// It becomes dormant: it is in no list, has no due time, no deadline and nothing left to do, and
-    /// the lock is free if it held it.
+    /// The process becomes dormant: it is in no list, has no due time, no deadline and nothing left
+    /// to do; if it held the lock, the lock is free.
     pub fn rest(&mut self, found: &Found, out: &mut Out)
         requires { HasRoom 1 1 out.old }
         ensures step { IsMade (meaning.rests self.old found.now.runner found.now.row)
@@ -60,8 +63,8 @@ impl ProcessTable {
         self.rest_as(found.runner, &found.row, out);
     }
 
-    /// A receiver takes a message: the words go into its array, its call answers how many they are, and
-    /// it is ready.
+    /// Gives a message to a receiver: the words go into its array, its call answers how many they
+    /// are, and it is ready.
     pub fn give(&mut self, found: &Found, message: Words, out: &mut Out)
         requires { HasRoom 2 2 out.old }
         ensures step { IsMade (gives self.old found.now.runner found.now.row message)
@@ -71,10 +74,13 @@ impl ProcessTable {
         self.give_as(found.runner, &found.row, message, out);
     }
 
-    /// A ready process goes behind its equals.
-    pub fn go_last(&mut self, found: &Found)
-        ensures { self.new ≡ meaning.put_ready self.old found.now.runner found.now.row }
+    /// A ready process goes behind the others of its priority. Its record stays as it is.
+    #[tactic(auto, using(crate::proofs::Yielding::yielded))]
+    pub fn go_last(&mut self, runner: Runner)
+        ensures { self.new ≡ yields_in self.old runner }
     {
-        self.put_ready(found.runner, &found.row);
+        if let Some(priority) = self.priority(runner) {
+            self.go_behind(runner, priority);
+        }
     }
 }

@@ -23,8 +23,8 @@ use apex_types::{
 use std::alloc::{AllocError, Global};
 use std::marker::Model;
 
-/// The records of INIT, of the error handler and of each process, and when something is due for the
-/// processes. A contract sees the list of the records.
+/// The records of INIT, of the error handler and of each process, and the timers of the processes.
+/// A contract sees the list of the records.
 #[derive(Drop)]
 pub(crate) struct Records {
     rows: Vec<ProcessStatus>,
@@ -44,7 +44,7 @@ impl Model for Records {
     ghost invariant = { IsSound };
 }
 
-/// A count of ticks, where there is one.
+/// The count as `Ticks`, if there is a count.
 fn ticks(count: Option<u64>) -> Option<Ticks>
     ensures { result ≡ option_map ticks count }
 {
@@ -54,7 +54,7 @@ fn ticks(count: Option<u64>) -> Option<Ticks>
     }
 }
 
-/// The record of one with a priority, before it is created.
+/// The record of a runner with a priority, before it is created.
 fn fresh_row(
     who: Subject,
     priority: Priority,
@@ -104,7 +104,7 @@ pub struct ProcessRows<'a> {
 }
 
 impl Records {
-    /// No process is created. An error is one of memory.
+    /// Makes the records, with no process created. `AllocError`: out of memory.
     #[tactic(auto, using(crate::proofs::Bounds::bounds))]
     pub(crate) fn new(alloc: Global, processes: ProcessRows<'_>) -> Result<Records, AllocError>
         ensures { IfOk result
@@ -117,7 +117,7 @@ impl Records {
         })
     }
 
-    /// How many records there are.
+    /// The number of records.
     pub(crate) fn count(&self) -> u8
         ensures count { result ≡ length self.now }
         ensures few { result ≤ MOST_RUNNERS }
@@ -125,8 +125,8 @@ impl Records {
         self.rows.len() as u8
     }
 
-    /// The record of INIT, of the handler or of a process, where there is such a process. Each reading
-    /// is counted.
+    /// The record of INIT, of the handler or of a process; `None` if the process does not exist.
+    /// Counts the read in `reads`.
     #[tactic(auto, using(crate::proofs::Bounds::bounds))]
     pub(crate) fn read(&self, runner: Runner, reads: &mut u64) -> Option<ProcessStatus>
         requires { reads.old < 2 ^ 64 - 1 }
@@ -139,7 +139,7 @@ impl Records {
         record_at(&self.rows, runner.place())
     }
 
-    /// The record of INIT, of the handler or of a process, with whose it is, where there is such a process.
+    /// INIT, the handler or a process with its record; `None` if the process does not exist.
     #[tactic(auto, using(crate::proofs::Bounds::bounds))]
     pub(crate) fn find(&self, runner: Runner) -> Option<Found>
         ensures found { record_of result ≡ slice_get self.now (place_of runner) }
@@ -148,7 +148,24 @@ impl Records {
         found_at(&self.rows, runner)
     }
 
-    /// Puts a record in its place, where there is one.
+    /// The name of a runner; `None` if there is no such runner.
+    pub(crate) fn name(&self, runner: Runner) -> Option<Subject>
+        ensures { result ≡ option_map (λ row. row.who) (slice_get self.now (place_of runner)) }
+    {
+        name_at(&self.rows, runner.place())
+    }
+
+    /// The current priority of a runner; `None` if there is no such runner.
+    #[tactic(auto, using(crate::proofs::Bounds::bounds))]
+    pub(crate) fn priority(&self, runner: Runner) -> Option<Priority>
+        ensures priority { result
+            ≡ option_map (λ row. row.current_priority) (slice_get self.now (place_of runner)) }
+        ensures within { IfSome result (λ priority. place_of runner < MOST_RUNNERS) }
+    {
+        priority_at(&self.rows, runner.place())
+    }
+
+    /// Replaces the record of `runner`, if it has one.
     pub(crate) fn put(&mut self, runner: Runner, row: &ProcessStatus)
         requires { IsBounded row.now }
         ensures { self.new ≡ slice_set self.old (place_of runner) row.now }
@@ -156,7 +173,7 @@ impl Records {
         put_at(&mut self.rows, &mut self.timers, runner, row);
     }
 
-    /// Another state in the record of a runner, where there is one.
+    /// Changes the state in the record of `runner`, if it has one.
     pub(crate) fn set_state(&mut self, runner: Runner, state: ProcessState)
         ensures { self.new
             ≡ put_state state (place_of runner) (slice_get self.old (place_of runner)) self.old }
@@ -164,7 +181,7 @@ impl Records {
         set_state_at(&mut self.rows, runner.place(), state);
     }
 
-    /// Nobody is created; unless the mode is idle, INIT is ready.
+    /// Resets the records: nobody is created; unless the mode is idle, INIT is ready.
     pub(crate) fn restart(&mut self, mode: Mode)
         ensures { self.new ≡ started_rows mode (map forgotten self.old) }
     {
@@ -172,7 +189,7 @@ impl Records {
         self.timers = Timers::new();
     }
 
-    /// The least due time or deadline, or none.
+    /// The least due time or deadline, if any.
     pub(crate) fn next_due(&self) -> Option<Ticks>
         ensures { IsNextDue (due_times self.now) (deadlines self.now) (number_of result) }
     {
@@ -189,7 +206,7 @@ impl Records {
     }
 }
 
-/// The record of one that is no longer created.
+/// The record of a process that is no longer created.
 fn forgotten(row: &ProcessStatus) -> ProcessStatus
     ensures { result ≡ forgotten row.now }
 {
@@ -222,13 +239,31 @@ fn ready_init(rows: &mut Vec<ProcessStatus>)
     }
 }
 
+fn name_at(rows: &[ProcessStatus], place: usize) -> Option<Subject>
+    ensures { result ≡ option_map (λ row. row.who) (slice_get rows.now place) }
+{
+    match rows.get(place) {
+        Some(row) => Some(row.who),
+        None => None,
+    }
+}
+
+fn priority_at(rows: &[ProcessStatus], place: usize) -> Option<Priority>
+    ensures { result ≡ option_map (λ row. row.current_priority) (slice_get rows.now place) }
+{
+    match rows.get(place) {
+        Some(row) => Some(row.current_priority),
+        None => None,
+    }
+}
+
 fn record_at(rows: &[ProcessStatus], place: usize) -> Option<ProcessStatus>
     ensures { result ≡ slice_get rows.now place }
 {
     rows.get(place).copied()
 }
 
-/// The record of a runner in its place, with whose it is, where there is one.
+/// The runner with its record; `None` if it has none.
 #[tactic(auto, using(crate::proofs::Bounds::bounded_at))]
 fn found_at(rows: &[ProcessStatus], runner: Runner) -> Option<Found>
     requires few { length rows.now ≤ MOST_RUNNERS }
@@ -242,7 +277,7 @@ fn found_at(rows: &[ProcessStatus], runner: Runner) -> Option<Found>
     }
 }
 
-/// Another state in the record at a place, where there is one.
+/// Changes the state in the record at `place`, if there is such a record.
 fn set_state_at(rows: &mut Vec<ProcessStatus>, place: usize, state: ProcessState)
     ensures { rows.new.items
         ≡ put_state state place (slice_get rows.old.items place) rows.old.items }
@@ -252,7 +287,7 @@ fn set_state_at(rows: &mut Vec<ProcessStatus>, place: usize, state: ProcessState
     }
 }
 
-/// Nobody is created; unless the mode is idle, INIT is ready.
+/// Resets the records: nobody is created; unless the mode is idle, INIT is ready.
 fn restart_all(rows: &mut Vec<ProcessStatus>, mode: Mode)
     ensures { rows.new.items ≡ started_rows mode (map forgotten rows.old.items) }
 {
@@ -262,7 +297,7 @@ fn restart_all(rows: &mut Vec<ProcessStatus>, mode: Mode)
     }
 }
 
-/// Puts a record in its place, where there is one, with its timers.
+/// Replaces the record of `runner`, if it has one, and its timers.
 fn put_at(rows: &mut Vec<ProcessStatus>, timers: &mut Timers, runner: Runner, row: &ProcessStatus)
     requires few { length rows.old.items ≤ MOST_RUNNERS }
     requires timed { AreTimed rows.old.items timers.old }

@@ -1,8 +1,8 @@
-//! What a service is called with beside its own arguments.
+//! The context of a service call, besides its own arguments.
 
 use apex_types::{ArrayPlace, Mode, Moment, Runner};
 
-/// A call of a service: who calls, in which tick, and in which mode of the partition.
+/// A call of a service: its caller, its tick, and the mode of the partition.
 #[derive(Clone, Copy, Debug, PartialEq, Eq)]
 pub struct Request {
     pub caller: Runner,
@@ -10,8 +10,9 @@ pub struct Request {
     pub mode: Mode,
 }
 
-/// What a call hands in: its array, and how many words of it are the message. The words themselves go
-/// beside it, since a value that kept a reference to them would cost each call a copy of them.
+/// What a call hands in: its array, and how many words of it are the message. The words themselves
+/// are passed separately, since a value with a reference to them would cost each call a copy of
+/// them.
 #[derive(Clone, Copy, Debug, PartialEq, Eq)]
 pub struct Handed {
     pub array: ArrayPlace,

@@ -1,17 +1,17 @@
-//! The room that what is done with many processes needs: for its lines, and for what it asks for.
+//! The room that operations on many processes need: for their lines, and for their actions.
 
 use apex_types::MOST_PROCESSES;
 
-/// Each that waits at an object answers and becomes ready.
+/// Each process that waits at an object answers and becomes ready.
 pub const LINES_TO_RELEASE_ALL: u16 = 2 * MOST_PROCESSES as u16;
 
-/// Each that waits at an object has its answer.
+/// Each process that waits at an object has its answer.
 pub const ACTIONS_TO_RELEASE_ALL: u16 = MOST_PROCESSES as u16;
 
-/// Each that waits at an object has a message: it answers and becomes ready.
+/// Each process that waits at an object has a message: it answers and becomes ready.
 pub const LINES_TO_GIVE_ALL: u16 = 2 * MOST_PROCESSES as u16;
 
-/// Each that waits at an object has the message's words and its answer.
+/// Each process that waits at an object has the message's words and its answer.
 pub const ACTIONS_TO_GIVE_ALL: u16 = 2 * MOST_PROCESSES as u16;
 
 /// Each process may answer and become ready, and may miss its deadline.

@@ -1,4 +1,4 @@
-//! What services change of one process: its priority, its suspension, its deadline.
+//! Changes of one process by services: of its priority, its suspension, its deadline.
 
 ghost use Rattle.std.specs.Prelude.{◌≡◌, ◌<◌, ◌≤◌, ◌+◌, ◌^◌, length, true, Some};
 ghost use Rattle.apex_types.specs.declared.limits.TheConstants.{LATEST_RELEASE_POINT};
@@ -17,7 +17,7 @@ use apex_types::{
 };
 
 impl ProcessTable {
-    /// Another current priority. A ready process goes last among those that have it.
+    /// Changes the current priority. A ready process goes last among those of its new priority.
     pub fn take_priority(&mut self, found: &Found, priority: Priority)
         ensures { self.new
             ≡ (meaning.takes_priority self.old priority found.now.runner found.now.row).part }
@@ -32,7 +32,7 @@ impl ProcessTable {
         }
     }
 
-    /// A process waits for what it waited for, and until it is resumed.
+    /// Suspends a process: it continues to wait for what it waited for, and until it is resumed.
     pub fn suspend(&mut self, found: &Found, out: &mut Out)
         requires { HasRoom 1 0 out.old }
         ensures step { IsMade (meaning.suspends self.old found.now.runner found.now.row)
@@ -46,7 +46,7 @@ impl ProcessTable {
         self.wait_as(found.runner, &suspended, found.row.wait, found.row.due, out);
     }
 
-    /// A process suspends itself: it waits until it is resumed, or for so long.
+    /// Suspends the process found until it is resumed, for at most `limit` ticks.
     pub fn suspend_self(&mut self, moment: Moment, found: &Found, limit: i64, out: &mut Out)
         requires limit { is_duration limit ≡ true }
         requires room { HasRoom 1 0 out.old }
@@ -64,8 +64,8 @@ impl ProcessTable {
         self.wait_as(found.runner, &suspended, reason, due, out);
     }
 
-    /// A process is suspended no longer: its SUSPEND_SELF ends, and if it waits for nothing else it is
-    /// ready.
+    /// Ends the suspension of a process: its SUSPEND_SELF ends, and if it waits for nothing else it
+    /// is ready.
     pub fn resume(&mut self, found: &Found, out: &mut Out)
         requires { HasRoom 2 1 out.old }
         ensures step { IsMade (meaning.resumes self.old found.now.runner found.now.row)
@@ -86,8 +86,8 @@ impl ProcessTable {
         }
     }
 
-    /// A periodic process has kept its deadline, and waits for its next release, a period after the
-    /// last. One without a period is left as it is.
+    /// A periodic process has met its deadline, and waits for its next release, one period after
+    /// the last. A process without a period is unchanged.
     #[tactic(auto, using(crate::proofs::Bounds::bounds))]
     pub fn wait_for_period(&mut self, found: &Found, out: &mut Out)
         requires room { HasRoom 1 0 out.old }
@@ -107,7 +107,7 @@ impl ProcessTable {
         }
     }
 
-    /// Another deadline.
+    /// Sets the deadline.
     #[tactic(auto, using(crate::proofs::Bounds::bounds))]
     pub fn set_deadline(&mut self, found: &Found, deadline: Option<Ticks>)
         requires { IsAtMost LATEST_RELEASE_POINT deadline }

@@ -1,4 +1,4 @@
-//! The start of a process, its release, and the normal start of those that wait for it.
+//! The start of a process, its release, and the normal start of the processes that wait for it.
 
 ghost use Rattle.std.specs.Prelude.{◌≡◌, ◌<◌, ◌≤◌, ◌+◌, ◌-◌, length, IfSome};
 ghost use Rattle.apex_types.specs.declared.limits.TheConstants.{LATEST_RELEASE_POINT, MOST_TICKS};
@@ -16,7 +16,7 @@ use apex_types::{
     Runner, Ticks, Wait,
 };
 
-/// So many ticks after a tick, where they are limited.
+/// The tick `count` ticks after `tick`; `None` without a count.
 fn later(tick: Ticks, count: Option<Ticks>) -> Option<Ticks>
     requires tick { tick.0 ≤ MOST_TICKS }
     requires count { IsAtMost MOST_TICKS count }
@@ -28,7 +28,7 @@ fn later(tick: Ticks, count: Option<Ticks>) -> Option<Ticks>
     }
 }
 
-/// The record of one that is released at a tick: its deadline is its time capacity later.
+/// The record of a process that is released at `tick`: its deadline is its time capacity later.
 #[tactic(auto, using(crate::proofs::Bounds::bounds))]
 pub(crate) fn released_at(tick: Ticks, row: &ProcessStatus) -> ProcessStatus
     requires tick { tick.0 ≤ MOST_TICKS }
@@ -43,7 +43,8 @@ pub(crate) fn released_at(tick: Ticks, row: &ProcessStatus) -> ProcessStatus
     }
 }
 
-/// What a start in normal mode counts from: the moment of it, and the partition's next release point.
+/// The points from which a start in normal mode counts: its moment, and the partition's next
+/// release point.
 #[derive(Clone, Copy, Debug, PartialEq, Eq)]
 pub struct Points {
     pub moment: Moment,
@@ -52,8 +53,8 @@ pub struct Points {
 }
 
 impl ProcessTable {
-    /// A process starts its body with a fresh stack and its base priority. In normal mode it is
-    /// released at its release point, before that it waits for the normal start with its delay.
+    /// Starts the body of a process with a fresh stack and its base priority. In normal mode it is
+    /// released at its release point; before that it waits for the normal start with its delay.
     pub fn start(&mut self, mode: Mode, points: Points, found: &Found, delay: Ticks, out: &mut Out)
         requires delay { delay.0 ≤ MOST_TICKS }
         requires room { HasRoom 1 1 out.old }
@@ -92,8 +93,8 @@ impl ProcessTable {
         );
     }
 
-    /// In normal mode a periodic process is released so many ticks after the partition's next
-    /// release point, an aperiodic one so many ticks from now, at once without a delay.
+    /// In normal mode: releases a periodic process `delay` ticks after the partition's next release
+    /// point, an aperiodic process `delay` ticks from now, at once if the delay is 0.
     fn start_in_normal(
         &mut self,
         points: Points,

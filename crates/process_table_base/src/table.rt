@@ -1,6 +1,6 @@
-//! The records of a partition's processes, and the few ways in which they change.
+//! The records of a partition's processes, and the few ways to change them.
 
-ghost use Rattle.std.specs.Prelude.{◌≡◌, ◌<◌, ◌≤◌, ◌+◌, ◌-◌, ◌^◌, ℕ, length, map, IfOk, IfSome};
+ghost use Rattle.std.specs.Prelude.{◌≡◌, ◌<◌, ◌≤◌, ◌+◌, ◌-◌, ◌^◌, ℕ, length, map, option_map, IfOk, IfSome};
 ghost use Rattle.apex_types.specs.Runners.{place_of};
 ghost use Rattle.kernel_meaning.specs.PartitionServices.{cleared_processes};
 ghost use Rattle.kernel_meaning.specs.Partition.{first_ready};
@@ -17,15 +17,17 @@ ghost use Rattle.process_table_base.specs.Timed.{AreQuiet, deadlines, due_times}
 use crate::found::Found;
 use crate::records::{ProcessRows, Records};
 use apex_types::{
-    Entry, Lock, MOST_RUNNERS, Mode, ProcessRow, ProcessState, ProcessStatus, Runner, Ticks, Words,
+    Entry, Lock, MOST_RUNNERS, Mode, Priority, ProcessRow, ProcessState, ProcessStatus, Runner,
+    Subject, Ticks, Words,
 };
 use links::{ReadyLists, WaitingLists};
 use std::alloc::{AllocError, Global};
 use std::marker::Model;
 
-/// The processes of a partition: the records of INIT, of the error handler and of each process; those
-/// that are ready; the one that runs; the preemption lock; and those that wait for objects and ports,
-/// with what they hand in. A contract sees it as the processes of the definitions.
+/// The processes of a partition: the records of INIT, of the error handler and of each process; the
+/// ready processes; the current runner; the preemption lock; and the processes that wait for
+/// objects and ports, with what they hand in. A contract sees it as the processes of the
+/// definitions.
 #[derive(Drop)]
 pub struct ProcessTable {
     records: Records,
@@ -47,7 +49,7 @@ impl Model for ProcessTable {
     ghost view = { processes_of };
 }
 
-/// No process has handed in a message.
+/// An empty message for each process.
 fn no_messages(alloc: Global, processes: &[ProcessRow]) -> Result<Vec<Words>, AllocError>
     ensures { IfOk result
         (λ handed. handed.items ≡ map no_message (map machine_row processes.now)) }
@@ -60,7 +62,7 @@ fn no_messages(alloc: Global, processes: &[ProcessRow]) -> Result<Vec<Words>, Al
 }
 
 impl ProcessTable {
-    /// No process is created, and none runs or waits. An error is one of memory.
+    /// Makes the table: no process is created, and none runs or waits. `AllocError`: out of memory.
     pub fn new(alloc: Global, processes: ProcessRows<'_>) -> Result<ProcessTable, AllocError>
         ensures { IfOk result
             (λ table. table ≡ fresh_processes (map machine_row processes.entry.rows.now)) }
@@ -75,7 +77,7 @@ impl ProcessTable {
         })
     }
 
-    /// The record of INIT, of the handler or of a process, where there is such a process.
+    /// The record of INIT, of the handler or of a process; `None` if the process does not exist.
     pub fn row(&self, runner: Runner) -> Option<ProcessStatus>
         ensures row { result ≡ meaning.row_of self.now runner }
         ensures within { IfSome result (λ row. place_of runner < MOST_RUNNERS) }
@@ -85,7 +87,7 @@ impl ProcessTable {
         self.read(runner, &mut reads)
     }
 
-    /// INIT, the handler or a process with its record, where there is such a process.
+    /// INIT, the handler or a process with its record; `None` if the process does not exist.
     pub fn found(&self, runner: Runner) -> Option<Found>
         ensures found { record_of result ≡ meaning.row_of self.now runner }
         ensures own { IfSome result (λ found. found.runner ≡ runner) }
@@ -93,7 +95,7 @@ impl ProcessTable {
         self.records.find(runner)
     }
 
-    /// The same; each reading is counted.
+    /// The same; counts the read in `reads`.
     pub(crate) fn read(&self, runner: Runner, reads: &mut u64) -> Option<ProcessStatus>
         requires { reads.old < 2 ^ 64 - 1 }
         ensures row { result ≡ meaning.row_of self.now runner }
@@ -104,7 +106,7 @@ impl ProcessTable {
         self.records.read(runner, reads)
     }
 
-    /// How many records there are.
+    /// The number of records.
     pub(crate) fn count(&self) -> u8
         ensures count { result ≡ length self.now.rows }
         ensures few { result ≤ MOST_RUNNERS }
@@ -112,7 +114,7 @@ impl ProcessTable {
         self.records.count()
     }
 
-    /// The one that is running, which is the one chosen last.
+    /// The current runner: the one chosen last.
     pub fn running(&self) -> Option<Runner>
         ensures { result ≡ self.now.running }
     {
@@ -132,7 +134,7 @@ impl ProcessTable {
         self.lock
     }
 
-    /// The level of the preemption lock, 0 where it is free.
+    /// The level of the preemption lock, 0 if it is free.
     pub fn lock_level(&self) -> u8
         ensures { result ≡ level_of self.now.lock }
     {
@@ -142,15 +144,15 @@ impl ProcessTable {
         }
     }
 
-    /// Another level of the preemption lock, or another holder.
+    /// Sets the level and the holder of the preemption lock.
     pub fn set_lock(&mut self, lock: Lock)
         ensures { self.new ≡ record self.old { lock = lock } }
     {
         self.lock = lock;
     }
 
-    /// No process is created, and no one runs, waits or holds the lock. Unless the mode is idle, INIT
-    /// is ready.
+    /// Resets the table: no process is created, and nobody runs, waits or holds the lock. Unless
+    /// the mode is idle, INIT is ready.
     pub fn clear(&mut self, mode: Mode)
         ensures { self.new ≡ cleared_processes mode self.old }
     {
@@ -161,7 +163,7 @@ impl ProcessTable {
         self.queues.clear();
     }
 
-    /// The first of those that are ready.
+    /// The first ready process.
     pub(crate) fn first_ready(&self) -> Option<Runner>
         ensures { result ≡ first_ready self.now.ready }
     {
@@ -178,7 +180,7 @@ impl ProcessTable {
         self.records.put(runner, row);
     }
 
-    /// Another state in the record of a runner, where there is one. Its place in every list stays.
+    /// Changes the state in the record of `runner`, if it has one. Its place in every list stays.
     pub(crate) fn set_state(&mut self, runner: Runner, state: ProcessState)
         ensures { self.new
             ≡ record self.old {
@@ -196,6 +198,31 @@ impl ProcessTable {
     {
         let priority = row.current_priority;
         self.records.put(runner, row);
+        self.go_behind(runner, priority);
+    }
+
+    /// The name of a runner; `None` if there is no such runner.
+    pub(crate) fn name_in(&self, runner: Runner) -> Option<Subject>
+        ensures { result ≡ option_map (λ row. row.who) (meaning.row_of self.now runner) }
+    {
+        self.records.name(runner)
+    }
+
+    /// The current priority of a runner; `None` if there is no such runner.
+    pub(crate) fn priority(&self, runner: Runner) -> Option<Priority>
+        ensures priority { result
+            ≡ option_map (λ row. row.current_priority) (meaning.row_of self.now runner) }
+        ensures within { IfSome result (λ priority. place_of runner < MOST_RUNNERS) }
+    {
+        self.records.priority(runner)
+    }
+
+    /// A ready process goes behind the others of this priority.
+    pub(crate) fn go_behind(&mut self, runner: Runner, priority: Priority)
+        requires { place_of runner < MOST_RUNNERS }
+        ensures { self.new
+            ≡ record self.old { ready = meaning.goes_last runner priority self.old.ready } }
+    {
         if let Runner::Process(process) = runner {
             self.ready.push_back(Entry { process, priority });
         }
@@ -221,15 +248,15 @@ impl ProcessTable {
         self.leave_queues(runner);
     }
 
-    /// The least due time or deadline of the processes, or none.
+    /// The least due time or deadline of the processes, if any.
     pub fn next_due(&self) -> Option<Ticks>
         ensures { IsNextDue (due_times self.now.rows) (deadlines self.now.rows) (number_of result) }
     {
         self.records.next_due()
     }
 
-    /// How many of so many ticks, this one the first, come before anything is due: in each of them no
-    /// due time and no deadline of a process has come. None where one is due at this tick or before it.
+    /// How many of `k` ticks, from `now` on, come before anything is due: in each of them no due
+    /// time and no deadline of a process has come. 0 if something is due at `now` or earlier.
     #[tactic(auto, using(crate::proofs::Quiet::quiet_for_ever, crate::proofs::Quiet::quiet_before))]
     pub fn quiet_ticks(&self, now: Ticks, k: u32) -> u32
         ensures within { result ≤ k }
@@ -253,7 +280,7 @@ impl ProcessTable {
         self.records.due_mask(now)
     }
 
-    /// This one waits in no list.
+    /// Removes `runner` from the list in which it waits.
     pub(crate) fn leave_queues(&mut self, runner: Runner)
         ensures { self.new ≡ meaning.no_longer_waits self.old runner }
     {
@@ -263,7 +290,7 @@ impl ProcessTable {
     }
 }
 
-/// Whether two are the same.
+/// Whether two runners are the same.
 pub fn is_same(runner: Runner, other: Runner) -> bool
     ensures { result ≡ meaning.is_same runner other }
 {

@@ -1,4 +1,4 @@
-//! When something is due for the processes: their due times and their deadlines.
+//! The timers of the processes: their due times and their deadlines.
 
 ghost use Rattle.std.specs.Prelude.{◌≡◌, ◌<◌, ℕ, List, Option, Some, true, [], slice_get, slice_set};
 ghost use Rattle.apex_types.specs.Runners.{place_of};
@@ -35,7 +35,7 @@ fn are_same(one: Option<Ticks>, other: Option<Ticks>) -> bool
     }
 }
 
-/// A process has another tick, or none.
+/// Changes the tick of a process, or removes it.
 #[tactic(auto, using(crate::proofs::Timed::unchanged))]
 fn renew(list: &mut DueList, process: ProcessIndex, old: Option<Ticks>, next: Option<Ticks>)
     requires { process.0 < MOST_PROCESSES }
@@ -48,7 +48,7 @@ fn renew(list: &mut DueList, process: ProcessIndex, old: Option<Ticks>, next: Op
 }
 
 impl Timers {
-    /// Nothing is due for any process.
+    /// Timers with nothing due for any process.
     pub(crate) fn new() -> Timers
         ensures dues { result.dues ≡ [] }
         ensures deadlines { result.deadlines ≡ [] }
@@ -59,7 +59,7 @@ impl Timers {
         }
     }
 
-    /// This record takes the place of the old one.
+    /// Updates the timers for a record that replaces the old one.
     pub(crate) fn renew(&mut self, runner: Runner, old: &ProcessStatus, row: &ProcessStatus)
         requires { place_of runner < MOST_RUNNERS }
         ensures { (rows : List Row) → slice_get rows (place_of runner) ≡ Some old.now
@@ -77,7 +77,7 @@ impl Timers {
         }
     }
 
-    /// The least due time or deadline, or none.
+    /// The least due time or deadline, if any.
     pub(crate) fn next_due(&self) -> Option<Ticks>
         ensures { (rows : List Row) → AreTimed rows self.now
             → IsNextDue (due_times rows) (deadlines rows) (number_of result) }

@@ -1,4 +1,4 @@
-//! Those that wait for an object or a port, and how they are released.
+//! The processes that wait for an object or a port, and how they are released.
 
 ghost use Rattle.std.specs.Prelude.{◌≡◌, ◌<◌, ◌+◌, ◌*◌, ◌++◌, ℕ, length, true, IfSome, Some, slice_set};
 ghost use Rattle.apex_types.specs.Room.{HasRoom, Grows};
@@ -27,7 +27,7 @@ use apex_types::{
 };
 use links::Entries;
 
-/// Puts a message in the place of a process, where there is one.
+/// Stores the message of `process`, if the process exists.
 fn put_message(handed: &mut Vec<Words>, process: ProcessIndex, message: Words)
     ensures { handed.new.items ≡ slice_set handed.old.items process.0 message }
 {
@@ -36,7 +36,7 @@ fn put_message(handed: &mut Vec<Words>, process: ProcessIndex, message: Words)
     }
 }
 
-/// The words go into an array, if there is one.
+/// Writes the words to the array, if one is given.
 pub fn fill(array: Option<ArrayPlace>, message: Words, out: &mut Out)
     requires { HasRoom 0 1 out.old }
     ensures lines { out.new.lines.items ≡ out.old.lines.items }
@@ -49,7 +49,7 @@ pub fn fill(array: Option<ArrayPlace>, message: Words, out: &mut Out)
     }
 }
 
-/// The array of one that waits to receive.
+/// The array of a process that waits to receive.
 fn array_of_wait(wait: Wait) -> Option<ArrayPlace>
     ensures { result ≡ meaning.array_of_wait wait }
 {
@@ -60,9 +60,9 @@ fn array_of_wait(wait: Wait) -> Option<ArrayPlace>
 }
 
 impl ProcessTable {
-    /// The first who waits in a list, with its record: whatever numbers those who wait have taken in
-    /// their order, that is the one with the least number, by priority the one of the highest priority
-    /// with the least number.
+    /// The first process that waits in a list, with its record. Whatever numbers the waiting
+    /// processes have taken in their order, it is the process with the least number; in a list by
+    /// priority, the process of the highest priority with the least number.
     pub fn first_waiting(&self, list: ListKey) -> Option<Found>
         ensures found { pair_of result ≡ meaning.first_waiting self.now list }
         ensures least { (disciplines : Key → Discipline) (number : ℕ → ℕ) (next : ℕ)
@@ -76,14 +76,14 @@ impl ProcessTable {
         }
     }
 
-    /// Those who wait in a list, in its order.
+    /// The processes that wait in a list, in its order.
     pub fn waiting(&self, list: ListKey) -> Entries
         ensures { result.items ≡ meaning.waiting self.now list }
     {
         self.queues.entries(list)
     }
 
-    /// How many wait in a list.
+    /// The number of processes that wait in `list`.
     pub fn waiting_count(&self, list: ListKey) -> u8
         ensures { result ≡ meaning.waiting_count self.now list }
     {
@@ -109,7 +109,7 @@ impl ProcessTable {
         }
     }
 
-    /// A process enters the list of its object, with the message that its call hands in.
+    /// Adds a process to the list of its object, with the message that its call hands in.
     fn enter(&mut self, runner: Runner, waiting: Waiting, message: Words, row: &ProcessStatus)
         requires { place_of runner < MOST_RUNNERS }
         ensures { self.new ≡ meaning.enters self.old runner waiting message row.now }
@@ -124,8 +124,8 @@ impl ProcessTable {
         }
     }
 
-    /// Without time its service is not available; one that may not wait has an invalid mode; else the
-    /// caller waits, at most so long.
+    /// Blocks the caller for at most `limit` ticks. NOT_AVAILABLE: the limit is 0; INVALID_MODE:
+    /// the caller may not wait.
     pub fn block(
         &mut self,
         request: Request,
@@ -160,7 +160,7 @@ impl ProcessTable {
         }
     }
 
-    /// Releases one that is found.
+    /// Releases the process, if it exists.
     fn release_found(&mut self, process: ProcessIndex, out: &mut Out)
         requires { HasRoom 2 1 out.old }
         ensures step { IsMade
@@ -186,7 +186,7 @@ impl ProcessTable {
         }
     }
 
-    /// Releases all who wait in a list, in its order.
+    /// Releases all processes that wait in a list, in its order.
     pub fn release_all(&mut self, list: ListKey, out: &mut Out)
         requires { HasRoom LINES_TO_RELEASE_ALL ACTIONS_TO_RELEASE_ALL out.old }
         ensures step { IsMade (meaning.releases_all (meaning.waiting self.old list) self.old)
@@ -197,8 +197,8 @@ impl ProcessTable {
         self.release_each(entries.as_slice(), out);
     }
 
-    /// A receiver with this record takes a message: the words go into its array, its call answers how
-    /// many they are, and it is ready.
+    /// Gives a message to a receiver with this record: the words go into its array, its call
+    /// answers how many they are, and it is ready.
     pub(crate) fn give_as(
         &mut self,
         runner: Runner,
@@ -218,7 +218,7 @@ impl ProcessTable {
         self.release_with(runner, row, ReturnCode::NoError, &[length], out);
     }
 
-    /// Gives a message to one that is found.
+    /// Gives a message to the process, if it exists.
     fn give_found(&mut self, process: ProcessIndex, message: &Words, out: &mut Out)
         requires { HasRoom 2 2 out.old }
         ensures step { IsMade
@@ -246,7 +246,7 @@ impl ProcessTable {
         }
     }
 
-    /// Gives a message to all who wait in a list, in its order.
+    /// Gives a message to all processes that wait in a list, in its order.
     pub fn give_all(&mut self, list: ListKey, message: &Words, out: &mut Out)
         requires { HasRoom LINES_TO_GIVE_ALL ACTIONS_TO_GIVE_ALL out.old }
         ensures step { IsMade

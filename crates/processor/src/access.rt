@@ -1,4 +1,4 @@
-//! What an instruction finds in the memory that the processor is lent.
+//! Reads of an instruction in the memory that the processor borrows.
 
 ghost use Rattle.std.specs.Prelude.{◌≡◌, length, slice_get};
 ghost use Rattle.engine_meaning.specs.Operators.{element_at};
@@ -8,14 +8,14 @@ ghost use Rattle.engine_meaning.specs.Operators.{has_array_within, is_range_with
 use apex_types::ArrayPlace;
 use regions::PartitionMem;
 
-/// The word at a place, where there is one.
+/// The word at `place`; `None` past the end.
 pub(crate) fn load(words: &[i64], place: usize) -> Option<i64>
     ensures { result ≡ slice_get words.now place }
 {
     words.get(place).copied()
 }
 
-/// The word at an address, where there is one.
+/// The word at `address`; `None` outside of the words.
 pub(crate) fn load_at(words: &[i64], address: i64) -> Option<i64>
     ensures { result ≡ word_at words.now address }
 {
@@ -25,8 +25,8 @@ pub(crate) fn load_at(words: &[i64], address: i64) -> Option<i64>
     load(words, address.unsigned_abs() as usize)
 }
 
-/// The place of an element of the array of `size` words at `place`, where the array lies within
-/// the data and the element within the array.
+/// The place of an element of the array of `size` words at `place`; `None` if the array lies
+/// outside of the data, or the element outside of the array.
 pub(crate) fn element_place(data: &[i64], place: u32, size: i64, index: i64) -> Option<usize>
     ensures { result ≡ element_at data.now place size index }
 {
@@ -41,7 +41,8 @@ pub(crate) fn element_place(data: &[i64], place: u32, size: i64, index: i64) -> 
     }
 }
 
-/// The element of the array of `size` words at `place`, where there is one.
+/// The element of the array of `size` words at `place`; `None` if the array lies outside of the
+/// data, or the element outside of the array.
 pub(crate) fn element(data: &[i64], place: u32, size: i64, index: i64) -> Option<i64>
     ensures { result ≡ element_word data.now (element_at data.now place size index) }
 {
@@ -59,7 +60,7 @@ pub(crate) fn holds(memory: &PartitionMem, array: Option<ArrayPlace>) -> bool
     }
 }
 
-/// Whether so many words from a place on lie within the data.
+/// Whether the `size` words from `base` on lie within the data.
 fn holds_range(memory: &PartitionMem, base: i64, size: i64) -> bool
     ensures { result ≡ is_range_within (length memory.now.words) base size }
 {

@@ -5,21 +5,21 @@ ghost use Rattle.engine_meaning.specs.Operators.{apply_binary, apply_unary, trut
 
 use apex_types::{BinaryOperator, UnaryOperator};
 
-/// The result of a test as a word: 1 if it holds, else 0.
+/// The result of a test as a word: 1 if it holds, otherwise 0.
 fn truth(holds: bool) -> i64
     ensures { result ≡ truth holds }
 {
     if holds { 1 } else { 0 }
 }
 
-/// The quotient, rounded toward zero; none if the divisor is 0 or the quotient is not a word.
+/// The quotient, rounded toward zero; `None` if the divisor is 0 or the quotient is not a word.
 fn divide(a: i64, b: i64) -> Option<i64>
     ensures { result ≡ apply_binary BinaryOperator.Divide a b }
 {
     if b == 0 { None } else { a.checked_div(b) }
 }
 
-/// The remainder with the sign of the dividend, none by 0.
+/// The remainder, with the sign of the dividend; `None` if the divisor is 0.
 fn remainder(a: i64, b: i64) -> Option<i64>
     ensures { result ≡ apply_binary BinaryOperator.Remainder a b }
 {
@@ -30,7 +30,7 @@ fn remainder(a: i64, b: i64) -> Option<i64>
     }
 }
 
-/// What an operator gives for its two operands, none for a numeric error.
+/// The result of an operator for its two operands; `None` for a numeric error.
 pub fn apply_binary(operator: BinaryOperator, a: i64, b: i64) -> Option<i64>
     ensures { result ≡ apply_binary operator a b }
 {
@@ -51,7 +51,7 @@ pub fn apply_binary(operator: BinaryOperator, a: i64, b: i64) -> Option<i64>
     }
 }
 
-/// What an operator gives for its operand, none for a numeric error.
+/// The result of an operator for its operand; `None` for a numeric error.
 pub fn apply_unary(operator: UnaryOperator, a: i64) -> Option<i64>
     ensures { result ≡ apply_unary operator a }
 {

@@ -16,7 +16,7 @@ use apex_types::limits::MOST_INSTRUCTIONS;
 use apex_types::{Call, ErrorKind, RoutineRow, Service, Words, array_of, call_of};
 use regions::{PartitionMem, Reach};
 
-/// Changes a word of a stack, where there is one.
+/// Changes the word of a stack at `place`, if there is such a word.
 #[tactic(auto, using(std::proofs::lemmas::List::set_past))]
 fn set(stack: &mut [i64], place: u32, v: i64)
     ensures { stack.new ≡ slice_set stack.old place v }
@@ -26,7 +26,7 @@ fn set(stack: &mut [i64], place: u32, v: i64)
     }
 }
 
-/// Sets the words of a stack from one place up to another to 0.
+/// Sets the words of a stack from `from` up to `to` to 0.
 fn clear(stack: &mut [i64], from: u32, to: u32)
     ensures { stack.new ≡ put_words stack.old from (replicate (to - from) (pos 0)) }
 {
@@ -51,7 +51,7 @@ fn save(stack: &mut [i64], frame: u32, routine: &RoutineRow, next: u32, caller: 
     set(stack, slots + 1, i64::from(caller));
 }
 
-/// The words of the own stack from one place up to another, at most 16.
+/// The words of the own stack from `from` up to `to`, at most 16.
 fn popped(memory: &PartitionMem, from: u32, to: u32) -> Words
     requires order { from ≤ to }
     requires few { to ≤ from + MOST_WORDS }
@@ -64,7 +64,7 @@ fn popped(memory: &PartitionMem, from: u32, to: u32) -> Words
     words
 }
 
-/// The routine of that number, from 0, where there is one.
+/// The routine with number `x`, from 0; `None` if there is no such routine.
 fn routine_at(routines: &[RoutineRow], x: u32) -> Option<&RoutineRow>
     ensures { option_map (λ r. r.now) result ≡ slice_get routines.now x }
 {
@@ -126,7 +126,8 @@ impl Registers {
         }
     }
 
-    /// RET: gives the top operand back to the frame and the instruction that were saved behind `x` words.
+    /// RET: returns the top operand to the frame and the instruction that were saved behind `x`
+    /// words.
     pub(crate) fn give_back(&mut self, reach: &mut Reach, x: u32) -> Turn
         ensures effect { after result self.new reach.new
             ≡ does (executes [] (Instr.Return x)) self.old reach.old }
@@ -161,7 +162,7 @@ impl Context {
     ghost use Rattle.apex_types.specs.ServiceShape.{argument_words};
     ghost use Rattle.apex_types.specs.ServiceCalls.{call_of};
 
-    /// The call that the operands on top are the arguments of.
+    /// The call whose arguments are the operands on top.
     #[tactic(auto, using(crate::proofs::Arguments::few))]
     fn called(&self, memory: &PartitionMem, service: Service) -> Call
         requires { argument_words service ≤ self.now.sp }
@@ -171,7 +172,7 @@ impl Context {
         call_of(service, &words)
     }
 
-    /// Calls a service whose arguments are there.
+    /// Calls a service whose arguments are on the stack.
     fn call_service(&mut self, memory: &PartitionMem, service: Service) -> Outcome
         requires next { self.old.pc + 1 < 2 ^ 32 }
         requires operands { argument_words service ≤ self.old.sp }

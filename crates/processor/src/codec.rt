@@ -64,7 +64,7 @@ fn opcode(instruction: Instr) -> u32
     }
 }
 
-/// The field x of an instruction, 0 where it is not used.
+/// The field x of an instruction, 0 if unused.
 fn field_x(instruction: Instr) -> u32
     ensures { result ≡ x_of instruction }
 {
@@ -86,7 +86,7 @@ fn field_x(instruction: Instr) -> u32
     }
 }
 
-/// The field v of an instruction, 0 where it is not used.
+/// The field v of an instruction, 0 if unused.
 fn field_v(instruction: Instr) -> i64
     ensures { result ≡ v_of instruction }
 {
@@ -122,21 +122,21 @@ pub fn encode(instruction: &Instr) -> [u8; 16]
     )
 }
 
-/// The opcode as it stands in sixteen bytes.
+/// The opcode encoded in sixteen bytes.
 fn opcode_field(bytes: &[u8; 16]) -> u32
     ensures { result ≡ opcode_in bytes.now }
 {
     u32::from_le_bytes([bytes[0], bytes[1], bytes[2], bytes[3]])
 }
 
-/// The field x as it stands in sixteen bytes.
+/// The field x encoded in sixteen bytes.
 fn x_field(bytes: &[u8; 16]) -> u32
     ensures { result ≡ x_in bytes.now }
 {
     u32::from_le_bytes([bytes[4], bytes[5], bytes[6], bytes[7]])
 }
 
-/// The field v as it stands in sixteen bytes.
+/// The field v encoded in sixteen bytes.
 #[tactic(auto, using(crate::proofs::Bytes::eight_last))]
 fn v_field(bytes: &[u8; 16]) -> i64
     ensures { result ≡ v_in bytes.now }
@@ -146,28 +146,28 @@ fn v_field(bytes: &[u8; 16]) -> i64
     ])
 }
 
-/// Opcode, x and v as they stand in sixteen bytes.
+/// Opcode, x and v encoded in sixteen bytes.
 pub fn fields(bytes: &[u8; 16]) -> (u32, u32, i64)
     ensures { result ≡ fields bytes.now }
 {
     (opcode_field(bytes), x_field(bytes), v_field(bytes))
 }
 
-/// The instruction where its field v, which it does not use, is 0.
+/// The instruction, if its unused field v is 0.
 fn with_x(v: i64, instruction: Instr) -> Option<Instr>
     ensures { result ≡ uses_x v instruction }
 {
     if v == 0 { Some(instruction) } else { None }
 }
 
-/// The instruction where its field x, which it does not use, is 0.
+/// The instruction, if its unused field x is 0.
 fn with_v(x: u32, instruction: Instr) -> Option<Instr>
     ensures { result ≡ uses_v x instruction }
 {
     if x == 0 { Some(instruction) } else { None }
 }
 
-/// The instruction where both its fields, which it does not use, are 0.
+/// The instruction, if both its unused fields are 0.
 fn with_none(x: u32, v: i64, instruction: Instr) -> Option<Instr>
     ensures { result ≡ uses_none x v instruction }
 {
@@ -254,7 +254,7 @@ fn name_entry(names: &[&'static str], op: u32) -> Option<&'static str>
     names.get((op - 1) as usize).copied()
 }
 
-/// The name of an opcode, none for one that is not in the table.
+/// The name of an opcode; `None` for one that is not in the table.
 pub fn op_name(op: u32) -> Option<&'static str>
     ensures { option_map (λ s. s.now) result ≡ name_of_opcode op }
 {

@@ -20,7 +20,7 @@ fn is_work(v: i64) -> bool
     0 < v && v <= MOST_WORK_TICKS as i64
 }
 
-/// Ticks of WORK: the number that it names, or 1 if this number is not allowed.
+/// Ticks of WORK: its operand, or 1 if that number is not allowed.
 fn cost_of_work(v: i64) -> u32
     ensures cost { result ≡ cost_of_work v }
     ensures limit { result ≤ MOST_WORK_TICKS }
@@ -28,7 +28,7 @@ fn cost_of_work(v: i64) -> u32
     if is_work(v) { v as u32 } else { UNKNOWN_COST }
 }
 
-/// Ticks of SVC: those of the service, or 1 where there is none of that number.
+/// Ticks of SVC: those of the service, or 1 if no service has this number.
 fn cost_of_service_call(costs: &Costs, x: u32) -> u32
     ensures { result ≡ cost_of_service_call costs.now (service_of x) }
 {

@@ -24,7 +24,7 @@ impl Registers {
         self.push_or(reach, ErrorKind::MemoryViolation, self.sp, v)
     }
 
-    /// Changes a word of the data, with so many operands popped.
+    /// Changes a word of the data, and pops `popped` operands.
     fn store_word(&mut self, reach: &mut Reach, popped: u32, place: usize, v: i64) -> Turn
         requires next { self.old.pc + 1 < 2 ^ 32 }
         requires operands { popped ≤ self.old.sp }
@@ -39,7 +39,7 @@ impl Registers {
         self.go_on(self.pc + 1, self.sp - popped)
     }
 
-    /// Changes a word of the own stack, with so many operands popped.
+    /// Changes a word of the own stack, and pops `popped` operands.
     #[tactic(auto, using(crate::proofs::Stack::words))]
     fn store_own(&mut self, reach: &mut Reach, popped: u32, place: usize, v: i64) -> Turn
         requires next { self.old.pc + 1 < 2 ^ 32 }

@@ -1,4 +1,4 @@
-//! What one tick of a process comes to.
+//! The outcome of one tick of a process.
 
 ghost use Rattle.std.specs.Prelude.{◌≡◌};
 ghost use Rattle.bursts.specs.Bursts.{is_nothing};
@@ -6,12 +6,12 @@ ghost use Rattle.processor.specs.Views.{asks_of};
 
 use apex_types::{Call, ErrorKind};
 
-/// What one tick of a process comes to.
+/// The outcome of one tick of a process.
 #[derive(Clone, Copy)]
 pub enum Outcome {
     /// The tick was only counted, or the process awaits an answer: nothing else changed.
     Busy,
-    /// An instruction had its effect, on the process and its partition's data alone.
+    /// An instruction had its effect, only on the process and its partition's data.
     Local,
     /// The process calls a service, and awaits its answer.
     Call(Call),
@@ -22,7 +22,7 @@ pub enum Outcome {
 }
 
 impl Outcome {
-    /// Whether the tick asks the kernel for nothing.
+    /// Whether the tick makes no request of the kernel: no call, no fault, and no end of the body.
     pub fn is_quiet(&self) -> bool
         ensures { result ≡ is_nothing (asks_of self.now) }
     {
@@ -33,7 +33,7 @@ impl Outcome {
     }
 }
 
-/// So many ticks of a process, and what the last of them came to.
+/// A number of ticks of a process, and the outcome of the last.
 #[derive(Clone, Copy)]
 pub struct Burst {
     pub ticks: u32,

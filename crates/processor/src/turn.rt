@@ -1,11 +1,11 @@
-//! What an instruction comes to in its last tick.
+//! The result of an instruction in its last tick.
 
 ghost use Rattle.std.specs.Prelude.{◌≡◌};
 ghost use Rattle.processor.specs.Turns.{goes};
 
 use apex_types::ErrorKind;
 
-/// What an instruction comes to in its last tick.
+/// The result of an instruction in its last tick.
 #[derive(Clone, Copy)]
 pub(crate) enum Turn {
     /// It had its effect.

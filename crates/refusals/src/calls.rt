@@ -1,5 +1,5 @@
-//! The calls that take memory, each with a line when it begins and one with its answer. Where one is
-//! refused it is made again, so that a single refusal is followed by the right answer.
+//! The calls that take memory, each with a line when it begins and one with its answer. A refused
+//! call is made again, so that a single refusal is followed by the right answer.
 
 use crate::row::Row;
 use crate::sinks::Narrow;
@@ -28,7 +28,7 @@ pub fn tell(rt: &HostRuntime, row: &Row) -> io::Result<()> {
     Ok(())
 }
 
-/// Whether the table is read, and the source is accepted by the row of its one partition.
+/// Returns true if the table is read, and the source is accepted by the row of its one partition.
 fn tell_table(rt: &HostRuntime, row: &Row) -> bool {
     let Some(table) = table(rt, row) else {
         return false;
@@ -56,7 +56,7 @@ fn table(rt: &HostRuntime, row: &Row) -> Option<ModuleTable> {
     None
 }
 
-/// The program that the source is, if it is accepted.
+/// The program of the source, if it is accepted.
 fn checked(rt: &HostRuntime, row: &Row, partition: &PartitionRow) -> Option<Checked> {
     let program = parsed(rt, row)?;
     begin(rt, "check");
@@ -72,7 +72,7 @@ fn checked(rt: &HostRuntime, row: &Row, partition: &PartitionRow) -> Option<Chec
     }
 }
 
-/// The program that the source is.
+/// The program of the source.
 fn parsed(rt: &HostRuntime, row: &Row) -> Option<Program> {
     for _ in 0..2 {
         begin(rt, "parse");
@@ -102,8 +102,8 @@ fn built(rt: &HostRuntime, row: &Row) -> Option<Vec<u8>> {
     None
 }
 
-/// Runs the image, one tick after another or by one call, or replays its partition, and tells what was
-/// answered. Whether it was not refused.
+/// Runs the image, one tick after another or by one call, or replays its partition, and prints the
+/// answer. Returns true if the call was not refused.
 fn writes(rt: &HostRuntime, row: &Row, image: &[u8], call: &str) -> bool {
     let mut sink = Narrow::wide(row.trace.as_slice());
     let (devices, inputs) = (row.devices.as_slice(), row.inputs.as_slice());
@@ -123,7 +123,8 @@ fn writes(rt: &HostRuntime, row: &Row, image: &[u8], call: &str) -> bool {
     answer.is_ok()
 }
 
-/// Tells what was answered, and what the sink has taken.
+/// Prints whether the sink has taken the trace or, for a fault, the fault and the number of bytes
+/// that the sink has taken.
 fn tell_answer(rt: &HostRuntime, answer: &Result<(), RunFault>, sink: &Narrow<'_>) {
     match answer {
         Ok(()) if sink.has_all() => end(rt, "the trace"),

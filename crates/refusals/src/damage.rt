@@ -6,8 +6,8 @@ use std::alloc::{AllocError, Global};
 use std::io;
 use std::str::SplitWhitespace;
 
-/// Tells what a damaged copy of the image is answered: `runs`, or the refusal. The extent is its length and the
-/// ticks of its run; the words say which bytes are changed.
+/// Prints the answer to a damaged copy of the image: `runs`, or the refusal. The extent is its
+/// length and the ticks of its run; the words say which bytes are changed.
 pub fn tell<'a>(
     rt: &HostRuntime,
     base: &[u8],
@@ -30,7 +30,7 @@ pub fn tell<'a>(
     }
 }
 
-/// So many bytes that begin as the image does; behind its end they are 0.
+/// The first `length` bytes of the image; 0 behind its end.
 fn copy(alloc: Global, base: &[u8], length: usize) -> Result<Vec<u8>, AllocError> {
     let mut image = Vec::from_slice(alloc, base.get(..length).unwrap_or(base))?;
     for _ in image.len()..length {
@@ -39,7 +39,7 @@ fn copy(alloc: Global, base: &[u8], length: usize) -> Result<Vec<u8>, AllocError
     Ok(image)
 }
 
-/// Changes the byte that a word `PLACE=BYTE` names. Whether there is such a place.
+/// Changes the byte that a word `PLACE=BYTE` names. Returns false if the image has no such place.
 fn change(image: &mut [u8], word: &str) -> bool {
     let Some((place, byte)) = word.split_once('=') else {
         return false;

@@ -58,7 +58,7 @@ static WAYS: [Way; 8] = [
     },
 ];
 
-/// What was as it has to be.
+/// The numbers of runs, machines and failed ticks that met the expectation.
 #[derive(Clone, Copy)]
 struct Counts {
     runs: usize,
@@ -66,8 +66,8 @@ struct Counts {
     failed: usize,
 }
 
-/// Runs the module into sinks that fail, and tells for each way how many runs and machines had a beginning
-/// and answered Write, and how many ticks after that were Failed and put nothing.
+/// Runs the module into sinks that fail, and prints for each way how many runs and machines had a
+/// beginning and answered Write, and how many ticks after that were Failed and put nothing.
 pub fn tell(rt: &HostRuntime, row: &Row) -> io::Result<()> {
     let built = build(rt.alloc(), row.table.as_slice(), &[row.source.as_slice()]);
     let Ok(image) = built else {
@@ -102,14 +102,14 @@ pub fn tell(rt: &HostRuntime, row: &Row) -> io::Result<()> {
     Ok(())
 }
 
-/// Whether a run into a sink with so much room has its first bytes, and answers Write.
+/// Returns true if a run into a sink with this room has its first bytes, and answers Write.
 fn breaks_off(alloc: Global, row: &Row, image: &[u8], room: usize, way: &Way) -> bool {
     let mut sink = Narrow::new(row.trace.as_slice(), room, way);
     let answer = run(alloc, image, row.devices.as_slice(), row.ticks, &mut sink);
     answer == Err(RunFault::Write) && sink.failures == 1 && sink.has_beginning(room)
 }
 
-/// Whether a run into a sink with room for the whole trace has it.
+/// Returns true if a run into a sink with room for the whole trace has it.
 fn takes_all(alloc: Global, row: &Row, image: &[u8], way: &Way) -> bool {
     let room = row.trace.len();
     let mut sink = Narrow::new(row.trace.as_slice(), room, way);
@@ -117,8 +117,8 @@ fn takes_all(alloc: Global, row: &Row, image: &[u8], way: &Way) -> bool {
     answer.is_ok() && sink.failures == 0 && sink.has_all()
 }
 
-/// How many ticks of a machine, without device lines, are Failed after the one that answers Write; none where a
-/// tick answers anything else, or more is put.
+/// The number of ticks of a machine, without device lines, that answer Failed after the tick that
+/// answers Write; `None` if a tick answers anything else, or more is put.
 fn failed_ticks(
     alloc: Global,
     row: &Row,

@@ -1,18 +1,18 @@
-//! Calls the library where it has to give up: with memory that is refused, with sinks that fail, and with
-//! damaged images. It tells what is answered; `tests/refusals` runs it and judges what it tells.
+//! Calls the library where it has to give up: with memory that is refused, with sinks that fail,
+//! and with damaged images. It prints the answers; `tests/refusals` runs it and judges them.
 //!
 //! It answers lines of the standard input:
 //!
-//! - `calls FOLDER TICKS` makes the calls that take memory, one after another, on the module in that
-//!   folder, and runs it for so many ticks. Each call has a line when it begins and one with its answer.
-//!   Where one is refused, it is made again.
+//! - `calls FOLDER TICKS` makes the calls that take memory, one after another, on the module in
+//!   that folder, and runs it for `TICKS` ticks. Each call has a line when it begins and one with
+//!   its answer. A refused call is made again.
 //! - `sinks FOLDER TICKS` runs the module into sinks that fail, each after another number of bytes.
 //! - `base FILE` reads an image.
-//! - `image LENGTH TICKS PLACE=BYTE ..` gives a copy of it so many bytes, changes bytes, and runs it for so
-//!   many ticks.
+//! - `image LENGTH TICKS PLACE=BYTE ..` copies it to `LENGTH` bytes, changes bytes, and runs the
+//!   copy for `TICKS` ticks.
 //!
-//! In the folder lie a table, the source of its one partition `a`, a device text, what it brings the
-//! partition, and the trace.
+//! In the folder lie a table, the source of its one partition `a`, a device text, the inputs that
+//! it brings the partition, and the trace.
 #![tactic(auto)]
 
 mod calls;

@@ -2,7 +2,8 @@
 
 use std::{fs, io};
 
-/// The texts of a module with one partition, what comes to this partition, and the trace of so many ticks.
+/// The texts of a module with one partition, the inputs of this partition, and the trace of `ticks`
+/// ticks.
 #[derive(Drop)]
 pub struct Row {
     pub table: Vec<u8>,

@@ -1,4 +1,4 @@
-//! Where the traces go.
+//! The sinks of the traces.
 
 ghost use Rattle.std.specs.Prelude.{◌≡◌, None};
 
@@ -23,9 +23,9 @@ pub struct Way {
     pub name: &'static str,
     /// The most bytes that it takes in a call.
     pub most: usize,
-    /// Whether it fails by taking nothing, and not by an error.
+    /// True if it fails by taking nothing, and not by an error.
     pub is_stalling: bool,
-    /// Whether it fails once alone, and takes what comes behind that.
+    /// True if it fails only once, and takes all bytes after that.
     pub is_recovering: bool,
 }
 
@@ -37,8 +37,8 @@ static WIDE: Way = Way {
     is_recovering: false,
 };
 
-/// Compares what it takes with the text that is wanted. It takes so many bytes in all, and no more than
-/// so many a call. Then it fails.
+/// Compares what it takes with the wanted text. It takes `room` bytes in all, and at most
+/// `way.most` bytes a call. Then it fails.
 #[derive(Drop)]
 pub struct Narrow<'a> {
     wanted: &'a [u8],
@@ -71,12 +71,12 @@ impl<'a> Narrow<'a> {
         Narrow::new(wanted, usize::MAX, &WIDE)
     }
 
-    /// Whether it has taken so many bytes, and they begin the text.
+    /// Returns true if it has taken `length` bytes, and they begin the text.
     pub fn has_beginning(&self, length: usize) -> bool {
         self.taken == length && !self.differs
     }
 
-    /// Whether it has taken the text.
+    /// Returns true if it has taken the text.
     pub fn has_all(&self) -> bool {
         self.has_beginning(self.wanted.len())
     }

@@ -10,18 +10,18 @@ use image::{Image, load_image};
 use module::{Machine, RunFault, split_tick};
 use std::fmt::Display;
 
-/// Tells that a call begins.
+/// Prints that a call begins.
 pub fn begin(rt: &HostRuntime, call: &str) {
-    // Where the line is lost, whoever reads the others misses it.
+    // If the line is lost, a reader of the other lines misses it.
     let _ = println!(rt; "begin {call}");
 }
 
-/// Tells what a call answers.
+/// Prints the answer of a call.
 pub fn end<D: Display + Drop>(rt: &HostRuntime, answer: D) {
     let _ = println!(rt; "end {answer}");
 }
 
-/// The image that the bytes are.
+/// The image in the bytes.
 fn read(rt: &HostRuntime, image: &[u8]) -> Result<Image, RunFault> {
     begin(rt, "load_image");
     match load_image(rt.alloc(), image) {
@@ -74,7 +74,7 @@ fn device_lines(
     }
 }
 
-/// Loads the image, and runs it for so many ticks, one by one, with what the device text says.
+/// Loads the image, and runs it for `ticks` ticks, one by one, with the lines of the device text.
 pub fn drive<S: Sink>(
     rt: &HostRuntime,
     image: &[u8],

@@ -1,4 +1,4 @@
--- What is seen of stacks with one of them changed or selected.
+-- Views of stacks with one of them changed or selected.
 use Rattle.std.proofs.Common.{◌≡◌, ℕ, zero, suc, ◌<◌, List, [], ◌∷◌, length, map, refl, ap, arith}
 use Rattle.std.specs.Prelude.{get_or, slice_get, slice_set, Some}
 use Rattle.std.proofs.lemmas.List.{map-set, get_or-map, get_or-set_same, length-map, length-set}
@@ -17,13 +17,13 @@ put_back [] (suc i) x d = refl
 put_back (z ∷ xs) zero x d = refl
 put_back (z ∷ xs) (suc i) x d = ap (λ l. z ∷ l) (put_back xs i x d)
 
--- what is seen of the element at a place
+-- the view of the element at a place
 pub seen_at : {A B : Type 0} (view : A → B) (xs : List A) (i : ℕ) (d : A) (y : B) → slice_get (map view xs) i ≡ Some y → view (get_or xs i d) ≡ y
 seen_at view [] i d y e = absurd (none-some y e)
 seen_at view (x ∷ xs) zero d y e = same_Some (view x) y e
 seen_at view (x ∷ xs) (suc i) d y e = seen_at view xs i d y e
 
--- what is seen at a place where an element was put
+-- the view at a place where an element was put
 pub seen_put : {A B : Type 0} (view : A → B) (xs : List A) (i : ℕ) (x : A) (y : B) → i < length xs → view x ≡ y → slice_get (map view (slice_set xs i x)) i ≡ Some y
 seen_put view [] i x y within e = absurd (omega (arith, within))
 seen_put view (z ∷ xs) zero x y within e = ap Some e

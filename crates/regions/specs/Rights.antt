@@ -1,9 +1,9 @@
--- The regions by their numbers, and what may be done with the words of each.
+-- The regions by their numbers, and the rights to the words of each.
 use Rattle.std.specs.Prelude.{ℕ, ◌+◌, nat_eq, if◌then◌else◌, Option, Some, None, Bool, true, false}
 use Rattle.regions.specs.declared.region.Region.{Region}
 use Rattle.regions.specs.declared.region.Region.TheVariants.{Code, Data, Stack}
 
--- 0 is the code, 1 the data, 2 the running process's own stack
+-- 0 is the code, 1 the data, 2 the current runner's own stack
 abbrev pub number_of : Region → ℕ
 number_of Code = 0
 number_of Data = 1
@@ -26,7 +26,7 @@ write = 2
 abbrev pub execute : ℕ
 execute = 4
 
--- the code may be executed alone, the data and the own stack may be read and written
+-- the code may only be executed; the data and the own stack may be read and written
 abbrev pub rights_of : Region → ℕ
 rights_of Code = execute
 rights_of Data = read + write

@@ -1,7 +1,7 @@
-//! The memory of all partitions, and what each of them may touch of it.
+//! The memory of all partitions, and the part of it that each of them may touch.
 //!
 //! [`Memory`] holds the words of every partition. It lends one partition's part at a time, a
-//! [`PartitionMem`]; whoever borrows that part can reach no word of another partition.
+//! [`PartitionMem`]; its borrower can reach no word of another partition.
 #![tactic(auto)]
 
 mod memory;

@@ -6,7 +6,7 @@ use apex_types::PartitionId;
 use std::alloc::{AllocError, Global};
 use std::marker::Model;
 
-/// The memory of all partitions, in their order. How many words each part has never changes.
+/// The memory of all partitions, in their order. The number of words of each part never changes.
 #[derive(Drop)]
 pub struct Memory {
     parts: Vec<PartitionMem>,
@@ -29,8 +29,8 @@ impl Memory {
     ghost use Rattle.regions.specs.contracts.memory.Memory.{the_row};
     ghost use Rattle.regions.specs.contracts.partition_mem.PartitionMem.{the_row as part_row};
 
-    /// The memory of all partitions at once: of each its initial data, and stacks of zeros. An
-    /// error is one of memory.
+    /// The memory of all partitions at once: of each its initial data, and stacks of zeros. Fails
+    /// only if memory runs out.
     pub fn new(alloc: Global, plan: &[MemoryPlan]) -> Result<Memory, AllocError>
         ensures { IfOk result (λ memory. memory ≡ map planned plan.now) }
     {

@@ -13,8 +13,8 @@ use std::alloc::{AllocError, Global};
 use std::marker::Model;
 use std::mem;
 
-/// The words of one partition: its data, and the stacks of those that run in it. One of the stacks
-/// is the own stack of the one that runs; the others cannot be reached until they are selected.
+/// The words of one partition: its data, and the stacks of its runners. One of the stacks is the
+/// own stack of the current runner; the others cannot be reached until they are selected.
 #[derive(Drop)]
 pub struct PartitionMem {
     reach: Reach,
@@ -44,7 +44,7 @@ fn zeroed_stacks(alloc: Global, lengths: &[u16]) -> Result<Vec<Vec<i64>>, AllocE
     Ok(stacks)
 }
 
-/// The word at a place, where there is one.
+/// The word at a place. The error is a memory violation if `words` has no such place.
 fn word_at(words: &[i64], place: usize) -> Result<i64, ErrorKind>
     ensures { result ≡ ok_or (slice_get words.now place) ErrorKind.MemoryViolation }
 {
@@ -56,7 +56,8 @@ impl PartitionMem {
     ghost use Rattle.regions.specs.contracts.partition_mem.PartitionMem.{the_row};
     ghost use Rattle.regions.specs.contracts.reach.Reach.{the_row as reach_row};
 
-    /// The initial data and stacks of zeros; the first stack is selected. An error is one of memory.
+    /// The initial data and stacks of zeros; the first stack is selected. Fails only if memory runs
+    /// out.
     pub(crate) fn new(alloc: Global, plan: &MemoryPlan) -> Result<PartitionMem, AllocError>
         ensures { IfOk result (λ memory. memory ≡ planned plan.now) }
     {
@@ -85,7 +86,8 @@ impl PartitionMem {
         }
     }
 
-    /// Changes the word at a place of the data, where there is one.
+    /// Changes the word at a place of the data. The error is a memory violation if the data has no
+    /// such place.
     #[tactic(auto, using(crate::proofs::Lists::stacks))]
     fn store_data(&mut self, place: usize, word: i64) -> Result<(), ErrorKind>
         ensures result { result ≡ allowed (nat_lt place (length self.old.words)) }
@@ -99,7 +101,8 @@ impl PartitionMem {
         Ok(())
     }
 
-    /// Changes the word at a place of the own stack, where there is one.
+    /// Changes the word at a place of the own stack. The error is a memory violation if the stack
+    /// has no such place.
     #[tactic(auto, using(crate::proofs::Lists::stacks))]
     fn store_stack(&mut self, place: usize, word: i64) -> Result<(), ErrorKind>
         ensures result { result ≡ allowed (nat_lt place (length self.old.stack)) }
@@ -130,8 +133,8 @@ impl PartitionMem {
         }
     }
 
-    /// What the one that runs may touch. After the loan it is as the borrower left it, and the other stacks
-    /// are as they were.
+    /// Lends the words that the current runner may touch. After the loan they are as the borrower
+    /// left them, and the other stacks are as they were.
     pub fn reach(&mut self) -> &mut Reach
         ensures* back { sem 𝓛 (Lends the_row reach_row self.entry result (λ r. put self.entry.now r.stack.items r.words.items)) }
         ensures words { result.now.words.items ≡ self.old.words }
@@ -147,14 +150,14 @@ impl PartitionMem {
         &self.reach.words
     }
 
-    /// How many words the data have.
+    /// The number of words of the data.
     pub fn data_len(&self) -> usize
         ensures { result ≡ length self.now.words }
     {
         self.reach.words.len()
     }
 
-    /// How many words the own stack has, at most 65,535.
+    /// The number of words of the own stack, at most 65,535.
     pub fn stack_len(&self) -> usize
         ensures words { result ≡ length self.now.stack }
         ensures most { result ≤ 65_535 }
@@ -162,7 +165,7 @@ impl PartitionMem {
         self.reach.stack.len()
     }
 
-    /// The data become these words, which are as many.
+    /// Replaces the data by these words, which are as many.
     pub fn restore(&mut self, words: &[i64])
         requires { length words.now ≡ length self.old.words }
         ensures { self.new ≡ put self.old self.old.stack words.now }
@@ -178,8 +181,8 @@ impl PartitionMem {
         self.reach.stack.fill(0);
     }
 
-    /// The stack at a place becomes the own one. The answer is whether there is one; if not,
-    /// nothing changes.
+    /// Selects the stack at a place as the own one. Returns false, and changes nothing, if there is
+    /// no such stack.
     #[tactic(auto, using(crate::proofs::Lists::stacks))]
     pub fn select(&mut self, place: usize) -> bool
         ensures there { result ≡ nat_lt place (length self.old.rest) }

@@ -1,9 +1,9 @@
-//! What memory a partition is to have.
+//! The memory that a partition is to have.
 
 ghost use Rattle.std.specs.Prelude.{◌<◌, length};
 
-/// The memory that a partition asks for: its initial data, and the words of the stack of each that
-/// may run in it. There is one stack at least.
+/// The memory that a partition asks for: its initial data, and the words of the stack of each of
+/// its runners. It has at least one stack.
 #[derive(Drop)]
 pub struct MemoryPlan {
     pub initial: Vec<i64>,

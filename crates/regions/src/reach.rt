@@ -1,8 +1,9 @@
-//! What the one that runs may touch.
+//! The words that the current runner may touch.
 
 ghost use Rattle.std.specs.Prelude.{◌≤◌, length};
 
-/// What the one that runs may touch: its partition's data, and its own stack of at most 65,535 words.
+/// The words that the current runner may touch: its partition's data, and its own stack of at most
+/// 65,535 words.
 #[derive(Drop)]
 pub struct Reach {
     pub words: Vec<i64>,

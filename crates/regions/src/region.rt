@@ -1,11 +1,11 @@
-//! The regions of a partition's memory, and what may be done with each.
+//! The regions of a partition's memory, and the rights to each.
 
 ghost use Rattle.std.specs.Prelude.{⊤, ◌≡◌, [], ◌∷◌, codes};
 ghost use Rattle.regions.specs.Rights.{is_readable, is_writable, region_at, rights_of};
 
 use bitflags::{Flag, Flags, bitflag_items};
 
-/// What may be done with the words of a region.
+/// The rights to the words of a region.
 #[derive(Clone, Copy, Debug, PartialEq, Eq)]
 pub struct Rights(u8);
 
@@ -46,12 +46,12 @@ pub enum Region {
     Code,
     /// The partition's data, which all its processes share.
     Data,
-    /// The stack of the one that runs.
+    /// The stack of the current runner.
     Stack,
 }
 
 impl Region {
-    /// The region of a number, where there is one.
+    /// The region of a number, or `None` if no region has that number.
     pub fn from_number(number: u32) -> Option<Region>
         ensures { result ≡ region_at number }
     {
@@ -63,7 +63,7 @@ impl Region {
         }
     }
 
-    /// What may be done with the words of the region.
+    /// The rights to the words of the region.
     pub fn rights(self) -> Rights
         ensures { result.0 ≡ rights_of self }
     {
@@ -73,14 +73,14 @@ impl Region {
         }
     }
 
-    /// Whether the words of the region may be read.
+    /// Returns true if the words of the region may be read.
     pub(crate) fn is_readable(self) -> bool
         ensures { result ≡ is_readable self }
     {
         self.rights().contains(Rights::READ)
     }
 
-    /// Whether the words of the region may be written.
+    /// Returns true if the words of the region may be written.
     pub(crate) fn is_writable(self) -> bool
         ensures { result ≡ is_writable self }
     {

@@ -1,4 +1,4 @@
--- What is seen of a list of parts with one of them changed.
+-- Views of a list of parts with one of them changed.
 use Rattle.std.proofs.Common.{◌≡◌, ℕ, zero, suc, ◌+◌, ℤ, List, [], ◌∷◌, ◌++◌, map, take, drop, refl, ap, ◌∙◌, sym, arith}
 use Rattle.std.specs.Prelude.{get_or, slice_get, slice_set, Option, Some, None}
 use Rattle.std.proofs.Math.Seq.{map-set_same}

@@ -11,7 +11,7 @@ use Rattle.scripted.specs.declared.executor.Scripted.{Scripted}
 abbrev pub script_of : Part → List Asks
 script_of part = map asks_of part.outcomes.items
 
--- what is left of the script, where something is left to do
+-- the rest of the script, if something is left to do
 abbrev pub control_of : Part → Option (List Asks)
 control_of part = option_map (λ place. map asks_of (drop place part.outcomes.items)) part.next
 

@@ -1,9 +1,9 @@
--- A script as an engine: a control is what is left of it.
+-- A script as an engine: a control is the rest of the script.
 use Rattle.std.specs.Prelude.{ℤ, List, [], ◌∷◌, get_or}
 use Rattle.apex_types.specs.Runners.{place_of}
 use Rattle.engine_meaning.specs.Engine.{Engine, Ticked, Asks, Nothing}
 
--- the next of what is asked; behind the last there is nothing
+-- the next request; nothing behind the last
 abbrev pub plays : List Asks → List ℤ → Ticked (List Asks)
 plays [] words = record { control = []; words = words; asks = Nothing }
 plays (asks ∷ rest) words = record { control = rest; words = words; asks = asks }

@@ -34,7 +34,7 @@ impl Scripted {
         }
     }
 
-    /// How often it was called for ticks, whether for one or for many at once.
+    /// The number of calls for ticks, for one or for many at once.
     pub fn calls(&self) -> u64
         ensures { result ≡ self.now.calls }
     {

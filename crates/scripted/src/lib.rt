@@ -1,5 +1,5 @@
-//! An executor that plays a script: what the ticks of each runner come to is written down. It stands
-//! in for the processor where a test says itself what the processes of a partition do.
+//! An executor that plays a script: the outcomes of the ticks of each runner are written down. It
+//! stands in for the processor in tests that define what the processes of a partition do.
 #![tactic(auto)]
 
 mod executor;

@@ -12,9 +12,9 @@ use processor::{Burst, Outcome};
 /// A runner with its script.
 #[derive(Drop)]
 pub struct Part {
-    /// What its ticks come to, one after the other. Behind the last one it is busy.
+    /// The outcomes of its ticks, one after the other. After the last one it is busy.
     pub(crate) outcomes: Vec<Outcome>,
-    /// The place of the next one, where something is left to do.
+    /// The place of the next outcome; `None` if nothing is left to do.
     pub(crate) next: Option<usize>,
 }
 
@@ -38,7 +38,7 @@ impl Part {
         self.next = Some(0);
     }
 
-    /// Nothing is left to do.
+    /// Ends the script: nothing is left to do.
     pub(crate) fn stop(&mut self)
         ensures control { control_of self.new ≡ None }
         ensures script { script_of self.new ≡ script_of self.old }
@@ -46,7 +46,7 @@ impl Part {
         self.next = None;
     }
 
-    /// The next of the script, where something is left to do.
+    /// Plays the next outcome of the script; `Busy` if nothing is left to do.
     #[tactic(auto, using(std::proofs::lemmas::List::drop_more))]
     pub(crate) fn tick(&mut self) -> Outcome
         ensures control { (scripts : _) (words : List ℤ)
@@ -67,7 +67,7 @@ impl Part {
         outcome
     }
 
-    /// So many of the script, or those up to the first that asks for something.
+    /// Plays `k` ticks of the script, or those up to the first that asks for something.
     pub(crate) fn advance(&mut self, k: u32) -> Burst
         ensures burst { (scripts : _) (words : List ℤ)
             → record {

@@ -1,7 +1,7 @@
--- The bytes that files hold by name, where those are told.
+-- The bytes that files hold by name, if they are known.
 use Rattle.std.specs.Prelude.{◌≡◌, ◌≢◌, ℕ, List, [], ◌∷◌, Option, Some, None}
 
--- of each name its bytes, and nothing where there is no such file
+-- the bytes of each name, or nothing if there is no such file
 abbrev pub Contents : Type 0
 Contents = List ℕ → Option (List ℕ)
 
@@ -15,7 +15,7 @@ HoldAll files [] [] = Unit {0}
 HoldAll files (name ∷ names) (text ∷ texts) = Holds files name text × HoldAll files names texts
 HoldAll files _ _ = ⊥
 
--- every file but that of this name is as it was
+-- every file except that of this name is as it was
 abbrev pub Spares : List ℕ → Option Contents → Option Contents → Type 0
 Spares name None new = Unit {0}
 Spares name (Some old) None = ⊥

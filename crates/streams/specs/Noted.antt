@@ -1,9 +1,9 @@
--- The names of what was not to be had, in the order of the calls.
+-- The names that were not available, in the order of the calls.
 use Rattle.std.specs.Prelude.{◌≡◌, ℕ, List, [], ◌∷◌, ◌++◌, Result, Ok, Err}
 use Rattle.streams.specs.declared.names.NameFault.{NameFault}
 use Rattle.streams.specs.declared.names.NameFault.TheVariants.{Unavailable, Memory}
 
--- A call that fails notes its name; want of memory is no failure of what has the name.
+-- A call that fails notes its name; running out of memory is no failure of a file or text.
 abbrev pub IsNotedFault : List ℕ → List (List ℕ) → List (List ℕ) → NameFault → Type 0
 IsNotedFault name old new Unavailable = new ≡ old ++ name ∷ []
 IsNotedFault name old new Memory = new ≡ old

@@ -1,8 +1,9 @@
--- What is seen of a stream at one time, and what it takes.
+-- The state of a stream at one time, and the bytes that it takes.
 use Rattle.std.specs.Prelude.{◌≡◌, ◌⊎◌, ◌+◌, ℕ, Bool, true, List, [], ◌∷◌, ◌++◌, Option}
 use Rattle.std.specs.Io.KnownBytes.{Appends}
 
--- The bytes that it has taken, where it tells them; its failures so far; and whether all that it took was flushed.
+-- The bytes that it has taken, if they are known; its failures so far; and whether all that it took
+-- was flushed.
 pub record Seen : Type 0 where
   pub taken : Option (List ℕ)
   pub failures : ℕ

@@ -7,14 +7,14 @@ ghost use Rattle.streams.specs.Noted.{IsNoted};
 use crate::names::NameFault;
 use std::alloc::Global;
 
-/// What the commands read and write by name.
+/// The files that the commands read and write by name.
 pub trait Files {
-    /// The bytes of each name, and none where there is no such file; nothing where the files are
-    /// not told.
+    /// The bytes of each name, or `None` if there is no such file; `None` for all if the files are
+    /// not known.
     ghost contents: { Self → Option (List ℕ → Option (List ℕ)) } = { λ _. None };
 
     /// The names of the files that were not read or not written so far, one for each call that
-    /// failed. Want of memory is no failure of a file.
+    /// failed. Running out of memory is no failure of a file.
     ghost failed: { Self → List (List ℕ) };
 
     /// The bytes of the file of that name. Nothing is changed.
@@ -23,8 +23,8 @@ pub trait Files {
         ensures unchanged { contents self.new ≡ contents self.old }
         ensures noted { IsNoted name.now (failed self.old) (failed self.new) result };
 
-    /// Makes these the bytes of the file of that name, and touches no other. After an error its
-    /// bytes are not said.
+    /// Writes these bytes as the file of that name, and touches no other file. After an error the
+    /// bytes of the file are unspecified.
     fn write(&mut self, name: &str, bytes: &[u8]) -> Result<(), NameFault>
         ensures held { OnOk result (Holds (contents self.new) name.now bytes.now) }
         ensures others { Spares name.now (contents self.old) (contents self.new) }

@@ -1,5 +1,5 @@
-//! What the programs read and write by name, and where they write: streams that count their
-//! failures and keep bytes back until they are flushed.
+//! The files and texts that the programs read and write by name, and their outputs: streams that
+//! count their failures and keep bytes back until they are flushed.
 #![tactic(auto)]
 
 mod files;

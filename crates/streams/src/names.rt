@@ -1,4 +1,4 @@
-//! The names of what failed, and why it did.
+//! The names of failed files and texts, and the reasons.
 
 ghost use Rattle.std.specs.Prelude.{◌≡◌, ◌++◌, ◌∷◌, [], OnOk, OnErr};
 ghost use Rattle.streams.specs.Names.{names_of};
@@ -7,7 +7,7 @@ ghost use Rattle.streams.specs.Noted.{IsNotedFault};
 use std::alloc::{AllocError, Global};
 use std::io::ErrorKind;
 
-/// Why what has a name is not to be had.
+/// Why a named file or text is not available.
 #[derive(Clone, Copy, Debug, PartialEq, Eq)]
 pub enum NameFault {
     /// It cannot be opened, read or written.
@@ -44,8 +44,8 @@ impl FailedNames {
         }
     }
 
-    /// The fault of a call on what has this name and is not there. The name is noted; where there is
-    /// no memory to note it, want of memory is the fault.
+    /// The fault of a call on a file or text of this name that is not available. Notes the name;
+    /// the fault is `Memory` if there is no memory to note it.
     pub fn unavailable(&mut self, alloc: Global, name: &str) -> NameFault
         ensures { IsNotedFault name.now (names_of self.old) (names_of self.new) result }
     {
@@ -55,7 +55,7 @@ impl FailedNames {
         }
     }
 
-    /// The fault where a call on what has this name failed by an error of this kind.
+    /// The fault of a call on this name that failed with an error of this kind.
     pub fn fault_of(&mut self, alloc: Global, name: &str, kind: ErrorKind) -> NameFault
         ensures memory { kind ≡ ErrorKind.OutOfMemory → result ≡ NameFault.Memory }
         ensures noted { IsNotedFault name.now (names_of self.old) (names_of self.new) result }

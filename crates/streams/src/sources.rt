@@ -11,15 +11,15 @@ use std::io::Read;
 pub trait Sources {
     type Reader: Read + Drop;
 
-    /// The text of each name, and none where there is no such text; nothing where the texts are
-    /// not told.
+    /// The text of each name, or `None` if there is no such text; `None` for all if the texts are
+    /// not known.
     ghost texts: { Self → Option (List ℕ → Option (List ℕ)) } = { λ _. None };
 
     /// The names of the texts that were not opened so far, one for each call that failed.
     ghost unopened: { Self → List (List ℕ) };
 
-    /// A reader at the front of the text of that name; `-` is the standard input. Want of memory is
-    /// no failure of the text.
+    /// A reader at the front of the text of that name; `-` is the standard input. Running out of
+    /// memory is no failure of the text.
     fn open(&mut self, name: &str) -> Result<Self::Reader, NameFault>
         ensures opened { IfOk result
             (λ reader. Opens (texts self.old) name.now (Self.Reader.remaining reader)) }

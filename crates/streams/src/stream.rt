@@ -8,7 +8,7 @@ use std::fmt::Display;
 
 /// A sink that may keep bytes back until it is flushed.
 pub trait Stream: Sink {
-    /// Whether all that it took was flushed.
+    /// True if all that it took was flushed.
     ghost is_flushed: { Self → Bool };
 
     /// Puts all of a text. After an error a beginning of it may be out.

@@ -66,7 +66,7 @@ pub fn tell_text<S: Stream, D: Display + Drop>(stream: &mut S, text: D)
     ensures written { IsWritten (seen S.taken S.failures S.is_flushed stream.old)
         (seen S.taken S.failures S.is_flushed stream.new) }
 {
-    // What the stream does not take is not told.
+    // Text that the stream does not take is lost without a report.
     let _ = write_text(stream, text);
 }
 
@@ -77,6 +77,6 @@ pub fn tell_line<S: Stream, D: Display + Drop>(stream: &mut S, line: D)
         (TakesLine (seen S.taken S.failures S.is_flushed stream.old)
         (seen S.taken S.failures S.is_flushed stream.new)) }
 {
-    // What the stream does not take is not told.
+    // A line that the stream does not take is lost without a report.
     let _ = write_line(stream, line);
 }

@@ -17,12 +17,12 @@ use Rattle.kernel_meaning.specs.Sharing.{blocks, fills, first_waiting, handed_by
 use Rattle.kernel_meaning.specs.Sharing.{both}
 use Rattle.sync_objects.specs.Both.{delivers}
 
--- there is none
+-- without a message
 pub receives-none : (at : At) (b : Sharing Objects) (p : Runner) (array : ArrayPlace) (limit : ℤ) (place : ℕ) (x : Buffer) (ms : List (ArrayVec ℤ)) → slice_get ms 0 ≡ None → receives at b p array limit place x ms ≡ of_processes b (blocks at b.processes p limit (receiver place x array) (message []))
 receives-none at b p array limit place x [] e = refl
 receives-none at b p array limit place x (m ∷ ms) e = absurd (search rules)
 
--- there is one
+-- with a message
 pub receives-some : (at : At) (b : Sharing Objects) (p : Runner) (array : ArrayPlace) (limit : ℤ) (place : ℕ) (x : Buffer) (m : ArrayVec ℤ) (ms : List (ArrayVec ℤ)) → slice_get ms 0 ≡ Some m → receives at b p array limit place x ms ≡ after (answers b p service.ReceiveBuffer code.NoError (pos (length m.items) ∷ [])) (after (fills b (Some array) m) (admits b place (record x { messages = drop 1 ms }) (first_waiting b.processes (list place))))
 receives-some at b p array limit place x m [] e = absurd (search rules)
 receives-some at b p array limit place x m (n ∷ ms) e = search rules
@@ -33,7 +33,7 @@ set_twice [] (suc place) x y = refl
 set_twice (z ∷ xs) zero x y = refl
 set_twice (z ∷ xs) (suc place) x y = ap (λ rest. z ∷ rest) (set_twice xs place x y)
 
--- it makes no difference that the buffer stands there before
+-- the buffer stored before makes no difference
 pub admits-put : (s : Processes) (o : Objects) (place : ℕ) (x : Buffer) (first : Option (Runner × ProcessStatus)) → admits (both s (put_buffer o place x)) place x first ≡ admits (both s o) place x first
 admits-put s o place x None = ap (λ bs. becomes (both s o) (record o { buffers = bs })) (set_twice o.buffers place x x)
 admits-put s o place x (Some f) = ap (λ bs. let t = becomes (both s o) (record o { buffers = bs }) in after t (of_processes t.part (released s f.0 f.1 code.NoError))) (set_twice o.buffers place x (with_message x (handed_by s f.0)))

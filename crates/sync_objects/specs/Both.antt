@@ -1,4 +1,4 @@
--- What the services on objects are made of.
+-- The parts of the services on objects.
 use Rattle.std.specs.Prelude.{ℕ, ℤ, pos, Bool, true, false, [], ◌∷◌, length, Some}
 use Rattle.arrayvec.specs.ArrayVec.{ArrayVec}
 use Rattle.apex_types.specs.declared.codes.ReturnCode.TheVariants as code
@@ -16,7 +16,7 @@ abbrev pub number_of_occupied : Bool → ℕ
 number_of_occupied false = 0
 number_of_occupied true = 1
 
--- a message that was taken out of a buffer goes into an array, and the first sender goes on
+-- a message taken out of a buffer goes into the array, and the first sender is admitted
 abbrev pub delivers : Sharing Objects → Runner → ArrayPlace → ℕ → Buffer → ArrayVec ℤ → Step (Sharing Objects)
 delivers b p array place x m =
     after (answers b p service.ReceiveBuffer code.NoError (pos (length m.items) ∷ []))

@@ -14,16 +14,16 @@ ghost use Rattle.sync_objects.specs.Both.{number_of_occupied};
 ghost use Rattle.process_table_base.specs.declared.rooms.TheConstants.{ACTIONS_TO_GIVE_ALL, LINES_TO_GIVE_ALL};
 
 use apex_types::{
-    Action, ArrayPlace, Discipline, ListKey, Mode, Out, ReturnCode, Service, Waiting, Words,
+    Action, ArrayPlace, Discipline, ListKey, Out, ReturnCode, Service, Waiting, Words,
 };
 use process_table_base::{
     Handed, ProcessTable, Request, first_words, is_duration, is_large_enough, is_length,
 };
 use sync_objects_base::Objects;
 
-/// CREATE_BLACKBOARD (ARINC 653 Part 1, intrapartition communication): the blackboard of that number
-/// exists, and its output is its number; it is empty. INVALID_MODE: in normal mode; INVALID_CONFIG: no
-/// such blackboard is declared; NO_ACTION: it exists.
+/// CREATE_BLACKBOARD (ARINC 653 Part 1, intrapartition communication): creates the blackboard of
+/// this number, empty, and returns the number. INVALID_MODE: in normal mode; INVALID_CONFIG: no
+/// such blackboard is declared; NO_ACTION: it was already created.
 pub fn create_blackboard(
     table: &ProcessTable,
     objects: &mut Objects,
@@ -38,21 +38,16 @@ pub fn create_blackboard(
     ensures grows { Grows 1 1 out.old out.new }
 {
     let service = Service::CreateBlackboard;
-    if request.mode == Mode::Normal {
-        return table.refuse(request.caller, service, ReturnCode::InvalidMode, out);
+    let found = objects
+        .blackboard(name)
+        .map(|(place, blackboard)| (place, blackboard.created));
+    if let Some(place) = table.answer_create(&request, service, name, found, out) {
+        objects.create_blackboard(place);
     }
-    let Some((place, blackboard)) = objects.blackboard(name) else {
-        return table.refuse(request.caller, service, ReturnCode::InvalidConfig, out);
-    };
-    if blackboard.created {
-        return table.refuse(request.caller, service, ReturnCode::NoAction, out);
-    }
-    table.answer(request.caller, service, ReturnCode::NoError, &[name], out);
-    objects.create_blackboard(place);
 }
 
-/// GET_BLACKBOARD_ID (ARINC 653 Part 1, intrapartition communication): the number of a blackboard, as
-/// its output. INVALID_CONFIG: no blackboard of this number was created.
+/// GET_BLACKBOARD_ID (ARINC 653 Part 1, intrapartition communication): returns the number of a
+/// blackboard. INVALID_CONFIG: no blackboard of this number was created.
 pub fn get_blackboard_id(
     table: &ProcessTable,
     objects: &Objects,
@@ -67,16 +62,14 @@ pub fn get_blackboard_id(
     ensures grows { Grows 1 1 out.old out.new }
 {
     let service = Service::GetBlackboardId;
-    match objects.blackboard(name) {
-        Some((_, blackboard)) if blackboard.created => {
-            table.answer(request.caller, service, ReturnCode::NoError, &[name], out)
-        }
-        _ => table.refuse(request.caller, service, ReturnCode::InvalidConfig, out),
-    }
+    let created = objects
+        .blackboard(name)
+        .is_some_and(|(_, blackboard)| blackboard.created);
+    table.answer_id(request.caller, service, name, created, out);
 }
 
-/// The caller goes on; a blackboard displays a message, and all who wait take it in the order in which
-/// they came.
+/// Answers the caller. The blackboard displays the message, and all waiting processes take it in
+/// order of arrival.
 fn display(
     table: &mut ProcessTable,
     objects: &mut Objects,
@@ -100,8 +93,8 @@ fn display(
     objects.show(place, Some(message));
 }
 
-/// DISPLAY_BLACKBOARD (ARINC 653 Part 1, intrapartition communication): a blackboard displays the first
-/// words of those that the call hands in, and all who wait take them in the order in which they came.
+/// DISPLAY_BLACKBOARD (ARINC 653 Part 1, intrapartition communication): displays a message, the
+/// first `handed.length` words handed in; all waiting processes take it in order of arrival.
 /// INVALID_PARAM: no blackboard of this number was created, or a length below 1, above the
 /// blackboard's or above the array's.
 pub fn display_blackboard(
@@ -131,8 +124,8 @@ pub fn display_blackboard(
     display(table, objects, request, message, place, out);
 }
 
-/// CLEAR_BLACKBOARD (ARINC 653 Part 1, intrapartition communication): a blackboard displays nothing.
-/// INVALID_PARAM: no blackboard of this number was created.
+/// CLEAR_BLACKBOARD (ARINC 653 Part 1, intrapartition communication): removes the message of a
+/// blackboard. INVALID_PARAM: no blackboard of this number was created.
 pub fn clear_blackboard(
     table: &ProcessTable,
     objects: &mut Objects,
@@ -155,7 +148,8 @@ pub fn clear_blackboard(
     }
 }
 
-/// The message that a blackboard displays goes into an array. While it displays none the caller waits.
+/// Copies the displayed message into the array. Without one, blocks the caller for at most `limit`
+/// ticks.
 fn read(
     table: &mut ProcessTable,
     objects: &Objects,
@@ -190,12 +184,12 @@ fn read(
     table.block(request, limit, waiting, Words::new(), out);
 }
 
-/// READ_BLACKBOARD (ARINC 653 Part 1, intrapartition communication): the message that a blackboard
-/// displays goes into the array, and its words are counted. While it displays none the caller waits,
-/// at most so many ticks; -1 is without limit. INVALID_PARAM: no blackboard of this number was created,
-/// an array without room for its longest message, or a limit below -1 or above 2^40 ticks;
-/// NOT_AVAILABLE: it displays none and the limit is 0; INVALID_MODE: the caller may not wait;
-/// TIMED_OUT: it waited for so long.
+/// READ_BLACKBOARD (ARINC 653 Part 1, intrapartition communication): copies the displayed message
+/// into the array, and returns its length in words. Without one, blocks the caller for at most
+/// `limit` ticks; -1 is no limit. INVALID_PARAM: no blackboard of this number was created, an array
+/// without room for its longest message, or a limit below -1 or above 2^40 ticks; NOT_AVAILABLE: it
+/// displays none and the limit is 0; INVALID_MODE: the caller may not wait; TIMED_OUT: the wait
+/// reached the limit.
 pub fn read_blackboard(
     table: &mut ProcessTable,
     objects: &Objects,
@@ -230,9 +224,9 @@ fn indicator(occupied: bool) -> i64
     if occupied { 1 } else { 0 }
 }
 
-/// GET_BLACKBOARD_STATUS (ARINC 653 Part 1, intrapartition communication): 0 for an empty blackboard
-/// and 1 for one that displays a message, the most words of one, and how many processes wait.
-/// INVALID_PARAM: no blackboard of this number was created.
+/// GET_BLACKBOARD_STATUS (ARINC 653 Part 1, intrapartition communication): returns 0 for an empty
+/// blackboard and 1 for one that displays a message, the most words of a message, and the number of
+/// waiting processes. INVALID_PARAM: no blackboard of this number was created.
 #[tactic(auto, using(crate::proofs::Showing::showing))]
 pub fn get_blackboard_status(
     table: &ProcessTable,

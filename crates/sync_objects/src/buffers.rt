@@ -12,16 +12,16 @@ ghost use Rattle.kernel_meaning.specs.Sharing.{both};
 ghost use Rattle.sync_objects.specs.Both.{delivers};
 
 use apex_types::{
-    Action, ArrayPlace, Discipline, ListKey, Mode, Out, ReturnCode, Service, Waiting, Words,
+    Action, ArrayPlace, Discipline, ListKey, Out, ReturnCode, Service, Waiting, Words,
 };
 use process_table_base::{
     Handed, ProcessTable, Request, first_words, is_duration, is_large_enough, is_length,
 };
 use sync_objects_base::{BufferStatus, Objects};
 
-/// CREATE_BUFFER (ARINC 653 Part 1, intrapartition communication): the buffer of that number exists,
-/// and its output is its number; it is empty. INVALID_MODE: in normal mode; INVALID_CONFIG: no such
-/// buffer is declared; NO_ACTION: it exists.
+/// CREATE_BUFFER (ARINC 653 Part 1, intrapartition communication): creates the buffer of this
+/// number, empty, and returns the number. INVALID_MODE: in normal mode; INVALID_CONFIG: no such
+/// buffer is declared; NO_ACTION: it was already created.
 pub fn create_buffer(
     table: &ProcessTable,
     objects: &mut Objects,
@@ -36,21 +36,16 @@ pub fn create_buffer(
     ensures grows { Grows 1 1 out.old out.new }
 {
     let service = Service::CreateBuffer;
-    if request.mode == Mode::Normal {
-        return table.refuse(request.caller, service, ReturnCode::InvalidMode, out);
+    let found = objects
+        .buffer(name)
+        .map(|(place, buffer)| (place, buffer.created));
+    if let Some(place) = table.answer_create(&request, service, name, found, out) {
+        objects.create_buffer(place);
     }
-    let Some((place, buffer)) = objects.buffer(name) else {
-        return table.refuse(request.caller, service, ReturnCode::InvalidConfig, out);
-    };
-    if buffer.created {
-        return table.refuse(request.caller, service, ReturnCode::NoAction, out);
-    }
-    table.answer(request.caller, service, ReturnCode::NoError, &[name], out);
-    objects.create_buffer(place);
 }
 
-/// GET_BUFFER_ID (ARINC 653 Part 1, intrapartition communication): the number of a buffer, as its
-/// output. INVALID_CONFIG: no buffer of this number was created.
+/// GET_BUFFER_ID (ARINC 653 Part 1, intrapartition communication): returns the number of a buffer.
+/// INVALID_CONFIG: no buffer of this number was created.
 pub fn get_buffer_id(
     table: &ProcessTable,
     objects: &Objects,
@@ -64,16 +59,14 @@ pub fn get_buffer_id(
     ensures grows { Grows 1 1 out.old out.new }
 {
     let service = Service::GetBufferId;
-    match objects.buffer(name) {
-        Some((_, buffer)) if buffer.created => {
-            table.answer(request.caller, service, ReturnCode::NoError, &[name], out)
-        }
-        _ => table.refuse(request.caller, service, ReturnCode::InvalidConfig, out),
-    }
+    let created = objects
+        .buffer(name)
+        .is_some_and(|(_, buffer)| buffer.created);
+    table.answer_id(request.caller, service, name, created, out);
 }
 
-/// A message goes to the first receiver that waits, else behind the others of a buffer. While it is
-/// full the caller waits.
+/// Gives the message to the first waiting receiver; without one, appends it to the buffer. If the
+/// buffer is full, blocks the caller for at most `limit` ticks.
 fn send(
     table: &mut ProcessTable,
     objects: &mut Objects,
@@ -112,12 +105,12 @@ fn send(
     }
 }
 
-/// SEND_BUFFER (ARINC 653 Part 1, intrapartition communication): the first words of those that the
-/// call hands in go to the first receiver that waits, else behind the other messages of a buffer.
-/// While it is full the caller waits, at most so many ticks; -1 is without limit. INVALID_PARAM: no
-/// buffer of this number was created, a length below 1, above the buffer's or above the array's, or a
-/// limit below -1 or above 2^40 ticks; NOT_AVAILABLE: it is full and the limit is 0; INVALID_MODE: the
-/// caller may not wait; TIMED_OUT: it waited for so long.
+/// SEND_BUFFER (ARINC 653 Part 1, intrapartition communication): gives a message, the first
+/// `handed.length` words handed in, to the first waiting receiver; without one, appends it to the
+/// buffer. If the buffer is full, blocks the caller for at most `limit` ticks; -1 is no limit.
+/// INVALID_PARAM: no buffer of this number was created, a length below 1, above the buffer's or
+/// above the array's, or a limit below -1 or above 2^40 ticks; NOT_AVAILABLE: it is full and the
+/// limit is 0; INVALID_MODE: the caller may not wait; TIMED_OUT: the wait reached the limit.
 pub fn send_buffer(
     table: &mut ProcessTable,
     objects: &mut Objects,
@@ -150,7 +143,7 @@ pub fn send_buffer(
     send(table, objects, request, limit, message, place, buffer, out);
 }
 
-/// The message of the first sender that waits comes behind the others, and the sender is released.
+/// Appends the message of the first waiting sender, if any, to the buffer, and releases the sender.
 fn admit(table: &mut ProcessTable, objects: &mut Objects, place: u8, out: &mut Out)
     requires place { place < MOST_OBJECTS }
     requires free { let x = buffer_at objects.old place in length x.messages < x.row.depth }
@@ -167,7 +160,7 @@ fn admit(table: &mut ProcessTable, objects: &mut Objects, place: u8, out: &mut O
     }
 }
 
-/// A message goes into an array, and the first sender that waits goes on.
+/// Writes a message into the array, and admits the first waiting sender.
 fn deliver(
     table: &mut ProcessTable,
     objects: &mut Objects,
@@ -193,7 +186,8 @@ fn deliver(
     admit(table, objects, place, out);
 }
 
-/// The first message of a buffer goes into an array. While there is none the caller waits.
+/// Takes the first message of a buffer into the array. If the buffer is empty, blocks the caller
+/// for at most `limit` ticks.
 #[tactic(auto, using(crate::proofs::Receiving::receiving))]
 fn receive(
     table: &mut ProcessTable,
@@ -228,12 +222,12 @@ fn receive(
     table.block(request, limit, waiting, Words::new(), out);
 }
 
-/// RECEIVE_BUFFER (ARINC 653 Part 1, intrapartition communication): the first message of a buffer goes
-/// into the array, and its words are counted; the message of the first sender that waits comes behind
-/// the others. While there is none the caller waits, at most so many ticks; -1 is without limit.
-/// INVALID_PARAM: no buffer of this number was created, an array without room for its longest message,
-/// or a limit below -1 or above 2^40 ticks; NOT_AVAILABLE: it is empty and the limit is 0;
-/// INVALID_MODE: the caller may not wait; TIMED_OUT: it waited for so long.
+/// RECEIVE_BUFFER (ARINC 653 Part 1, intrapartition communication): takes the first message of a
+/// buffer into the array, and returns its length in words; appends the message of the first waiting
+/// sender. If the buffer is empty, blocks the caller for at most `limit` ticks; -1 is no limit.
+/// INVALID_PARAM: no buffer of this number was created, an array without room for its longest
+/// message, or a limit below -1 or above 2^40 ticks; NOT_AVAILABLE: it is empty and the limit is 0;
+/// INVALID_MODE: the caller may not wait; TIMED_OUT: the wait reached the limit.
 pub fn receive_buffer(
     table: &mut ProcessTable,
     objects: &mut Objects,
@@ -264,9 +258,9 @@ pub fn receive_buffer(
     );
 }
 
-/// GET_BUFFER_STATUS (ARINC 653 Part 1, intrapartition communication): how many messages a buffer
-/// holds, how many it has room for, the most words of one, and how many processes wait.
-/// INVALID_PARAM: no buffer of this number was created.
+/// GET_BUFFER_STATUS (ARINC 653 Part 1, intrapartition communication): returns the number of
+/// messages in a buffer, the number it has room for, the most words of a message, and the number of
+/// waiting processes. INVALID_PARAM: no buffer of this number was created.
 pub fn get_buffer_status(
     table: &ProcessTable,
     objects: &Objects,

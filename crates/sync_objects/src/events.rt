@@ -7,13 +7,13 @@ ghost use Rattle.kernel_meaning.specs.Made.{IsMade};
 ghost use Rattle.kernel_meaning.specs.Sharing.{both};
 ghost use Rattle.process_table_base.specs.declared.rooms.TheConstants.{ACTIONS_TO_RELEASE_ALL, LINES_TO_RELEASE_ALL};
 
-use apex_types::{Discipline, ListKey, Mode, Out, ReturnCode, Service, Waiting, Words};
+use apex_types::{Discipline, ListKey, Out, ReturnCode, Service, Waiting, Words};
 use process_table_base::{ProcessTable, Request, is_duration};
 use sync_objects_base::Objects;
 
-/// CREATE_EVENT (ARINC 653 Part 1, intrapartition communication): the event of that number exists,
-/// and its output is its number; it is down. INVALID_MODE: in normal mode; INVALID_CONFIG: no such
-/// event is declared; NO_ACTION: it exists.
+/// CREATE_EVENT (ARINC 653 Part 1, intrapartition communication): creates the event of this number,
+/// down, and returns the number. INVALID_MODE: in normal mode; INVALID_CONFIG: no such event is
+/// declared; NO_ACTION: it was already created.
 pub fn create_event(
     table: &ProcessTable,
     objects: &mut Objects,
@@ -28,21 +28,16 @@ pub fn create_event(
     ensures grows { Grows 1 1 out.old out.new }
 {
     let service = Service::CreateEvent;
-    if request.mode == Mode::Normal {
-        return table.refuse(request.caller, service, ReturnCode::InvalidMode, out);
+    let found = objects
+        .event(name)
+        .map(|(place, event)| (place, event.is_created()));
+    if let Some(place) = table.answer_create(&request, service, name, found, out) {
+        objects.create_event(place);
     }
-    let Some((place, event)) = objects.event(name) else {
-        return table.refuse(request.caller, service, ReturnCode::InvalidConfig, out);
-    };
-    if event.is_created() {
-        return table.refuse(request.caller, service, ReturnCode::NoAction, out);
-    }
-    table.answer(request.caller, service, ReturnCode::NoError, &[name], out);
-    objects.put_event(place, event.created());
 }
 
-/// GET_EVENT_ID (ARINC 653 Part 1, intrapartition communication): the number of an event, as its
-/// output. INVALID_CONFIG: no event of this number was created.
+/// GET_EVENT_ID (ARINC 653 Part 1, intrapartition communication): returns the number of an event.
+/// INVALID_CONFIG: no event of this number was created.
 pub fn get_event_id(
     table: &ProcessTable,
     objects: &Objects,
@@ -56,16 +51,15 @@ pub fn get_event_id(
     ensures grows { Grows 1 1 out.old out.new }
 {
     let service = Service::GetEventId;
-    match objects.event(name) {
-        Some((_, event)) if event.is_created() => {
-            table.answer(request.caller, service, ReturnCode::NoError, &[name], out)
-        }
-        _ => table.refuse(request.caller, service, ReturnCode::InvalidConfig, out),
-    }
+    let created = objects
+        .event(name)
+        .is_some_and(|(_, event)| event.is_created());
+    table.answer_id(request.caller, service, name, created, out);
 }
 
-/// SET_EVENT (ARINC 653 Part 1, intrapartition communication): an event is up, and all who wait for it
-/// are released in the order in which they came. INVALID_PARAM: no event of this number was created.
+/// SET_EVENT (ARINC 653 Part 1, intrapartition communication): sets an event up, and releases all
+/// processes that wait for it, in order of arrival. INVALID_PARAM: no event of this number was
+/// created.
 pub fn set_event(
     table: &mut ProcessTable,
     objects: &mut Objects,
@@ -89,8 +83,8 @@ pub fn set_event(
     }
 }
 
-/// RESET_EVENT (ARINC 653 Part 1, intrapartition communication): an event is down. INVALID_PARAM: no
-/// event of this number was created.
+/// RESET_EVENT (ARINC 653 Part 1, intrapartition communication): sets an event down. INVALID_PARAM:
+/// no event of this number was created.
 pub fn reset_event(
     table: &ProcessTable,
     objects: &mut Objects,
@@ -113,10 +107,10 @@ pub fn reset_event(
     }
 }
 
-/// WAIT_EVENT (ARINC 653 Part 1, intrapartition communication): while an event is down the caller
-/// waits, at most so many ticks; -1 is without limit. INVALID_PARAM: no event of this number was
+/// WAIT_EVENT (ARINC 653 Part 1, intrapartition communication): if an event is down, blocks the
+/// caller for at most `limit` ticks; -1 is no limit. INVALID_PARAM: no event of this number was
 /// created, or a limit below -1 or above 2^40 ticks; NOT_AVAILABLE: it is down and the limit is 0;
-/// INVALID_MODE: the caller may not wait; TIMED_OUT: it waited for so long.
+/// INVALID_MODE: the caller may not wait; TIMED_OUT: the wait reached the limit.
 pub fn wait_event(
     table: &mut ProcessTable,
     objects: &Objects,
@@ -157,8 +151,9 @@ fn number_of_state(up: bool) -> i64
     if up { 1 } else { 0 }
 }
 
-/// GET_EVENT_STATUS (ARINC 653 Part 1, intrapartition communication): the state of an event, 0 for
-/// down and 1 for up, and how many processes wait. INVALID_PARAM: no event of this number was created.
+/// GET_EVENT_STATUS (ARINC 653 Part 1, intrapartition communication): returns the state of an
+/// event, 0 for down and 1 for up, and the number of waiting processes. INVALID_PARAM: no event of
+/// this number was created.
 pub fn get_event_status(
     table: &ProcessTable,
     objects: &Objects,

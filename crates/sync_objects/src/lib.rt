@@ -1,5 +1,6 @@
-//! The services on semaphores, events, buffers and blackboards, one call each: a call makes the part
-//! of its service that the processes and the objects hold, and puts out its lines and what it asks for.
+//! The services on semaphores, events, buffers and blackboards, one function each: a function does
+//! the part of its service that concerns the processes and the objects, and adds its lines and
+//! actions to `out`.
 #![tactic(auto)]
 
 pub mod blackboards;

@@ -6,13 +6,13 @@ ghost use Rattle.kernel_meaning.specs.SemaphoreServices as meaning;
 ghost use Rattle.kernel_meaning.specs.Made.{IsMade};
 ghost use Rattle.kernel_meaning.specs.Sharing.{both};
 
-use apex_types::{ListKey, Mode, Out, ReturnCode, Service, Waiting, Words};
+use apex_types::{ListKey, Out, ReturnCode, Service, Waiting, Words};
 use process_table_base::{ProcessTable, Request, is_duration};
 use sync_objects_base::Objects;
 
-/// CREATE_SEMAPHORE (ARINC 653 Part 1, intrapartition communication): the semaphore of that number
-/// exists, and its output is its number. INVALID_MODE: in normal mode; INVALID_CONFIG: no such
-/// semaphore is declared; NO_ACTION: it exists.
+/// CREATE_SEMAPHORE (ARINC 653 Part 1, intrapartition communication): creates the semaphore of this
+/// number, and returns the number. INVALID_MODE: in normal mode; INVALID_CONFIG: no such semaphore
+/// is declared; NO_ACTION: it was already created.
 pub fn create_semaphore(
     table: &ProcessTable,
     objects: &mut Objects,
@@ -27,21 +27,16 @@ pub fn create_semaphore(
     ensures grows { Grows 1 1 out.old out.new }
 {
     let service = Service::CreateSemaphore;
-    if request.mode == Mode::Normal {
-        return table.refuse(request.caller, service, ReturnCode::InvalidMode, out);
+    let found = objects
+        .semaphore(name)
+        .map(|(place, semaphore)| (place, semaphore.is_created()));
+    if let Some(place) = table.answer_create(&request, service, name, found, out) {
+        objects.create_semaphore(place);
     }
-    let Some((place, semaphore)) = objects.semaphore(name) else {
-        return table.refuse(request.caller, service, ReturnCode::InvalidConfig, out);
-    };
-    if semaphore.is_created() {
-        return table.refuse(request.caller, service, ReturnCode::NoAction, out);
-    }
-    table.answer(request.caller, service, ReturnCode::NoError, &[name], out);
-    objects.put_semaphore(place, semaphore.created());
 }
 
-/// GET_SEMAPHORE_ID (ARINC 653 Part 1, intrapartition communication): the number of a semaphore, as
-/// its output. INVALID_CONFIG: no semaphore of this number was created.
+/// GET_SEMAPHORE_ID (ARINC 653 Part 1, intrapartition communication): returns the number of a
+/// semaphore. INVALID_CONFIG: no semaphore of this number was created.
 pub fn get_semaphore_id(
     table: &ProcessTable,
     objects: &Objects,
@@ -56,19 +51,17 @@ pub fn get_semaphore_id(
     ensures grows { Grows 1 1 out.old out.new }
 {
     let service = Service::GetSemaphoreId;
-    match objects.semaphore(name) {
-        Some((_, semaphore)) if semaphore.is_created() => {
-            table.answer(request.caller, service, ReturnCode::NoError, &[name], out)
-        }
-        _ => table.refuse(request.caller, service, ReturnCode::InvalidConfig, out),
-    }
+    let created = objects
+        .semaphore(name)
+        .is_some_and(|(_, semaphore)| semaphore.is_created());
+    table.answer_id(request.caller, service, name, created, out);
 }
 
-/// WAIT_SEMAPHORE (ARINC 653 Part 1, intrapartition communication): the value of a semaphore falls by
-/// one. At 0 the caller waits, at most so many ticks; -1 is without limit. INVALID_PARAM: no
-/// semaphore of this number was created, or a limit below -1 or above 2^40 ticks; NOT_AVAILABLE: the
-/// value is 0 and so is the limit; INVALID_MODE: the caller may not wait; TIMED_OUT: it waited for so
-/// long.
+/// WAIT_SEMAPHORE (ARINC 653 Part 1, intrapartition communication): lowers the value of a semaphore
+/// by one. If it is 0, blocks the caller for at most `limit` ticks; -1 is no limit. INVALID_PARAM:
+/// no semaphore of this number was created, or a limit below -1 or above 2^40 ticks; NOT_AVAILABLE:
+/// the value and the limit are 0; INVALID_MODE: the caller may not wait; TIMED_OUT: the wait
+/// reached the limit.
 pub fn wait_semaphore(
     table: &mut ProcessTable,
     objects: &mut Objects,
@@ -105,9 +98,9 @@ pub fn wait_semaphore(
     table.block(request, limit, waiting, Words::new(), out);
 }
 
-/// SIGNAL_SEMAPHORE (ARINC 653 Part 1, intrapartition communication): the first who waits for a
-/// semaphore is released; where nobody waits, its value rises by one. INVALID_PARAM: no semaphore of
-/// this number was created; NO_ACTION: its value is its maximum.
+/// SIGNAL_SEMAPHORE (ARINC 653 Part 1, intrapartition communication): releases the first process
+/// that waits for a semaphore; if none waits, raises its value by one. INVALID_PARAM: no semaphore
+/// of this number was created; NO_ACTION: its value is its maximum.
 pub fn signal_semaphore(
     table: &mut ProcessTable,
     objects: &mut Objects,
@@ -138,8 +131,9 @@ pub fn signal_semaphore(
     }
 }
 
-/// GET_SEMAPHORE_STATUS (ARINC 653 Part 1, intrapartition communication): the value of a semaphore,
-/// its maximum, and how many processes wait. INVALID_PARAM: no semaphore of this number was created.
+/// GET_SEMAPHORE_STATUS (ARINC 653 Part 1, intrapartition communication): returns the value of a
+/// semaphore, its maximum, and the number of waiting processes. INVALID_PARAM: no semaphore of this
+/// number was created.
 pub fn get_semaphore_status(
     table: &ProcessTable,
     objects: &Objects,

@@ -1,4 +1,4 @@
--- How the fields of the objects are seen, and what always holds of them.
+-- The view of the fields of the objects, and their invariants.
 use Rattle.std.specs.Prelude.{◌≤◌, length}
 use Rattle.apex_types.specs.declared.limits.TheConstants.{MOST_OBJECTS}
 use Rattle.kernel_meaning.specs.Objects as meaning
@@ -23,7 +23,7 @@ event_fields e = record { created = e.created; up = e.up }
 abbrev pub buffer_of : buffer.Inside → meaning.Buffer
 buffer_of b = record { row = b.row; created = b.created; messages = b.messages.items }
 
--- the messages are no more than there may be, and these have memory
+-- no more messages than there may be, and memory for as many as there may be
 pub record HasRing (b : buffer.Inside) : Type 0 where
   pub few : length b.messages.items ≤ b.row.depth
   pub room : b.row.depth ≤ b.messages.capacity
@@ -39,7 +39,7 @@ objects_of o = record {
   blackboards = o.blackboards.items;
 }
 
--- no more of a kind than a partition may have
+-- no more objects of a kind than a partition may have
 pub record AreFew (o : objects.Inside) : Type 0 where
   pub semaphores : length o.semaphores.items ≤ MOST_OBJECTS
   pub events : length o.events.items ≤ MOST_OBJECTS

@@ -25,7 +25,7 @@ impl Model for Blackboard {
     ghost view = { blackboard_of };
 }
 
-/// How a blackboard stands, without its message.
+/// The status of a blackboard, without its message.
 #[derive(Clone, Copy, Debug, PartialEq, Eq)]
 pub struct BlackboardStatus {
     pub row: BlackboardRow,
@@ -34,7 +34,7 @@ pub struct BlackboardStatus {
     pub occupied: bool,
 }
 
-/// The same words once more.
+/// A copy of the words.
 fn copied(words: &Words) -> Words
     ensures { result ≡ words.now }
 {
@@ -55,7 +55,7 @@ impl Blackboard {
         }
     }
 
-    /// The blackboard is not created, and displays nothing.
+    /// Resets the blackboard: it is not created, and displays nothing.
     pub(crate) fn clear(&mut self)
         ensures { self.new ≡ meaning.cleared_blackboard self.old }
     {
@@ -63,14 +63,14 @@ impl Blackboard {
         self.shown = None;
     }
 
-    /// It is created.
+    /// Creates the blackboard.
     pub(crate) fn create(&mut self)
         ensures { self.new ≡ record self.old { created = true } }
     {
         self.created = true;
     }
 
-    /// It displays a message, or none.
+    /// Displays a message, or none.
     pub(crate) fn show(&mut self, shown: Option<Words>)
         ensures { self.new ≡ record self.old { shown = shown } }
     {
@@ -87,7 +87,7 @@ impl Blackboard {
         }
     }
 
-    /// How it stands.
+    /// Its status.
     pub(crate) fn status(&self) -> BlackboardStatus
         ensures { result ≡ blackboard_status self.now }
     {

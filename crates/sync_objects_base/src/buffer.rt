@@ -29,7 +29,7 @@ impl Model for Buffer {
     ghost invariant = { HasRing };
 }
 
-/// How a buffer stands, without its messages.
+/// The status of a buffer, without its messages.
 #[derive(Clone, Copy, Debug, PartialEq, Eq)]
 pub struct BufferStatus {
     pub row: BufferRow,
@@ -51,7 +51,7 @@ impl Buffer {
         })
     }
 
-    /// The buffer is not created, and holds no message.
+    /// Resets the buffer: it is not created, and holds no message.
     pub(crate) fn clear(&mut self)
         ensures { self.new ≡ meaning.cleared_buffer self.old }
     {
@@ -59,14 +59,14 @@ impl Buffer {
         self.messages.clear();
     }
 
-    /// It is created.
+    /// Creates the buffer.
     pub(crate) fn create(&mut self)
         ensures { self.new ≡ record self.old { created = true } }
     {
         self.created = true;
     }
 
-    /// A message goes behind the others.
+    /// Appends a message.
     pub(crate) fn push(&mut self, message: Words)
         requires { length self.old.messages < self.old.row.depth }
         ensures { self.new ≡ record self.old { messages = self.old.messages ++ message ∷ [] } }
@@ -84,7 +84,7 @@ impl Buffer {
         self.messages.pop_front()
     }
 
-    /// How it stands.
+    /// Its status.
     pub(crate) fn status(&self) -> BufferStatus
         ensures status { result ≡ buffer_status self.now }
         ensures within { result.messages ≤ result.row.depth }

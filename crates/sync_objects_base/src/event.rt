@@ -50,7 +50,7 @@ impl ApexEvent {
     }
 
     /// The same event, created.
-    pub fn created(self) -> ApexEvent
+    pub(crate) fn created(self) -> ApexEvent
         ensures { result ≡ record self { created = true } }
     {
         ApexEvent {

@@ -4,7 +4,7 @@ ghost use Rattle.std.specs.Prelude.{◌≡◌, ◌<◌, length, IfSome};
 ghost use Rattle.sync_objects_base.specs.Found.{placed_in};
 ghost use Rattle.kernel_meaning.specs.Objects.{numbered_in};
 
-/// The place of the object with a number, from 0, where there is such an object.
+/// The index of the object with number `id`, from 0; `None` if there is no such object.
 #[tactic(auto, using(crate::proofs::Numbers::numbers))]
 pub fn place_of<T>(items: &[T], id: i64) -> Option<usize>
     ensures found { numbered_in items.now id ≡ placed_in items.now result }

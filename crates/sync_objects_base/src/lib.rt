@@ -1,5 +1,5 @@
 //! The semaphores, events, buffers and blackboards of a partition: their records by the numbers of
-//! programs, and the changes of one that services are made of.
+//! programs, and the changes of one object that make up services.
 #![tactic(auto)]
 
 mod blackboard;

@@ -1,9 +1,9 @@
-//! The objects of a partition, and the few ways in which they change.
+//! The objects of a partition, and the few ways to change them.
 
 ghost use Rattle.std.specs.Prelude.{◌≡◌, ◌<◌, ◌≤◌, ◌++◌, [], ◌∷◌, drop, length, map, replicate, slice_get, IfOk, IfSome, IsNone, OnSome, true};
 ghost use Rattle.apex_types.specs.declared.limits.TheConstants.{MOST_OBJECTS};
 ghost use Rattle.kernel_meaning.specs.Objects as meaning;
-ghost use Rattle.sync_objects_base.specs.Status.{buffer_at, buffer_of_status, buffer_status, blackboard_at, blackboard_of_status, blackboard_status, without_first};
+ghost use Rattle.sync_objects_base.specs.Status.{buffer_at, buffer_of_status, buffer_status, blackboard_at, blackboard_of_status, blackboard_status, event_at, semaphore_at, without_first};
 
 use crate::blackboard::{Blackboard, BlackboardStatus};
 use crate::buffer::{Buffer, BufferStatus};
@@ -109,7 +109,7 @@ fn clear_blackboards(all: &mut Vec<Blackboard>)
 }
 
 impl Objects {
-    /// No object is created. An error is one of memory.
+    /// Makes the objects, with none created. `AllocError`: out of memory.
     pub fn new(
         alloc: Global,
         semaphores: &[SemaphoreRow],
@@ -133,7 +133,7 @@ impl Objects {
         })
     }
 
-    /// No object is created, and all that they held is gone.
+    /// Resets all objects: none is created, and all that they held is removed.
     pub fn clear(&mut self)
         ensures { self.new ≡ meaning.cleared_objects self.old }
     {
@@ -143,16 +143,28 @@ impl Objects {
         clear_blackboards(&mut self.blackboards);
     }
 
-    /// The semaphore with a number, with its place.
+    /// The semaphore with number `id`, and its place.
     pub fn semaphore(&self, id: i64) -> Option<(u8, Semaphore)>
         ensures found { result ≡ meaning.semaphore self.now id }
+        ensures at { IfSome result (λ found. found.1 ≡ semaphore_at self.now found.0) }
         ensures within { IfSome result (λ found. found.0 < MOST_OBJECTS) }
     {
         let place = place_of(&self.semaphores, id)?;
         Some((place as u8, self.semaphores[place]))
     }
 
-    /// A semaphore changes.
+    /// Creates the semaphore at `place`.
+    pub fn create_semaphore(&mut self, place: u8)
+        ensures { self.new
+            ≡ meaning.put_semaphore self.old place
+            (record (semaphore_at self.old place) { created = true }) }
+    {
+        if let Some(semaphore) = self.semaphores.get_mut(usize::from(place)) {
+            *semaphore = semaphore.created();
+        }
+    }
+
+    /// Replaces the semaphore at `place`.
     pub fn put_semaphore(&mut self, place: u8, semaphore: Semaphore)
         ensures { self.new ≡ meaning.put_semaphore self.old place semaphore }
     {
@@ -161,16 +173,28 @@ impl Objects {
         }
     }
 
-    /// The event with a number, with its place.
+    /// The event with number `id`, and its place.
     pub fn event(&self, id: i64) -> Option<(u8, ApexEvent)>
         ensures found { result ≡ meaning.event self.now id }
+        ensures at { IfSome result (λ found. found.1 ≡ event_at self.now found.0) }
         ensures within { IfSome result (λ found. found.0 < MOST_OBJECTS) }
     {
         let place = place_of(&self.events, id)?;
         Some((place as u8, self.events[place]))
     }
 
-    /// An event changes.
+    /// Creates the event at `place`.
+    pub fn create_event(&mut self, place: u8)
+        ensures { self.new
+            ≡ meaning.put_event self.old place
+            (record (event_at self.old place) { created = true }) }
+    {
+        if let Some(event) = self.events.get_mut(usize::from(place)) {
+            *event = event.created();
+        }
+    }
+
+    /// Replaces the event at `place`.
     pub fn put_event(&mut self, place: u8, event: ApexEvent)
         ensures { self.new ≡ meaning.put_event self.old place event }
     {
@@ -179,7 +203,7 @@ impl Objects {
         }
     }
 
-    /// How the buffer with a number stands, with its place.
+    /// The place and the status of the buffer with number `id`.
     pub fn buffer(&self, id: i64) -> Option<(u8, BufferStatus)>
         ensures found { meaning.buffer self.now id ≡ buffer_of_status self.now result }
         ensures status { IfSome result
@@ -190,7 +214,7 @@ impl Objects {
         Some((place as u8, self.buffers[place].status()))
     }
 
-    /// A buffer is created.
+    /// Creates the buffer at `place`.
     pub fn create_buffer(&mut self, place: u8)
         ensures { self.new
             ≡ meaning.put_buffer self.old place
@@ -201,7 +225,7 @@ impl Objects {
         }
     }
 
-    /// A message goes behind the others of a buffer.
+    /// Appends a message to the buffer at `place`.
     pub fn push_message(&mut self, place: u8, message: Words)
         requires { length (buffer_at self.old place).messages
             < (buffer_at self.old place).row.depth }
@@ -215,7 +239,7 @@ impl Objects {
         }
     }
 
-    /// Takes the first message of a buffer.
+    /// Takes the first message of the buffer at `place`.
     pub fn pop_message(&mut self, place: u8) -> Option<Words>
         ensures first { result ≡ slice_get (buffer_at self.old place).messages 0 }
         ensures empty { IsNone result → self.new ≡ self.old }
@@ -231,7 +255,7 @@ impl Objects {
         buffer.pop()
     }
 
-    /// How the blackboard with a number stands, with its place.
+    /// The place and the status of the blackboard with number `id`.
     pub fn blackboard(&self, id: i64) -> Option<(u8, BlackboardStatus)>
         ensures found { meaning.blackboard self.now id ≡ blackboard_of_status self.now result }
         ensures status { IfSome result
@@ -242,7 +266,7 @@ impl Objects {
         Some((place as u8, self.blackboards[place].status()))
     }
 
-    /// A blackboard is created.
+    /// Creates the blackboard at `place`.
     pub fn create_blackboard(&mut self, place: u8)
         ensures { self.new
             ≡ meaning.put_blackboard self.old place
@@ -253,7 +277,7 @@ impl Objects {
         }
     }
 
-    /// A blackboard displays a message, or none.
+    /// Displays a message on the blackboard at `place`, or none.
     pub fn show(&mut self, place: u8, shown: Option<Words>)
         ensures { self.new
             ≡ meaning.put_blackboard self.old place
@@ -264,7 +288,7 @@ impl Objects {
         }
     }
 
-    /// The message that a blackboard displays.
+    /// The message that the blackboard at `place` displays.
     pub fn shown(&self, place: u8) -> Option<Words>
         ensures { result ≡ (blackboard_at self.now place).shown }
     {

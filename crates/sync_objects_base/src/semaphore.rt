@@ -45,7 +45,7 @@ impl Semaphore {
         self.created
     }
 
-    /// How often it can be taken before one waits.
+    /// How often it can be taken before a process has to wait.
     pub fn value(self) -> u32
         ensures { result ≡ self.value }
     {
@@ -59,7 +59,7 @@ impl Semaphore {
         self.row.maximum
     }
 
-    /// The order in which those who wait are released.
+    /// The order in which waiting processes are released.
     pub fn discipline(self) -> Discipline
         ensures { result ≡ self.row.discipline }
     {
@@ -67,7 +67,7 @@ impl Semaphore {
     }
 
     /// The same semaphore, created.
-    pub fn created(self) -> Semaphore
+    pub(crate) fn created(self) -> Semaphore
         ensures { result ≡ record self { created = true } }
     {
         Semaphore {

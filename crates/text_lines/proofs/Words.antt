@@ -30,7 +30,7 @@ digits_ink (d ∷ ds) h =
     let p = and_parts (is_digit d) (list_all is_digit ds) h in
     and_from (is_ink d) (list_all is_ink ds) (lt-ltb 32 d (omega (arith, digit_low d p.0))) (digits_ink ds p.1)
 
--- what is plain is digits, at least one, and has no 0 before others
+-- a plain number is digits, at least one, and has no 0 before others
 plain_digits : (ds : List ℕ) → is_plain ds ≡ true → AreDigits ds × (0 < length ds) × (get_or ds 0 0 ≡ 48 → length ds ≡ 1)
 plain_digits [] h = cc
 plain_digits (d ∷ []) h = (and_from (is_digit d) true h refl, omega arith, λ (e : d ≡ 48). refl)

@@ -1,4 +1,4 @@
-//! The pieces of a line of text between marks, and the numbers that its digits are.
+//! The pieces of a line of text between marks, and the numbers in its digits.
 #![tactic(auto)]
 
 mod number;

@@ -14,14 +14,14 @@ fn is_digit(byte: u8) -> bool
     b'0' <= byte && byte <= b'9'
 }
 
-/// Whether there is nothing else than digits.
+/// Returns true if all bytes are digits.
 pub fn are_digits(bytes: &[u8]) -> bool
     ensures { result ≡ list_all is_digit bytes.now }
 {
     bytes.iter().all(|byte| is_digit(*byte))
 }
 
-/// Whether a number is written with digits alone, and with no 0 before others.
+/// Returns true if a number is written with digits alone, and without a leading 0.
 fn is_plain(digits: &[u8]) -> bool
     ensures { result ≡ is_plain digits.now }
 {

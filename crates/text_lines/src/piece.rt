@@ -4,8 +4,8 @@ ghost use Rattle.std.specs.Prelude.{◌≡◌, ◌<◌, length, option_copied, I
 ghost use Rattle.module_meaning.specs.DeviceText.{piece, pieces_behind_marks};
 ghost use Rattle.text_lines.specs.Pieces.{pieces_of};
 
-/// What stands before the first such byte, and what stands behind it; the whole text where there is
-/// none.
+/// The text before the first byte `mark`, and the text behind it; the whole text if it has no such
+/// byte.
 #[tactic(auto, unfolding(module_meaning::specs::DeviceText::pieces_behind_marks))]
 pub fn split_at(mark: u8, text: &[u8]) -> (&[u8], Option<&[u8]>)
     ensures front { result.0.now ≡ piece mark text.now }

@@ -1,4 +1,4 @@
-//! Tests of what is read and written as text or bytes: Pal's grammar, the check of a program and its
+//! Tests of reading and writing text and bytes: Pal's grammar, the check of a program and its
 //! costs, and images.
 #![tactic(auto)]
 

@@ -12,7 +12,7 @@ use Rattle.std.proofs.lemmas.List.Folds.{list_any_at}
 use Rattle.std.proofs.lemmas.List.{flat_map_more}
 use Rattle.std.proofs.lemmas.List.FromFn.{map-range_with_len_more, length-map-range_with_len, get_or-map-range_with_len}
 
--- multiples of the step, so many from the first on
+-- `n` multiples of the step, from its multiple by `first`
 abbrev pub so_many : ℕ → ℕ → ℕ → List ℕ
 so_many step first n = map (λ k. k * step) (range_with_len first n)
 

@@ -13,7 +13,7 @@ use Rattle.trace_picture.specs.declared.element.Tag.TheVariants.{Svg}
 seam : (xs ys zs : List ℕ) → (xs ++ ys) ++ zs ≡ xs ++ (ys ++ zs)
 seam xs ys zs = rw append_assoc
 
--- what stands in the innermost element grows at its end
+-- the contents of the innermost element grow at their end
 grown : (tags : List Tag) (text more : List ℕ) (grow : Inside → Inside) → ((i : Inside) → inside_text (grow i) ≡ inside_text i ++ more) → IsBegun tags text → IsBegun tags (text ++ more)
 grown [] text more grow is (attributes, (inside, e)) =
     (attributes, (grow inside, rw (e, is inside, append_assoc)))
@@ -32,7 +32,8 @@ ended outer text tag (before, (attributes, (inside, (h, e)))) =
 finished : (text : List ℕ) → IsBegun [] text → IsPicture (text ++ end_text Svg)
 finished text (attributes, (inside, e)) = (attributes, (inside, ap (λ t. t ++ end_text Svg) e))
 
--- the same of the list of tags elements as the code has it, the innermost last: `tags` and `text` become `after` and `longer`
+-- the same for the list of tags as the code has it, the innermost last: `tags` and `text` become
+-- `after` and `longer`
 
 abbrev pub IsKept : List Tag → List ℕ → Type 0
 IsKept tags text = ∥ IsBegun (reverse tags) text ∥₁

@@ -5,7 +5,7 @@ use Rattle.std.proofs.lemmas.Bool.Decides.{nat_tests}
 use Rattle.std.proofs.Math.Utf8.{encode, next}
 use Rattle.trace_picture.specs.Escaped.{is_allowed, shown, character_text, escaped, is_plain}
 
--- a byte that is none of the five
+-- a byte that is not one of the five
 goes_on : (b : ℕ) (rest : List ℕ) → (b == 38) ≡ false → (b == 60) ≡ false → (b == 62) ≡ false → (b == 34) ≡ false → (b == 39) ≡ false → is_plain rest ≡ true → is_plain (b ∷ rest) ≡ true
 goes_on b rest and lt gt quote apostrophe h = rw (and, lt, gt, quote, apostrophe) h
 
@@ -30,7 +30,7 @@ encoded : (d : ℕ) (rest : List ℕ) → is_plain (d ∷ rest) ≡ true → is_
 unfolding encode
 encoded d rest alone h = by_count (nat_lt d 128) (nat_lt d 2048) (nat_lt d 65536) d rest alone h
 
--- a character that is none of the five stands alone, and so does the replacement character
+-- a character other than the five stands alone, and so does the replacement character
 alone : (allowed : Bool) (c : ℕ) (rest : List ℕ) → is_plain (c ∷ rest) ≡ true → is_plain rest ≡ true → is_plain (cond allowed c 65533 ∷ rest) ≡ true
 alone true c rest kept h = kept
 alone false c rest kept h = h

@@ -1,4 +1,4 @@
--- Where ticks stand on the time axis.
+-- The places of ticks on the time axis.
 use Rattle.std.specs.Prelude.{ℕ, ◌+◌, ◌-◌, ◌*◌, ◌/◌, max, min, List, map}
 use Rattle.std.specs.Int.{div_ceil}
 use Rattle.std.specs.List.{range_with_len}

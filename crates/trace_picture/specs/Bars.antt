@@ -9,11 +9,11 @@ use Rattle.trace_picture.specs.declared.element.Value.TheVariants as value
 use Rattle.trace_picture.specs.declared.length.Length.{Length}
 use Rattle.trace_stays.specs.declared.span.Span.{Span}
 
--- where the bar of a stay begins, on the axis of the first span
+-- the place where the bar of a stay begins, on the axis of the first span
 abbrev pub left_of : Span → Span → Length
 left_of axis stay = tenths (place axis stay.from.0)
 
--- how wide it is: as far as the axis has the stay's ticks, and at least a pixel
+-- the width of the bar: as far as the axis has the stay's ticks, and at least a pixel
 abbrev pub width_of : Span → Span → Length
 width_of axis stay = tenths (max (place axis stay.until.0 - place axis stay.from.0) 10)
 

@@ -1,4 +1,4 @@
--- How an element is written.
+-- The text of an element.
 use Rattle.std.specs.Prelude.{ℕ, ◌/◌, ◌%◌, List, [], ◌∷◌, ◌++◌, flat_map, codes, cond, ◌==◌}
 use Rattle.std.specs.Fmt.{decimal}
 use Rattle.trace_picture.specs.Escaped.{escaped}

@@ -2,15 +2,15 @@
 use Rattle.std.specs.Prelude.{ℕ, ◌+◌, ◌-◌, ◌*◌, ◌/◌, ◌^◌, min}
 use Rattle.trace_picture.specs.declared.length.Length.{Length}
 
--- so many tenths of a pixel
+-- `n` tenths of a pixel
 abbrev pub tenths : ℕ → Length
 tenths n = record { 0 = n }
 
--- so far behind a place
+-- the place `far` behind a place
 abbrev pub behind : Length → Length → Length
 behind place far = tenths (min (place.0 + far.0) (2 ^ 64 - 1))
 
--- so far before a place, and 0 if that is further
+-- the place `far` before a place, and 0 if that is further
 abbrev pub before : Length → Length → Length
 before place far = tenths (place.0 - far.0)
 

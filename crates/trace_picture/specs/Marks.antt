@@ -23,12 +23,12 @@ HasMarks axis bottom step before after = (front : List ℕ) × (after ≡ before
 
 -- ---- messages
 
--- Where the arrow of a message stands: at its tick, beside the others of this tick, and left of the right edge, which
--- is at 12000.
+-- The place of the arrow of a message: at its tick, beside the others of this tick, and left of the
+-- right edge, which is at 12000.
 abbrev pub message_place : Span → Message → Length
 message_place axis m = tenths (min (behind (tenths (place axis m.tick.0)) (times_of (tenths 60) m.beside)).0 11940)
 
--- where an arrow begins and ends, from the row with one top to the row with the other
+-- the places where an arrow begins and ends, from the row with one top to the row with the other
 abbrev pub start_of : Length → Length → Length
 start_of from to = if ltb to.0 from.0 then behind from (tenths 45) else before (behind from (tenths 220)) (tenths 45)
 

@@ -1,4 +1,4 @@
--- What stands in a page: elements that nest.
+-- The contents of a page: elements that nest.
 use Rattle.std.specs.Prelude.{◌≡◌, ℕ, List, [], ◌∷◌, ◌++◌}
 use Rattle.trace_picture.specs.Escaped.{escaped}
 use Rattle.trace_picture.specs.Element.{start_text, empty_text, end_text}
@@ -6,8 +6,8 @@ use Rattle.trace_picture.specs.declared.element.Attribute.{Attribute}
 use Rattle.trace_picture.specs.declared.element.Tag.{Tag}
 use Rattle.trace_picture.specs.declared.element.Tag.TheVariants.{Svg}
 
--- What stands inside an element: nothing, or something and then a text, an element with nothing in it, or an
--- element with something inside.
+-- The contents of an element: nothing, or contents and then a text, an element with nothing in it,
+-- or an element with contents.
 pub data Inside : Type 0 where
   nothing : Inside
   then_text : Inside → List ℕ → Inside
@@ -20,7 +20,7 @@ inside_text (then_text before text) = inside_text before ++ escaped text
 inside_text (then_empty before tag attributes) = inside_text before ++ empty_text tag attributes
 inside_text (then_element before tag attributes inside) = inside_text before ++ (start_text tag attributes ++ inside_text inside ++ end_text tag)
 
--- an element that has begun, with what stands in it so far
+-- an element that has begun, with its contents so far
 abbrev pub begun_text : Tag → List Attribute → Inside → List ℕ
 begun_text tag attributes inside = start_text tag attributes ++ inside_text inside
 

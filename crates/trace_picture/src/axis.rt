@@ -8,10 +8,10 @@ use crate::length::Length;
 use apex_types::Ticks;
 use trace_stays::Span;
 
-/// Where the axis begins, in tenths of a pixel from the left.
+/// The place where the axis begins, in tenths of a pixel from the left.
 pub const LEFT: u64 = 1_500;
 
-/// How long it is, in tenths of a pixel.
+/// The length of the axis, in tenths of a pixel.
 pub const LONG: u64 = 10_200;
 
 /// The most marks with numbers.
@@ -47,8 +47,8 @@ pub struct Axis {
 }
 
 impl Axis {
-    /// Where a tick begins. A tick before the first stands at the left end, and one behind the last
-    /// at the right end.
+    /// The place where a tick begins. A tick before the first stands at the left end, and one
+    /// behind the last at the right end.
     pub fn place(self, tick: Ticks) -> Length
         ensures { result.0 ≡ place self.span tick.0 }
     {
@@ -60,8 +60,8 @@ impl Axis {
         Length(LEFT + (u128::from(passed) * u128::from(LONG) / all) as u64)
     }
 
-    /// How many ticks two marks are apart: 1, 2 or 5 times a power of ten, the smallest with which
-    /// there are few marks.
+    /// The number of ticks between two marks: 1, 2 or 5 times a power of ten, the smallest that
+    /// gives few marks.
     pub fn step(self) -> u64
         ensures some { 0 < result }
         ensures few { ticks_of self.span / result ≤ 10 }

@@ -16,7 +16,7 @@ use trace_stays::{Lanes, ModeStay, Span, Stay};
 /// The least width of a bar.
 const LEAST: Length = Length(10);
 
-/// Where a bar of this kind stands in its row, from the row's top, and how high it is.
+/// The place of a bar of this kind in its row, from the row's top, and its height.
 #[derive(Clone, Copy)]
 pub struct Bar {
     pub class: &'static str,
@@ -94,7 +94,7 @@ pub fn draw_state(
     title_bar(page, name, stay.state.word(), stay.span)
 }
 
-/// Draws the stay of a partition in a mode, with the mode's word where there is room.
+/// Draws the stay of a partition in a mode, with the mode's word if it fits.
 pub fn draw_mode(
     page: &mut Page,
     axis: Axis,

@@ -38,7 +38,7 @@ pub struct Drawing {
 }
 
 impl Drawing {
-    /// How many bars, arrows, flags and marks the picture has.
+    /// The number of bars, arrows, flags and marks of the picture.
     pub fn shapes(&self) -> usize
         ensures value { result ≡ vec_len self.now.shapes }
         ensures few { result ≤ 5000 }

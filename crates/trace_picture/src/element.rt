@@ -8,7 +8,7 @@ use crate::escaped::push_escaped;
 use crate::length::Length;
 use std::alloc::AllocError;
 
-/// What an element is.
+/// The elements of a page.
 #[derive(Clone, Copy, Debug, PartialEq, Eq)]
 pub enum Tag {
     Defs,
@@ -45,7 +45,7 @@ impl Tag {
     }
 }
 
-/// What an attribute says.
+/// The attributes of an element.
 #[derive(Clone, Copy, Debug, PartialEq, Eq)]
 pub enum Key {
     Class,

@@ -5,8 +5,8 @@ ghost use Rattle.trace_picture.specs.Escaped.{character_text, escaped, is_allowe
 
 use std::alloc::AllocError;
 
-/// Appends a text as it stands in XML: the five characters that XML gives a meaning are written as
-/// its entities, and a character that XML does not allow as the replacement character.
+/// Appends a text with its escapes in XML: the five characters that XML gives a meaning are written
+/// as its entities, and a character that XML does not allow as the replacement character.
 ///
 /// # Errors
 ///
@@ -38,7 +38,7 @@ fn push_character(out: &mut String, character: char) -> Result<(), AllocError>
     }
 }
 
-/// Whether XML allows this character.
+/// Returns true if XML allows this character.
 fn is_allowed(character: char) -> bool
     ensures { result ≡ is_allowed character }
 {

@@ -1,4 +1,4 @@
-//! What stands around the bars: names, the time axis and the legend.
+//! The frame around the bars: names, the time axis and the legend.
 
 ghost use Rattle.std.specs.Prelude.{◌≡◌, ◌<◌, ◌≤◌, ◌/◌, ◌++◌, ℕ, OnOk, flat_map, string_bytes};
 ghost use Rattle.trace_picture.specs.Axis.{multiples_in};
@@ -17,19 +17,20 @@ use apex_types::{Mode, ProcessState, Ticks};
 use std::alloc::AllocError;
 use trace_stays::Lanes;
 
-/// How far the ground of a partition stands from the edges, and how far it goes on below its rows.
+/// The distance of the ground of a partition from the edges, and the length by which it extends
+/// below its rows.
 const MARGIN: Length = Length(40);
 
-/// Where names begin.
+/// The place where names begin.
 const NAMES: Length = Length(160);
 
-/// How far names of processes stand further to the right.
+/// The indent of the names of processes.
 const INDENT: Length = Length(120);
 
-/// Where the line of a text stands in its row.
+/// The place of the line of a text in its row.
 const LINE: Length = Length(160);
 
-/// Where the axis stands.
+/// The place of the axis.
 const AXIS: Length = Length(300);
 
 /// The columns of the legend.
@@ -151,7 +152,7 @@ fn draw_mark(page: &mut Page, axis: Axis, tick: Ticks, bottom: Length) -> Result
     draw_text(page, "tick", x, AXIS - Length(90), buffer.format(tick.0))
 }
 
-/// Draws what the bars and marks mean.
+/// Draws the legend of the bars and marks.
 pub fn draw_legend(page: &mut Page, bottom: Length) -> Result<(), AllocError> {
     let first = bottom + Length(160);
     let second = first + Length(260);
@@ -174,7 +175,7 @@ pub fn draw_legend(page: &mut Page, bottom: Length) -> Result<(), AllocError> {
     draw_mark_sample(page, second, REPORT_DOWN, "report", REPORT, "report")
 }
 
-/// Where a column of the legend begins.
+/// The place where a column of the legend begins.
 fn column_left(column: usize) -> Length {
     Length(LEFT) + COLUMN.times(column as u64)
 }
@@ -214,7 +215,7 @@ fn draw_arrow_sample(
     draw_text(page, "process", left + Length(400), top + LINE, word)
 }
 
-/// Draws a flag or a mark, so far down in its row, and its word in a column of the legend.
+/// Draws a flag or a mark, `down` below the top of its row, and its word in a column of the legend.
 fn draw_mark_sample(
     page: &mut Page,
     top: Length,

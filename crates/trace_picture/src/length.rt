@@ -5,13 +5,13 @@ ghost use Rattle.trace_picture.specs.Lengths.{behind, before, half_of, times_of}
 
 use std::ops::{Add, Sub};
 
-/// So many tenths of a pixel. A sum that is too great is the greatest length, and a difference below
-/// 0 is 0.
+/// A length in tenths of a pixel. A sum that is too great is the greatest length, and a difference
+/// below 0 is 0.
 #[derive(Clone, Copy, Debug, PartialEq, Eq, PartialOrd, Ord)]
 pub struct Length(pub u64);
 
 impl Length {
-    /// So many times this length.
+    /// `count` times this length.
     pub fn times(self, count: u64) -> Length
         ensures { result ≡ times_of self count }
     {

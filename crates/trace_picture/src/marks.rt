@@ -15,19 +15,20 @@ use apex_types::{Subject, Ticks, Words};
 use std::alloc::AllocError;
 use trace_stays::Lanes;
 
-/// How far messages of one tick stand from each other.
+/// The distance between messages of one tick.
 const ASIDE: Length = Length(60);
 
-/// How far an arrow reaches into the row where it ends, and how far into that where it begins.
+/// The length of an arrow within the row where it ends, and within the row where it begins.
 const INTO: Length = Length(45);
 
-/// How far down in the row of a process the foot of a flag stands.
+/// The distance of the foot of a flag from the top of the row of a process.
 pub const FLAG_DOWN: Length = Length(200);
 
-/// How far down in the row of a partition the foot of a flag stands: on the bars of its modes.
+/// The distance of the foot of a flag from the top of the row of a partition: on the bars of its
+/// modes.
 const FLAG_ON_BAR: Length = Length(50);
 
-/// How far down in its row the middle of a report's mark stands.
+/// The distance of the middle of a report's mark from the top of its row.
 pub const REPORT_DOWN: Length = Length(110);
 
 /// The outline of a flag, whose foot stands at 0, 0.
@@ -62,7 +63,7 @@ pub fn draw_message(
     page.close()
 }
 
-/// Where the arrow of a message stands: beside the others of its tick, as far as the picture goes.
+/// The place of the arrow of a message: beside the others of its tick, as far as the picture goes.
 fn message_place(axis: Axis, message: &Message) -> Length
     ensures { result ≡ message_place axis.span message.now }
 {
@@ -70,14 +71,14 @@ fn message_place(axis: Axis, message: &Message) -> Length
     x.at_most(WIDE - ASIDE)
 }
 
-/// How the arrow of a message looks.
+/// The class of the arrow of a message.
 fn message_class(is_lost: bool) -> &'static str
     ensures { result.now ≡ message_class is_lost }
 {
     if is_lost { "lost" } else { "message" }
 }
 
-/// Where an arrow begins in the row with the first top, on its way to the other.
+/// The place where an arrow begins in the row with the first top, on its way to the other.
 fn start_of(from: Length, to: Length) -> Length
     ensures { result ≡ start_of from to }
 {
@@ -88,7 +89,7 @@ fn start_of(from: Length, to: Length) -> Length
     }
 }
 
-/// Where it ends in the row with the second top.
+/// The place where it ends in the row with the second top.
 fn end_of(from: Length, to: Length) -> Length
     ensures { result ≡ end_of from to }
 {

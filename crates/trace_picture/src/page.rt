@@ -114,7 +114,7 @@ impl Page {
         self.text(buffer.format(number))
     }
 
-    /// Ends the innermost element; the outermost one goes on.
+    /// Ends the innermost element; the outermost one stays open.
     ///
     /// # Errors
     ///
@@ -138,7 +138,7 @@ impl Page {
         Ok(())
     }
 
-    /// Ends all elements. Answers the text.
+    /// Ends all elements. Returns the text.
     ///
     /// # Errors
     ///

@@ -1,4 +1,4 @@
-//! What happened in the ticks of a picture.
+//! The events in the ticks of a picture.
 
 ghost use Rattle.std.specs.Prelude.{◌≡◌, ◌+◌, ◌<◌, ◌≤◌, ◌↔◌, ◌++◌, ◌∷◌, [], vec_len, IfOk, IsErrOf, OnErr, OnOk};
 
@@ -79,7 +79,7 @@ impl Picture {
         self.mark(event)
     }
 
-    /// The picture as it is drawn. No event comes any more.
+    /// The picture as it is drawn. No event follows.
     ///
     /// # Errors
     ///
@@ -235,7 +235,8 @@ impl Picture {
         }))
     }
 
-    /// A message leaves a port. What arrives in this tick behind this line is this message.
+    /// A message leaves a port. Arrivals behind this line in the same tick are of this message,
+    /// until another message leaves.
     fn depart(&mut self, tick: Ticks, from: Stop)
         ensures { self.new.shown ≡ self.old.shown }
     {
@@ -255,8 +256,8 @@ impl Picture {
         self.beside = Some(Beside { tick, place });
     }
 
-    /// Where the message of a line of this tick comes from: from the port that a message left last
-    /// in this tick, or from outside.
+    /// The start of the message of a line of this tick: the port that a message left last in this
+    /// tick, or outside.
     fn source(&mut self, tick: Ticks) -> Stop
         ensures { self.new.shown ≡ self.old.shown }
     {

@@ -1,11 +1,11 @@
-//! Where the rows of a picture stand.
+//! The places of the rows of a picture.
 
 use crate::length::Length;
 use crate::shape::{Owner, Shape, Stop};
 use std::alloc::{AllocError, Global};
 use trace_stays::Lanes;
 
-/// Where the first row begins, under the axis.
+/// The top of the first row, under the axis.
 pub const FIRST_ROW: Length = Length(400);
 
 /// The height of a row.
@@ -14,18 +14,18 @@ pub const ROW: Length = Length(220);
 /// The room between two partitions.
 pub const GAP: Length = Length(180);
 
-/// The tops of the rows. Who has nothing to show has no row.
+/// The tops of the rows. A lane with nothing to show has no row.
 #[derive(Drop)]
 pub struct Rows {
     pub outside: Option<Length>,
     pub module: Option<Length>,
     partitions: Vec<Option<Length>>,
     processes: Vec<Option<Length>>,
-    /// Where the last row ends.
+    /// The end of the last row.
     pub bottom: Length,
 }
 
-/// Who has something to show.
+/// The lanes that have something to show.
 #[derive(Drop)]
 struct Shown {
     outside: bool,
@@ -169,7 +169,7 @@ impl Rows {
         }
     }
 
-    /// Where the last row of a partition ends.
+    /// The place where the last row of a partition ends.
     pub fn end_of(&self, lanes: &Lanes, partition: usize) -> Length {
         let mut end = match self.partition(partition) {
             Some(top) => top + ROW,

@@ -1,4 +1,4 @@
-//! What a picture shows.
+//! The contents of a picture.
 
 use apex_types::{ErrorKind, Name, Response, Subject, Ticks, Words};
 use trace_stays::{ModeStay, Stay};
@@ -6,7 +6,7 @@ use trace_stays::{ModeStay, Stay};
 /// The most bars, arrows, flags and marks of a picture.
 pub const MOST_SHAPES: usize = 5_000;
 
-/// Where a message begins or ends its way.
+/// The start or the end of the way of a message.
 #[derive(Clone, Copy, Debug, PartialEq, Eq)]
 pub enum Stop {
     /// Outside the module, which it comes from.
@@ -21,7 +21,7 @@ pub enum Stop {
 #[derive(Drop)]
 pub struct Message {
     pub tick: Ticks,
-    /// How many messages of this tick stand left of it.
+    /// The number of messages of this tick to the left of it.
     pub beside: u64,
     pub from: Stop,
     pub to: Stop,
@@ -29,7 +29,7 @@ pub struct Message {
     pub words: Words,
 }
 
-/// Which row a flag or a mark stands in.
+/// The row of a flag or a mark.
 #[derive(Clone, Copy, Debug, PartialEq, Eq)]
 pub enum Owner {
     /// The module itself.

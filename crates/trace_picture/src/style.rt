@@ -1,4 +1,4 @@
-//! How the picture looks.
+//! The look of the picture.
 
 use crate::element::{Key, Tag, at, set};
 use crate::length::Length;
@@ -36,7 +36,7 @@ text{font:12px sans-serif;fill:#1f2933}
 .report{fill:#fff;stroke:#1f2933;stroke-width:1.2}
 ";
 
-/// Draws nothing; says how the classes look.
+/// Writes the look of the classes; draws nothing.
 pub fn draw_style(page: &mut Page) -> Result<(), AllocError> {
     page.open(Tag::Style, &[])?;
     page.text(STYLE)?;

@@ -1,4 +1,4 @@
--- Which ticks of a trace are shown.
+-- The ticks of a trace that are shown.
 use Rattle.std.specs.Prelude.{ℕ, ◌-◌, ◌^◌, max, Bool, true, false, Option, Some, None}
 use Rattle.std.proofs.Math.Dec.{ltb}
 use Rattle.apex_types.specs.declared.identity.Ticks.{Ticks}
@@ -15,7 +15,7 @@ abbrev pub is_before_end : Option Ticks → ℕ → Bool
 is_before_end None t = true
 is_before_end (Some to) t = ltb t to.0
 
--- A line of this tick was read. Without a given end the ticks go on to the last line.
+-- A line of this tick was read. Without a given end the shown ticks end with the last line.
 abbrev pub with_read_if : Bool → ℕ → ShownTicks → ShownTicks
 with_read_if true t s = record s { behind = tick (max s.behind.0 (behind t)) }
 with_read_if false t s = s
@@ -23,7 +23,7 @@ with_read_if false t s = s
 abbrev pub with_read : ℕ → ShownTicks → ShownTicks
 with_read t s = with_read_if (is_before_end s.to t) t s
 
--- the ticks from one on and before the other; none if that is not later
+-- the ticks from one on and before the other; none if the other is not later
 abbrev pub between : Ticks → ℕ → Span
 between from until = span from.0 (max from.0 until)
 
@@ -35,6 +35,6 @@ end_of (Some to) last = to.0
 abbrev pub shown_ticks : ShownTicks → Span
 shown_ticks s = between s.from (end_of s.to s.behind.0)
 
--- those that are shown whatever follows
+-- the ticks that are shown whatever follows
 abbrev pub open_ticks : ShownTicks → Span
 open_ticks s = between s.from (end_of s.to (2 ^ 64 - 1))

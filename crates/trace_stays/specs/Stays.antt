@@ -25,15 +25,15 @@ ticks_of s = s.until.0 - s.from.0
 abbrev pub common : Span → Span → Span
 common s o = span (max s.from.0 o.from.0) (min s.until.0 o.until.0)
 
--- the tick behind this one; the greatest number of 64 bits stays
+-- the tick after `t`; the greatest number of 64 bits stays
 abbrev pub behind : ℕ → ℕ
 behind t = min (t + 1) (2 ^ 64 - 1)
 
 -- ---- states
 
--- The first tick that no longer counts for RUNNING, if a line of tick t says that the process comes to the
--- next state, or that it is gone. It has done its last work in this tick, unless it becomes READY: then
--- another one was chosen before the tick's work.
+-- The first tick that no longer counts for RUNNING, if a line of tick t says that the process
+-- enters the next state, or that it is gone. It has done its last work in this tick, unless it
+-- becomes READY: then another one was chosen before the tick's work.
 abbrev pub running_left_at : Option ProcessState → ℕ → ℕ
 running_left_at None t = behind t
 running_left_at (Some state.Ready) t = t
@@ -57,7 +57,7 @@ abbrev pub begins_at : Option Held → Option ProcessState → ℕ → ℕ
 begins_at None next t = t
 begins_at (Some held) next t = stay_until held next t
 
--- what a process holds behind such a line
+-- the state that a process holds behind such a line
 abbrev pub held_behind : Option Held → Option ProcessState → ℕ → Option Held
 held_behind before None t = None
 held_behind before (Some s) t = Some (record { state = s; since = tick (begins_at before (Some s) t) })

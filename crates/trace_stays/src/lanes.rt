@@ -14,7 +14,7 @@ pub struct PartitionLane {
     watch: ModeWatch,
 }
 
-/// What a line of a process is about: the process, INIT or the error handler of a partition.
+/// The subject of a line of a process: the process, INIT or the error handler of a partition.
 #[derive(Clone, Copy, Debug)]
 pub struct ProcessLane {
     /// The place of its partition among the partitions.
@@ -32,7 +32,7 @@ pub enum Ended {
     Mode(usize, ModeStay),
 }
 
-/// Who has lines in a trace, and in which state or mode each of them is.
+/// The subjects of the lines of a trace, and the state or mode of each of them.
 #[derive(Drop)]
 pub struct Lanes {
     partitions: Vec<PartitionLane>,

@@ -1,7 +1,7 @@
 //! How long processes stay in their states, and partitions in their modes.
 //!
 //! A line of a trace says when a state or a mode begins. `Lanes` follows the events of a trace, and
-//! answers each stay when it is over. Each tick of a process counts for one state: `Stay` says
+//! returns each stay when it is over. Each tick of a process counts for one state: `Stay` says
 //! which. `ShownTicks` are the ticks that a view of the trace shows.
 #![tactic(auto)]
 

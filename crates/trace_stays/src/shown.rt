@@ -28,8 +28,8 @@ impl ShownTicks {
         }
     }
 
-    /// A line of this tick is read. Answers whether it stands before the end of the ticks; one that
-    /// does not changes nothing.
+    /// A line of this tick is read. Returns true if it stands before the end of the ticks;
+    /// otherwise nothing changes.
     pub fn read(&mut self, tick: Ticks) -> bool
         ensures before { result ≡ is_before_end self.old.to tick.0 }
         ensures read { self.new ≡ with_read tick.0 self.old }
@@ -60,7 +60,7 @@ impl ShownTicks {
         self.before(self.behind)
     }
 
-    /// The ticks that are shown, before this one if no end is given.
+    /// The ticks that are shown; they end before `last` if no end is given.
     fn before(&self, last: Ticks) -> Span
         ensures { result ≡ between self.now.from (end_of self.now.to last.0) }
     {

@@ -14,7 +14,7 @@ pub struct Span {
 impl Span {
     ghost use Rattle.trace_stays.specs.Stays.{ticks_of, common};
 
-    /// How many ticks these are.
+    /// The number of these ticks.
     pub fn ticks(self) -> u64
         ensures { result ≡ ticks_of self }
     {
@@ -31,7 +31,7 @@ impl Span {
         }
     }
 
-    /// Whether this is one of the ticks.
+    /// Returns true if `tick` is one of the ticks.
     pub fn has(self, tick: Ticks) -> bool
         ensures { (result ≡ true) ↔ (self.from.0 ≤ tick.0) × (tick.0 < self.until.0) }
     {

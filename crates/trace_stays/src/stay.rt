@@ -52,7 +52,7 @@ impl Held {
 }
 
 /// The first tick that no longer counts for RUNNING, if a line of this tick says that the process
-/// comes to the next state, or that it is gone.
+/// enters the next state, or that it is gone.
 ///
 /// The process has done its last work in this tick, unless it becomes READY: then another one was
 /// chosen before the tick's work.
@@ -66,7 +66,7 @@ fn running_left_at(next: Option<ProcessState>, tick: Ticks) -> Ticks
 }
 
 /// The first tick that no longer counts for a state, if a line of this tick says that the process
-/// comes to the next one, or that it is gone.
+/// enters the next one, or that it is gone.
 fn left_at(state: ProcessState, next: Option<ProcessState>, tick: Ticks) -> Ticks
     ensures { result.0 ≡ left_at state next tick.0 }
 {
@@ -76,7 +76,7 @@ fn left_at(state: ProcessState, next: Option<ProcessState>, tick: Ticks) -> Tick
     }
 }
 
-/// The state of one process as the lines so far tell it. A process that has no line yet, or whose
+/// The state of one process as the lines so far show it. A process that has no line yet, or whose
 /// partition has started again, is in none.
 #[derive(Clone, Copy, Debug, PartialEq, Eq)]
 pub struct StateWatch {
@@ -93,7 +93,7 @@ impl StateWatch {
         StateWatch { held: None }
     }
 
-    /// The state that the last line told.
+    /// The state that the last line shows.
     pub fn state(&self) -> Option<ProcessState>
         ensures { result ≡ option_map (λ held. held.state) self.now.held }
     {
@@ -103,8 +103,8 @@ impl StateWatch {
         }
     }
 
-    /// A line of this tick says that the process comes to the next state, or, with none, that it is
-    /// gone. Answers the stay that is over.
+    /// A line of this tick says that the process enters the next state, or, with `None`, that it is
+    /// gone. Returns the stay that is over.
     pub fn turn(&mut self, next: Option<ProcessState>, tick: Ticks) -> Option<Stay>
         ensures ended { result ≡ stay_ended self.old.held next tick.0 }
         ensures held { self.new.held ≡ held_behind self.old.held next tick.0 }
@@ -141,7 +141,7 @@ struct HeldMode {
     since: Ticks,
 }
 
-/// The mode of one partition as the lines so far tell it.
+/// The mode of one partition as the lines so far show it.
 #[derive(Clone, Copy, Debug, PartialEq, Eq)]
 pub struct ModeWatch {
     held: Option<HeldMode>,
@@ -157,7 +157,7 @@ impl ModeWatch {
         ModeWatch { held: None }
     }
 
-    /// A line of this tick says that the partition enters a mode. Answers the stay that is over.
+    /// A line of this tick says that the partition enters a mode. Returns the stay that is over.
     pub fn enter(&mut self, mode: Mode, tick: Ticks) -> Option<ModeStay>
         ensures ended { result ≡ mode_ended self.old.held tick.0 }
         ensures held { self.new.held ≡ mode_behind self.old.held mode tick.0 }

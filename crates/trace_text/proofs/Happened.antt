@@ -1,4 +1,5 @@
--- What happened and its parts: what is read from parts has these parts, and is read again from them.
+-- The kinds of events and their parts: a kind that is read from parts has these parts, and is read
+-- again from them.
 use Rattle.std.proofs.Common.{◌≡◌, ℕ, ℤ, ◌≤◌, Bool, true, false, cond, List, [], ◌∷◌, ◌++◌, length, map, option_map, Option, Some, None, codes, refl, sym, ap, subst, ◌∙◌, arith, append_assoc, append-nil}
 use Rattle.std.specs.Prelude.{nat_le, IsTrue}
 use Rattle.std.specs.Fmt.{signed_decimal}
@@ -73,7 +74,7 @@ message_again [] good = absurd (omega (arith, good.some))
 message_again (w ∷ ws) good =
     ap few (words_again (w ∷ ws) good.fit) ∙ cond-true (nat_le (length (w ∷ ws)) 16) (Some (message (w ∷ ws))) None (le-leb (length (w ∷ ws)) 16 good.few)
 
--- ---- the parts of what happened
+-- ---- the parts of a kind of event
 
 abbrev pub parts_of : EventKind → List (List ℕ)
 parts_of (event.State who state) = codes "STATE" ∷ subject_text who ∷ state_word state ∷ []
@@ -242,13 +243,13 @@ unfolding IsRead
 by_keyword None w fields k is e = cc
 by_keyword (Some kw) w fields k is e = subst (λ (x : List ℕ). IsRead (x ∷ fields) k) (keyword_spells.takes w kw is).0 (kind_by_back kw fields k e)
 
--- what is read from parts has these parts
+-- a kind of event that is read from parts has these parts
 pub kind_back : (parts : List (List ℕ)) (k : EventKind) → kind_of parts ≡ Some k → (parts_of k ≡ parts) × HasParts k
 unfolding IsRead
 kind_back [] k e = cc
 kind_back (w ∷ fields) k e = by_keyword (keyword_of w) w fields k refl e
 
--- ---- from what happened
+-- ---- from a kind of event
 
 both_some : {A B C : Type 0} (f : A → B → C) (a : Option A) (b : Option B) (x : A) (z : B) → a ≡ Some x → b ≡ Some z → both f a b ≡ Some (f x z)
 both_some f a b x z e g = cc
@@ -258,7 +259,7 @@ message_found what name m named good =
     ap (option_map (λ (x : List ℕ × ArrayVec ℤ). what x.0 x.1))
     (both_some (λ (x : List ℕ) (y : ArrayVec ℤ). (x, y)) (name_of name) (words_of (map signed_decimal m.items)) name m (name_spells.again name named) (message_again m.items good))
 
--- what happened is read again from its parts
+-- a kind of event is read again from its parts
 pub kind_again : (k : EventKind) → HasParts k → kind_of (parts_of k) ≡ Some k
 kind_again (event.State who state) good = both_some event.State (subject_of (subject_text who)) (state_of (state_word state)) who state (subject_spells.again who good) (state_spells.again state tt)
 kind_again (event.Return who service code) good =

@@ -74,7 +74,7 @@ event_back (t ∷ p ∷ ks) e h =
       record { tick = a.1; partition = b.1; parts = c.1; place = g.place },
     )
 
--- what is read from a line without its line feed has this line, and can be written
+-- an event that is read from a line without its line feed has this line, and can be written
 pub body_back : (body : List ℕ) (e : Event) → event_in body ≡ Some e → (body_of e ≡ body) × CanBeWritten e
 body_back body e h =
     let g = event_back (pieces 32 body) e h in
@@ -124,7 +124,7 @@ at_front text e rest can is =
 pub same_pieces : (a b : List ℕ) → pieces 10 a ≡ pieces 10 b → a ≡ b
 same_pieces a b e = sym (join_pieces 10 a) ∙ ap (join_with_byte 10) e ∙ join_pieces 10 b
 
--- what was read from the first piece has its line at the front
+-- an event that is read from the first piece has its line at the front
 pub read_front : (text front behind : List ℕ) (e : Event) → front ≡ piece 10 text → pieces_behind_marks 10 text ≡ pieces 10 behind → event_in front ≡ Some e → CanBeWritten e × (text ≡ line_of e ++ behind)
 read_front text front behind e f b h =
     let g = body_back front e h in
@@ -137,7 +137,7 @@ read_front text front behind e f b h =
 pub no_feed : (text : List ℕ) (e : Event) (rest : List ℕ) → CanBeWritten e → text ≡ line_of e ++ rest → pieces_behind_marks 10 text ≡ [] → ⊥
 no_feed text e rest can is none = let f = at_front text e rest can is in let clash : pieces 10 rest ≡ [] = sym f.behind ∙ none in cc
 
--- behind the line at the front stands what stands behind the first line feed
+-- the text behind the line at the front is the text behind the first line feed
 pub same_rest : (text : List ℕ) (e : Event) (rest behind : List ℕ) → CanBeWritten e → text ≡ line_of e ++ rest → pieces_behind_marks 10 text ≡ pieces 10 behind → rest ≡ behind
 same_rest text e rest behind can is b = same_pieces rest behind (sym (at_front text e rest can is).behind ∙ b)
 

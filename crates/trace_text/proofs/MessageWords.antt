@@ -8,7 +8,7 @@ use Rattle.text_lines.specs.Pieces.{pieces_of}
 use Rattle.text_lines.proofs.Words.{next_word}
 use Rattle.trace_text.specs.Reading.{few}
 
--- what all words come to, where these were kept, and these are still to come
+-- the value of all words, after `kept`, with the other words still to come
 abbrev pub few_behind : List ℤ → Option (List ℤ) → Option (ArrayVec ℤ)
 few_behind kept None = None
 few_behind kept (Some ws) = few (Some (kept ++ ws))

@@ -67,7 +67,7 @@ refused_at text before lines rest line so number some none = record {
       none e more (record { can = t.0; in_order = omega (arith, so.last, t.1); parts = is });
 }
 
--- what the whole is read as begins with what was read
+-- the events of the whole begin with those that were read
 rest_of : (before : ℕ) (text : List ℕ) (read : List Event) (rest : List ℕ) (events : List Event) → IsTraceFrom before read → text ≡ text_of read ++ rest → IsReadFrom before text events → (more : List Event) × IsReadFrom (last_tick before read) rest more
 rest_of before text [] rest events trace parts whole = (events, subst (λ (t : List ℕ). IsReadFrom before t events) parts whole)
 rest_of before text (e ∷ es) rest [] trace parts whole = absurd (no_text text e (text_of es ++ rest) whole (parts ∙ append_assoc (line_of e) (text_of es) rest))
@@ -95,7 +95,7 @@ next_read text before lines rest e more tick count so next noted =
     subst (λ (t : Ticks). IsReadSoFar text t.0 count more) (sym noted.0)
     (subst (λ (n : ℕ). IsReadSoFar text e.tick.0 n more) (sym noted.1) (one_more_read text before lines rest e more so next))
 
--- what is answered where an error is passed on
+-- the answer if an error is passed on
 pub passed_on : {A : Type 0} (answer : Result A TraceFault) (fault : TraceFault) (P : TraceFault → Type 0) → IsErr answer × IsErrAnd answer (λ e. e ≡ fault) → P fault → IfErr answer P
 passed_on (Ok x) fault P told fact = tt
 passed_on (Err e) fault P told fact = subst P (sym told.1) fact

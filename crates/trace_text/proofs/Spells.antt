@@ -1,4 +1,5 @@
--- Fields and their texts: what is read as a value is its text, and the text of a lawful value is read as it.
+-- Fields and their texts: a text that is read as a value is the text of the value, and the text of
+-- a lawful value is read as it.
 use Rattle.std.proofs.Common.{◌≡◌, ℕ, Bool, true, false, cond, List, [], ◌∷◌, Option, Some, refl, sym, ap, ◌∙◌}
 use Rattle.std.specs.Prelude.{find}
 use Rattle.std.specs.Cmp.Lexicographic.{same_text}
@@ -19,12 +20,12 @@ found_at : {A : Type 0} (test : A → Bool) (t : Bool) (x : A) (rest : Option A)
 found_at test true x rest y is later e = ap test (sym (same_some x y e)) ∙ is
 found_at test false x rest y is later e = later e
 
--- what is found passes the test
+-- an item that is found passes the test
 pub found : {A : Type 0} (test : A → Bool) (xs : List A) (y : A) → find test xs ≡ Some y → test y ≡ true
 found test [] y e = cc
 found test (x ∷ xs) y e = found_at test (test x) x (find test xs) y refl (found test xs y) e
 
--- what is found by its word has it
+-- an item that is found by its word has the word
 pub found_word : {A : Type 0} (word : A → List ℕ) (all : List A) (bs : List ℕ) (a : A) → with_word word all bs ≡ Some a → word a ≡ bs
 found_word word all bs a e = same_text (word a) bs (sym (found (λ x. same (word x) bs) all a e))
 

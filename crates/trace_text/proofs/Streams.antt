@@ -1,4 +1,4 @@
--- What stands at the front of a text whose first bytes were read.
+-- The front of a text whose first bytes were read.
 use Rattle.std.proofs.Common.{◌≡◌, ℕ, zero, suc, ◌+◌, ◌-◌, ◌<◌, ◌≤◌, true, List, [], ◌∷◌, ◌++◌, length, take, drop, Option, Some, None, refl, sym, ap, subst, ◌∙◌, arith, append_assoc, length-append, inl, inr}
 use Rattle.std.specs.Prelude.{◌≢◌, ◌⊎◌, not, ◌==◌}
 use Rattle.std.specs.Io.KnownBytes.{IsAtEnd, Keeps, prepend_known}
@@ -64,7 +64,7 @@ at_their_front bytes more line rest is short =
 
 -- ---- what is known of the text that is left
 
--- what stands behind the line are the last bytes
+-- the text behind the line is the last bytes
 pub last_bytes : (bytes line rest : List ℕ) → bytes ≡ line ++ rest → drop (length bytes - length rest) bytes ≡ rest
 last_bytes bytes line rest is =
     let count : length bytes - length rest ≡ length line = omega (arith, ap length is, length-append line rest) in

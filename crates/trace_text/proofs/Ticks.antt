@@ -16,7 +16,7 @@ use Rattle.trace_text.proofs.Spells.{Spells, same_some}
 abbrev value : ℕ → List ℕ → ℕ
 value v ds = fold (λ (n d : ℕ). n * 10 + (d - 48)) v ds
 
--- the powers of ten below this one, the highest first
+-- the powers of ten below `10 ^ k`, the highest first
 abbrev units : ℕ → List ℕ
 units zero = []
 units (suc k) = 10 ^ k ∷ units k

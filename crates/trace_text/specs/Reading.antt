@@ -124,7 +124,7 @@ abbrev pub words_of : List (List ℕ) → Option (ArrayVec ℤ)
 words_of [] = None
 words_of (t ∷ ts) = few (words (t ∷ ts))
 
--- ---- what happened
+-- ---- the kind of an event
 
 abbrev pub keyword_text : Keyword → List ℕ
 keyword_text keyword.State = codes "STATE"

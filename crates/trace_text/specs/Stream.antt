@@ -14,15 +14,16 @@ use Rattle.trace_text.specs.declared.stream.TraceStream.{TraceStream}
 abbrev pub ahead_bytes : Ahead → List ℕ
 ahead_bytes a = slice_range a.buffer.items a.start a.end
 
--- the text that is left: what was read ahead and what the reader has left, where that is known
+-- the text that is left: the bytes read ahead and those left in the reader, if these are known
 abbrev pub left : {R : Type 0} → (R → Option (List ℕ)) → TraceStream R → Option (List ℕ)
 left remaining s = prepend_known (ahead_bytes s.ahead) (remaining s.reader)
 
--- the number of the next line, behind so many lines; numbers stop at the greatest
+-- the number of the next line, after `lines` lines; numbers stop at the greatest
 abbrev pub next_number : ℕ → ℕ
 next_number lines = min (lines + 1) (2 ^ 64 - 1)
 
--- where the text that is left is known, the line of this event stands at its front, and that is left behind it
+-- if the text that is left is known, the line of this event stands at its front, and the rest is
+-- left behind it
 abbrev pub NextIn : ℕ → Option (List ℕ) → Event → Option (List ℕ) → Type 0
 NextIn before None e rest = Unit {0}
 NextIn before (Some text) e None = ⊥
@@ -39,6 +40,7 @@ IsStreamFault before lines text (Line fault) = (fault.line ≡ next_number lines
 IsStreamFault before lines text (Read error) = Unit {0}
 IsStreamFault before lines text Memory = Unit {0}
 
--- the first line of a text that begins with these bytes, if it is one of a trace, ends within them
+-- the first line of a text that begins with these bytes, if it is a line of a trace, ends within
+-- them
 abbrev pub SeesLine : List ℕ → Option (List ℕ) → Type 0
 SeesLine bytes behind = (pieces_behind_marks 10 bytes ≢ []) ⊎ (MOST_LINE_BYTES ≤ length bytes) ⊎ IsAtEnd behind

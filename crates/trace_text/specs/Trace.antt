@@ -81,7 +81,8 @@ IsTraceFrom before (e ∷ es) = CanBeWritten e × (before ≤ e.tick.0) × IsTra
 abbrev pub IsTrace : List Event → Type 0
 IsTrace events = IsTraceFrom 0 events
 
--- the line of this event stands at the front of a text, behind one of that tick, and that is what follows
+-- the line of this event stands at the front of a text, behind a line of tick `before`, and this is
+-- the text that follows
 pub record IsNext (before : ℕ) (text : List ℕ) (e : Event) (rest : List ℕ) : Type 0 where
   pub can : CanBeWritten e
   pub in_order : before ≤ e.tick.0
@@ -96,7 +97,7 @@ IsReadFrom before text (e ∷ es) = (rest : List ℕ) × IsNext before text e re
 abbrev pub IsReadAs : List ℕ → List Event → Type 0
 IsReadAs text events = IsReadFrom 0 text events
 
--- The lines of a text before the one of this number are those of a trace, and something follows; but no
+-- The lines of a text before the line of this number are those of a trace, and text follows; but no
 -- event can follow there and have its line there.
 pub record IsRefusedAt (text : List ℕ) (line : ℕ) : Type 0 where
   pub read : List Event

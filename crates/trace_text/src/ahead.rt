@@ -8,7 +8,7 @@ ghost use Rattle.apex_types.specs.declared.limits.TheConstants.{MOST_LINE_BYTES}
 use std::alloc::{AllocError, Global};
 use std::io::{Error, ErrorKind, Read, Result};
 
-/// How many bytes are held at most.
+/// The most bytes that are held.
 const CAPACITY: usize = 8192;
 
 /// `buffer[start..end]` was read, and no event was made of it yet.
@@ -45,7 +45,7 @@ impl Ahead {
         &all[start..end]
     }
 
-    /// Leaves the last `count` bytes alone.
+    /// Drops all bytes except the last `count`.
     pub fn keep_last(&mut self, count: usize)
         requires { count ≤ length (ahead_bytes self.old) }
         ensures { ahead_bytes self.new
@@ -54,7 +54,7 @@ impl Ahead {
         self.start = self.end - count;
     }
 
-    /// Reads once, and says how many bytes came.
+    /// Reads once, and returns the number of bytes that came.
     pub fn read_more<R: Read>(&mut self, reader: &mut R) -> Result<usize>
         requires { length (ahead_bytes self.old) < MOST_LINE_BYTES }
         ensures kept { Keeps (prepend_known (ahead_bytes self.old) (R.remaining reader.old))
@@ -80,7 +80,7 @@ impl Ahead {
     }
 }
 
-/// One read into what stands from a place of the buffer on.
+/// Reads once into the buffer, from a place on.
 fn read_behind<R: Read>(reader: &mut R, buffer: &mut Vec<u8>, at: usize) -> Result<usize>
     requires { at < vec_len buffer.old }
     ensures front { take at buffer.new.items ≡ take at buffer.old.items }
@@ -95,7 +95,7 @@ fn read_behind<R: Read>(reader: &mut R, buffer: &mut Vec<u8>, at: usize) -> Resu
     read_at(reader, buffer.as_mut_slice(), at)
 }
 
-/// One read into what stands from a place on.
+/// Reads once into the buffer, from a place on.
 fn read_at<R: Read>(reader: &mut R, buffer: &mut [u8], at: usize) -> Result<usize>
     requires { at < length buffer.old }
     ensures front { take at buffer.new ≡ take at buffer.old }
@@ -110,7 +110,7 @@ fn read_at<R: Read>(reader: &mut R, buffer: &mut [u8], at: usize) -> Result<usiz
     read_retrying(reader, &mut buffer[at..])
 }
 
-/// One read, tried again where it was interrupted.
+/// Reads once, and tries again if the read is interrupted.
 fn read_retrying<R: Read>(reader: &mut R, buffer: &mut [u8]) -> Result<usize>
     ensures bound { ReadsAtMost result buffer.new }
     ensures read { IfOk result

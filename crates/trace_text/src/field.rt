@@ -12,7 +12,7 @@ use text_lines::{are_digits, number_at_most, plain_number};
 /// The digits of a tick.
 const TICK_DIGITS: usize = 13;
 
-/// The last tick that has so many digits.
+/// The last tick of 13 digits.
 const LAST_TICK: u64 = 9_999_999_999_999;
 
 static MODES: [Mode; 4] = [Mode::Idle, Mode::ColdStart, Mode::WarmStart, Mode::Normal];
@@ -97,7 +97,7 @@ pub fn subject_of(text: &[u8]) -> Option<Subject>
     }
 }
 
-/// Whose an error is; `-` for one that belongs to no process.
+/// The process that an error belongs to; `-` for an error that belongs to no process.
 pub fn culprit_of(text: &[u8]) -> Option<Option<Subject>>
     ensures { result ≡ meant.culprit_of text.now }
 {
@@ -152,7 +152,7 @@ pub fn code_of(text: &[u8]) -> Option<ReturnCode>
     RETURN_CODES.get(number as usize).copied()
 }
 
-/// How an error is handled, by the words of its level and its action.
+/// The response to an error, by the words of its level and its action.
 pub fn response_of(level: &[u8], action: &[u8]) -> Option<Response>
     ensures { result ≡ meant.response_of level.now action.now }
 {

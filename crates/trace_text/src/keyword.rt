@@ -1,4 +1,4 @@
-//! The words for what happened.
+//! The words for the kinds of events.
 
 ghost use Rattle.std.specs.Prelude.{◌≡◌};
 ghost use Rattle.trace_text.specs.Reading as meant;

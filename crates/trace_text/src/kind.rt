@@ -1,4 +1,4 @@
-//! What happened, by its word and its fields.
+//! The kind of an event, by its word and its fields.
 
 ghost use Rattle.std.specs.Prelude.{◌≡◌, option_copied};
 ghost use Rattle.text_lines.specs.Pieces.{pieces_of};
@@ -11,7 +11,7 @@ use crate::keyword::{Keyword, keyword_of};
 use apex_types::{EventKind, Name, Words};
 use text_lines::{split_at, word};
 
-/// What happened, as it stands behind the partition.
+/// The kind of an event, from the text behind the partition.
 pub fn kind_of(text: Option<&[u8]>) -> Option<EventKind>
     ensures { result ≡ meant.kind_of (pieces_of 32 (option_copied text.entry)) }
 {

@@ -19,7 +19,7 @@ pub fn read_back()
         → IsReadAs text others → events ≡ others }
 {}
 
-/// What a text is read as is a trace, and the text is that trace's.
+/// The events that a text is read as are a trace, and the text is the text of that trace.
 pub fn read_is_written()
     ensures { (text : List ℕ) (events : List Event) → IsReadAs text events
         → IsTrace events × (text_of events ≡ text) }

@@ -19,7 +19,7 @@ pub struct LineFault;
 ///
 /// # Errors
 ///
-/// It is the line of no event that can be written.
+/// No event that can be written has this line.
 pub fn read_line(line: &[u8]) -> Result<Event, LineFault>
     ensures written { IfOk result (λ e. CanBeWritten e × (line_of e ≡ line.now)) }
     ensures read_back { (e : Event) → CanBeWritten e → line_of e ≡ line.now → result ≡ Ok e }
@@ -56,7 +56,7 @@ pub fn event_of(body: &[u8]) -> Option<Event>
     })
 }
 
-/// Whether this can happen in this partition, or in none.
+/// Returns true if this kind of event can happen in this partition, or in none.
 fn happens_in(kind: &EventKind, partition: &Option<Name>) -> bool
     ensures { result ≡ happens_in kind.now partition.now }
 {
@@ -67,8 +67,8 @@ fn happens_in(kind: &EventKind, partition: &Option<Name>) -> bool
     }
 }
 
-/// Whether an error is handled so. A fault of the module belongs to no partition and no process,
-/// and any other error to a partition.
+/// Returns true if an error can have this response. A fault of the module belongs to no partition
+/// and no process, and any other error to a partition.
 fn is_handled_in(response: Response, who: &Option<Subject>, partition: &Option<Name>) -> bool
     ensures { result ≡ is_handled_in response who.now partition.now }
 {

@@ -14,8 +14,8 @@ pub struct TraceFault {
     pub line: u64,
 }
 
-/// A trace that is read from its front on. It goes over the text once, and holds nothing but the
-/// place, the tick and the number of the last line.
+/// A trace that is read from its front on. It goes over the text once, and keeps only the place,
+/// the tick and the number of the last line.
 #[derive(Drop)]
 pub struct TraceReader<'a> {
     rest: &'a [u8],
@@ -50,14 +50,14 @@ impl<'a> TraceReader<'a> {
         }
     }
 
-    /// What was not read yet.
+    /// The text that was not read yet.
     pub(crate) fn rest(&self) -> &'a [u8]
         ensures { result.now ≡ self.now.rest.now }
     {
         self.rest
     }
 
-    /// How many lines were read.
+    /// The number of lines that were read.
     pub fn lines(&self) -> u64
         ensures { result ≡ self.now.lines }
     {
@@ -68,8 +68,8 @@ impl<'a> TraceReader<'a> {
     ///
     /// # Errors
     ///
-    /// The next line is no line of a trace here. The reader stays where it is, so that it answers
-    /// the same again.
+    /// The next line is no line of a trace here. The reader stays where it is, so the next call
+    /// fails in the same way.
     pub fn next_event(&mut self) -> Result<Option<Event>, TraceFault>
         ensures read { IfOk result
             (λ o. IfSome o (λ e. IsNext self.old.before.0 self.old.rest.now e self.new.rest.now)) }

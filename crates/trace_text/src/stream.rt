@@ -57,7 +57,7 @@ impl<R: Read> TraceStream<R> {
     ghost use Rattle.apex_types.specs.declared.event.Event.{Event};
     ghost use Rattle.trace_text.specs.Trace.{IsNext};
 
-    /// A stream of the events whose lines the reader has. Nothing is read yet.
+    /// A stream of the events of the lines in the reader. Nothing is read yet.
     ///
     /// # Errors
     ///
@@ -80,7 +80,7 @@ impl<R: Read> TraceStream<R> {
         })
     }
 
-    /// How many lines were read. The count stops at `u64::MAX`.
+    /// The number of lines that were read. The count stops at `u64::MAX`.
     pub fn lines(&self) -> u64
         ensures { result ≡ self.now.lines }
     {
@@ -151,7 +151,7 @@ impl<R: Read> TraceStream<R> {
     }
 }
 
-/// Whether the first line, if it is one of a trace, stands here to its end.
+/// Returns true if the first line, if it is a line of a trace, ends within `bytes`.
 fn has_line(bytes: &[u8]) -> bool
     ensures found { result ≡ true
         → (pieces_behind_marks 10 bytes.now ≢ []) ⊎ (MOST_LINE_BYTES ≤ length bytes.now) }

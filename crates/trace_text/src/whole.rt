@@ -6,7 +6,7 @@ ghost use Rattle.trace_text.specs.Trace.{IsReadAs, IsRefusedAt};
 
 use crate::reader::{TraceFault, TraceReader};
 
-/// How many lines a trace has.
+/// The number of lines of a trace.
 ///
 /// # Errors
 ///

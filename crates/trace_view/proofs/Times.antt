@@ -89,7 +89,7 @@ preempted_next : (o : Option Activation) (tick : ℕ) (turns : List Turn) → ne
 preempted_next None tick turns = refl
 preempted_next (Some a) tick turns = preempted_if a.has_run a.ready.0 tick turns
 
--- what a state that begins leaves to come
+-- the extreme times, with those still to come after a state begins
 abbrev left_run : Tally → List Turn → List ℕ → Option Extremes
 left_run t turns later = with_times t.to_running (open_run t.activation turns ++ later)
 
@@ -198,7 +198,7 @@ preempted_end : (o : Option Activation) (end : ℕ) (turns : List Turn) → next
 preempted_end None end turns = refl
 preempted_end (Some a) end turns = refl
 
--- what a state that begins leaves to come
+-- the extreme times, with those still to come after a state begins
 abbrev left_end : Tally → List Turn → List ℕ → Option Extremes
 left_end t turns later = with_times t.to_end (open_end t.activation turns ++ later)
 

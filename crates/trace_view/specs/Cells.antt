@@ -1,4 +1,4 @@
--- What stands in the cells of tables.
+-- The contents of the cells of tables.
 use Rattle.std.specs.Prelude.{ℕ, ◌/◌, ◌%◌, List, [], ◌∷◌, ◌++◌, codes, Option, Some, None}
 use Rattle.std.specs.Fmt.{decimal}
 use Rattle.apex_types.specs.declared.event.Subject.{Subject}
@@ -29,7 +29,7 @@ subject_text (subject.Process name) = name
 abbrev pub share_text : Share → List ℕ
 share_text share = decimal (share.tenths / 10) ++ codes "." ++ decimal (share.tenths % 10)
 
--- the text of a cell, with this one for a number that is not there
+-- the text of a cell, with `absent` for a number that is not there
 abbrev pub cell_text : List ℕ → Cell → List ℕ
 cell_text absent (cell.Number n) = decimal n
 cell_text absent (cell.Share share) = share_text share

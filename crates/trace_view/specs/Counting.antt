@@ -33,29 +33,29 @@ share_of ticks all = if all == 0 then 0 else (2000 * min ticks all + all) / (2 *
 
 -- ---- ticks
 
--- how many of these ticks lie in the window
+-- the number of these ticks in the window
 abbrev pub ticks_in : Span → Span → ℕ
 ticks_in window span = ticks_of (common span window)
 
--- the ticks in each state, with so many more in this one
+-- the ticks in each state, with `n` more in the given one
 abbrev pub with_ticks : ProcessState → ℕ → StateTicks → StateTicks
 with_ticks state.Running n t = record t { running = capped (t.running + n) }
 with_ticks state.Ready n t = record t { ready = capped (t.ready + n) }
 with_ticks state.Waiting n t = record t { waiting = capped (t.waiting + n) }
 with_ticks state.Dormant n t = record t { dormant = capped (t.dormant + n) }
 
--- those of one more stay
+-- the ticks in each state, with those of one more stay
 abbrev pub with_stay : Span → Stay → StateTicks → StateTicks
 with_stay window stay t = with_ticks stay.state (ticks_in window stay.span) t
 
--- the ticks in each mode, with so many more in this one
+-- the ticks in each mode, with `n` more in the given one
 abbrev pub with_mode_ticks : Mode → ℕ → ModeTicks → ModeTicks
 with_mode_ticks mode.Normal n t = record t { normal = capped (t.normal + n) }
 with_mode_ticks mode.ColdStart n t = record t { cold_start = capped (t.cold_start + n) }
 with_mode_ticks mode.WarmStart n t = record t { warm_start = capped (t.warm_start + n) }
 with_mode_ticks mode.Idle n t = record t { idle = capped (t.idle + n) }
 
--- those of one more stay
+-- the ticks in each mode, with those of one more stay
 abbrev pub with_mode_stay : Span → ModeStay → ModeTicks → ModeTicks
 with_mode_stay window stay t = with_mode_ticks stay.mode (ticks_in window stay.span) t
 
@@ -83,7 +83,7 @@ with_message (event.Mode mode) m = m
 with_message (event.Error error who response) m = m
 with_message (event.Report who words) m = m
 
--- where the message of a line passes
+-- the port or channel where the message of a line passes
 abbrev pub route_of : EventKind → Option Route
 route_of (event.Move port words) = Some (route.Port port)
 route_of (event.Arrive port words) = Some (route.Port port)

@@ -1,4 +1,4 @@
--- What one turn of a process changes in its numbers.
+-- The changes of the numbers of a process in one of its turns.
 use Rattle.std.specs.Prelude.{ℕ, ◌+◌, ◌-◌, Bool, true, false, ◌&&◌, nat_le, Option, Some, None}
 use Rattle.std.proofs.Math.Dec.{ltb}
 use Rattle.apex_types.specs.declared.codes.ProcessState.{ProcessState}
@@ -23,7 +23,7 @@ abbrev pub ended_running : Option Stay → Bool
 ended_running None = false
 ended_running (Some stay) = is_running stay.state
 
--- the tick where the stay is over; that of the line if there is none
+-- the tick where the stay is over; if no stay is over, the tick of the line
 abbrev pub ended_at : Option Stay → ℕ → ℕ
 ended_at None t = t
 ended_at (Some stay) t = stay.span.until.0
@@ -37,8 +37,8 @@ has_tick window t = nat_le window.from.0 t && ltb t window.until.0
 abbrev pub begins : Turn → Activation
 begins turn = record { ready = turn.tick; has_run = false }
 
--- A process that is READY and was not RUNNING begins an activation, if its line is in the window. One that was
--- RUNNING is preempted, and goes on with its activation.
+-- A process that is READY and was not RUNNING begins an activation, if its line is in the window. A
+-- process that was RUNNING is preempted, and continues its activation.
 abbrev pub begun_if : Bool → Turn → Tally → Tally
 begun_if true turn t = record t { activations = capped (t.activations + 1); activation = Some (begins turn) }
 begun_if false turn t = record t { activation = None }
@@ -61,7 +61,7 @@ abbrev pub over : Option Activation → ℕ → Tally → Tally
 over None tick t = t
 over (Some a) tick t = record t { to_end = Some (with_time t.to_end (tick - a.ready.0)); activation = None }
 
--- what the state that begins changes; a process that is gone leaves its activation unmeasured
+-- the changes by the state that begins; a process that is gone leaves its activation unmeasured
 abbrev pub entered : Option ProcessState → Span → Turn → Tally → Tally
 entered None window turn t = record t { activation = None }
 entered (Some state.Ready) window turn t = begun (ended_running turn.ended) window turn t
@@ -69,7 +69,7 @@ entered (Some state.Running) window turn t = run t.activation turn.tick.0 t
 entered (Some state.Waiting) window turn t = over t.activation (ended_at turn.ended turn.tick.0) t
 entered (Some state.Dormant) window turn t = over t.activation (ended_at turn.ended turn.tick.0) t
 
--- what the stay that is over adds
+-- the ticks that the stay that is over adds
 abbrev pub with_ended : Span → Option Stay → Tally → Tally
 with_ended window None t = t
 with_ended window (Some stay) t = record t { ticks = with_stay window stay t.ticks }
@@ -77,7 +77,7 @@ with_ended window (Some stay) t = record t { ticks = with_stay window stay t.tic
 abbrev pub turned : Span → Turn → Tally → Tally
 turned window turn t = entered turn.next window turn (with_ended window turn.ended t)
 
--- a process of which nothing was counted
+-- a process without counts
 abbrev pub nothing_counted : Tally
 nothing_counted = record {
   ticks = record { running = 0; ready = 0; waiting = 0; dormant = 0 };

@@ -38,12 +38,12 @@ IsCounted place route kind old new =
 abbrev pub total_of : PartitionTotal → Passage → RouteTotal
 total_of partition one = record { partition = partition.name; route = one.route; messages = one.messages }
 
--- those of the partition at this place
+-- the totals of the partition at this place
 abbrev pub totals_at : ℕ → PartitionTotal → List Passage → List RouteTotal
 totals_at place partition [] = []
 totals_at place partition (one ∷ more) = if nat_eq one.partition place then total_of partition one ∷ totals_at place partition more else totals_at place partition more
 
--- those of the partition at this place, then those of the next one, and so on
+-- the totals of the partition at this place, then those of the next one, and so on
 abbrev pub totals_from : ℕ → List PartitionTotal → List Passage → List RouteTotal
 totals_from place [] passages = []
 totals_from place (partition ∷ others) passages = totals_at place partition passages ++ totals_from (place + 1) others passages

@@ -114,17 +114,17 @@ pub record AreNumbersOf (window : Span) (turns : List Turn) (t : Tally) : Type 0
 
 -- ---- stays that follow one another
 
--- a line that says that the process comes to this state
+-- a line that says that the process enters this state
 pub record StateLine : Type 0 where
   pub state : ProcessState
   pub tick : ℕ
 
--- the stays of a process in such lines, and the one that is not over where the trace ends
+-- the stays of a process in such lines, and the stay that is not over where the trace ends
 abbrev pub stays_in : Option Held → List StateLine → ℕ → List Stay
 stays_in held [] until = and_stay (stay_left held until) []
 stays_in held (line ∷ lines) until = and_stay (stay_ended held (Some line.state) line.tick) (stays_in (held_behind held (Some line.state) line.tick) lines until)
 
--- where the last of them ends
+-- the tick where the last of them ends
 abbrev pub stays_until : Held → List StateLine → ℕ → ℕ
 stays_until held [] until = max held.since.0 until
 stays_until held (line ∷ lines) until = stays_until (record { state = line.state; since = tick (stay_until held (Some line.state) line.tick) }) lines until

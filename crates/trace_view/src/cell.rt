@@ -14,7 +14,7 @@ use crate::tally::Tally;
 use apex_types::{Subject, Ticks};
 use std::alloc::{AllocError, Global};
 
-/// What stands in a cell beside names.
+/// The contents of a cell beside names.
 #[derive(Clone, Copy, Debug, PartialEq, Eq)]
 pub enum Cell {
     Number(u64),

@@ -1,4 +1,4 @@
-//! What was counted, by partitions, processes, ports and channels.
+//! The counts so far, by partitions, processes, ports and channels.
 
 ghost use Rattle.std.specs.Prelude.{◌≡◌, IfOk};
 ghost use Rattle.trace_view.specs.Traffic.{totals_from};
@@ -13,7 +13,7 @@ use apex_types::{ErrorKind, Event, EventKind, Name, ProcessState, ReturnCode, Su
 use std::alloc::Global;
 use trace_stays::{Ended, Lanes, MemoryFull, Span};
 
-/// What was counted so far.
+/// The counts so far.
 #[derive(Drop)]
 pub struct Counts {
     alloc: Global,
@@ -40,7 +40,7 @@ impl Counts {
         }
     }
 
-    /// Counts the next event. An event before the window only tells how the window begins.
+    /// Counts the next event. An event before the window only determines how the window begins.
     ///
     /// # Errors
     ///
@@ -126,7 +126,7 @@ impl Counts {
         Ok(place)
     }
 
-    /// A process comes to a state. The stay that is over is the only one that the line ended.
+    /// A process enters a state. The stay that is over is the only one that the line ended.
     fn turn(
         &mut self,
         event: &Event,
@@ -176,7 +176,7 @@ impl Counts {
         }
     }
 
-    /// Counts what a line tells besides states and modes.
+    /// Counts the parts of a line besides states and modes.
     fn count_kind(&mut self, event: &Event) -> Result<(), MemoryFull> {
         let Some(name) = &event.partition else {
             return Ok(());
@@ -229,7 +229,7 @@ impl Counts {
         Ok(totals)
     }
 
-    /// Those of the first partition, then those of the next one, and so on.
+    /// The totals of the first partition, then those of the next one, and so on.
     fn process_totals(
         &self,
         partitions: &[PartitionTotal],
@@ -249,7 +249,7 @@ impl Counts {
         Ok(totals)
     }
 
-    /// Those of the first partition, then those of the next one, and so on.
+    /// The totals of the first partition, then those of the next one, and so on.
     #[tactic(auto, using(std::proofs::lemmas::List::drop_more))]
     fn route_totals(&self, partitions: &[PartitionTotal]) -> Result<Vec<RouteTotal>, MemoryFull>
         ensures { IfOk result

@@ -1,4 +1,4 @@
-//! Which lines and ticks were counted.
+//! The lines and ticks that were counted.
 
 ghost use Rattle.std.specs.Prelude.{◌≡◌};
 ghost use Rattle.trace_view.specs.Tallies.{has_tick};
@@ -6,7 +6,7 @@ ghost use Rattle.trace_view.specs.Tallies.{has_tick};
 use apex_types::Ticks;
 use trace_stays::Span;
 
-/// Which lines and ticks were counted.
+/// The lines and ticks that were counted.
 #[derive(Clone, Copy, Debug, PartialEq, Eq)]
 pub struct Extent {
     pub lines: u64,
@@ -52,7 +52,7 @@ impl Extent {
     }
 
     /// All lines are counted. A window without an end ends behind the last line, or where it begins
-    /// if there is none.
+    /// if no line is counted.
     pub fn close(&mut self, to: Option<Ticks>)
         ensures { self.new ≡ closed to self.old }
     {
@@ -68,7 +68,7 @@ impl Extent {
     }
 }
 
-/// Whether the window has this tick.
+/// Returns true if the window has this tick.
 pub fn has_tick(window: Span, tick: Ticks) -> bool
     ensures { result ≡ has_tick window tick.0 }
 {

@@ -12,7 +12,7 @@ pub struct Extremes {
 impl Extremes {
     ghost use Rattle.trace_view.specs.Counting.{with_time};
 
-    /// Those of the numbers so far and one more.
+    /// The least and the greatest of the numbers so far and one more.
     pub fn with(before: Option<Extremes>, ticks: u64) -> Extremes
         ensures { result ≡ with_time before ticks }
     {

@@ -1,4 +1,4 @@
-//! What can fail where a report is written.
+//! The failures of writing a report.
 
 use csv::ErrorKind;
 use std::alloc::{AllocError, AllocFailed};

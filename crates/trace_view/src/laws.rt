@@ -12,14 +12,14 @@ ghost use Rattle.trace_view.specs.Tallies.{nothing_counted};
 ghost use Rattle.trace_view.specs.Turns.{AreContiguous, AreNumbersOf, StateLine, stays_in, stays_until, tally_after, ticks_in_all};
 ghost use Rattle.trace_view.specs.declared.tally.Turn.{Turn};
 
-/// What the turns of a process come to one by one are the sums, the counts and the times over all of
-/// them.
+/// The counts of the turns of a process one by one are the sums, the counts and the times over all
+/// of them.
 pub fn turns_are_counted()
     ensures { (window : Span) (turns : List Turn)
         → AreNumbersOf window turns (tally_after window nothing_counted turns) }
 {}
 
-/// Of stays that follow one another each tick counts for one state: the ticks in the four states
+/// In stays that follow one another each tick counts for one state: the ticks in the four states
 /// together are all ticks from the first stay to the last.
 pub fn each_tick_counts_once()
     ensures { (window : Span) (from until : ℕ) (stays : List Stay) → AreContiguous from stays until

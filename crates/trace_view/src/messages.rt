@@ -1,11 +1,11 @@
-//! How many messages came and went.
+//! The numbers of messages.
 
 ghost use Rattle.std.specs.Prelude.{◌≡◌};
 ghost use Rattle.trace_view.specs.Counting.{route_of};
 
 use apex_types::{EventKind, Name};
 
-/// Where messages pass.
+/// A port or channel where messages pass.
 #[derive(Clone, Copy, Debug, PartialEq, Eq)]
 pub enum Route {
     /// A port of the partition.
@@ -14,16 +14,16 @@ pub enum Route {
     Channel(Name),
 }
 
-/// How many messages passed.
+/// The numbers of messages that passed.
 #[derive(Clone, Copy, Debug, PartialEq, Eq)]
 pub struct Messages {
-    /// Those that left the port.
+    /// Messages that left the port.
     pub moved: u64,
-    /// Those that reached the port.
+    /// Messages that reached the port.
     pub arrived: u64,
-    /// Those that found the port full.
+    /// Messages that found the port full.
     pub lost: u64,
-    /// Those that left the module.
+    /// Messages that left the module.
     pub out: u64,
 }
 
@@ -42,7 +42,7 @@ impl Messages {
         }
     }
 
-    /// Counts the message of such a line; other lines are of no message.
+    /// Counts the message of such a line; other lines have no message.
     pub fn count(&mut self, kind: &EventKind)
         ensures { self.new ≡ with_message kind.now self.old }
     {
@@ -56,7 +56,8 @@ impl Messages {
     }
 }
 
-/// Where the message of such a line passes; none if the line is of no message.
+/// The port or channel where the message of such a line passes; `None` for a line without a
+/// message.
 pub fn route_of(kind: &EventKind) -> Option<Route>
     ensures { result ≡ route_of kind.now }
 {

@@ -1,4 +1,4 @@
-//! How many ticks a partition was in each mode.
+//! The numbers of ticks of a partition in each mode.
 
 ghost use Rattle.std.specs.Prelude.{◌≡◌};
 

@@ -1,10 +1,10 @@
-//! How many services were refused, by their codes.
+//! The numbers of refused services, by their codes.
 
 ghost use Rattle.std.specs.Prelude.{◌≡◌};
 
 use apex_types::ReturnCode;
 
-/// How many services answered each code but `NO_ERROR`.
+/// The number of services that answered each code except `NO_ERROR`.
 #[derive(Clone, Copy, Debug, PartialEq, Eq)]
 pub struct Refusals {
     pub no_action: u64,

@@ -1,4 +1,4 @@
-//! How many ticks a process was in each state.
+//! The numbers of ticks of a process in each state.
 
 ghost use Rattle.std.specs.Prelude.{◌≡◌};
 

@@ -9,12 +9,12 @@ use apex_types::{Event, Ticks};
 use std::alloc::Global;
 use trace_stays::MemoryFull;
 
-/// Counts the events of a trace, one by one. Its memory grows with the partitions, processes, ports
-/// and channels alone.
+/// Counts the events of a trace, one by one. Its memory grows only with the partitions, processes,
+/// ports and channels.
 #[derive(Drop)]
 pub struct Summary {
     to: Option<Ticks>,
-    /// The lines so far. Until all are counted, a window without an end goes on.
+    /// The lines so far. Until all are counted, a window without an end stays open.
     extent: Extent,
     counts: Counts,
 }
@@ -22,8 +22,8 @@ pub struct Summary {
 impl Summary {
     ghost use Rattle.trace_view.specs.Extents.{closed, opened, with_line};
 
-    /// Nothing is counted yet. The ticks `from` and later will count, and only those before `to`,
-    /// if there is one; otherwise those up to the last line.
+    /// Nothing is counted yet. The ticks `from` and later will count: those before `to`, or, with
+    /// `None`, those up to the last line.
     pub fn new(alloc: Global, from: Ticks, to: Option<Ticks>) -> Summary
         ensures to { result.to ≡ to }
         ensures extent { result.extent ≡ opened from to }
@@ -52,7 +52,7 @@ impl Summary {
         Ok(())
     }
 
-    /// All that was counted.
+    /// Returns all counts.
     ///
     /// # Errors
     ///

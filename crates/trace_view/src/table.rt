@@ -16,7 +16,7 @@ struct Row {
 #[derive(Drop)]
 pub struct Table {
     alloc: Global,
-    /// How many columns have names.
+    /// The number of columns with names.
     names: usize,
     rows: Vec<Row>,
 }

@@ -9,7 +9,7 @@ use crate::states::StateTicks;
 use apex_types::{ProcessState, ReturnCode, Ticks};
 use trace_stays::{Span, Stay};
 
-/// A process comes to a state, or is gone.
+/// A process enters a state, or is gone.
 #[derive(Clone, Copy, Debug, PartialEq, Eq)]
 pub struct Turn {
     /// The tick of the line that says so.
@@ -25,7 +25,7 @@ pub struct Turn {
 struct Activation {
     /// The tick of its READY line.
     ready: Ticks,
-    /// Whether it has been RUNNING.
+    /// True if it has been RUNNING.
     has_run: bool,
 }
 
@@ -33,7 +33,7 @@ struct Activation {
 #[derive(Clone, Copy, Debug, PartialEq, Eq)]
 pub struct Tally {
     pub ticks: StateTicks,
-    /// How often it became READY without being preempted.
+    /// The number of times that it became READY without being preempted.
     pub activations: u64,
     /// The ticks from the READY of an activation to its first RUNNING.
     pub to_running: Option<Extremes>,
@@ -49,7 +49,7 @@ impl Tally {
     ghost use Rattle.trace_view.specs.Counting.{capped, with_answer};
     ghost use Rattle.trace_view.specs.Tallies.{begun, ended_running, nothing_counted, over, run, turned, with_ended};
 
-    /// A process of which nothing was counted.
+    /// A process without counts.
     pub fn new() -> Tally
         ensures { result ≡ nothing_counted }
     {
@@ -150,7 +150,7 @@ impl Tally {
 impl Turn {
     ghost use Rattle.trace_view.specs.Tallies.{ended_at, ended_running};
 
-    /// Whether the process was RUNNING.
+    /// Returns true if the process was RUNNING.
     fn was_running(self) -> bool
         ensures { result ≡ ended_running self.ended }
     {

@@ -19,7 +19,8 @@ pub struct Passage {
 }
 
 impl Passage {
-    /// Whether these are the messages of this port or channel of the partition at this place.
+    /// Returns true if these are the messages of this port or channel of the partition at this
+    /// place.
     fn is_of(&self, partition: usize, route: &Route) -> bool
         ensures { IsTrue result ↔ IsOf partition route.now self.now }
     {
@@ -27,7 +28,7 @@ impl Passage {
     }
 }
 
-/// Whether both are the same port, or the same channel.
+/// Returns true if both are the same port, or the same channel.
 fn is_same(one: &Route, other: &Route) -> bool
     ensures { IsTrue result ↔ (one.now ≡ other.now) }
 {
@@ -38,7 +39,7 @@ fn is_same(one: &Route, other: &Route) -> bool
     }
 }
 
-/// How many messages passed at each port and each channel of each partition, in the order of their
+/// The numbers of messages at each port and each channel of each partition, in the order of their
 /// first lines.
 #[derive(Drop)]
 pub struct Traffic {
@@ -86,7 +87,8 @@ impl Traffic {
         Ok(())
     }
 
-    /// The place where the messages of this port or channel are counted, if there is one.
+    /// The place where the messages of this port or channel are counted; `None` if they are not
+    /// counted.
     fn place_of(&self, partition: usize, route: &Route) -> Option<usize>
         ensures { MatchOption result (IsNoneOf partition route.now self.now.passages.items)
             (λ place. (one : Passage)

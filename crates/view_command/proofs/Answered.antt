@@ -1,4 +1,4 @@
--- From what a command came to, to its status.
+-- From the outcome of a command to its exit status.
 use Rattle.std.proofs.Common.{◌≡◌, ◌⊎◌, inl, inr, ℕ, ◌<◌, ◌-◌, ◌^◌, true, [], Option, Some, Result, Ok, Err, refl, sym, ap, subst, ◌∙◌, arith}
 use Rattle.std.specs.Prelude.{IfErr, OnOk}
 use Rattle.clap.specs.Faults.{is_simple_and_free}
@@ -81,7 +81,7 @@ answered kinds entered texts before mid new_out old_err new_err status (Err (Ref
 answered kinds entered texts before mid new_out old_err new_err status (Err (Usage e)) none trace opened flushed failed told =
     of_usage kinds entered texts before mid new_out old_err new_err status e failed told (help_or (kind_of e))
 
--- the help that is told was not yet written
+-- output can take the help: nothing was written to it before
 pub can_take_help : (kinds : Kinds) (entered : Entered) (texts : Option Contents) (before mid : State) (outcome : Result (Unit {0}) (Failure Refusal))
     → IfErr outcome (λ f. IsFailure kinds entered texts before mid f) → before.out.failures < 2 ^ 64 - 1 → CanTakeHelp outcome mid.out.failures
 can_take_help kinds entered texts before mid (Ok x) failed low = tt

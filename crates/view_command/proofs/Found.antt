@@ -1,4 +1,4 @@
--- What was found in the words.
+-- The arguments found in the words.
 use Rattle.std.proofs.Common.{◌≡◌, inr, ℕ, List, [], Option, None, Some, Result, Ok, Err, sym, ap, refl, subst, ◌∙◌, Bor}
 use Rattle.std.specs.Prelude.{option_map, true, IfErr}
 use Rattle.clap.specs.Kinds.{Kinds}
@@ -44,7 +44,7 @@ view_is_simple = refl
 
 -- ---- the words as a whole
 
--- words that it takes, which ask for nothing
+-- words that the library takes, which ask for nothing
 pub nothing_asked : {T : Type 0} (kinds : Kinds) (own entered : Entered) (answer : Result T (Failure Refusal)) → kinds ≡ [] → own ≡ entered
     → IfErr answer (λ f. IsNothingAsked own f) → IfErr answer (λ f. IsFailureOfWords kinds entered f)
 nothing_asked kinds own entered answer none same h = go answer (subst (λ o. IfErr answer (λ f. IsNothingAsked o f)) same h)

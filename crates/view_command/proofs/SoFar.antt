@@ -16,7 +16,7 @@ use Rattle.view_command.specs.Answers.{IsUnread}
 use Rattle.view_command.specs.Faults.{of_stream}
 use Rattle.view_command.specs.Texts.{IsRefusedLine, IsTraceOf}
 
--- so many lines of a text were read, where it is known, and that is left of it
+-- `lines` lines of a text were read, if the text is known, and `left` is left of it
 abbrev pub IsSoFar : Option (List ℕ) → ℕ → ℕ → Option (List ℕ) → Type 0
 IsSoFar None before lines left = Unit {0}
 IsSoFar (Some text) before lines None = ⊥

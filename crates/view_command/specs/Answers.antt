@@ -1,4 +1,4 @@
--- What each status means.
+-- The meaning of each exit status.
 use Rattle.std.specs.Prelude.{◌≡◌, ◌⊎◌, ◌≤◌, ℕ, List, [], ◌∷◌, ◌++◌, Option, Some, Result, Ok, Err, string_bytes}
 use Rattle.clap.specs.Kinds.{Kinds, IsAmong}
 use Rattle.clap.specs.Values.{kind_of}
@@ -17,9 +17,9 @@ use Rattle.command_words.specs.declared.failure.Failure.TheVariants.{Refused, Us
 use Rattle.view_command.specs.declared.refusal.Refusal.{Refusal}
 use Rattle.view_command.specs.declared.refusal.Refusal.TheVariants.{Open, Read, Line, TooMany, Memory, Write}
 
--- ---- why a trace is not shown; want of memory may come at every step
+-- ---- why a trace is not shown; memory may run out at every step
 
--- the text that a reader has, which is called so, is not read to its end, or not taken
+-- the text of the reader, which has this name, is not read to its end, or not taken
 abbrev pub IsUnread : Option (List ℕ) → List ℕ → Refusal → Type 0
 IsUnread text name (Read shown) = string_bytes shown ≡ name
 IsUnread text name (Line number shown) = (string_bytes shown ≡ name) × IsRefusedLine text number
@@ -27,8 +27,9 @@ IsUnread text name TooMany = Unit {0}
 IsUnread text name Memory = Unit {0}
 IsUnread text name _ = ⊥
 
--- The trace of this name is not shown. Of a text that is not opened, that is noted; a line is refused if it is
--- the first that is no line of a trace there. Only of a whole trace something was written, which failed.
+-- The trace of this name is not shown. A text that is not opened is noted; a line is refused if it
+-- is the first that is no line of a trace there; only a whole trace is written, and that write
+-- failed.
 abbrev pub IsRefused : Option Contents → List ℕ → State → State → Refusal → Type 0
 IsRefused texts name before after Write = HasFailed before.out after.out × (after.unopened ≡ before.unopened) × IsTraceIn texts name
 IsRefused texts name before after (Open shown) = (after.out ≡ before.out) × (string_bytes shown ≡ called name) × (after.unopened ≡ before.unopened ++ name ∷ [])
@@ -37,7 +38,7 @@ IsRefused texts name before after (Line number shown) = IsUntouched before after
 IsRefused texts name before after TooMany = IsUntouched before after
 IsRefused texts name before after Memory = IsUntouched before after
 
--- ---- the words, of which the library of command lines has these errors to tell
+-- ---- the words, for which the library of command lines reports these errors
 
 -- they are no command
 abbrev pub AreNoCommand : Kinds → Entered → Type 0
@@ -55,7 +56,7 @@ IsTicksFailure rows (Refused Memory) = Unit {0}
 IsTicksFailure rows (Refused _) = ⊥
 IsTicksFailure rows (Usage error) = AreWrongTicks rows × IsMistake (kind_of error)
 
--- what was found asks for nothing, or memory ran out
+-- the words found ask for nothing, or memory ran out
 abbrev pub IsNothingAsked : Entered → Failure Refusal → Type 0
 IsNothingAsked entered (Refused Memory) = Unit {0}
 IsNothingAsked entered (Refused _) = ⊥
@@ -94,7 +95,7 @@ pub record IsAnswer (kinds : Kinds) (entered : Entered) (texts : Option Contents
   pub refused : status ≡ 1 → (r : Refusal) × IsRefusedFor kinds entered texts before after r × TakesLine old_err new_err (line_of r)
   pub usage : status ≡ 2 → IsUntouched before after × AreNoCommand kinds entered × IsWritten old_err new_err
 
--- ---- what was told of an outcome
+-- ---- the report of an outcome
 
 abbrev pub IsTold : Result (Unit {0}) (Failure Refusal) → Seen → Seen → Seen → Seen → ℕ → Type 0
 IsTold (Ok done) old_out new_out old_err new_err status = (status ≡ 0) × (new_out ≡ old_out) × (new_err ≡ old_err)

@@ -1,4 +1,4 @@
--- The refusal that each fault is.
+-- The refusal for each fault.
 use Rattle.std.specs.declared.string.String.{String}
 use Rattle.std.specs.declared.alloc.Global.{Global}
 use Rattle.trace_text.specs.declared.stream.StreamFault.{StreamFault}
@@ -10,12 +10,12 @@ use Rattle.streams.specs.declared.names.NameFault.TheVariants as source
 use Rattle.view_command.specs.declared.views.ViewFault.{ViewFault}
 use Rattle.view_command.specs.declared.views.ViewFault.TheVariants as view
 
--- a text that is called so was not opened
+-- a text of this name was not opened
 abbrev pub of_source : String Global → NameFault → Refusal
 of_source called source.Unavailable = Open called
 of_source called source.Memory = Memory
 
--- a text that is called so was not read on
+-- a text of this name was not read on
 abbrev pub of_stream : String Global → StreamFault → Refusal
 of_stream called (stream.Line at) = Line at.line called
 of_stream called (stream.Read error) = Read called

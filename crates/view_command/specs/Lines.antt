@@ -5,7 +5,7 @@ use Rattle.std.specs.Str.{bytes_eq}
 use Rattle.view_command.specs.declared.refusal.Refusal.{Refusal}
 use Rattle.view_command.specs.declared.refusal.Refusal.TheVariants.{Open, Read, Line, TooMany, Memory, Write}
 
--- what a text is called: `-` stands for the standard input
+-- the name of a text in a line: `-` stands for the standard input
 abbrev pub called : List ℕ → List ℕ
 called name = if bytes_eq name (codes "-") then codes "the standard input" else name
 

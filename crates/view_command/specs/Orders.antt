@@ -1,4 +1,4 @@
--- What the words ask for.
+-- The request in the words.
 use Rattle.std.specs.Prelude.{◌≡◌, ◌≢◌, ◌⊎◌, ℕ, ◌≤◌, List, [], Option, Some, None, codes}
 use Rattle.std.specs.Str.Parse.{IsNumeral}
 use Rattle.clap.specs.Walk.{Row, first_of}
@@ -10,7 +10,7 @@ abbrev pub trace_of : Entered → List ℕ
 trace_of None = []
 trace_of (Some entered) = word_at (codes "TRACE") entered.1
 
--- the tick of a word that may be there
+-- the tick of an optional word
 abbrev pub IsTickOf : Option (List ℕ) → Option ℕ → Type 0
 IsTickOf None None = Unit {0}
 IsTickOf (Some word) (Some n) = IsNumeral 10 word × (n ≡ number_in word)
@@ -21,21 +21,21 @@ abbrev pub from_in : Option (List ℕ) → ℕ
 from_in None = 0
 from_in (Some word) = number_in word
 
--- the word that is there is no row of digits
+-- the word is there, and is not written in digits
 abbrev pub IsNoTick : Option (List ℕ) → Type 0
 IsNoTick None = ⊥
 IsNoTick (Some word) = IsNumeral 10 word → ⊥
 
--- there is no tick from the one before the other
+-- no tick is from the first one on and before the second
 abbrev pub AreNoTicks : Option (List ℕ) → Option (List ℕ) → Type 0
 AreNoTicks from None = ⊥
 AreNoTicks from (Some to) = number_in to ≤ from_in from
 
--- its words for ticks are no ticks, or leave none
+-- the words for ticks are no ticks, or leave none
 abbrev pub AreWrongTicks : List Row → Type 0
 AreWrongTicks rows = IsNoTick (first_of (codes "from") rows) ⊎ IsNoTick (first_of (codes "to") rows) ⊎ AreNoTicks (first_of (codes "from") rows) (first_of (codes "to") rows)
 
--- what was found asks for no view
+-- the words found ask for no view
 abbrev pub AsksForNothing : Entered → Type 0
 AsksForNothing None = Unit {0}
 AsksForNothing (Some entered) =

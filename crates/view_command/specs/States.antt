@@ -1,4 +1,4 @@
--- What a command can change, beside standard error, as it is seen at one time.
+-- The state that a command can change, except standard error, at one time.
 use Rattle.std.specs.Prelude.{◌≡◌, ℕ, List}
 use Rattle.streams.specs.States.{Seen}
 

@@ -1,10 +1,10 @@
--- What is promised of a text that can be opened, where the texts are told.
+-- The properties of a text that can be opened, if the texts are known.
 use Rattle.std.specs.Prelude.{◌≡◌, ℕ, List, Option, Some, None}
 use Rattle.apex_types.specs.declared.event.Event.{Event}
 use Rattle.streams.specs.Contents.{Contents}
 use Rattle.trace_text.specs.Trace.{IsReadAs, IsRefusedAt}
 
--- ---- a text, where it is known
+-- ---- a text, if it is known
 
 -- it is a trace
 abbrev pub IsTraceOf : Option (List ℕ) → Type 0
@@ -16,7 +16,7 @@ abbrev pub IsRefusedLine : Option (List ℕ) → ℕ → Type 0
 IsRefusedLine None line = Unit {0}
 IsRefusedLine (Some text) line = IsRefusedAt text line
 
--- ---- the text of a name, where the texts are told
+-- ---- the text of a name, if the texts are known
 
 abbrev pub IsTraceIn : Option Contents → List ℕ → Type 0
 IsTraceIn None name = Unit {0}

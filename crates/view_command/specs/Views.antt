@@ -6,7 +6,7 @@ use Rattle.view_command.specs.declared.views.Shown.TheVariants as shown
 use Rattle.view_command.specs.declared.views.ViewFault.{ViewFault}
 use Rattle.view_command.specs.declared.views.ViewFault.TheVariants as fault
 
--- want of memory stays that, and too many shapes stay too many
+-- each fault of a picture is the fault of the same name
 abbrev pub view_fault : PictureFault → ViewFault
 view_fault picture.Memory = fault.Memory
 view_fault picture.TooMany = fault.TooMany

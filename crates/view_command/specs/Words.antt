@@ -5,7 +5,7 @@ use Rattle.clap.specs.Walk.{Rule}
 use Rattle.clap.specs.declared.builder.action.ArgAction.TheVariants.{Set}
 use Rattle.command_words.specs.Grammar.{flag_rule, word_rule}
 
--- the name of the trace, which has to be there
+-- the required name of the trace
 abbrev pub trace_rule : Rule
 trace_rule = word_rule (codes "TRACE")
 

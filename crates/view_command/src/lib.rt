@@ -27,12 +27,12 @@ use std::convert::AsStr;
 use streams::{Sources, Stream};
 use telling::tell;
 
-/// Shows the trace that the words of a command line name, the program's name first, and answers the
+/// Shows the trace that the words of a command line name, the program's name first, and returns the
 /// exit status: 0; 1 for a refusal, with its line on `err`; 2 for words that are no command, with
 /// the usage on `err`. Help goes to `out`, with status 0.
 ///
 /// Nothing is written to `out` before the whole trace was read. With status 0 all of it was written
-/// and flushed. What `err` does not take is told by the status alone.
+/// and flushed. If `err` cannot be written, only the status reports the failure.
 pub fn view<S: AsStr, F: Sources, O: Stream, E: Stream>(
     alloc: Global,
     words: &[S],

@@ -9,7 +9,7 @@ use command_words::WantOfMemory;
 use std::alloc::{AllocError, AllocFailed};
 use std::fmt;
 
-/// A trace that is not shown. What it shows is its line on standard error.
+/// A trace that is not shown. Displays as its line on standard error.
 #[derive(Drop)]
 pub enum Refusal {
     /// The text of that name was not opened.

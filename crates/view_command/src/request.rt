@@ -1,4 +1,4 @@
-//! What the words ask for.
+//! The request in the words of a command line.
 
 ghost use Rattle.std.specs.Prelude.{◌≡◌, [], map, IfErr, IfOk, OnOk, codes, string_bytes};
 ghost use Rattle.clap.specs.Faults.{fault_of};
@@ -19,7 +19,7 @@ use command_words::{Failure, number_of, word};
 use std::alloc::Global;
 use std::convert::AsStr;
 
-/// A trace that is to be shown.
+/// The trace to show, and the way to show it.
 #[derive(Drop)]
 pub struct Request {
     pub view: View,
@@ -31,7 +31,7 @@ pub struct Request {
     pub to: Option<Ticks>,
 }
 
-/// What the words ask for.
+/// The request in the words.
 pub fn request_of<S: AsStr>(alloc: Global, words: &[S]) -> Result<Request, Failure<Refusal>>
     ensures command { OnOk result (fault_of view_app (map S.text words.now) ≡ []) }
     ensures trace { IfOk result
@@ -44,7 +44,7 @@ pub fn request_of<S: AsStr>(alloc: Global, words: &[S]) -> Result<Request, Failu
     requested(alloc, &matches)
 }
 
-/// What was found in the words.
+/// The request in the arguments found in the words.
 fn requested(alloc: Global, matches: &ArgMatches<'_>) -> Result<Request, Failure<Refusal>>
     ensures trace { IfOk result
         (λ r. string_bytes r.trace ≡ trace_of (subcommand_rows_of matches.now)) }

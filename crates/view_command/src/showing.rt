@@ -49,7 +49,7 @@ pub fn show<F: Sources, O: Stream>(
     Ok(write_bytes(out, bytes.as_slice())?)
 }
 
-/// Reads every line of a trace, which is called so.
+/// Reads every line of the trace `name`.
 fn read_all<R: Read + Drop>(
     alloc: Global,
     name: String,
@@ -111,7 +111,7 @@ fn of_view(fault: ViewFault) -> Refusal
     }
 }
 
-/// What a text is called in a line for a reader.
+/// The name of a text in a line for a reader.
 fn called(trace: &str) -> &str
     ensures { result.now ≡ called trace.now }
 {

@@ -1,4 +1,4 @@
-//! What is told of what a command came to.
+//! Reports the outcome of a command.
 
 ghost use Rattle.std.specs.Prelude.{◌-◌, ◌^◌, ◌<◌};
 ghost use Rattle.command_words.specs.Told.{CanTakeHelp};
@@ -9,7 +9,7 @@ use crate::refusal::Refusal;
 use command_words::{Failure, tell_usage};
 use streams::{Stream, tell_line};
 
-/// Tells what a command came to, and answers its status.
+/// Reports the outcome of a command and returns its exit status.
 pub fn tell<O: Stream, E: Stream>(
     outcome: Result<(), Failure<Refusal>>,
     out: &mut O,
@@ -25,7 +25,7 @@ pub fn tell<O: Stream, E: Stream>(
     match outcome {
         Ok(()) => 0,
         Err(Failure::Refused(refusal)) => {
-            // What standard error does not take is told by the status alone.
+            // If standard error does not take it, only the status reports the refusal.
             tell_line(err, refusal);
             1
         }

@@ -30,7 +30,7 @@ pub enum ViewFault {
     TooMany,
 }
 
-/// What is shown of the events so far.
+/// The report of the events so far.
 #[derive(Drop)]
 pub enum Shown {
     Table(Summary),
@@ -62,7 +62,7 @@ impl Shown {
         Ok(())
     }
 
-    /// What is shown of all events, as the bytes that are written.
+    /// The report of all events, as the bytes to write.
     pub fn into_bytes(self, alloc: Global) -> Result<Vec<u8>, ViewFault>
         ensures { IsErrOf result ViewFault.TooMany → IsOfPicture self }
     {

@@ -1,4 +1,4 @@
-//! Tests of what `mbview` shows of traces.
+//! Tests of the views of `mbview`.
 #![tactic(auto)]
 
 #[cfg(test)]

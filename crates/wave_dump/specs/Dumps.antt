@@ -1,4 +1,4 @@
--- What a dump shows of a stay, and of a pulse.
+-- The changes that a dump shows of a stay, and of a pulse.
 use Rattle.std.specs.Prelude.{nat_le, if◌then◌else◌, List, [], ◌∷◌}
 use Rattle.apex_types.specs.declared.identity.Ticks.{Ticks}
 use Rattle.trace_stays.specs.declared.span.Span.{Span}

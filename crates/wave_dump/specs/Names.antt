@@ -1,4 +1,4 @@
--- What a dump calls its scopes and variables.
+-- The names of scopes and variables in a dump.
 use Rattle.std.specs.Prelude.{ℕ, List, ◌++◌, codes, Option, Some, None}
 use Rattle.std.specs.Fmt.{decimal}
 use Rattle.apex_types.specs.CodeWords.{error_word}
@@ -20,7 +20,7 @@ use Rattle.wave_dump.specs.declared.variable.Variable.TheVariants as variable
 
 -- ---- pulses
 
--- what a line shows in its tick; a state, a mode and the end of a service show nothing
+-- the pulse of a line in its tick; a state, a mode and the end of a service show nothing
 abbrev pub pulse_of : EventKind → Option Pulse
 pulse_of (event.Move port words) = Some (pulse.Move port)
 pulse_of (event.Arrive port words) = Some (pulse.Arrive port)

@@ -6,7 +6,7 @@ ghost use Rattle.wave_dump.specs.Names.{digit_of};
 use crate::variable::Variable;
 use apex_types::Ticks;
 
-/// What becomes of a variable.
+/// The new value of a variable.
 #[derive(Clone, Copy, Debug, PartialEq, Eq)]
 pub enum Value {
     /// The wire becomes 0.

@@ -1,11 +1,11 @@
-//! The beginning of a dump: what its variables are, and their first values.
+//! The beginning of a dump: its variables, and their first values.
 
 use crate::pulse::{GROUPS, Group, PulseLane, subject_text};
 use crate::variable::{MODES, STATES, Variable};
 use std::io::{self, Write};
 use trace_stays::{Lanes, Span};
 
-/// Writes what stands before the changes.
+/// Writes the part before the changes.
 pub fn write_header<W: Write>(
     span: Span,
     lanes: &Lanes,
@@ -68,7 +68,7 @@ fn write_module<W: Write>(pulses: &[PulseLane], out: &mut W) -> io::Result<()> {
     Ok(())
 }
 
-/// The scope of one group of pulses, if there are any.
+/// Writes the scope of one group of pulses, if the group has any.
 fn write_group<W: Write>(
     group: Group,
     partition: Option<usize>,

@@ -1,4 +1,4 @@
-//! What happens in one tick: messages, reports and errors.
+//! The events of a single tick: messages, reports and errors.
 
 ghost use Rattle.std.specs.Prelude.{◌≡◌};
 ghost use Rattle.apex_types.specs.Line as line;
@@ -7,7 +7,7 @@ ghost use Rattle.wave_dump.specs.Names.{group_of, group_word, pulse_of};
 use apex_types::{ErrorKind, EventKind, Name, Subject};
 use std::fmt::{self, Display, Formatter, Write};
 
-/// What a pulse tells.
+/// The event that a pulse shows.
 #[derive(Clone, Copy, Debug, PartialEq, Eq)]
 pub enum Pulse {
     /// A message left this source port.
@@ -102,7 +102,7 @@ impl Display for Pulse {
     }
 }
 
-/// The name of who it is, as a trace has it.
+/// The name of a subject, as a trace has it.
 pub fn subject_text(who: &Subject) -> &str
     ensures { result.now ≡ line.subject_text who.now }
 {

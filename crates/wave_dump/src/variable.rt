@@ -6,9 +6,9 @@ use std::fmt::{self, Display, Formatter, Write};
 /// A variable of a dump. Shown, it is its code in the dump: no two variables have the same.
 #[derive(Clone, Copy, Debug, PartialEq, Eq)]
 pub enum Variable {
-    /// Whether the process at this place is in this state.
+    /// True while the process at this place is in this state.
     State(usize, ProcessState),
-    /// Whether the partition at this place is in this mode.
+    /// True while the partition at this place is in this mode.
     Mode(usize, Mode),
     /// The pulse at this place.
     Pulse(usize),

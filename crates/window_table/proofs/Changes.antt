@@ -58,7 +58,7 @@ end_stays frame place end i there within h p = elim (apart end frame) [
   | inr q ↦ omega (arith, q, within)
 ]
 
--- what holds of the head of the windows, and of the others
+-- a property of the head of the windows, and of the others
 first_edge : (x y z i : ℕ) → i < min (min x y) z → i < x
 first_edge x y z i h = omega (arith, h)
 

@@ -23,6 +23,6 @@ any_of_some late own (w ∷ ws) h =
       | false ↦ rest
     ]
 
--- what is taken out of windows that begin within a frame begins within it
+-- windows taken out of windows that begin within a frame begin within it
 pub begin_within : (frame : ℕ) (own : WindowRow → Bool) (windows taken : List WindowRow) → taken ≡ filter own windows → BeginWithin frame windows → BeginWithin frame taken
 begin_within frame own windows taken is h = subst (BeginWithin frame) (sym is) (any_of_some (begins_late frame) own windows h)

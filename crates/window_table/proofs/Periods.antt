@@ -1,4 +1,4 @@
--- How long it is until a release, and what one period of many says of them all.
+-- The ticks until a release, and the conclusion from one period to all.
 use Rattle.std.proofs.Common.{◌≡◌, ℕ, zero, suc, ◌+◌, ◌*◌, ◌/◌, ◌<◌, ◌≤◌, min, Bool, true, false, ◌||◌, cond, nat_lt, List, [], ◌∷◌, refl, sym, ap, ◌∙◌, arith, inl, inr}
 use Rattle.std.proofs.Common.{mul-le-mul_right, ◌⊎◌}
 use Rattle.std.proofs.lemmas.Bool.{false≢true, le-ltb}
@@ -63,7 +63,7 @@ period_within frame period k h there =
     let d : period * (frame / period) ≤ frame = omega arith in
     omega arith
 
--- what the loop over periods finds
+-- the result of the loop over periods
 pub short_here : (n k p period duration low : ℕ) (ws rest rested : List WindowRow) (b : Bool) (same_period same_duration : ℕ) → period ≡ same_period → duration ≡ same_duration → low ≡ k * period → k < n → offered p low (low + period) rested ≡ offered p low (low + period) rest → offered p low (low + period) rest ≡ offered p low (low + period) ws → b ≡ nat_lt (offered p low (low + period) rested) duration → b ≡ true → true ≡ falls_short n p same_period same_duration ws
 short_here n k p period duration low ws rest rested b same_period same_duration pe de start below one two is short =
     let end : (k + 1) * period ≡ low + period = omega arith in

@@ -1,4 +1,5 @@
--- Reading a list of tables one by one: what was read stands before what is still to be read.
+-- Reading a list of tables one by one: the values that were read stand before those still to be
+-- read.
 use Rattle.std.proofs.Common.{◌≡◌, ℕ, ℤ, false, cond, List, [], ◌∷◌, ◌++◌, length, map, Option, Some, None, Result, Ok, Err, is_ok, is_err, refl, sym, ap, ◌∙◌, append_assoc, ◌+◌, ◌≤◌, ◌<◌, drop, get_or, length-drop, arith}
 use Rattle.std.proofs.lemmas.List.{map-append, append-nil, drop_more}
 use Rattle.std.proofs.lemmas.Bool.{false≢true}
@@ -11,7 +12,7 @@ use Rattle.window_table.specs.Answers.{Reads}
 use Rattle.window_table.specs.declared.fault.TableFault.{TableFault}
 use Rattle.window_table.specs.declared.fault.TableFault.TheVariants as fault
 
--- what was read before the rest
+-- the values that were read before the rest
 abbrev pub behind : {A : Type 0} → List A → Option (List A) → Option (List A)
 behind xs rest = rest >>= λ ys. Some (xs ++ ys)
 

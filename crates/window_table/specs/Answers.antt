@@ -1,4 +1,4 @@
--- What an answer says of a text.
+-- The relations between the answers of the code and a text.
 use Rattle.std.specs.Prelude.{◌≡◌, ℕ, Bool, true, List, Option, Some, None, Result, Ok, Err}
 use Rattle.toml.specs.Data.{Members}
 use Rattle.module_meaning.specs.TableRules.{Refusal, verdict}
@@ -9,19 +9,20 @@ use Rattle.window_table.specs.Refusals.{IsOf, IsRefused}
 use Rattle.window_table.specs.Views.{table_of}
 use Rattle.module_meaning.specs.Accepted.{IsDocument}
 
--- what was read of a part of a document, refused where it has not the shape; or want of memory
+-- the result of reading a part of a document, which is refused if its shape is wrong; memory may
+-- run out
 abbrev pub Reads : {A B : Type 0} → (A → B) → Result A TableFault → Option B → Type 0
 Reads view (Ok x) read = read ≡ Some (view x)
 Reads view (Err fault.Memory) read = Unit {0}
 Reads view (Err fault.Shape) read = read ≡ None
 Reads view (Err _) read = ⊥
 
--- a verdict, or want of memory
+-- the verdict; memory may run out
 abbrev pub Judges : {A B : Type 0} → (A → B) → Result A TableFault → Result B Refusal → Type 0
 Judges view (Ok x) judged = judged ≡ Ok (view x)
 Judges view (Err f) judged = IsOf f judged
 
--- refused by one rule, where it is broken; or want of memory
+-- refused by one rule, if the rule is broken; memory may run out
 abbrev pub RefusesLimit : {A : Type 0} → Result A TableFault → Bool → Type 0
 RefusesLimit (Ok x) broken = Unit {0}
 RefusesLimit (Err fault.Memory) broken = Unit {0}
@@ -34,7 +35,7 @@ RefusesOverlap (Err fault.Memory) broken = Unit {0}
 RefusesOverlap (Err fault.Overlap) broken = broken ≡ true
 RefusesOverlap (Err _) broken = ⊥
 
--- The answer to a text: no document, or the verdict on the document, or want of memory.
+-- The answer to a text: it is no document, the verdict on the document, or memory ran out.
 abbrev pub AnswersText : List ℕ → Result ModuleTable TableFault → Type 0
 AnswersText bytes (Err f) = IsRefused bytes f
 AnswersText bytes (Ok table) = (ms : Members) × IsDocument bytes ms × (verdict ms ≡ Ok (table_of table))

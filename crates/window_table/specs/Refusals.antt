@@ -7,7 +7,7 @@ use Rattle.module_meaning.specs.TableRules as rule
 use Rattle.window_table.specs.declared.fault.TableFault.{TableFault}
 use Rattle.window_table.specs.declared.fault.TableFault.TheVariants as fault
 
--- the rule that the verdict on a document names; want of memory says nothing of it
+-- the rule that the verdict on a document names; a refusal for memory says nothing of the verdict
 abbrev pub IsOf : {B : Type 0} → TableFault → Result B Refusal → Type 0
 IsOf fault.Memory judged = Unit {0}
 IsOf fault.Document judged = ⊥

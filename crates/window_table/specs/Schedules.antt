@@ -1,4 +1,4 @@
--- What the code's schedule stands for in the definitions.
+-- The schedule of the code as a schedule of the definitions.
 use Rattle.kernel_meaning.specs.Windows.{Schedule}
 use Rattle.window_table.specs.declared.schedule.Schedule as code
 

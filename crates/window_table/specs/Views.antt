@@ -1,4 +1,4 @@
--- What the code's rows stand for in the definitions.
+-- The rows of the code as rows of the definitions.
 use Rattle.std.specs.Prelude.{map, option_map}
 use Rattle.module_meaning.specs.Table.{Table, Partition, Channel}
 use Rattle.module_meaning.specs.TableRules.{KindText, Sampling, Queuing, PortText, PartitionText, WindowText, ChannelText, TableText}

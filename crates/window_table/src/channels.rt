@@ -1,4 +1,4 @@
-//! What channels connect.
+//! The rules on the ends of channels.
 
 ghost use Rattle.std.specs.Prelude.{◌≡◌, map, flat_map, option_map, option_copied, IfOk};
 ghost use Rattle.std.specs.List.{list_any};
@@ -10,7 +10,7 @@ use crate::table::ChannelRow;
 use apex_types::{ChannelEnd, PortDirection, PortKind, PortRow};
 use std::alloc::{AllocError, Global};
 
-/// The port at an end, if there is one.
+/// The port at an end; `None` if the end is the device, or no such port exists.
 fn port_at<P: HasRow>(partitions: &[P], end: ChannelEnd) -> Option<&PortRow>
     ensures { option_copied result ≡ port_at (map P.row_of partitions.now) end }
 {
@@ -92,7 +92,7 @@ fn is_queuing_port<P: HasRow>(partitions: &[P], end: ChannelEnd) -> bool
     }
 }
 
-/// Whether an end is no port: its number is that of no partition, or of none of its ports.
+/// Returns true if an end names a partition or a port that does not exist.
 fn is_unknown_port<P: HasRow>(partitions: &[P], end: ChannelEnd) -> bool
     ensures { result ≡ is_unknown_port (map P.row_of partitions.now) end }
 {
@@ -119,7 +119,7 @@ fn has_unknown_end<P: HasRow>(partitions: &[P], channel: &ChannelRow) -> bool
         || has_unknown(partitions, channel.destinations.as_slice())
 }
 
-/// Whether an end of a channel is neither a port nor the device.
+/// Returns true if an end of a channel is neither a port nor the device.
 #[tactic(auto, using(std::proofs::lemmas::List::drop_more))]
 pub fn has_unknown_port<P: HasRow>(partitions: &[P], channels: &[ChannelRow]) -> bool
     ensures { result
@@ -133,7 +133,7 @@ pub fn has_unknown_port<P: HasRow>(partitions: &[P], channels: &[ChannelRow]) ->
     false
 }
 
-/// Whether there are ports of different kind or words at two ends.
+/// Returns true if two ends are ports of different kind or words.
 fn differ<P: HasRow>(partitions: &[P], first: ChannelEnd, second: ChannelEnd) -> bool
     ensures { result ≡ differ (map P.row_of partitions.now) first second }
 {
@@ -143,7 +143,7 @@ fn differ<P: HasRow>(partitions: &[P], first: ChannelEnd, second: ChannelEnd) ->
     }
 }
 
-/// The ends of a channel, its source first. An error is one of memory.
+/// The ends of a channel, its source first. Fails only if memory runs out.
 fn ends_of(alloc: Global, channel: &ChannelRow) -> Result<Vec<ChannelEnd>, AllocError>
     ensures { IfOk result (λ v. v.items ≡ ends_of (channel_view channel.now)) }
 {
@@ -159,7 +159,7 @@ fn has_source<P: HasRow>(partitions: &[P], ends: &[ChannelEnd]) -> bool
     ends.iter().any(|end| is_source_port(partitions, *end))
 }
 
-/// Whether a source is none, or a destination is none.
+/// Returns true if the source is a destination port, or a destination is a source port.
 fn has_wrong_direction<P: HasRow>(partitions: &[P], channel: &ChannelRow) -> bool
     ensures { result
         ≡ has_wrong_direction (map P.row_of partitions.now) (channel_view channel.now) }
@@ -174,7 +174,7 @@ fn differs<P: HasRow>(partitions: &[P], first: ChannelEnd, ends: &[ChannelEnd]) 
     ends.iter().any(|second| differ(partitions, first, *second))
 }
 
-/// Whether there are two ports of different kind or words.
+/// Returns true if two ports differ in kind or words.
 fn has_mixed_ports<P: HasRow>(partitions: &[P], ends: &[ChannelEnd]) -> bool
     ensures { result ≡ has_mixed_ports (map P.row_of partitions.now) ends.now }
 {
@@ -197,7 +197,7 @@ fn has_device(ends: &[ChannelEnd]) -> bool
     ends.iter().any(|end| is_device(end))
 }
 
-/// Whether the device stands at two of the ends.
+/// Returns true if the device stands at two of the ends.
 #[tactic(auto, using(std::proofs::lemmas::List::drop_more), unfolding(module_meaning::specs::Table::has_two_devices))]
 fn has_two_devices(ends: &[ChannelEnd]) -> bool
     ensures { result ≡ has_two_devices ends.now }
@@ -216,7 +216,7 @@ fn has_queue<P: HasRow>(partitions: &[P], ends: &[ChannelEnd]) -> bool
     ends.iter().any(|end| is_queuing_port(partitions, *end))
 }
 
-/// Whether a channel with these ends connects what does not go together.
+/// Returns true if a channel with these ends breaks a rule on channels.
 #[tactic(auto, unfolding(module_meaning::specs::Table::is_wrong))]
 fn is_wrong<P: HasRow>(partitions: &[P], channel: &ChannelRow, ends: &[ChannelEnd]) -> bool
     requires { ends.now ≡ ends_of (channel_view channel.now) }
@@ -247,11 +247,11 @@ fn has_same_port(ends: &[ChannelEnd]) -> bool
     false
 }
 
-/// Whether a port stands at two ends, or a channel connects what does not go together.
+/// Returns true if a port stands at two ends, or a channel breaks a rule on channels.
 ///
 /// # Errors
 ///
-/// Want of memory alone.
+/// Only if memory runs out.
 #[tactic(auto, using(std::proofs::lemmas::List::drop_more))]
 pub fn has_wrong_ends<P: HasRow>(
     alloc: Global,

@@ -1,4 +1,4 @@
-//! What windows offer to partitions: periods, durations and releases.
+//! The time that windows offer to partitions: periods, durations and releases.
 
 ghost use Rattle.std.specs.Prelude.{◌≡◌, ◌≤◌, ◌<◌, ◌/◌, ◌==◌, ℕ, map, length, nat_lt, false};
 ghost use Rattle.std.specs.List.{list_any};
@@ -12,7 +12,7 @@ use crate::schedule::{Schedule, releases};
 use crate::table::PartitionRow;
 use apex_types::{PartitionId, Ticks, WindowRow};
 
-/// Whether a window is of none of so many partitions, or ends past the frame.
+/// Returns true if the window names no partition of the table, or ends after the frame.
 fn is_wrong_window(frame: u32, count: usize, window: &WindowRow) -> bool
     ensures { result ≡ is_wrong_window frame count window.now }
 {
@@ -21,7 +21,7 @@ fn is_wrong_window(frame: u32, count: usize, window: &WindowRow) -> bool
         || u64::from(window.offset) + u64::from(window.length) > u64::from(frame)
 }
 
-/// Whether a window is of none of so many partitions, or ends past the frame.
+/// Returns true if a window names no partition of the table, or ends after the frame.
 pub fn has_wrong_window(frame: u32, count: usize, windows: &[WindowRow]) -> bool
     ensures { result ≡ has_wrong_window (record { frame = frame; windows = windows.now }) count }
 {
@@ -30,7 +30,7 @@ pub fn has_wrong_window(frame: u32, count: usize, windows: &[WindowRow]) -> bool
         .any(|window| is_wrong_window(frame, count, window))
 }
 
-/// Whether the frame is no multiple of a partition's period.
+/// Returns true if the frame is no multiple of a partition's period.
 #[tactic(auto, using(std::proofs::lemmas::List::drop_more))]
 pub fn has_odd_period<P: HasRow>(frame: u32, partitions: &[P]) -> bool
     requires { list_any (λ p. p.period == 0) (map P.row_of partitions.now) ≡ false }
@@ -53,7 +53,8 @@ fn common(low: Ticks, high: Ticks, window: &WindowRow) -> Ticks
     Ticks(end.min(high.0).saturating_sub(offset.max(low.0)))
 }
 
-/// Whether windows offer a partition fewer than `duration` of the ticks from `low` up to `high`.
+/// Returns true if windows offer a partition fewer than `duration` of the ticks from `low` up to
+/// `high`.
 #[tactic(auto, using(std::proofs::lemmas::List::drop_more), unfolding(module_meaning::specs::Table::offered))]
 fn offers_less(
     duration: Ticks,
@@ -92,7 +93,7 @@ fn not_ended(tick: Ticks, windows: &[WindowRow]) -> &[WindowRow]
     rest
 }
 
-/// Whether the windows offer a partition less than its duration in one of its periods.
+/// Returns true if the windows offer a partition less than its duration in one of its periods.
 #[tactic(auto, using(crate::proofs::Periods::period_within), unfolding(module_meaning::specs::Table::falls_short))]
 fn falls_short(
     frame: u32,
@@ -128,7 +129,7 @@ fn falls_short(
     false
 }
 
-/// Whether a partition's windows offer less than its duration in one of its periods.
+/// Returns true if a partition's windows offer less than its duration in one of its periods.
 #[tactic(auto, using(std::proofs::lemmas::List::drop_more), unfolding(module_meaning::specs::Table::falls_short_from))]
 pub fn has_short_period<P: HasRow>(schedule: &Schedule, partitions: &[P]) -> bool
     requires few { length partitions.now ≤ MOST_PARTITIONS }
@@ -156,7 +157,7 @@ fn has_release(windows: &[WindowRow], partition: PartitionId) -> bool
     windows.iter().any(|window| releases(partition, window))
 }
 
-/// Whether a partition has no release window.
+/// Returns true if a partition has no release window.
 #[tactic(auto, using(std::proofs::lemmas::List::drop_more), unfolding(module_meaning::specs::Table::lacks_release_from))]
 pub fn lacks_release<P: HasRow>(windows: &[WindowRow], partitions: &[P]) -> bool
     requires { length partitions.now ≤ MOST_PARTITIONS }

@@ -3,7 +3,7 @@
 use std::alloc::{AllocError, AllocFailed};
 use thiserror::Error;
 
-/// Why a module table is refused. Where several rules are broken, the first of this order is told.
+/// Why a module table is refused: the first broken rule in this order.
 #[derive(Clone, Copy, Debug, PartialEq, Eq, Error)]
 pub enum TableFault {
     #[error("not a TOML document")]
@@ -26,7 +26,7 @@ pub enum TableFault {
     Ends,
     #[error("a health table has not exactly the seven errors, or an action is unknown")]
     Health,
-    /// This says nothing of the table.
+    /// Memory ran out. This says nothing of the table.
     #[error("out of memory")]
     Memory,
 }

@@ -22,7 +22,7 @@ impl Part {
     ghost use Rattle.std.specs.Prelude.{◌≡◌};
     ghost use Rattle.window_table.specs.Keys.{is_key};
 
-    /// Whether a key is one of the part's keys.
+    /// Returns true if a key is one of the part's keys.
     pub fn has_key(self, key: &str) -> bool
         ensures { result ≡ is_key self key.now }
     {

@@ -1,8 +1,8 @@
-//! The module table: what an integrator states of partitions, ports, windows and channels.
+//! The module table: the integrator's statement of partitions, ports, windows and channels.
 //!
-//! Tables and images have rows in common, so the rules on rows take anything that has a
-//! partition's row. A [`Schedule`] is the frame with its windows; it answers who owns a tick,
-//! whose window ends at it, and when a partition is released next.
+//! Tables and images have rows in common, so the rules on rows take anything that has a partition's
+//! row. A [`Schedule`] is the frame with its windows; it says who owns a tick, whose window ends at
+//! it, and when a partition is released next.
 #![tactic(auto)]
 
 mod channels;

@@ -19,7 +19,7 @@ use apex_types::limits::{
 use apex_types::{Costs, HealthTable, Name, PartitionAction, PortKind, PortRow, TickCost};
 use std::alloc::Global;
 
-/// What stands for a health table with an unknown action until that is refused.
+/// The placeholder for a health table with an unknown action, until the table is refused.
 const ALL_IGNORED: HealthTable = HealthTable {
     deadline_missed: PartitionAction::Ignore,
     application_error: PartitionAction::Ignore,
@@ -283,7 +283,7 @@ fn exceeds_channels(channels: &[WrittenChannel<'_>]) -> bool
     false
 }
 
-/// Whether a number of a window, or a name or a count of a channel is outside its limits.
+/// Returns true if a number of a window, or a name or a count of a channel is outside its limits.
 #[tactic(auto, unfolding(module_meaning::specs::TableRules::exceeds_rows))]
 pub fn exceeds_rows(table: &WrittenTable<'_>) -> bool
     ensures { result ≡ exceeds_rows (table_text table.now) }

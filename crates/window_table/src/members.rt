@@ -99,7 +99,7 @@ pub fn optional_array<'a>(table: &'a Table, key: &str) -> Option<&'a [Value]>
     }
 }
 
-/// Whether a table has only keys of a part.
+/// Returns true if a table has only keys of a part.
 pub fn has_only(table: &Table, part: Part) -> bool
     ensures { result ≡ has_only (is_key part) (table_view table.now) }
 {
@@ -111,7 +111,7 @@ pub fn has_only(table: &Table, part: Part) -> bool
     true
 }
 
-/// Whether each value of a table is a text.
+/// Returns true if each value of a table is a text.
 pub fn has_texts_only(table: &Table) -> bool
     ensures { result ≡ has_texts_only (table_view table.now) }
 {

@@ -98,7 +98,7 @@ fn has_same_ports_somewhere(partitions: &[WrittenPartition<'_>]) -> bool
     false
 }
 
-/// Whether two partitions, two channels or two ports of a partition have the same name.
+/// Returns true if two partitions, two channels or two ports of a partition have the same name.
 #[tactic(auto, unfolding(module_meaning::specs::TableRules::has_same_names))]
 pub fn has_same_names(table: &WrittenTable<'_>) -> bool
     ensures { result ≡ has_same_names (table_text table.now) }
@@ -108,7 +108,7 @@ pub fn has_same_names(table: &WrittenTable<'_>) -> bool
         || has_same_ports_somewhere(table.partitions.as_slice())
 }
 
-/// The number of the partition with a name, if there is one.
+/// The number of the partition with a name; `None` if no partition has it.
 #[tactic(auto, using(std::proofs::lemmas::List::drop_more), unfolding(module_meaning::specs::TableRules::number_from))]
 pub fn partition_number(partitions: FewPartitions<'_>, name: &str) -> Option<PartitionId>
     ensures { option_map (λ n. n.0) result
@@ -124,7 +124,7 @@ pub fn partition_number(partitions: FewPartitions<'_>, name: &str) -> Option<Par
     None
 }
 
-/// Whether a text is the name of a port of a partition, as `partition.port`.
+/// Returns true if a text is the name of a port of a partition, as `partition.port`.
 #[tactic(auto, using(crate::proofs::PortNames::same_after))]
 fn is_port_name(text: &str, partition: &str, port: &str) -> bool
     ensures { result ≡ same text.now (partition.now ++ 46 ∷ port.now) }
@@ -223,7 +223,7 @@ fn has_unknown_partition(partitions: FewPartitions<'_>, windows: &[WrittenWindow
     false
 }
 
-/// Whether a window's partition or an end of a channel is not there.
+/// Returns true if a window's partition or an end of a channel does not exist.
 #[tactic(auto, unfolding(module_meaning::specs::TableRules::has_unknown_name))]
 pub fn has_unknown_name(partitions: FewPartitions<'_>, table: &WrittenTable<'_>) -> bool
     requires { partitions.rows.now ≡ table.now.partitions.items }

@@ -14,8 +14,8 @@ use crate::written::{WrittenChannel, WrittenWindow};
 use apex_types::{ChannelEnd, Name, PartitionId, WindowRow};
 use std::alloc::Global;
 
-/// Where a window ends, if it begins at or after the end of the one before it and ends within the
-/// frame.
+/// The place where a window ends, if it begins at or after the end of the one before it and ends
+/// within the frame.
 #[tactic(auto, using(crate::proofs::Orders::lt_true, crate::proofs::Orders::ge_false), unfolding(module_meaning::specs::TableRules::exceeds_window))]
 fn window_end(frame: u32, end: u32, window: &WrittenWindow<'_>) -> Option<u32>
     requires { exceeds_window (window_text window.now) ≡ false }
@@ -58,8 +58,8 @@ fn placed_row(window: &WrittenWindow<'_>, end: u32, partition: PartitionId) -> W
     }
 }
 
-/// The rows of the windows: refused where a window begins before the end of the one before it, or
-/// ends past the frame.
+/// The rows of the windows: refused if a window begins before the end of the one before it, or ends
+/// after the frame.
 #[tactic(auto, using(std::proofs::lemmas::List::drop_more), unfolding(module_meaning::specs::TableRules::overlaps_after))]
 pub fn window_rows(
     alloc: Global,

@@ -120,7 +120,7 @@ fn lacks_health(partitions: &[WrittenPartition<'_>]) -> bool
     false
 }
 
-/// Whether a health table has not exactly the seven errors, or an action is unknown.
+/// Returns true if a health table has not exactly the seven errors, or an action is unknown.
 fn has_unknown_action(written: &WrittenTable<'_>) -> bool
     ensures { result ≡ has_unknown_action (table_text written.now) }
 {
@@ -181,7 +181,7 @@ fn judge(alloc: Global, written: &WrittenTable<'_>) -> Result<ModuleTable, Table
 ///
 /// # Errors
 ///
-/// The refusals stand in the order in which they are asked; want of memory may be told at any time.
+/// The refusals stand in the order of their checks; `Memory` is possible at any time.
 #[tactic(auto, unfolding(module_meaning::specs::TableRules::verdict))]
 pub fn read_table(alloc: Global, text: &[u8]) -> Result<ModuleTable, TableFault>
     ensures { AnswersText text.now result }

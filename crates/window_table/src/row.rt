@@ -6,7 +6,7 @@ ghost use Rattle.window_table.specs.Views.{partition_view};
 
 use crate::table::PartitionRow;
 
-/// What has a partition's row of the module table.
+/// Values with a partition's row of the module table.
 pub trait HasRow {
     ghost row_of: { Self → Partition };
 

@@ -18,7 +18,7 @@ pub struct Schedule {
     ghost begin_within: { BeginWithin frame windows.items },
 }
 
-/// Whether a window holds a place of the frame.
+/// Returns true if a window holds a place of the frame.
 fn is_within(place: Ticks, window: &WindowRow) -> bool
     ensures { result ≡ is_within place.0 window.now }
 {
@@ -26,7 +26,7 @@ fn is_within(place: Ticks, window: &WindowRow) -> bool
     offset <= place.0 && place.0 < offset + u64::from(window.length)
 }
 
-/// Whether a window ends just before a place of a frame.
+/// Returns true if a window ends just before a place of a frame.
 fn ends_at(frame: u32, place: Ticks, window: &WindowRow) -> bool
     requires { 0 < frame }
     ensures { result ≡ ends_at frame place.0 window.now }
@@ -34,7 +34,8 @@ fn ends_at(frame: u32, place: Ticks, window: &WindowRow) -> bool
     (u64::from(window.offset) + u64::from(window.length)) % u64::from(frame) == place.0
 }
 
-/// How many ticks after a place of a frame an edge comes; how many are left of the frame where none does.
+/// The ticks from a place of a frame to an edge; the ticks left of the frame if the edge does not
+/// follow.
 fn until_edge(frame: u32, place: Ticks, edge: u64) -> u64
     requires within { place.0 < frame }
     ensures computed { result ≡ until_edge frame place.0 edge }
@@ -47,7 +48,8 @@ fn until_edge(frame: u32, place: Ticks, edge: u64) -> u64
     }
 }
 
-/// The same of the two edges of a window, the nearer one.
+/// The ticks from a place of a frame to the nearer edge of a window; the rest of the frame counts
+/// for an edge that does not follow.
 fn until_edges(frame: u32, place: Ticks, window: &WindowRow) -> u64
     requires within { place.0 < frame }
     ensures computed { result
@@ -59,7 +61,7 @@ fn until_edges(frame: u32, place: Ticks, window: &WindowRow) -> u64
     until_edge(frame, place, u64::from(window.offset)).min(until_edge(frame, place, end))
 }
 
-/// Whether a window is a release window of a partition.
+/// Returns true if a window is a release window of a partition.
 pub fn releases(partition: PartitionId, window: &WindowRow) -> bool
     ensures { result ≡ releases partition.0 window.now }
 {
@@ -93,7 +95,7 @@ impl Schedule {
     ghost use Rattle.window_table.specs.Schedules.{schedule_of};
     ghost use Rattle.window_table.specs.Edges.{until_edges};
 
-    /// The same schedule once more. An error is one of memory.
+    /// A copy of the schedule. Fails only if memory runs out.
     pub fn try_clone(&self, alloc: Global) -> Result<Schedule, AllocError>
         ensures { IfOk result (λ copy. schedule_of copy ≡ schedule_of self.now) }
     {
@@ -104,7 +106,7 @@ impl Schedule {
         })
     }
 
-    /// The same frame with the windows of one partition alone. An error is one of memory.
+    /// The same frame with the windows of one partition alone. Fails only if memory runs out.
     pub fn of_partition(
         &self,
         alloc: Global,
@@ -119,7 +121,7 @@ impl Schedule {
         })
     }
 
-    /// The place in its frame of the tick that comes so many ticks after the origin.
+    /// The place in its frame of the tick that is `since` ticks after the origin.
     fn phase(&self, since: u64) -> Ticks
         ensures place { result.0 ≡ since % self.now.frame }
         ensures within { result.0 < self.now.frame }
@@ -161,7 +163,7 @@ impl Schedule {
         None
     }
 
-    /// How many ticks it is from a place of the frame to the next edge of a window, or to the frame's end.
+    /// The ticks from a place of the frame to the next edge of a window, or to the frame's end.
     #[tactic(auto, using(std::proofs::lemmas::List::drop_more, crate::proofs::Changes::until_one))]
     fn until_next_edge(&self, place: Ticks) -> u64
         requires within { place.0 < self.now.frame }
@@ -175,7 +177,8 @@ impl Schedule {
         least
     }
 
-    /// For how many ticks from this one on the owner stays and, behind this one, no window ends; at least one.
+    /// The number of ticks from `moment` for which the owner stays and, after `moment`, no window
+    /// ends; at least one.
     pub fn until_change(&self, moment: Moment) -> u64
         ensures some { 0 < result }
         ensures owner { (i : ℕ) → i < result
@@ -188,7 +191,7 @@ impl Schedule {
         self.until_next_edge(self.phase(at.now.0 - at.origin.0))
     }
 
-    /// How many ticks after a tick, at least one and at most a frame, a window starts next.
+    /// The ticks from a tick until a window starts next: at least one, and at most a frame.
     fn until_start(&self, window: &WindowRow, moment: Moment) -> Ticks
         ensures { result.0 ≡ until_start (schedule_of self.now) window.now moment.at }
     {
@@ -198,7 +201,7 @@ impl Schedule {
         Ticks(1 + (u64::from(window.offset) + frame - place.0) % frame)
     }
 
-    /// How many ticks after a tick, at most a frame, a release window of a partition starts next.
+    /// The ticks from a tick until a release window of a partition starts next: at most a frame.
     #[tactic(auto, using(std::proofs::lemmas::List::drop_more, crate::proofs::Periods::until_first))]
     fn until_release(&self, partition: PartitionId, moment: Moment) -> Ticks
         ensures computed { result.0
@@ -214,7 +217,7 @@ impl Schedule {
         least
     }
 
-    /// The tick of the next release; of a partition without a release window a frame later.
+    /// The tick of the next release; without a release window, a tick one frame later.
     fn release_after(&self, partition: PartitionId, moment: Moment) -> Ticks
         ensures computed { result.0 ≡ next_release (schedule_of self.now) partition.0 moment.at }
         ensures soon { result.0 ≤ LATEST_RELEASE_POINT }
@@ -222,8 +225,8 @@ impl Schedule {
         Ticks(moment.at.now.0 + self.until_release(partition, moment).0)
     }
 
-    /// The least tick after this one at which a release window of a partition starts; of a partition
-    /// without a release window a frame later.
+    /// The least tick after `moment` at which a release window of a partition starts; without a
+    /// release window, a tick one frame later.
     pub fn next_release(&self, partition: PartitionId, moment: Moment) -> Ticks
         ensures computed { result.0 ≡ next_release (schedule_of self.now) partition.0 moment.at }
         ensures soon { result.0 ≤ LATEST_RELEASE_POINT }

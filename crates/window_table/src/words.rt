@@ -29,7 +29,7 @@ pub fn discipline(word: &str) -> Option<Discipline>
     }
 }
 
-/// What is done on a module fault.
+/// The action of a word for a module fault.
 #[tactic(auto, unfolding(module_meaning::specs::TableRules::module_action_of))]
 pub fn module_action(word: &str) -> Option<ModuleAction>
     ensures { result ≡ module_action_of word.now }
@@ -42,7 +42,7 @@ pub fn module_action(word: &str) -> Option<ModuleAction>
     }
 }
 
-/// What is done on an error of partition level.
+/// The action of a word for an error of partition level.
 #[tactic(auto, unfolding(module_meaning::specs::TableRules::partition_action_of))]
 pub fn partition_action(word: &str) -> Option<PartitionAction>
     ensures { result ≡ partition_action_of word.now }

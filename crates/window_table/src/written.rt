@@ -17,7 +17,7 @@ use apex_types::{Discipline, HealthTable, ModuleAction, PartitionAction, PortDir
 use std::alloc::Global;
 use toml::{Table, Value};
 
-/// What only a port of its kind has.
+/// The members of only one kind of port.
 #[derive(Clone, Copy)]
 pub enum WrittenKind {
     Sampling { refresh: i64 },
@@ -33,8 +33,8 @@ pub struct WrittenPort<'a> {
     pub words: i64,
 }
 
-/// A partition: without a health table where the text's has not exactly the seven errors, each
-/// with a known action.
+/// A partition: without a health table if the text's table does not have exactly the seven errors,
+/// each with a known action.
 #[derive(Drop)]
 pub struct WrittenPartition<'a> {
     pub name: &'a str,
@@ -61,8 +61,8 @@ pub struct WrittenChannel<'a> {
     pub destinations: Vec<&'a str>,
 }
 
-/// A module table: without an action on a module fault where the text's is not a known one, and
-/// without costs where the text writes none, else with the number of each key in order.
+/// A module table: without an action on a module fault if the text's action is unknown, and without
+/// costs if the text writes none, otherwise with the number of each key in order.
 #[derive(Drop)]
 pub struct WrittenTable<'a> {
     pub frame: i64,
@@ -80,7 +80,7 @@ fn action(table: &Table, error: &str) -> Option<PartitionAction>
     partition_action(text(table, error)?)
 }
 
-/// The health table, if there are exactly the seven errors, each with a known action.
+/// The health table, if it has exactly the seven errors, each with a known action.
 #[tactic(auto, unfolding(module_meaning::specs::TableRules::health_of))]
 fn read_health(table: &Table) -> Option<HealthTable>
     ensures { result ≡ health_of (table_view table.now) }
@@ -294,7 +294,7 @@ fn read_channels(alloc: Global, values: &[Value]) -> Result<Vec<WrittenChannel<'
     Ok(channels)
 }
 
-/// The integers at some keys.
+/// The table that a document describes, if its keys, types and words are those of a module table.
 fn read_numbers(alloc: Global, table: &Table, keys: &[&str]) -> Result<Vec<i64>, TableFault>
     ensures { Reads (λ v. v.items) result
         (integers_at (map (λ key. key.now) keys.now) (table_view table.now)) }

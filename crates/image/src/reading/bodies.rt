@@ -19,7 +19,7 @@ use apex_types::limits::{
 use apex_types::{BodyRow, Name, Priority, ProcessRow, RoutineRow};
 use std::alloc::Global;
 
-/// What a source runs: its procedures, processes, INIT and handler.
+/// The parts of a source that run: its procedures, processes, INIT and handler.
 #[derive(Drop)]
 pub struct Bodies {
     pub routines: Vec<RoutineRow>,
@@ -67,7 +67,7 @@ fn body_at(bytes: &[u8]) -> Result<(BodyRow, &[u8]), ImageFault>
     Ok((row, rest))
 }
 
-/// What a word stands for as a duration: -1 is none.
+/// The duration that a word stands for; -1 stands for none.
 fn duration_of(word: i64) -> Option<Option<u64>>
     ensures { result ≡ duration_of word }
 {
@@ -91,7 +91,7 @@ fn duration_at(bytes: &[u8]) -> Result<(Option<u64>, &[u8]), ImageFault>
     }
 }
 
-/// Whether a period is infinite, or a multiple of the partition's.
+/// Returns true if a period is infinite, or a multiple of the partition's.
 fn is_infinite_or_multiple(unit: u32, period: Option<u64>) -> bool
     requires { 0 < unit }
     ensures { result ≡ is_infinite_or_multiple unit period }
@@ -249,7 +249,7 @@ fn processes_enter(count: u32, rows: &[ProcessRow]) -> bool
     rows.iter().all(|row| row.body.entry < count)
 }
 
-/// Whether every body begins within so many instructions.
+/// Returns true if every body begins within `count` instructions.
 fn enter_within(count: u32, bodies: &Bodies) -> bool
     ensures { result ≡ enter_within count (bodies_of bodies.now) }
 {

@@ -1,4 +1,4 @@
-//! What single bytes stand for.
+//! The meanings of single bytes.
 
 ghost use Rattle.std.specs.Prelude.{◌≡◌};
 ghost use Rattle.machine_meaning.specs.ImageReading.{choice_at, module_action_of, partition_action_of, discipline_of, direction_of, truth_of};

@@ -17,8 +17,7 @@ use apex_types::{FIRST_VERSION, ImageVersion, MAGIC, ModuleAction, SECOND_VERSIO
 use std::alloc::Global;
 use window_table::ChannelRow;
 
-/// All fields of an image: each is within its limit, and what the rules of the module table say of
-/// them is not judged.
+/// All fields of an image: each is within its limit; the rules of the module table are not judged.
 #[derive(Drop)]
 pub struct Fields {
     pub frame: u32,

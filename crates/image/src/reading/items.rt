@@ -1,4 +1,4 @@
-//! Partitions with what their sources became.
+//! Partitions with the sections compiled from their sources.
 
 ghost use Rattle.std.specs.Prelude.{◌≡◌, ◌<◌, []};
 ghost use Rattle.apex_types.specs.declared.limits.TheConstants.{MOST_PARTITIONS};

@@ -14,7 +14,7 @@ use apex_types::limits::{
 use apex_types::{BlackboardRow, BufferRow, SemaphoreRow};
 use std::alloc::Global;
 
-/// What a source declares: its data, semaphores, events, buffers and blackboards.
+/// The declarations of a source: its data, semaphores, events, buffers and blackboards.
 #[derive(Drop)]
 pub struct Objects {
     pub initial: Vec<i64>,

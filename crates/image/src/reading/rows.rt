@@ -20,7 +20,7 @@ pub trait Row: Copy + Drop {
         ensures { Gives (λ x. (x.0, x.1.now)) result (reads before.now bytes.now) };
 }
 
-/// So many rows.
+/// Reads `count` rows.
 pub fn rows_at<T: Row>(
     alloc: Global,
     count: u32,

@@ -17,7 +17,7 @@ fn end_of(row: &WindowRow) -> u64
     u64::from(row.offset) + u64::from(row.length)
 }
 
-/// Where the last of these windows ends, 0 without one.
+/// The place where the last of these windows ends; 0 without windows.
 fn last_end(rows: &[WindowRow]) -> u64
     ensures { result ≡ last_end rows.now }
 {

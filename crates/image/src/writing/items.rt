@@ -1,4 +1,4 @@
-//! Partitions with what their sources became.
+//! Partitions with the sections compiled from their sources.
 
 ghost use Rattle.std.specs.Prelude.{◌≡◌, ◌++◌, OnOk};
 ghost use Rattle.machine_meaning.specs.ImageSpelling.{item};

@@ -1,4 +1,4 @@
-//! What a partition's source became.
+//! The section of a partition, compiled from its source.
 
 ghost use Rattle.std.specs.Prelude.{◌≡◌, ◌++◌, Option, OnOk};
 ghost use Rattle.machine_meaning.specs.ImageSpelling.{i64, semaphore, buffer, blackboard, routine, body, process, handler, instruction, objects_in, objects, bodies_in, bodies, section};

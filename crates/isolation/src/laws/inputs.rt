@@ -12,16 +12,17 @@ ghost use Rattle.isolation.specs.InputText.{AreInputs, AreWritable, HasNames, re
 ghost use Rattle.isolation.specs.ReplayText.{replay_verdict};
 ghost use Rattle.isolation.specs.Slices.{Slice, machine_inputs, slice};
 
-/// The text of at most 65,536 inputs is accepted as a replay text of their partition, and stands for
+/// The text of at most 65,536 inputs is accepted as a replay text of their partition, and means
 /// these inputs.
 pub fn written_inputs_are_read()
     ensures { (row : Partition) (lines : List InputLine) → HasNames row → AreInputs row 0 lines
         → length lines ≤ MOST_DEVICE_LINES → replay_verdict row (replay_text row lines) ≡ Ok lines }
 {}
 
-/// What a run of at most 2^40 ticks brings a partition is allowed: the inputs come in the order of
-/// their ticks, and each message comes to one of the partition's destination ports, with 1 to so
-/// many words as the port takes. That all words are words of 64 bits is a premise.
+/// The inputs that a run of at most 2^40 ticks brings a partition are allowed: they are in the
+/// order of their ticks, and each message arrives at one of the partition's destination ports, with
+/// at least 1 word and at most as many words as the port takes. That all words are words of 64 bits
+/// is a premise.
 pub fn inputs_are_allowed()
     ensures { (image : Image) (text : List ℕ) (lines : List DeviceLine) (p : ℕ) (s : Slice) (n : ℕ)
         → IsLawful image → verdict_for image text ≡ Ok lines → slice image p ≡ Some s
@@ -29,8 +30,8 @@ pub fn inputs_are_allowed()
         → AreInputs s.item.partition 0 (machine_inputs image p lines n) }
 {}
 
-/// So the text of what a run brings a partition is accepted as a replay text of the partition, and
-/// read as just these inputs, if they are 65,536 at most.
+/// So the text of the inputs that a run brings a partition is accepted as a replay text of the
+/// partition, and read as exactly these inputs, if they are at most 65,536.
 pub fn inputs_of_a_run_are_read()
     ensures { (image : Image) (text : List ℕ) (lines : List DeviceLine) (p : ℕ) (s : Slice) (n : ℕ)
         → IsLawful image → verdict_for image text ≡ Ok lines → slice image p ≡ Some s

@@ -17,8 +17,8 @@ ghost use Rattle.isolation.specs.Brought.{part};
 ghost use Rattle.isolation.specs.Slices.{Slice, machine_inputs, slice, slice_trace};
 ghost use Rattle.isolation.specs.SourceSlices.{source_inputs, source_slice, source_slice_trace};
 
-/// What the trace of an image shows of a partition is the trace of that partition alone, from its
-/// slice of the image and from what the run brings to it: whatever code the others run.
+/// For each partition, the trace of an image shows the trace of that partition alone, from its
+/// slice of the image and from the inputs that the run brings it: whatever code the others run.
 pub fn part_is_alone()
     ensures { (image : Image) (text : List ℕ) (lines : List DeviceLine) (p : ℕ) (s : Slice) (n : ℕ)
         → IsLawful image → verdict_for image text ≡ Ok lines → slice image p ≡ Some s
@@ -39,7 +39,7 @@ pub fn same_slice_same_part()
 {}
 
 /// The same for the meaning of sources: what it shows of a partition depends on the partition's own
-/// row and program, on what surrounds it, and on what comes to it.
+/// row and program, on its surroundings, and on its inputs.
 pub fn source_part_is_alone()
     ensures { (ms : Members) (t : Table) (sources : List Program) (text : List ℕ)
         (lines : List DeviceLine) (p : ℕ) (row : Partition) (program : Program) (n : ℕ)

@@ -1,4 +1,4 @@
-//! The lists of those for whom something is due.
+//! The lists of processes for which something is due.
 
 use apex_types::{ProcessIndex, Ticks};
 use links::{DueEntry, DueList, due_mask, next_due, set_timer};

@@ -51,7 +51,7 @@ fn no_errors(rt: &impl Abort, alloc: Global) -> Errors {
     Errors::new(alloc, true).expect(rt, "memory")
 }
 
-/// So many errors wait for the handler.
+/// A queue in which `waiting` errors wait for the handler.
 fn errors(rt: &impl Abort, alloc: Global, waiting: u8) -> Errors {
     let mut errors = no_errors(rt, alloc);
     for _ in 0..waiting {
@@ -60,7 +60,7 @@ fn errors(rt: &impl Abort, alloc: Global, waiting: u8) -> Errors {
     errors
 }
 
-/// A table in which INIT has created the handler, and what the call told.
+/// A table in which INIT has created the handler; `out` gets the output of the call.
 fn with_handler(rt: &impl Abort, alloc: Global, out: &mut Out) -> ProcessTable
     requires { HasRoom 1 1 out.old }
 {
@@ -99,7 +99,7 @@ fn raised() -> WaitingError {
     }
 }
 
-/// Expects that a step told this line last, as that of partition `a` at tick 3.
+/// Expects that a step wrote this line last, as that of partition `a` at tick 3.
 fn expect_line(rt: &impl Abort, alloc: Global, out: &mut Out, line: &str) {
     let event = Event {
         tick: Ticks(3),
@@ -133,7 +133,7 @@ fn expect_words(rt: &impl Abort, out: &mut Out, at: i64, written: &[i64]) {
     }
 }
 
-/// What the start of the handler tells, if so many errors wait.
+/// The output of the start of the handler, if `waiting` errors wait.
 fn started(rt: &impl Abort, alloc: Global, waiting: u8) -> Out {
     let mut out = Out::new();
     let mut table = with_handler(rt, alloc, &mut out);
@@ -143,7 +143,7 @@ fn started(rt: &impl Abort, alloc: Global, waiting: u8) -> Out {
     out
 }
 
-/// The response to an error, if the handler is created and so many errors wait.
+/// The response to an error, if the handler is created and `waiting` errors wait.
 fn response(rt: &impl Abort, alloc: Global, waiting: u8, runner: Runner) -> Response {
     let mut out = Out::new();
     let table = with_handler(rt, alloc, &mut out);
@@ -154,7 +154,7 @@ fn response(rt: &impl Abort, alloc: Global, waiting: u8, runner: Runner) -> Resp
     }
 }
 
-/// How many more errors may wait, if the handler is created and so many wait.
+/// The number of further errors that may wait, if the handler is created and `waiting` errors wait.
 fn places(rt: &impl Abort, alloc: Global, waiting: u8, mode: Mode) -> u8 {
     let mut out = Out::new();
     let table = with_handler(rt, alloc, &mut out);

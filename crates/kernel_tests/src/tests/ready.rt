@@ -1,4 +1,4 @@
-//! Those that are ready: the highest priority first, and equals in turn.
+//! Ready processes: the highest priority first, and equals in turn.
 
 use apex_types::{Entry, Priority, ProcessIndex};
 use links::ReadyLists;

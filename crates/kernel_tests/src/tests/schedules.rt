@@ -45,8 +45,8 @@ static OWNERS: [u8; 20] = [1, 1, 1, 1, 2, 2, 2, 2, 2, 2, 0, 0, 1, 1, 1, 1, 1, 1,
 /// The partition whose window has ended at each tick of the frame, or 0.
 static ENDED: [u8; 20] = [0, 0, 0, 0, 1, 0, 0, 0, 0, 0, 2, 0, 0, 0, 0, 0, 0, 0, 1, 0];
 
-/// For how many ticks from each of the frame on the owner stays, and no window ends behind the first of
-/// them.
+/// The number of ticks from each tick of the frame for which the owner stays, and no window ends
+/// behind the first of them.
 static UNTIL_CHANGE: [u8; 20] = [4, 3, 2, 1, 6, 5, 4, 3, 2, 1, 2, 1, 6, 5, 4, 3, 2, 1, 2, 1];
 
 /// The owners and the ends for the first partition alone.

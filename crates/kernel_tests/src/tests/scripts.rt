@@ -64,7 +64,8 @@ const HEALTH: HealthTable = HealthTable {
     hardware_fault: PartitionAction::Ignore,
 };
 
-/// What the ticks of the process come to: it asks for the time in the second, and is faulty in the third.
+/// The outcomes of the ticks of the process: it asks for the time in the second, and is faulty in
+/// the third.
 fn fault_script(alloc: Global) -> Result<Vec<Outcome>, AllocError> {
     let time = Outcome::Call(Call::GetTime);
     let fault = Outcome::Fault(ErrorKind::NumericError);
@@ -164,7 +165,7 @@ fn schedule(rt: &impl Abort, alloc: Global) -> Schedule {
     }
 }
 
-/// In how many of the thousand ticks from a tick on nothing happens.
+/// The number of the thousand ticks from a tick on in which nothing happens.
 fn still(partition: &Partition<Scripted>, now: u8) -> u32 {
     let moment = Moment {
         at: At {

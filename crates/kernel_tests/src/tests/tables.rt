@@ -3,13 +3,13 @@
 use std::alloc::Global;
 use window_table::read_table;
 
-/// A text in four parts, so that a case tells only what is its own.
+/// A text in four parts, so that a case states only the parts that differ.
 struct Case {
     head: &'static str,
     partitions: &'static str,
     windows: &'static str,
     channels: &'static str,
-    /// The number of the refusal, or 0 where the table is accepted.
+    /// The number of the refusal, or 0 if the table is accepted.
     number: u8,
 }
 

@@ -1,4 +1,4 @@
-//! What commands answer over files of junk, and the line of each refusal.
+//! The answers of commands over files of junk, and the line of each refusal.
 
 use super::shelf::{Shelf, expect_command};
 use apex_types::{DeviceFault, Name};

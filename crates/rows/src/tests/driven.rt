@@ -38,7 +38,7 @@ fn build_and_drive<S: Sink>(
     Ok(drive(alloc, image.as_slice(), devices, ticks, sink)?)
 }
 
-/// Loads the image, and runs it for so many ticks, one by one.
+/// Loads the image, and runs it for `ticks` ticks, one by one.
 fn drive<S: Sink>(
     alloc: Global,
     image: &[u8],

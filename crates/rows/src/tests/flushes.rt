@@ -39,7 +39,7 @@ static COMMANDS: [&[&str]; 9] = [
     &["mb", "help"],
 ];
 
-/// Expects that an output that is not taken, or not flushed, is told.
+/// Expects a refusal if the output is not taken, or not flushed.
 fn expect_fault(rt: &impl Abort, alloc: Global, is_taking: bool, words: &[&str]) {
     let mut shelf = smallest_shelf(rt, alloc);
     shelf.devices = "1 FAULT a\n";

@@ -22,7 +22,7 @@ static REPLAYS: [(&str, &str, &str); 9] = [
     ("7 ARRIVE p 1\n", "7 ARRIVE q 1\n", "mb: device 3\n"),
 ];
 
-/// Replays the partition with the smallest source for so many ticks with a replay text, and expects
+/// Replays the partition with the smallest source for `ticks` ticks with a replay text, and expects
 /// the status and the two texts.
 fn expect_replay(
     rt: &impl Abort,
@@ -92,7 +92,7 @@ source = \"DEVICE\"
 destinations = [\"a.p\", \"a.q\"]
 ";
 
-/// Messages that bring two inputs each, as many as a replay text has lines for, and what they bring.
+/// Messages that bring two inputs each, as many as a replay text has lines for, and these inputs.
 static DOUBLED: LongText = LongText {
     head: "",
     line: "0 MSG c 1\n",

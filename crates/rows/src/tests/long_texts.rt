@@ -23,7 +23,7 @@ pub fn text_of(rt: &impl Abort, alloc: Global, long: &LongText) -> String {
     text
 }
 
-/// Builds what lies on the shelf, expects that an image is written, and answers its length.
+/// Builds what lies on the shelf, expects that an image is written, and returns its length.
 pub fn built(rt: &impl Abort, alloc: Global, shelf: &mut Shelf<'_>) -> usize {
     let words = ["mb", "build", "table", "image", "source"];
     let mut out = Vec::new(alloc);
@@ -37,7 +37,7 @@ pub fn built(rt: &impl Abort, alloc: Global, shelf: &mut Shelf<'_>) -> usize {
     }
 }
 
-/// Checks a source, expects that it is accepted, and has this trace, and answers the length of its
+/// Checks a source, expects that it is accepted and has this trace, and returns the length of its
 /// image.
 fn expect_trace(rt: &impl Abort, alloc: Global, source: &str, ticks: &str, trace: &str) -> usize {
     let sources = [source];
@@ -208,7 +208,7 @@ fn sources_that_are_refused(rt: HostRuntime) {
     }
 }
 
-/// The source with so many variables, and an array of one word that takes the value of one of them.
+/// The source with `count` variables, and an array of one word that takes the value of one of them.
 fn variables(rt: &impl Abort, alloc: Global, count: u32) -> String {
     let mut source = String::new(alloc);
     for number in 0..count {
@@ -281,7 +281,7 @@ static DEVICES: [(&str, &str, &str); 8] = [
     ("7 MSG c 1\n", "7 MSG d 1\n", "mb: device 3\n"),
 ];
 
-/// So many lines of a device text, and what stands behind them.
+/// A device text of 65,536 copies of `line`, and `tail` behind them.
 pub fn devices(rt: &impl Abort, alloc: Global, line: &'static str, tail: &'static str) -> String {
     let long = LongText {
         head: "",
@@ -292,8 +292,8 @@ pub fn devices(rt: &impl Abort, alloc: Global, line: &'static str, tail: &'stati
     text_of(rt, alloc, &long)
 }
 
-/// Runs the smallest source for so many ticks with a device text, and expects the status and the two
-/// texts.
+/// Runs the smallest source for `ticks` ticks with a device text, and expects the status and the
+/// two texts.
 fn expect_devices(
     rt: &impl Abort,
     alloc: Global,

@@ -7,7 +7,7 @@ use module::{Machine, RunFault, split_tick};
 use std::alloc::Global;
 use std::process::Abort;
 
-/// Expects what a tick without lines of the devices answers.
+/// Expects this answer of a tick without lines of the devices.
 fn expect_tick(
     rt: &impl Abort,
     machine: &mut Machine,
@@ -28,7 +28,7 @@ fn machine_of(rt: &impl Abort, alloc: Global, image: &[u8]) -> Machine {
     Machine::load(alloc, image).expect(rt, "memory")
 }
 
-/// What the ticks answer where the sink takes the lines of tick 0, and no more.
+/// The answers of the ticks if the sink takes the lines of tick 0, and no more.
 static ANSWERS: [Result<(), RunFault>; 7] = [
     Ok(()),
     Ok(()),

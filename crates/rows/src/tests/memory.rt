@@ -1,4 +1,4 @@
-//! What is answered when there is no memory left, and once there is memory again.
+//! The answers when no memory is left, and when memory is available again.
 
 use super::shelf::{Shelf, command_into, expect_command};
 use super::sinks::narrow_sink;
@@ -59,10 +59,10 @@ fn expect_replay(rt: &impl Abort, alloc: Global) {
     assert_eq!(rt; sink.taken.as_slice(), SMALLEST_TRACE.as_bytes());
 }
 
-/// What comes to the one partition of the smallest image, and when.
+/// The inputs of the one partition of the smallest image, and their ticks.
 const FAULTS: &str = "3 FAULT\n5 FAULT a\n";
 
-/// Expects that what comes to the partition is told.
+/// Expects the inputs of the partition to be written.
 fn expect_inputs(rt: &impl Abort, alloc: Global) {
     let mut sink = narrow_sink(512, false);
     let told = inputs(

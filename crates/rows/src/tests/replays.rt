@@ -1,4 +1,4 @@
-//! One partition of an image alone, and what a run brings it.
+//! One partition of an image alone, and the inputs that a run brings it.
 
 use super::shelf::{Shelf, command_into, expect_command, smallest_shelf};
 use super::texts::{SMALLEST, SMALLEST_TRACE};
@@ -44,7 +44,8 @@ fn a_partition_alone(rt: HostRuntime) {
     }
 }
 
-/// Wrong texts for the smallest module, and how they are told of a replay and of the inputs of a run.
+/// Wrong texts for the smallest module, and the refusals of a replay and of the inputs of a run
+/// over them.
 static WRONG: [(&str, &str, &str); 4] = [
     (
         "1 FAULT a",

@@ -19,7 +19,7 @@ pub struct Shelf<'a> {
     sources: &'a [&'a str],
     pub devices: &'a str,
     pub image: Option<Vec<u8>>,
-    /// How often a file was to be written.
+    /// The number of attempts to write a file.
     pub writes: u64,
     failed: FailedNames,
 }
@@ -92,7 +92,7 @@ impl<'a> Files for Shelf<'a> {
     }
 }
 
-/// A copy of the bytes of a file, if there is one.
+/// A copy of the bytes of a file, if the file exists.
 fn held(alloc: Global, bytes: Option<&[u8]>) -> Result<Option<Vec<u8>>, NameFault>
     ensures { IfErr result (λ fault. fault ≡ NameFault.Memory) }
 {
@@ -111,7 +111,7 @@ fn copy(alloc: Global, bytes: &[u8]) -> Result<Vec<u8>, NameFault>
     }
 }
 
-/// Does what the words say, with these writers, and answers the status.
+/// Does what the words say, with these writers, and returns the status.
 pub fn command_into<O: Write, E: Write>(
     alloc: Global,
     words: &[&str],

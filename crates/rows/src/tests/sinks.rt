@@ -78,7 +78,7 @@ impl Write for RoomyWriter {
     }
 }
 
-/// A writer with so much room.
+/// A writer with this room.
 pub fn roomy_writer(room: usize) -> RoomyWriter {
     RoomyWriter {
         taken: ArrayVec::new(),
@@ -86,9 +86,8 @@ pub fn roomy_writer(room: usize) -> RoomyWriter {
     }
 }
 
-/// Does what the words say over the smallest module, with a standard output of so much room. Expects
-/// that it is refused with the line, that the room has the beginning of the text, and that no file is
-/// written.
+/// Does what the words say over the smallest module, with a standard output of this room. Expects a
+/// refusal with the line, the beginning of the text in the room, and no written file.
 pub fn expect_beginning(
     rt: &impl Abort,
     alloc: Global,

@@ -1,4 +1,4 @@
-//! Texts that are of the grammar, and the first line of a text that is not.
+//! Texts that are in the grammar, and the first line of a text that is not.
 
 use pal_base::parse::parse;
 use std::alloc::Global;

@@ -74,7 +74,7 @@ fn port(kind: u8, direction: u8) -> [u8; 15] {
     [1, 112, kind, direction, 1, 0, 0, 0, 0, 0, 0, 0, 0, kind, 0]
 }
 
-/// What loading answers on the image of two partitions in a frame of 128 ticks, with channels as they
+/// The answer of loading the image of two partitions in a frame of 128 ticks, with channels as they
 /// are spelled.
 fn two_loaded(
     rt: &impl Abort,
@@ -97,7 +97,7 @@ fn two_loaded(
     load_image(alloc, &bytes)
 }
 
-/// Windows of two partitions in turn, where the last is this one.
+/// Windows of two partitions in turn, with `last` as the last one.
 fn in_turn(last: [u8; 10]) -> [[u8; 10]; 4] {
     [
         window(1, 0, 32, 1),
@@ -124,7 +124,7 @@ fn two_parts(times: (u8, u8), kinds: (u8, u8)) -> [Part; 2] {
     ]
 }
 
-/// What loading answers on two partitions without channels.
+/// The answer of loading two partitions without channels.
 fn unconnected(
     rt: &impl Abort,
     alloc: Global,
@@ -174,7 +174,7 @@ fn broken_rules(rt: HostRuntime) {
 /// A channel from one end to another, each a partition and a port.
 type Ends = ([u8; 2], [u8; 2]);
 
-/// What loading answers on a channel `c` between ports of these kinds.
+/// The answer of loading a channel `c` between ports of these kinds.
 fn connected(
     rt: &impl Abort,
     alloc: Global,

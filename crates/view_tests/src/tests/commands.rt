@@ -74,11 +74,11 @@ impl Write for Full {
     }
 }
 
-/// The words, and what they come to.
+/// The words of a command line, and the expected outcome.
 struct Row {
     words: &'static [&'static str],
     status: u8,
-    /// With status 0 the output has this text; otherwise there is none.
+    /// With status 0 the output contains this text; otherwise the output is empty.
     out: &'static str,
     err: &'static str,
 }
@@ -158,7 +158,7 @@ static ROWS: [Row; 12] = [
     },
 ];
 
-/// What a command line comes to.
+/// The outcome of a command line.
 #[derive(Drop)]
 struct Outcome {
     status: u8,
@@ -166,7 +166,7 @@ struct Outcome {
     err: Vec<u8>,
 }
 
-/// Does what the words say, with these writers, and answers the status.
+/// Does what the words say, with these writers, and returns the status.
 fn view_into<O: Write, E: Write>(alloc: Global, words: &[&str], out: &mut O, err: &mut E) -> u8 {
     let mut texts = Texts {
         alloc,
@@ -188,7 +188,7 @@ fn shown<'a>(rt: &impl Abort, bytes: &'a [u8]) -> &'a str {
     std::str::from_utf8(bytes).expect(rt, "UTF-8")
 }
 
-/// Whether the output is the one of this row.
+/// Returns true if the output is as this row expects.
 fn is_shown(row: &Row, text: &str) -> bool {
     if row.status == 0 {
         text.contains(row.out)

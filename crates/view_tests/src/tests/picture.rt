@@ -99,8 +99,8 @@ fn class_of(tag: &str) -> &str {
     }
 }
 
-/// Whether this line begins an element of this class whose title begins so. A title stands on one
-/// line with the tag of its element.
+/// Returns true if this line begins an element of this class whose title begins with `front`. A
+/// title stands on one line with the tag of its element.
 fn has_title(line: &str, class: &str, front: &str) -> bool {
     match line.split_once("<title>") {
         Some((tag, title)) => class_of(tag) == class && title.starts_with(front),
@@ -108,7 +108,7 @@ fn has_title(line: &str, class: &str, front: &str) -> bool {
     }
 }
 
-/// How many elements of this class have a title that begins so.
+/// The number of elements of this class whose title begins with `front`.
 fn count(svg: &str, class: &str, front: &str) -> usize {
     let mut count = 0usize;
     for line in svg.lines() {
@@ -119,7 +119,7 @@ fn count(svg: &str, class: &str, front: &str) -> usize {
     count
 }
 
-/// How many titles a picture has.
+/// The number of titles in a picture.
 fn titles(rt: &impl Abort, drawing: &Drawing) -> usize {
     let svg = drawing.text().expect(rt, "memory");
     svg.as_str().matches("<title>").count()
@@ -128,7 +128,7 @@ fn titles(rt: &impl Abort, drawing: &Drawing) -> usize {
 /// A class, the beginning of titles, and how many elements of this class have such a title.
 type Counted = (&'static str, &'static str, usize);
 
-/// Expects these titles in the picture of a trace. Answers how many shapes it has.
+/// Expects these titles in the picture of a trace. Returns its number of shapes.
 fn expect_titles(
     rt: &impl Abort,
     alloc: Global,
@@ -149,7 +149,7 @@ fn expect_titles(
     drawing.shapes()
 }
 
-/// What the picture of the first 2,500 ticks shows. The bars were counted by hand.
+/// The bars in the picture of the first 2,500 ticks, counted by hand.
 static BARS: [Counted; 27] = [
     ("running", "INIT RUNNING, ", 1),
     ("running", "fast RUNNING, ", 4),
@@ -202,7 +202,7 @@ fn rate_groups(rt: HostRuntime) {
     assert_eq!(rt; shapes, 26);
 }
 
-/// What the picture of some ticks in their middle shows, all of it cut at its edges.
+/// The bars in the picture of some ticks in the middle, all cut at its edges.
 static PART: [Counted; 5] = [
     ("running", "fast RUNNING, ticks 550 to 599 (50)</title>", 1),
     ("ready", "medium READY, ticks 550 to 599 (50)</title>", 1),
@@ -288,7 +288,7 @@ fn flags_and_reports(rt: HostRuntime) {
     let _ = expect_titles(&rt, rt.alloc(), RESTARTS, 0, None, &FLAGS);
 }
 
-/// A trace and a window in which nothing is to be seen.
+/// A trace and a window that show nothing.
 static EMPTY: [(&str, u64, Option<u64>); 6] = [
     ("", 0, None),
     ("", 7, Some(7)),
@@ -298,7 +298,8 @@ static EMPTY: [(&str, u64, Option<u64>); 6] = [
     ("0000000000000 p MODE NORMAL\n", 20_000, None),
 ];
 
-/// A trace without a line, and ticks of which there are none, or none that has a line.
+/// Expects an empty picture of a trace without lines, of windows without ticks, and of a window
+/// without lines.
 #[test]
 fn nothing(rt: HostRuntime) {
     for (trace, from, to) in &EMPTY {
@@ -349,7 +350,7 @@ fn change_at(name: Name, change: u64) -> Event {
     }
 }
 
-/// Adds a process that changes its state so many times.
+/// Adds a process that changes its state `changes` times.
 fn add_changes(picture: &mut Picture, name: Name, changes: u64) -> Result<(), PictureFault> {
     for change in 0..changes {
         picture.add(&change_at(name, change))?;
@@ -357,7 +358,7 @@ fn add_changes(picture: &mut Picture, name: Name, changes: u64) -> Result<(), Pi
     Ok(())
 }
 
-/// The picture of a process that changes its state so many times.
+/// The picture of a process that changes its state `changes` times.
 fn restless(alloc: Global, name: Name, changes: u64) -> Result<Drawing, PictureFault> {
     let mut picture = Picture::new(alloc, Ticks(0), None);
     match add_changes(&mut picture, name, changes) {
@@ -380,12 +381,12 @@ fn too_many(rt: HostRuntime) {
     }
 }
 
-/// Whether this line begins an element of this class with this attribute.
+/// Returns true if this line begins an element of this class with this attribute.
 fn has_attribute(line: &str, class: &str, attribute: &str) -> bool {
     class_of(line) == class && line.contains(attribute)
 }
 
-/// How many elements of this class have this attribute.
+/// The number of elements of this class with this attribute.
 fn count_with(svg: &str, class: &str, attribute: &str) -> usize {
     let mut count = 0usize;
     for line in svg.lines() {
@@ -406,8 +407,8 @@ const SHORT: &str = "0000000000000 a MODE NORMAL
 0000000000008 b STATE p WAITING
 ";
 
-/// Of a million ticks each bar is a pixel wide at least. The places were worked out by hand: the rows
-/// of `a` begin at 58 and those of `b` at 120 pixels, and each row is 22 high.
+/// In a picture of a million ticks each bar is at least a pixel wide. The places were worked out by
+/// hand: the rows of `a` begin at 58 and those of `b` at 120 pixels, and each row is 22 high.
 static NARROW: [(&str, &str); 3] = [
     ("ready", "x=\"150\" y=\"91\" width=\"1\" height=\"8\""),
     ("running", "x=\"150\" y=\"83\" width=\"1\" height=\"16\""),
@@ -436,7 +437,7 @@ fn arrival(partition: Name, tick: u64) -> Event {
     }
 }
 
-/// Adds so many messages in tick 9, by turns to one partition and the other.
+/// Adds `pairs` pairs of messages in tick 9, to one partition and the other by turns.
 fn add_messages(picture: &mut Picture, a: Name, b: Name, pairs: u64) -> Result<(), PictureFault> {
     for _ in 0..pairs {
         picture.add(&arrival(a, 9))?;
@@ -445,8 +446,9 @@ fn add_messages(picture: &mut Picture, a: Name, b: Name, pairs: u64) -> Result<(
     Ok(())
 }
 
-/// Of ten ticks the last one begins at 1068 pixels, so the first 21 messages in it stand left of 1194, each
-/// 6 pixels from the one before, and all others at 1194. The picture is 1200 wide.
+/// In a picture of ten ticks the last tick begins at 1068 pixels, so the first 21 messages in it
+/// stand left of 1194, each 6 pixels from the one before, and all others at 1194. The picture is
+/// 1200 wide.
 #[test]
 fn messages_stand_in_the_picture(rt: HostRuntime) {
     let a = Name::new(b"a").expect(&rt, "a name");

@@ -6,7 +6,7 @@ use std::io::{self, ErrorKind, Read};
 use std::process::Abort;
 use trace_text::{StreamFault, TraceFault, TraceReader, TraceStream};
 
-/// Gives at most so many bytes a read. Each read is interrupted once before.
+/// Gives at most `most` bytes a read. Each read is interrupted once before.
 #[derive(Drop)]
 struct Slow<'a> {
     rest: &'a [u8],
@@ -83,13 +83,13 @@ fn keep(rt: &impl Abort, alloc: Global, lines: &mut Vec<u8>, event: &Event) {
         .expect(rt, "memory");
 }
 
-/// What is read next.
+/// The result of the next read.
 #[derive(Clone, Copy, PartialEq, Eq)]
 enum Step {
     /// An event, whose line is kept.
     Event,
     End,
-    /// No event, since the line with this number is none of a trace.
+    /// No event, since the line with this number is not a line of a trace.
     Refused(u64),
 }
 
@@ -150,7 +150,7 @@ fn compare(rt: &impl Abort, alloc: Global, text: &[u8], most: usize) {
     assert_eq!(rt; stream.lines(), reader.lines());
 }
 
-/// Texts that are traces, and that are none, with so many bytes a read.
+/// Compares texts that are traces, and texts that are not, with `most` bytes a read.
 fn compare_all(rt: &impl Abort, alloc: Global, most: usize) {
     let bytes = TRACE.as_bytes();
     let texts: [&[u8]; 7] = [

@@ -1,4 +1,4 @@
-//! Lines and texts that are traces, and some that are none.
+//! Lines and texts that are traces, and some that are not.
 
 ghost use Rattle.std.specs.Prelude.{◌≡◌, ◌<◌, ◌^◌, ◌-◌, length};
 
@@ -141,7 +141,7 @@ fn the_first_wrong_line_is_named(rt: HostRuntime) {
     assert_eq!(rt; check_trace(without_front), Err(TraceFault { line: 1 }));
 }
 
-/// A line of a trace, and one that is none.
+/// A line of a trace, and a line that is not.
 const REFUSED: &str = "0000000000005 a MODE IDLE\n0000000000006 a MODE IDLE \n";
 
 #[test]

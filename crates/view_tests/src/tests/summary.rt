@@ -78,8 +78,8 @@ fn sheets_of_the_examples(rt: HostRuntime) {
 }
 
 /// The times of `fast` in `rate_groups`, from its lines: it runs at once, from 500 to 617 the
-/// shortest time and from 2500 to 2869 the longest. In the 9 activations is none of tick 3600, where
-/// the error handler preempts it.
+/// shortest time and from 2500 to 2869 the longest. The 9 activations do not include tick 3600,
+/// where the error handler preempts it.
 #[test]
 fn numbers_of_a_process(rt: HostRuntime) {
     let report = expect_report(&rt, rt.alloc(), RATE_GROUPS, 0, None);
@@ -172,7 +172,7 @@ const SAME_NAMES: &str = "0000000000000 a MODE NORMAL
 /// A partition, its port or channel, and how many messages moved, arrived, were lost and left the module.
 type Passed = (&'static str, bool, [u64; 4]);
 
-/// What passed, partition by partition, counted by hand.
+/// The numbers of messages, partition by partition, counted by hand.
 static PASSED: [Passed; 6] = [
     ("a", true, [0, 2, 0, 0]),
     ("a", false, [0, 0, 0, 1]),
@@ -182,7 +182,7 @@ static PASSED: [Passed; 6] = [
     ("c", false, [0, 0, 0, 1]),
 ];
 
-/// Whether a total is this one.
+/// Returns true if a total is the wanted one.
 fn is_passed(total: &RouteTotal, wanted: &Passed) -> bool {
     let (partition, is_port, numbers) = wanted;
     let messages = total.messages;
@@ -248,7 +248,7 @@ fn shares(rt: HostRuntime) {
     }
 }
 
-/// A writer that takes so many bytes, and then fails.
+/// A writer that takes `room` bytes, and then fails.
 #[derive(Drop)]
 struct Narrow {
     room: usize,

@@ -44,7 +44,7 @@ pub struct Waves<'a> {
     inner: Option<&'a str>,
 }
 
-/// Reads a dump, and stops the test where it is none.
+/// Reads a dump, and stops the test if the text is no dump.
 pub fn read_waves<'a>(rt: &impl Abort, alloc: Global, text: &'a str) -> Waves<'a> {
     let mut waves = Waves {
         variables: Vec::new(alloc),
@@ -63,7 +63,7 @@ pub fn read_waves<'a>(rt: &impl Abort, alloc: Global, text: &'a str) -> Waves<'a
 }
 
 impl<'a> Wave<'a> {
-    /// Whether it has this path: its scopes and its name, with dots between them.
+    /// Returns true if it has this path: its scopes and its name, with dots between them.
     pub fn is_at(&self, path: &str) -> bool {
         let mut names = path.split('.');
         names.next() == Some(self.outer)

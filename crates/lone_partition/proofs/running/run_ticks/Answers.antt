@@ -30,7 +30,7 @@ loop-left-init g c =
       rest = subst (λ (a : At). CompletesLines whole (alone_from s c.args.inputs.now c.args.ticks (Some a) x) sent sent) first (all_lines_left whole sent);
     }
 
--- so many ticks at once
+-- many ticks at once
 pub loop-left-preserved-then-count-gt0 : goal.loop-left-preserved-then-count-gt0
 loop-left-preserved-then-count-gt0 g c =
     let i = c.loop-left.invariant in

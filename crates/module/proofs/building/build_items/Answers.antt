@@ -9,7 +9,7 @@ use Rattle.pal_base.specs.declared.checked.Checked.{Checked}
 use Rattle.module.proofs.Built.{one_is_short, one_longer, one_more_item, one_more_program}
 use Rattle.module.proofs.building.build_items.Goals as goal
 
--- where an item is left, the place is within
+-- if an item is left, the place is within
 stands_within : (place : ℕ) (row : PartitionRow) (left rest : List PartitionRow) (n : ℕ) → left ≡ row ∷ rest → place + length left ≡ n → place < n
 stands_within place row left rest n split all = omega (arith, ap length split)
 

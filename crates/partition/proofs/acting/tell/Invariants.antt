@@ -2,7 +2,7 @@ use Rattle.std.proofs.Common.{◌≡◌, ◌≤◌, ◌+◌, ◌++◌, length, t
 use Rattle.kernel_meaning.specs.Partition.{told}
 use Rattle.partition.proofs.acting.tell.Given as goal
 
--- what happened so far is told
+-- the lines so far are recorded
 abbrev pub invariant-loop-kind : goal.invariant-loop-kind
 invariant-loop-kind g l = record {
   told : g.L.EventLog.held l.log ≡ g.L.EventLog.held l.fn.log ++ g.L.EventLog.pieces (told l.fn.name l.moment.at (take l.kind-index l.fn.lines.items));

@@ -7,7 +7,7 @@ use Rattle.ports.specs.Status.{placed_port}
 use Rattle.ports.proofs.Telling.{told}
 use Rattle.ports.proofs.queuing.get_queuing_port_status.Goals as goal
 
--- a port that is created
+-- a created port
 pub returns-clause-step : goal.returns-clause-step
 returns-clause-step c =
     let b = both c.args.table.now c.args.ports.now in

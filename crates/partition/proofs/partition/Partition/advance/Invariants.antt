@@ -5,7 +5,7 @@ use Rattle.bursts.specs.Running.{SoFar}
 use Rattle.partition.specs.Members.{member_of, TellsSome}
 use Rattle.partition.proofs.partition.Partition.advance.Given as goal
 
--- the ticks so far, and where nothing is told yet those that are left
+-- the ticks so far and, while they recorded no event, the remaining ticks
 abbrev pub invariant-loop-left : goal.invariant-loop-left
 invariant-loop-left g l =
     let x = member_of g.E.Executor l.fn.self l.fn.mem in

@@ -3,7 +3,7 @@ use Rattle.trace_picture.specs.declared.element.Tag.{Tag}
 use Rattle.trace_picture.proofs.Pages.{closes}
 use Rattle.trace_picture.proofs.page.Page.close.Goals as goal
 
--- what is taken away is the last one
+-- the removed tag is the last one
 taken : (tags seen : List Tag) (count : ℕ) (popped : Option Tag) (tag : Tag) → seen ≡ tags → length seen ≡ count → tag ≡ get_or seen (length seen - 1) tag → 0 < length seen
     → ((d : Tag) → 0 < count → popped ≡ Some (get_or tags (count - 1) d)) → popped ≡ Some tag
 taken tags seen count popped tag same counted last some pops =
