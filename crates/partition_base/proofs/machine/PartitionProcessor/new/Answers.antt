@@ -1,13 +1,21 @@
-use Rattle.std.proofs.Common.{◌≡◌, ◌∷◌, length, map, ap, sym, ◌∙◌}
+use Rattle.std.proofs.Common.{◌≡◌, ◌≤◌, ◌∷◌, length, map, ap, sym, subst, ◌∙◌}
+use Rattle.apex_types.specs.declared.limits.TheConstants.{MOST_INSTRUCTIONS}
 use Rattle.engine_meaning.specs.Engine.{body_at, or_init}
 use Rattle.machine_meaning.specs.Instructions.{reading}
 use Rattle.machine_meaning.specs.MachineControl.{machine_engine}
 use Rattle.machine_meaning.specs.MachineMeaning.{body_of_row}
 use Rattle.partition_base.specs.Sections.{runners_of}
+use Rattle.processor.specs.Fitting.{AreFitting}
 use Rattle.regions.specs.Space.{zeros}
 use Rattle.partition_base.specs.Slots.{stack_of_body}
 use Rattle.partition_base.proofs.Places.{fresh_controls, fresh_lengths}
 use Rattle.partition_base.proofs.machine.PartitionProcessor.new.Goals as goal
+
+pub invariant_of-rows-clause-small : goal.invariant_of-rows-clause-small
+invariant_of-rows-clause-small c = subst (λ bytes. length bytes ≤ MOST_INSTRUCTIONS) (sym c.deref.ensures.value) c.args.fitting.fitting.code
+
+pub invariant_of-rows-clause-fitting : goal.invariant_of-rows-clause-fitting
+invariant_of-rows-clause-fitting c = subst AreFitting (sym c.deref-2.ensures.value) c.args.fitting.fitting.routines
 
 pub returns-clause-controls : goal.returns-clause-controls
 returns-clause-controls c =
