@@ -1,8 +1,7 @@
 -- A number of ticks within the limits is a cost in one way.
 use Rattle.std.proofs.Common.{◌≡◌, ◌<◌, ◌≤◌, ℕ, Bool, true, false, List, [], ◌∷◌, length, Option, Some, None, refl, sym, ap, ◌∙◌, arith}
 use Rattle.std.proofs.Math.Bool.{Bool-set}
-use Rattle.apex_types.specs.CostBounds.{is_cost}
-use Rattle.apex_types.specs.Costs.{ticks, cost_if, cost_of_ticks, from_order, written_costs}
+use Rattle.apex_types.specs.Costs.{is_cost, ticks, cost_if, cost_of_ticks, from_order, written_costs}
 use Rattle.apex_types.specs.declared.cost.TickCost.{TickCost}
 
 within_if : (n : ℕ) (is : Bool) (e : is_cost n ≡ is) (within : is_cost n ≡ true) → Some (ticks n within) ≡ cost_if n is e

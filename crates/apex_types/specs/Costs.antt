@@ -1,11 +1,15 @@
 -- The costs in ticks of the constructs of a program and of the instructions of the processor, and
 -- the effect of an operator with two operands.
-use Rattle.std.specs.Prelude.{ℕ, Bool, true, false, ◌≡◌, refl, List, [], ◌∷◌, Option, Some, None}
-use Rattle.apex_types.specs.CostBounds.{is_cost}
+use Rattle.std.specs.Prelude.{ℕ, Bool, true, false, ◌&&◌, nat_le, ◌≡◌, refl, List, [], ◌∷◌, Option, Some, None}
+use Rattle.apex_types.specs.declared.limits.TheConstants.{MOST_COST}
 use Rattle.apex_types.specs.declared.cost.TickCost.{TickCost}
 use Rattle.apex_types.specs.declared.cost.Costs.{Costs}
 use Rattle.apex_types.specs.declared.instruction.BinaryOperator.{BinaryOperator}
 use Rattle.apex_types.specs.declared.instruction.BinaryOperator.TheVariants.{Add, Subtract, Multiply, Divide, Remainder}
+
+-- how many ticks a construct may cost
+abbrev pub is_cost : ℕ → Bool
+is_cost n = nat_le 1 n && nat_le n MOST_COST
 
 -- a number of ticks within the limits of a cost
 abbrev pub ticks : (n : ℕ) → is_cost n ≡ true → TickCost

@@ -1,5 +1,4 @@
 pub mod CodeWords
-pub mod CostBounds
 pub mod Costs
 pub mod Line
 pub mod Lines

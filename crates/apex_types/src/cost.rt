@@ -1,8 +1,8 @@
 //! The cost in ticks of each construct of a program, and of each service. The instruction that a
 //! construct becomes costs the same.
 
-ghost use Rattle.std.specs.Prelude.{◌≡◌, true};
-ghost use Rattle.apex_types.specs.CostBounds.{is_cost};
+ghost use Rattle.std.specs.Prelude.{◌≡◌, ◌&&◌, nat_le, true};
+ghost use Rattle.apex_types.specs.declared.limits.TheConstants.{MOST_COST};
 
 use crate::limits::MOST_COST;
 
@@ -11,12 +11,12 @@ use crate::limits::MOST_COST;
 #[derive(Clone, Copy, Debug, PartialEq, Eq)]
 pub struct TickCost {
     pub ticks: u32,
-    pub ghost within: { is_cost ticks ≡ true },
+    pub ghost within: { (nat_le 1 ticks && nat_le ticks MOST_COST) ≡ true },
 }
 
 impl TickCost {
     ghost use Rattle.std.specs.Prelude.{Some, refl};
-    ghost use Rattle.apex_types.specs.Costs.{cost_of_ticks, ticks};
+    ghost use Rattle.apex_types.specs.Costs.{cost_of_ticks, is_cost, ticks};
 
     /// The cost of `ticks` ticks, if a construct may cost as much.
     #[tactic(auto, using(crate::proofs::TickCosts::is_no_cost))]

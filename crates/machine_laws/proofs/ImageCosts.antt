@@ -4,8 +4,7 @@ use Rattle.std.specs.Prelude.{◌||◌, nat_le}
 use Rattle.std.specs.Int.{w16}
 use Rattle.std.specs.List.{flat_map}
 use Rattle.std.proofs.lemmas.Bool.{and_parts, eqb-true, leb-true}
-use Rattle.apex_types.specs.CostBounds.{is_cost}
-use Rattle.apex_types.specs.Costs.{cost_if, cost_of_ticks, from_order, in_order}
+use Rattle.apex_types.specs.Costs.{cost_if, cost_of_ticks, from_order, in_order, is_cost}
 use Rattle.apex_types.specs.declared.cost.TheConstants.{COST_KEYS}
 use Rattle.apex_types.specs.Versions.{number_of}
 use Rattle.apex_types.proofs.TickCosts.{is_of_ticks}

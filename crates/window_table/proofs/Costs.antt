@@ -3,8 +3,7 @@ use Rattle.std.proofs.Common.{◌≡◌, ℕ, zero, suc, ℤ, pos, negsuc, nat_a
 use Rattle.std.proofs.lemmas.Bool.{false≢true}
 use Rattle.std.proofs.lemmas.Bool.Decides.{nat_tests}
 use Rattle.std.specs.Prelude.{◌||◌, nat_le, unwrap_or}
-use Rattle.apex_types.specs.CostBounds.{is_cost}
-use Rattle.apex_types.specs.Costs.{cost_of_ticks, ticks}
+use Rattle.apex_types.specs.Costs.{cost_of_ticks, is_cost, ticks}
 use Rattle.apex_types.specs.declared.cost.TickCost.{TickCost}
 use Rattle.apex_types.proofs.TickCosts.{is_of_ticks}
 use Rattle.module_meaning.specs.TableRules.{cost_row, is_outside_cost}
