@@ -212,10 +212,16 @@ def keeps_channels(partitions, channels):
 def read(image):
     """Reads a whole image, or stops at its first fault."""
     reading = Reading(image)
-    if reading.taken(8) != b"AP653IMG" or int.from_bytes(reading.taken(2), "little") != 1:
+    if reading.taken(8) != b"AP653IMG":
+        raise Fault(FOREIGN)
+    version = int.from_bytes(reading.taken(2), "little")
+    if version not in (1, 2):
         raise Fault(FOREIGN)
     frame = reading.number(4, 1, 1 << 24)
     reading.number(1, 0, 2)  # module action
+    if version == 2:
+        for _ in range(15):
+            reading.number(2, 1, 1000)  # costs
     used = set()
     partitions = [reading.partition(used, frame) for _ in range(reading.number(4, 1, 16))]
     windows = reading.windows()
