@@ -127,7 +127,6 @@ class Oracle:
         except self.Refusal as refusal:
             return b"", f"mb: {refusal.message}\n".encode()
 
-
     def image(self, made):
         """The image that the second independent program builds."""
         return self.machine.build(made.table.encode(), [it.encode() for it in made.sources], 2)
@@ -274,7 +273,6 @@ class Comparison:
                 program.kill()
                 program.wait()
         return lines, b"".join(kept)
-
 
     def said(self, *words):
         """What the program prints, if it is not refused."""

@@ -1,6 +1,7 @@
 mod dues;
 mod errors;
 mod memory;
+mod objects;
 mod processes;
 mod ready;
 mod schedules;

@@ -41,8 +41,8 @@ pub const SMALLEST_TRACE: &str = "\
 0000000000004 a MODE NORMAL
 ";
 
-/// The image of the smallest source in the first version: the head, the partition with its four instructions of 16
-/// bytes from byte 82 on, the window and no channel.
+/// The image of the smallest source, as one of the first version: the head, the partition with its
+/// four instructions of 16 bytes from byte 82 on, the window and no channel.
 pub static SMALLEST_IMAGE: [u8; 164] = [
     65, 80, 54, 53, 51, 73, 77, 71, 1, 0, 128, 0, 0, 0, 0, 1, 0, 0, 0, 1, 97, 128, 0, 0, 0, 128, 0,
     0, 0, 0, 0, 0, 0, 0, 0, 0, 0, 0, 0, 0, 0, 0, 0, 0, 0, 0, 0, 0, 0, 0, 0, 0, 0, 0, 0, 0, 0, 0, 0,
