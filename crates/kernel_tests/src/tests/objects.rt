@@ -126,13 +126,28 @@ fn the_number_of_a_created_object_is_told(rt: HostRuntime) {
 #[test]
 fn a_created_object_is_so(rt: HostRuntime) {
     let mut objects = objects(&rt, rt.alloc());
-    assert_eq!(rt; objects.semaphore(1).map(|found| found.1.is_created()), Some(false));
-    assert_eq!(rt; objects.event(1).map(|found| found.1.is_created()), Some(false));
+    assert_eq!(rt;
+        objects.semaphore(1).map(|found| found.1.is_created()),
+        Some(false)
+    );
+    assert_eq!(rt;
+        objects.event(1).map(|found| found.1.is_created()),
+        Some(false)
+    );
     objects.create_semaphore(0);
-    assert_eq!(rt; objects.semaphore(1).map(|found| found.1.is_created()), Some(true));
-    assert_eq!(rt; objects.event(1).map(|found| found.1.is_created()), Some(false));
+    assert_eq!(rt;
+        objects.semaphore(1).map(|found| found.1.is_created()),
+        Some(true)
+    );
+    assert_eq!(rt;
+        objects.event(1).map(|found| found.1.is_created()),
+        Some(false)
+    );
     objects.create_event(0);
-    assert_eq!(rt; objects.event(1).map(|found| found.1.is_created()), Some(true));
+    assert_eq!(rt;
+        objects.event(1).map(|found| found.1.is_created()),
+        Some(true)
+    );
     assert!(rt; objects.semaphore(2).is_none());
 }
 
