@@ -1,8 +1,11 @@
+pub mod Actions
 pub mod CodeWords
 pub mod Costs
 pub mod Line
 pub mod Lines
 pub mod NameText
+pub mod OutView
+pub mod Output
 pub mod Places
 pub mod Room
 pub mod Runners

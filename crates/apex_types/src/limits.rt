@@ -108,6 +108,9 @@ pub const MOST_EVENTS: usize = 256;
 /// of a message and an answer for each process, the answer to a call, and the three of a Clear.
 pub const MOST_ACTIONS: usize = 2 * MOST_PROCESSES as usize + 4;
 
+/// The most words of the lines and the actions of a step.
+pub const MOST_OUT_WORDS: usize = MOST_WORDS * (MOST_EVENTS + MOST_ACTIONS);
+
 /// The most bytes of a word in a line: its digits, its sign and the space before it.
 pub const MOST_WORD_BYTES: usize = 21;
 

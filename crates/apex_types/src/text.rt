@@ -6,10 +6,11 @@ ghost use Rattle.std.specs.Io.KnownBytes.{Appends};
 ghost use Rattle.arrayvec.specs.ArrayVec.{array_vec_len};
 ghost use Rattle.apex_types.specs.Line.{culprit_text, kind_text, line_of, partition_text, subject_text, text_of, thirteen_digits, words_text};
 ghost use Rattle.apex_types.specs.Line.{TakesBeginning};
+ghost use Rattle.apex_types.specs.Output.{event_of};
 ghost use Rattle.apex_types.specs.declared.limits.TheConstants.{MOST_LINE_BYTES, MOST_NAME_BYTES, MOST_WORD_BYTES, MOST_WORDS};
 
 use crate::codes::{ErrorKind, Response, ReturnCode};
-use crate::event::{Event, EventKind, Subject};
+use crate::event::{Event, LineKind, Subject};
 use crate::identity::Ticks;
 use crate::limits::{MOST_LINE_BYTES, MOST_STEP_BYTES};
 use crate::log::EventLog;
@@ -87,8 +88,9 @@ pub fn write_event<S: Sink>(event: &Event, sink: &mut S) -> Result<(), SinkFault
         (TakesBeginning (S.taken sink.old) (S.taken sink.new) (line_of event.now)) }
 {
     let stamp = Stamp::new(event.tick);
+    let (kind, words) = (event.kind.line(), event.kind.words());
     let mut line = Line::new();
-    push_line(&mut line, stamp.digits(), &event.partition, &event.kind);
+    push_line(&mut line, stamp.digits(), &event.partition, &kind, words);
     put_all(sink, line.as_slice())
 }
 
@@ -157,9 +159,9 @@ impl EventLog for TraceBuffer {
 
     ghost empty = { λ log h. whole_room log.text.items h };
 
-    fn tell(&mut self, tick: Ticks, partition: &Option<Name>, kind: &EventKind) {
+    fn tell(&mut self, tick: Ticks, partition: &Option<Name>, kind: &LineKind, words: &[i64]) {
         self.stamp.renew(tick);
-        push_line(&mut self.text, self.stamp.digits(), partition, kind);
+        push_line(&mut self.text, self.stamp.digits(), partition, kind, words);
     }
 
     fn is_empty(&self) -> bool {
@@ -172,13 +174,15 @@ fn push_line<const N: usize>(
     line: &mut ArrayVec<u8, N>,
     digits: &[u8; 13],
     partition: &Option<Name>,
-    kind: &EventKind,
+    kind: &LineKind,
+    words: &[i64],
 )
-    requires { array_vec_len line.old + MOST_LINE_BYTES ≤ N }
+    requires room { array_vec_len line.old + MOST_LINE_BYTES ≤ N }
+    requires few { length words.now ≤ MOST_WORDS }
     ensures items { line.new.items
         ≡ line.old.items
         ++ (digits.now ++ codes " " ++ partition_text partition.now ++ codes " "
-        ++ kind_text kind.now ++ 10
+        ++ kind_text (event_of kind.now words.now) ++ 10
         ∷ []) }
     ensures len { array_vec_len line.new ≤ array_vec_len line.old + MOST_LINE_BYTES }
 {
@@ -186,7 +190,7 @@ fn push_line<const N: usize>(
     push_text(line, " ");
     push_partition(line, partition);
     push_text(line, " ");
-    push_kind(line, kind);
+    push_kind(line, kind, words);
     push_text(line, "\n");
 }
 
@@ -351,45 +355,47 @@ fn push_error<const N: usize>(
     push_text(line, response.action_word());
 }
 
-fn push_kind<const N: usize>(line: &mut ArrayVec<u8, N>, kind: &EventKind)
-    requires { array_vec_len line.old + 64 + MOST_WORD_BYTES * MOST_WORDS ≤ N }
-    ensures items { line.new.items ≡ line.old.items ++ kind_text kind.now }
+fn push_kind<const N: usize>(line: &mut ArrayVec<u8, N>, kind: &LineKind, words: &[i64])
+    requires room { array_vec_len line.old + 64 + MOST_WORD_BYTES * MOST_WORDS ≤ N }
+    requires few { length words.now ≤ MOST_WORDS }
+    ensures items { line.new.items
+        ≡ line.old.items ++ kind_text (event_of kind.now words.now) }
     ensures len { array_vec_len line.new
         ≤ array_vec_len line.old + 64 + MOST_WORD_BYTES * MOST_WORDS }
 {
     match kind {
-        EventKind::State(who, state) => {
+        LineKind::State(who, state) => {
             push_text(line, "STATE ");
             push_subject(line, who);
             push_text(line, " ");
             push_text(line, state.word());
         }
-        EventKind::Return(who, service, code) => push_return(line, who, *service, *code),
-        EventKind::Mode(mode) => {
+        LineKind::Return(who, service, code) => push_return(line, who, *service, *code),
+        LineKind::Mode(mode) => {
             push_text(line, "MODE ");
             push_text(line, mode.word());
         }
-        EventKind::Error(error, who, response) => push_error(line, *error, who, *response),
-        EventKind::Report(who, words) => {
+        LineKind::Error(error, who, response) => push_error(line, *error, who, *response),
+        LineKind::Report(who) => {
             push_text(line, "REPORT ");
             push_subject(line, who);
-            push_words(line, words.as_slice());
+            push_words(line, words);
         }
-        EventKind::Move(port, words) => {
+        LineKind::Move(port) => {
             push_text(line, "MOVE ");
-            push_message(line, port, words.as_slice());
+            push_message(line, port, words);
         }
-        EventKind::Arrive(port, words) => {
+        LineKind::Arrive(port) => {
             push_text(line, "ARRIVE ");
-            push_message(line, port, words.as_slice());
+            push_message(line, port, words);
         }
-        EventKind::Lost(port, words) => {
+        LineKind::Lost(port) => {
             push_text(line, "LOST ");
-            push_message(line, port, words.as_slice());
+            push_message(line, port, words);
         }
-        EventKind::Out(channel, words) => {
+        LineKind::Out(channel) => {
             push_text(line, "OUT ");
-            push_message(line, channel, words.as_slice());
+            push_message(line, channel, words);
         }
     }
 }

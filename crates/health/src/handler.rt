@@ -11,7 +11,7 @@ ghost use Rattle.process_table_base.specs.FoundView.{record_of};
 
 use crate::errors::Errors;
 use apex_types::limits::MOST_REPORT_WORDS;
-use apex_types::{Action, ArrayPlace, ErrorKind, Mode, Out, ReturnCode, Runner, Service};
+use apex_types::{ActionKind, ArrayPlace, ErrorKind, Mode, Out, ReturnCode, Runner, Service};
 use process_table_base::{
     Found, ProcessTable, Request, fill, is_dormant, is_large_enough, is_same,
 };
@@ -132,7 +132,7 @@ fn begin_if_dormant(table: &mut ProcessTable, out: &mut Out)
     if let Some(handler) = table.found(Runner::Handler) {
         if handler.row.created && is_dormant(&handler.row) {
             table.wake(&handler, out);
-            out.actions.push(Action::Begin(Runner::Handler));
+            out.act(ActionKind::Begin(Runner::Handler), &[]);
         }
     }
 }

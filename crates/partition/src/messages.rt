@@ -14,7 +14,7 @@ ghost use Rattle.process_table_base.specs.declared.rooms.TheConstants.{ACTIONS_T
 
 use crate::kernel::Kernel;
 use crate::partition::Partition;
-use apex_types::{EventKind, EventLog, Moment, Name, Out, PortId, Words};
+use apex_types::{EventLog, LineKind, Moment, Name, Out, PortId, Words};
 use partition_base::Executor;
 use ports::{admit, arrive};
 
@@ -181,6 +181,6 @@ impl<E: Executor> Partition<E> {
             (IsTold L.EventLog log.old log.new) }
     {
         let name = Some(self.kernel.name());
-        log.tell(moment.at.now, &name, &EventKind::Out(channel, message));
+        log.tell(moment.at.now, &name, &LineKind::Out(channel), &message);
     }
 }

@@ -47,7 +47,7 @@ impl<E: Executor + Drop> Partition<E> {
         Ok(Partition {
             kernel: Kernel::new(alloc, fixed, rows)?,
             executor,
-            out: Out::new(),
+            out: Out::new(alloc)?,
         })
     }
 }

@@ -13,7 +13,7 @@ ghost use Rattle.process_table_base.specs.declared.rooms.TheConstants.{LINES_TO_
 use crate::acting::{act_all, tell};
 use crate::partition::Partition;
 use apex_types::limits::MOST_WORDS;
-use apex_types::{EventLog, Mode, Moment, Name, Out, Runner, StartCondition, Words, array_of};
+use apex_types::{EventLog, Mode, Moment, Name, Runner, StartCondition, Words, array_of};
 use partition_base::Executor;
 use processor::Outcome;
 
@@ -27,26 +27,21 @@ impl<E: Executor> Partition<E> {
         log: &mut L,
     )
         requires fits { E.laid mem.old ≡ E.layout self.old.executor }
-        requires room { length self.old.out.lines.items ≤ L.room log.old }
+        requires room { length self.old.out.lines ≤ L.room log.old }
         ensures fits { E.laid mem.new ≡ E.layout self.new.executor }
         ensures member { member_of E.Executor self.new mem.new
-            ≡ acts_all self.old.out.actions.items (member_of E.Executor self.old mem.old) }
+            ≡ acts_all self.old.out.actions (member_of E.Executor self.old mem.old) }
         ensures told { IsTold L.EventLog log.old log.new
-            (meaning.told name moment.at self.old.out.lines.items) }
-        ensures few { L.room log.old ≤ L.room log.new + length self.old.out.lines.items }
+            (meaning.told name moment.at self.old.out.lines) }
+        ensures few { L.room log.old ≤ L.room log.new + length self.old.out.lines }
         ensures empty { IsEmpty self.new.out }
     {
-        if is_empty(&self.out) {
+        if self.out.is_empty() {
             return;
         }
-        act_all(
-            &mut self.kernel,
-            &mut self.executor,
-            mem,
-            self.out.actions.as_slice(),
-        );
-        self.out.actions.clear();
-        tell(name, moment, &mut self.out.lines, log);
+        act_all(&mut self.kernel, &mut self.executor, mem, &self.out);
+        tell(name, moment, &self.out, log);
+        self.out.clear();
     }
 
     /// Clears to a cold start, for a reason (ARINC 653 Part 1, partition management).
@@ -260,13 +255,6 @@ impl<E: Executor> Partition<E> {
         self.prepare(mem, moment, log);
         self.spend_chosen(mem, moment, log);
     }
-}
-
-/// Whether there are no lines and no actions.
-fn is_empty(out: &Out) -> bool
-    ensures { result ≡ true → IsEmpty out.now }
-{
-    out.lines.is_empty() && out.actions.is_empty()
 }
 
 /// How many words of an array of `size` words a call hands in, at most those of a message.

@@ -231,7 +231,7 @@ impl Executor for PartitionProcessor {
         slot::advance_at(&mut self.slots, runner.place(), mem, &self.code, k)
     }
 
-    fn reply(&mut self, mem: &mut PartitionMem, runner: Runner, answer: &Words) {
+    fn reply(&mut self, mem: &mut PartitionMem, runner: Runner, answer: &[i64]) {
         slot::reply_at(&mut self.slots, runner.place(), mem, answer);
     }
 
@@ -239,7 +239,7 @@ impl Executor for PartitionProcessor {
         message(mem.data(), place, count)
     }
 
-    fn write(&self, mem: &mut PartitionMem, place: i64, array: &Words) {
+    fn write(&self, mem: &mut PartitionMem, place: i64, array: &[i64]) {
         if place >= 0 {
             put(mem, place.unsigned_abs() as usize, array);
         }

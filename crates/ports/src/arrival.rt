@@ -14,7 +14,7 @@ ghost use Rattle.process_table_base.specs.declared.rooms.TheConstants.{ACTIONS_T
 
 use crate::port::PortStatus;
 use crate::ports::Ports;
-use apex_types::{Entry, EventKind, ListKey, Moment, Out, ReturnCode, Words, copied};
+use apex_types::{Entry, LineKind, ListKey, Moment, Out, ReturnCode, Words};
 use process_table_base::ProcessTable;
 
 /// Replaces the message of a sampling port, and its tick of arrival.
@@ -36,8 +36,7 @@ fn arrive_sampling(
         (both table.now ports.new) out.old out.new }
     ensures grows { Grows 1 0 out.old out.new }
 {
-    let line = EventKind::Arrive(port.row.name, copied(&message));
-    out.lines.push(line);
+    out.tell(LineKind::Arrive(port.row.name), &message);
     ports.put_arrived(place, message, moment.at.now);
 }
 
@@ -59,11 +58,10 @@ fn store(
     ensures grows { Grows 1 0 out.old out.new }
 {
     if !port.is_full() {
-        let line = EventKind::Arrive(port.row.name, copied(&message));
-        out.lines.push(line);
+        out.tell(LineKind::Arrive(port.row.name), &message);
         ports.push_message(place, message);
     } else {
-        out.lines.push(EventKind::Lost(port.row.name, message));
+        out.tell(LineKind::Lost(port.row.name), &message);
         ports.lose_message(place);
     }
 }
@@ -89,8 +87,7 @@ fn arrive_queuing(
 {
     match table.first_waiting(ListKey::Port(place)) {
         Some(receiver) => {
-            let line = EventKind::Arrive(port.row.name, copied(&message));
-            out.lines.push(line);
+            out.tell(LineKind::Arrive(port.row.name), &message);
             table.give(&receiver, message, out);
         }
         None => store(table, ports, place, port, message, out),

@@ -12,7 +12,7 @@ ghost use Rattle.ports.specs.Held.{message_behind};
 ghost use Rattle.ports.specs.Status.{placed_port, port_of_status, port_status, port_with_status, without_first};
 
 use crate::port::{Port, PortStatus};
-use apex_types::{EventKind, Moment, Out, PortRow, Ticks, Words, copied};
+use apex_types::{LineKind, Moment, Out, PortRow, Ticks, Words};
 use std::alloc::{AllocError, Global};
 use std::marker::Model;
 use sync_objects_base::place_of;
@@ -309,8 +309,7 @@ impl Ports {
     {
         let port = self.status(place)?;
         let message = self.take_first(place)?;
-        let line = EventKind::Move(port.row.name, copied(&message));
-        out.lines.push(line);
+        out.tell(LineKind::Move(port.row.name), &message);
         Some(message)
     }
 }

@@ -22,8 +22,8 @@ use crate::found::Found;
 use crate::request::Request;
 use crate::table::ProcessTable;
 use apex_types::{
-    Action, ArrayPlace, Entry, ListKey, MOST_RUNNERS, Out, ProcessIndex, ProcessStatus, ReturnCode,
-    Runner, Wait, Waiting, Words, copied,
+    ActionKind, ArrayPlace, Entry, ListKey, MOST_RUNNERS, Out, ProcessIndex, ProcessStatus,
+    ReturnCode, Runner, Wait, Waiting, Words, copied,
 };
 use links::Entries;
 
@@ -39,13 +39,13 @@ fn put_message(handed: &mut Vec<Words>, process: ProcessIndex, message: Words)
 /// Writes the words to the array, if one is given.
 pub fn fill(array: Option<ArrayPlace>, message: Words, out: &mut Out)
     requires { HasRoom 0 1 out.old }
-    ensures lines { out.new.lines.items ≡ out.old.lines.items }
-    ensures actions { out.new.actions.items
-        ≡ out.old.actions.items ++ meaning.writes array message }
+    ensures lines { out.new.lines ≡ out.old.lines }
+    ensures actions { out.new.actions
+        ≡ out.old.actions ++ meaning.writes array message }
     ensures grows { Grows 0 1 out.old out.new }
 {
     if let Some(array) = array {
-        out.actions.push(Action::Write(array.base, message));
+        out.act(ActionKind::Write(array.base), &message);
     }
 }
 

@@ -115,13 +115,13 @@ impl Executor for Scripted {
     }
 
     #[tactic(auto, using(crate::proofs::Parts::views))]
-    fn reply(&mut self, _mem: &mut PartitionMem, _runner: Runner, _answer: &Words) {}
+    fn reply(&mut self, _mem: &mut PartitionMem, _runner: Runner, _answer: &[i64]) {}
 
     fn read(&self, mem: &PartitionMem, place: i64, count: u8) -> Words {
         message(mem.data(), place, count)
     }
 
-    fn write(&self, mem: &mut PartitionMem, place: i64, array: &Words) {
+    fn write(&self, mem: &mut PartitionMem, place: i64, array: &[i64]) {
         if place >= 0 {
             put(mem, place.unsigned_abs() as usize, array);
         }

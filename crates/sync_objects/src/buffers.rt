@@ -12,7 +12,7 @@ ghost use Rattle.kernel_meaning.specs.Sharing.{both};
 ghost use Rattle.sync_objects.specs.Both.{delivers};
 
 use apex_types::{
-    Action, ArrayPlace, Discipline, ListKey, Out, ReturnCode, Service, Waiting, Words,
+    ActionKind, ArrayPlace, Discipline, ListKey, Out, ReturnCode, Service, Waiting, Words,
 };
 use process_table_base::{
     Handed, ProcessTable, Request, first_words, is_duration, is_large_enough, is_length,
@@ -182,7 +182,7 @@ fn deliver(
     let service = Service::ReceiveBuffer;
     let count = message.len() as i64;
     table.answer(request.caller, service, ReturnCode::NoError, &[count], out);
-    out.actions.push(Action::Write(array.base, message));
+    out.act(ActionKind::Write(array.base), &message);
     admit(table, objects, place, out);
 }
 

@@ -1,0 +1,34 @@
+-- How an output is kept: the words of all its lines and actions stand one after another in one list.
+use Rattle.std.specs.Prelude.{ℕ, ℤ, ◌+◌, ◌*◌, ◌≤◌, List, length, map, take, drop, All, vec_capacity}
+use Rattle.apex_types.specs.declared.limits.TheConstants.{MOST_ACTIONS, MOST_EVENTS, MOST_OUT_WORDS, MOST_WORDS}
+use Rattle.apex_types.specs.Output.{Output, action_of, event_of}
+use Rattle.apex_types.specs.declared.event.LineKind.{LineKind}
+use Rattle.apex_types.specs.declared.out.Out.TheInside as out
+use Rattle.apex_types.specs.declared.out.Part.{Part}
+use Rattle.apex_types.specs.declared.process.ActionKind.{ActionKind}
+
+abbrev pub part_of : List ℤ → Part → List ℤ
+part_of words p = take p.count (drop p.from words)
+
+abbrev pub lines_of : List ℤ → List (LineKind × Part) → List EventKind
+lines_of words ls = map (λ l. event_of l.0 (part_of words l.1)) ls
+
+abbrev pub actions_of : List ℤ → List (ActionKind × Part) → List Action
+actions_of words as = map (λ a. action_of a.0 (part_of words a.1)) as
+
+abbrev pub output_of : out.Inside → Output
+output_of o = record { lines = lines_of o.words.items o.lines.items; actions = actions_of o.words.items o.actions.items }
+
+-- a part of so many words
+pub record IsPart (count : ℕ) (p : Part) : Type 0 where
+  pub within : p.from + p.count ≤ count
+  pub few : p.count ≤ MOST_WORDS
+
+-- each line and each action has its part of the words, and there is memory for all that may come
+pub record HasWords (o : out.Inside) : Type 0 where
+  pub lines : All (λ l. IsPart (length o.words.items) l.1) o.lines.items
+  pub actions : All (λ a. IsPart (length o.words.items) a.1) o.actions.items
+  pub few : length o.words.items ≤ MOST_WORDS * (length o.lines.items + length o.actions.items)
+  pub line_room : MOST_EVENTS ≤ vec_capacity o.lines
+  pub action_room : MOST_ACTIONS ≤ vec_capacity o.actions
+  pub word_room : MOST_OUT_WORDS ≤ vec_capacity o.words
