@@ -2,6 +2,26 @@
 //!
 //! Each limit is defined only here. Code, definitions and proofs use it from here.
 
+/// The limits that are not the same in every version of an image.
+#[derive(Clone, Copy, Debug, PartialEq, Eq)]
+pub struct Limits {
+    /// The most partitions of a module.
+    pub partitions: u8,
+    /// The most processes of a partition.
+    pub processes: u8,
+    /// The most words of a message.
+    pub words: u8,
+}
+
+/// The most partitions of a module with an image of version 1 or 2.
+pub const FIRST_MOST_PARTITIONS: u8 = 16;
+
+/// The most processes of a partition in an image of version 1 or 2.
+pub const FIRST_MOST_PROCESSES: u8 = 31;
+
+/// The most words of a message in a module with an image of version 1 or 2.
+pub const FIRST_MOST_WORDS: u8 = 16;
+
 /// The most ticks of a run. No tick, duration, period, time capacity, delay, time-out or refresh period
 /// is greater.
 pub const MOST_TICKS: u64 = 1 << 40;
@@ -16,7 +36,7 @@ pub const MOST_FRAME_TICKS: u32 = 1 << 24;
 pub const MOST_NAME_BYTES: usize = 30;
 
 /// The most partitions of a module.
-pub const MOST_PARTITIONS: u8 = 16;
+pub const MOST_PARTITIONS: u8 = 32;
 
 /// The most windows of a major frame.
 pub const MOST_WINDOWS: u8 = 64;
@@ -31,7 +51,7 @@ pub const MOST_DESTINATIONS: u8 = 16;
 pub const MOST_PORTS: u8 = 16;
 
 /// The most processes of a partition, besides INIT and the error handler.
-pub const MOST_PROCESSES: u8 = 31;
+pub const MOST_PROCESSES: u8 = 63;
 
 /// The most runners of a partition: INIT, the error handler and the processes.
 pub const MOST_RUNNERS: u8 = MOST_PROCESSES + 2;
@@ -49,7 +69,7 @@ pub const MOST_LOCK_LEVEL: u8 = 16;
 pub const MOST_ERRORS: u8 = 64;
 
 /// The most words of a message.
-pub const MOST_WORDS: usize = 16;
+pub const MOST_WORDS: usize = 64;
 
 /// The most messages that a buffer or a queuing port holds.
 pub const MOST_DEPTH: u8 = 32;
@@ -102,7 +122,7 @@ pub const MOST_REPORT_WORDS: u8 = 16;
 /// The most events of a phase of a tick, and the most lines of a step: each process may be
 /// released, miss its deadline and change its state once, and the choice and the end of a service
 /// add a few more.
-pub const MOST_EVENTS: usize = 256;
+pub const MOST_EVENTS: usize = 512;
 
 /// The most actions of a phase of a tick, on the processor, the data and the error queue: the words
 /// of a message and an answer for each process, the answer to a call, and the three of a Clear.
